@@ -1,22 +1,5 @@
 -- All that is asked in a tree, with its places, as a list: what holds of each of the list holds at each place.
-use Rattle.std.proofs.Common.{◌≡◌, ℕ, zero, suc, ◌+◌, inl, inr, List, [], ◌∷◌, ◌++◌, length, take, Bool, true, false, ◌&&◌, Ordering, Equal, nat_cmp, Option, Some, None, option_map, option_and_then, refl, sym, ap, subst, append_assoc, append-nil, add-zero, zero-add}
-use Rattle.std.specs.Cmp.Lexicographic.{slice_cmp}
-use Rattle.std.specs.List.{list_any, list_all}
-use Rattle.std.specs.Option.{option_map_or}
-use Rattle.std.specs.Ordering.{match_ordering}
-use Rattle.std.proofs.lemmas.Bool.{and_parts}
-use Rattle.serde_json.specs.Data.{Data, null, boolean, number, string, array, object, Items, no_items, item, Members, no_members, member}
-use Rattle.serde_json.specs.Find.{get_member, get_item}
-use Rattle.erd_tables.specs.declared.class.Role.TheVariants.{Report}
-use Rattle.erd_tables.specs.declared.place.Step.{Step}
-use Rattle.erd_tables.specs.declared.place.Step.TheVariants.{Name, At}
-use Rattle.erd_check.specs.Trees.{is_same_json}
-use Rattle.erd_check.specs.Values.{list_of_items}
-use Rattle.erd_check.specs.code.Walk.{asked_with}
-use Rattle.erd_check.specs.Wants.{Asked, scope_inside, want_of_name, entry_want, is_compared_set, asked_of_member, asked_of_entry, asked_from, asked_at}
-use Rattle.erd_check.specs.declared.want.Want.{Want}
-use Rattle.erd_check.specs.declared.want.Want.TheVariants.{Object}
-use Rattle.erd_check.specs.declared.want.Scope.{Scope}
+use Rattle.erd_check.proofs.Common.{◌≡◌, ℕ, zero, suc, ◌+◌, Bool, true, false, ◌&&◌, List, [], ◌∷◌, ◌++◌, length, take, Some, None, Option, option_map, option_and_then, nat_cmp, Ordering, Equal, sym, refl, ap, subst, inl, inr, append_assoc, append-nil, add-zero, zero-add, and_parts, slice_cmp, list_all, list_any, option_map_or, match_ordering, Data, null, boolean, number, string, array, object, Items, no_items, item, Members, no_members, member, get_member, get_item, Report, Step, At, Name, is_same_json, list_of_items, scope_inside, want_of_name, entry_want, is_compared_set, Asked, asked_of_member, asked_of_entry, asked_from, asked_at, asked_with, Scope, Want, Object}
 use Rattle.erd_check.proofs.Steps.{text_from_equal, next_index}
 use Rattle.erd_check.proofs.Order.{In, In-append_left, In-append_right}
 

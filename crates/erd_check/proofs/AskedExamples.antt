@@ -1,16 +1,6 @@
 -- What is asked at places of the small ballot and of edited reports, by computation.
-use Rattle.std.proofs.Common.{◌≡◌, ℕ, List, [], ◌∷◌, Option, Some, None, map, codes, true, false, refl}
-use Rattle.std.specs.Prelude.{option_map}
-use Rattle.serde_json.proofs.OnLiterals.{serde_json_on_literals}
-use Rattle.erd_tables.specs.declared.class.Family.TheVariants as family
-use Rattle.erd_tables.specs.declared.class.Role.TheVariants as role
-use Rattle.erd_tables.specs.declared.member.MemberKind.TheVariants as kind
-use Rattle.erd_tables.specs.declared.place.Step.{Step}
-use Rattle.erd_tables.specs.declared.place.Step.TheVariants.{Name, At}
+use Rattle.erd_check.proofs.Common.{◌≡◌, ℕ, true, false, List, [], ◌∷◌, map, Some, None, codes, Option, option_map, refl, serde_json_on_literals, family, role, kind, Step, At, Name, asked_at, Want, Carried, ClassText, Member, Object, Reference, Status}
 use Rattle.erd_check.proofs.Reports.{tree_of, small_ballot, one_unit_report, status, election, with_report_member, with_unit_member}
-use Rattle.erd_check.specs.Wants.{asked_at}
-use Rattle.erd_check.specs.declared.want.Want.{Want}
-use Rattle.erd_check.specs.declared.want.Want.TheVariants.{Object, ClassText, Reference, Status, Member, Carried}
 
 abbrev wants_at : List ℕ → List (List Step) → List (Option Want)
 wants_at text places = let t = tree_of text in map (λ p. option_map (λ a. a.want) (asked_at t p)) places

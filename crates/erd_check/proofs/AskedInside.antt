@@ -1,27 +1,6 @@
 -- All that is asked in a tree, as a list: each of the list is asked at its place, and the places rise.
-use Rattle.std.proofs.Common.{◌≡◌, ℕ, suc, ◌+◌, ◌<◌, inl, inr, List, [], ◌∷◌, ◌++◌, length, take, Bool, false, ◌&&◌, Ordering, Less, Greater, nat_cmp, Option, Some, None, refl, sym, ap, ◌∙◌, subst, append_assoc, append-nil, add-zero, zero-add, arith}
-use Rattle.std.proofs.lemmas.Cmp.{nat_list_cmp_total}
-use Rattle.std.specs.Prelude.{IfSome}
-use Rattle.std.specs.Cmp.Lexicographic.{slice_cmp}
-use Rattle.std.specs.List.{list_any, AllByRecursion}
-use Rattle.std.specs.List.Sorted.{IsStrictlySortedBy}
-use Rattle.std.specs.Option.{option_map_or}
-use Rattle.std.specs.Ordering.{ordering_reverse}
-use Rattle.serde_json.specs.Data.{Data, array, object, Items, no_items, item, Members, no_members, member}
-use Rattle.serde_json.specs.Find.{get_member, get_item}
+use Rattle.erd_check.proofs.Common.{◌≡◌, ℕ, suc, ◌+◌, ◌<◌, Bool, false, ◌&&◌, List, [], ◌∷◌, ◌++◌, length, take, IfSome, Some, None, Option, nat_cmp, Ordering, Less, Greater, sym, refl, ap, ◌∙◌, subst, inl, inr, append_assoc, append-nil, add-zero, zero-add, arith, nat_list_cmp_total, slice_cmp, AllByRecursion, list_any, IsStrictlySortedBy, option_map_or, ordering_reverse, Data, array, object, Items, no_items, item, Members, no_members, member, get_member, get_item, steps_less, start_less, Report, Step, At, Name, is_same_json, list_of_items, names, IsInOrder, AreItemsInOrder, AreMembersInOrder, scope_inside, want_of_name, entry_want, is_compared_set, Asked, asked_from, asked_at, asked_with, Scope, Want, Object}
 use Rattle.erd_tables.specs.Places.{place_cmp}
-use Rattle.erd_tables.proofs.PlaceOrder.{start_less, steps_less}
-use Rattle.erd_tables.specs.declared.class.Role.TheVariants.{Report}
-use Rattle.erd_tables.specs.declared.place.Step.{Step}
-use Rattle.erd_tables.specs.declared.place.Step.TheVariants.{Name, At}
-use Rattle.erd_check.specs.Trees.{is_same_json}
-use Rattle.erd_check.specs.Values.{list_of_items, names}
-use Rattle.erd_check.specs.code.Walk.{asked_with}
-use Rattle.erd_check.specs.Visits.{IsInOrder, AreItemsInOrder, AreMembersInOrder}
-use Rattle.erd_check.specs.Wants.{Asked, scope_inside, want_of_name, entry_want, is_compared_set, asked_from, asked_at}
-use Rattle.erd_check.specs.declared.want.Want.{Want}
-use Rattle.erd_check.specs.declared.want.Want.TheVariants.{Object}
-use Rattle.erd_check.specs.declared.want.Scope.{Scope}
 use Rattle.erd_check.proofs.AllAsked.{AskedPlace, all_asked_from, all_asked_items, all_asked_members, all_asked}
 use Rattle.erd_check.proofs.Steps.{next_index, same_text, found_all, at_less}
 use Rattle.erd_check.proofs.Order.{In, In-append, all_from_In, sorted_append}

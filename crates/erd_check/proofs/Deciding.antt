@@ -1,27 +1,5 @@
 -- Whether a value is a tree, by a test; of a tree the walk's list is that of all faults of the shape.
-use Rattle.std.proofs.Common.{◌≡◌, ◌<◌, List, length, arith, ℕ, Bool, true, false, ◌&&◌, Ordering, Less, is_lt, Option, Some, None, refl}
-use Rattle.std.specs.Prelude.{pos, IfSome}
-use Rattle.std.proofs.lemmas.Cmp.{nat_list_cmp_total}
-use Rattle.std.specs.List.{AllByRecursion}
-use Rattle.std.specs.List.Sorted.{IsStrictlySortedBy}
-use Rattle.std.proofs.lemmas.Bool.{and_parts}
-use Rattle.serde_json.specs.Data.{Data, Num, negative, number, array, object, Items, no_items, item, Members, no_members, member}
-use Rattle.erd_tables.specs.Faults.{ListsAll}
-use Rattle.erd_tables.specs.declared.fault.Fault.{Fault}
-use Rattle.erd_tables.specs.declared.fault.Reason.{Reason}
-use Rattle.erd_tables.specs.declared.place.Step.{Step}
-use Rattle.erd_tables.specs.Texts.{text_cmp}
-use Rattle.erd_tables.specs.declared.class.Role.TheVariants.{Report}
-use Rattle.erd_check.specs.Faults.{ShapeFault, NoneOf}
-use Rattle.erd_check.specs.Paths.{fault_at}
-use Rattle.erd_check.specs.Trees.{IsBeforeFirst, IsNumber, IsTree, AreTrees, AreMembers}
-use Rattle.erd_check.specs.code.Walk.{reasons}
-use Rattle.erd_check.specs.Visits.{told_of_report, IsInOrder, AreItemsInOrder, AreMembersInOrder}
-use Rattle.erd_check.specs.Values.{names}
-use Rattle.erd_check.specs.Wants.{scope_inside, want_of_name, entry_want}
-use Rattle.erd_check.specs.declared.want.Scope.{Scope}
-use Rattle.erd_check.specs.declared.want.Want.{Want}
-use Rattle.erd_check.specs.declared.want.Want.TheVariants.{Object}
+use Rattle.erd_check.proofs.Common.{◌≡◌, ℕ, ◌<◌, Bool, true, false, ◌&&◌, List, length, pos, IfSome, Some, None, Option, is_lt, Ordering, Less, refl, arith, and_parts, nat_list_cmp_total, AllByRecursion, IsStrictlySortedBy, Num, negative, Data, number, array, object, Items, no_items, item, Members, no_members, member, ListsAll, text_cmp, Report, Fault, Reason, Step, ShapeFault, NoneOf, fault_at, IsBeforeFirst, IsNumber, IsTree, AreTrees, AreMembers, names, told_of_report, IsInOrder, AreItemsInOrder, AreMembersInOrder, scope_inside, want_of_name, entry_want, reasons, Scope, Want, Object}
 use Rattle.erd_check.proofs.Walks.{shape_walk_lists}
 
 -- ---- lists of all faults

@@ -1,11 +1,5 @@
 -- The kinds of JSON values, and the entries of arrays.
-use Rattle.std.proofs.Common.{◌≡◌, ℕ, zero, suc, List, [], Option, Some, true, refl, ap, ap₂, subst, ◌⊎◌, inl, inr, ⊎_elim}
-use Rattle.std.specs.Option.{option_map_or}
-use Rattle.serde_json.specs.Data.{Data, string, array, object, Items, no_items, item, Members}
-use Rattle.serde_json.specs.Find.{get_item}
-use Rattle.erd_check.specs.Trees.{IsTree, AreTrees}
-use Rattle.erd_check.specs.Values.{list_of_items, entries_of}
-use Rattle.erd_check.specs.Faults.{is_array, is_object, is_text}
+use Rattle.erd_check.proofs.Common.{◌≡◌, ℕ, zero, suc, true, ◌⊎◌, List, [], Some, Option, refl, ap, subst, ap₂, inl, inr, ⊎_elim, option_map_or, Data, string, array, object, Items, no_items, item, Members, get_item, is_text, is_array, is_object, IsTree, AreTrees, list_of_items, entries_of}
 use Rattle.erd_check.proofs.Rising.{Has, Has-cases}
 
 -- the entries of an array that may be absent

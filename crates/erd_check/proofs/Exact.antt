@@ -1,11 +1,6 @@
 -- Equality as JSON: trees that are equal as JSON are one tree.
-use Rattle.std.proofs.Common.{◌≡◌, ℕ, pos, negsuc, List, Bool, true, false, ◌&&◌, refl, ap, ap₂}
-use Rattle.std.specs.Str.{bytes_eq}
-use Rattle.std.proofs.lemmas.Slice.Eq.{bytes_eq-Decides}
+use Rattle.erd_check.proofs.Common.{◌≡◌, ℕ, Bool, true, false, ◌&&◌, List, pos, negsuc, bytes_eq, refl, ap, ap₂, and_parts, bytes_eq-Decides, Num, unsigned, negative, float, Data, null, boolean, number, string, array, object, Items, no_items, item, Members, no_members, member, IsNumber, IsTree, AreTrees, AreMembers, same_flag, same_number, is_same_json, are_same_items, are_same_members}
 use Rattle.std.proofs.lemmas.Bool.Decides.{Decides-int_eq}
-use Rattle.std.proofs.lemmas.Bool.{and_parts}
-use Rattle.serde_json.specs.Data.{Num, unsigned, negative, float, Data, null, boolean, number, string, array, object, Items, no_items, item, Members, no_members, member}
-use Rattle.erd_check.specs.Trees.{same_flag, same_number, is_same_json, are_same_items, are_same_members, IsNumber, IsTree, AreTrees, AreMembers}
 
 pub text_exact : (a b : List ℕ) → bytes_eq a b ≡ true → a ≡ b
 text_exact a b e = (bytes_eq-Decides a b).0 e

@@ -1,16 +1,6 @@
 -- Each fault of the shape as a fact and as its absence, on edits of the report of one unit, by computation.
-use Rattle.std.proofs.Common.{◌≡◌, ℕ, zero, suc, Some, None, List, [], ◌∷◌, ◌++◌, codes, Bool, true, false, refl}
-use Rattle.std.specs.Prelude.{option_map}
-use Rattle.serde_json.specs.Data.{depth}
-use Rattle.serde_json.specs.Read.{read}
-use Rattle.serde_json.proofs.OnLiterals.{serde_json_on_literals}
-use Rattle.erd_tables.specs.declared.fault.Reason.{Reason}
-use Rattle.erd_tables.specs.declared.fault.Reason.TheVariants.{WrongKind, MissingMember, WrongClassText, NotWhole, OutsideProfile, UnknownReference, CarriedIdentity, NotPreElection, ElectionCount, EmptyArray, Repeated}
-use Rattle.erd_tables.specs.declared.place.Step.{Step}
-use Rattle.erd_tables.specs.declared.place.Step.TheVariants.{Name, At}
+use Rattle.erd_check.proofs.Common.{◌≡◌, ℕ, zero, suc, Bool, true, false, List, [], ◌∷◌, ◌++◌, Some, None, codes, option_map, refl, serde_json_on_literals, depth, read, Reason, CarriedIdentity, ElectionCount, EmptyArray, MissingMember, NotPreElection, NotWhole, OutsideProfile, Repeated, UnknownReference, WrongClassText, WrongKind, Step, At, Name, ShapeFault, is_same_json}
 use Rattle.erd_check.proofs.Reports.{tree_of, one_unit_report, status, unit, election, one_unit, with_report_member, with_unit_member, with_election_member}
-use Rattle.erd_check.specs.Faults.{ShapeFault}
-use Rattle.erd_check.specs.Trees.{is_same_json}
 
 -- the text has this fault of the shape
 abbrev Has : List ℕ → List Step → Reason → Type 0

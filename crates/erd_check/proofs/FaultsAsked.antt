@@ -1,19 +1,6 @@
 -- Faults that are reasons at one place: the list of them over all that is asked in a tree is that of all.
-use Rattle.std.proofs.Common.{◌≡◌, ◌↔◌, inl, inr, List, [], ◌∷◌, map, Ordering, Less, Some, refl, sym, ap, subst}
-use Rattle.std.specs.List.{flat_map}
-use Rattle.std.specs.List.Sorted.{IsStrictlySortedBy}
-use Rattle.serde_json.specs.Data.{Data}
-use Rattle.erd_tables.specs.Faults.{reason_cmp, fault_cmp, ListsAll}
+use Rattle.erd_check.proofs.Common.{◌≡◌, ◌↔◌, List, [], ◌∷◌, map, Some, flat_map, Ordering, Less, sym, refl, ap, subst, inl, inr, IsStrictlySortedBy, Data, place_same, reason_cmp, fault_cmp, ListsAll, Report, Fault, Reason, Step, fault_at, IsInOrder, Asked, asked_at, Object}
 use Rattle.erd_tables.specs.Places.{place_cmp}
-use Rattle.erd_tables.proofs.PlaceOrder.{place_same}
-use Rattle.erd_tables.specs.declared.class.Role.TheVariants.{Report}
-use Rattle.erd_tables.specs.declared.fault.Fault.{Fault}
-use Rattle.erd_tables.specs.declared.fault.Reason.{Reason}
-use Rattle.erd_tables.specs.declared.place.Step.{Step}
-use Rattle.erd_check.specs.Paths.{fault_at}
-use Rattle.erd_check.specs.Visits.{IsInOrder}
-use Rattle.erd_check.specs.Wants.{Asked, asked_at}
-use Rattle.erd_check.specs.declared.want.Want.TheVariants.{Object}
 use Rattle.erd_check.proofs.AllAsked.{AskedPlace, all_asked, all_asked_complete}
 use Rattle.erd_check.proofs.AskedInside.{by_place, all_asked_rising, all_asked_sound}
 use Rattle.erd_check.proofs.Order.{In, In-append, In-flat_map, In-map, In-map_from, In-all, In-from_contains, contains_from_In, Below, sorted_append, sorted_map}

@@ -1,18 +1,5 @@
 -- Values that are equal as JSON are those that are tied in the order of JSON values and equal to themselves.
-use Rattle.std.proofs.Common.{◌≡◌, ℕ, ℤ, List, Bool, true, false, ◌&&◌, Option, Some, None, Ordering, Equal, is_eq, int_cmp, refl, sym, ap, ◌∙◌, subst}
-use Rattle.std.proofs.lemmas.Bool.{and_from, and_parts}
-use Rattle.std.proofs.lemmas.Cmp.{int_cmp_total, nat_list_cmp_total, tied_back, tied_itself}
-use Rattle.std.proofs.lemmas.Map.Lookups.{exact_bytes}
-use Rattle.std.specs.Cmp.{Equal-is}
-use Rattle.std.specs.Option.{option_cmp}
-use Rattle.std.specs.Ordering.{bool_cmp, ordering_then}
-use Rattle.std.specs.Str.{bytes_eq}
-use Rattle.serde_json.specs.Data.{Data, null, boolean, number, string, array, object, Items, no_items, item, Members, no_members, member}
-use Rattle.serde_json.specs.Find.{as_integer}
-use Rattle.erd_tables.proofs.PlaceOrder.{then_both}
-use Rattle.erd_tables.specs.Texts.{text_cmp}
-use Rattle.erd_check.specs.Trees.{are_same_items, are_same_members, is_same_json, same_flag, same_whole}
-use Rattle.erd_check.specs.code.JsonOrder.{items_cmp, json_cmp, members_cmp}
+use Rattle.erd_check.proofs.Common.{◌≡◌, ℕ, Bool, true, false, ◌&&◌, List, ℤ, Some, None, Option, bytes_eq, int_cmp, is_eq, Ordering, Equal, sym, refl, ap, ◌∙◌, subst, and_parts, and_from, tied_itself, tied_back, int_cmp_total, nat_list_cmp_total, exact_bytes, Equal-is, option_cmp, bool_cmp, ordering_then, Data, null, boolean, number, string, array, object, Items, no_items, item, Members, no_members, member, as_integer, then_both, text_cmp, same_flag, same_whole, is_same_json, are_same_items, are_same_members, json_cmp, items_cmp, members_cmp}
 use Rattle.erd_check.specs.code.JsonOrders.{json_cmp_total}
 use Rattle.erd_check.proofs.Exact.{text_exact, text_itself, flag_itself}
 

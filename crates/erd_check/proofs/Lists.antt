@@ -1,14 +1,7 @@
 -- Lists of entries and of members.
-use Rattle.std.proofs.Common.{◌≡◌, List, [], ◌∷◌, length, suc, String, Global, Less, string_bytes, string_cmp, refl, ap}
-use Rattle.std.specs.List.{AllByRecursion}
-use Rattle.std.specs.List.Sorted.{IsStrictlySortedBy}
+use Rattle.erd_check.proofs.Common.{◌≡◌, suc, List, [], ◌∷◌, length, string_bytes, String, string_cmp, Less, Global, refl, ap, AllByRecursion, IsStrictlySortedBy, Data, items_of, items_view, members_view, Value, text_cmp, list_of_items, names}
 use Rattle.std.specs.Map.{keys_of}
-use Rattle.serde_json.specs.Data.{Data}
-use Rattle.serde_json.specs.View.{items_of, items_view, members_view}
 use Rattle.serde_json.proofs.Views.{Entry}
-use Rattle.serde_json.specs.declared.value.Value.{Value}
-use Rattle.erd_tables.specs.Texts.{text_cmp}
-use Rattle.erd_check.specs.Values.{list_of_items, names}
 
 pub count_of_view : (vs : List Value) → length (list_of_items (items_view vs)) ≡ length vs
 count_of_view [] = refl

@@ -1,13 +1,6 @@
 -- The members of an object are determined by what it has under each name.
-use Rattle.std.proofs.Common.{◌≡◌, ◌≤◌, ℕ, List, Some, None, Ordering, Less, Equal, Greater, refl, sym, ap, ◌∙◌, subst, arith}
-use Rattle.std.proofs.lemmas.Cmp.{nat_list_cmp_total, tied_itself}
-use Rattle.std.proofs.lemmas.Map.Lookups.{exact_bytes}
-use Rattle.std.specs.Ordering.{match_ordering, ordering_reverse}
+use Rattle.erd_check.proofs.Common.{◌≡◌, ℕ, ◌≤◌, List, Some, None, Ordering, Less, Equal, Greater, sym, refl, ap, ◌∙◌, subst, arith, tied_itself, nat_list_cmp_total, exact_bytes, match_ordering, ordering_reverse, Data, Members, no_members, member, depth, members_depth, get_member, text_cmp, IsBeforeFirst, IsTree, AreMembers}
 use Rattle.std.proofs.lemmas.Option.{same_Some}
-use Rattle.serde_json.specs.Data.{Data, Members, no_members, member, depth, members_depth}
-use Rattle.serde_json.specs.Find.{get_member}
-use Rattle.erd_tables.specs.Texts.{text_cmp}
-use Rattle.erd_check.specs.Trees.{IsTree, AreMembers, IsBeforeFirst}
 
 pub same_as_itself : (xs : List ℕ) → text_cmp xs xs ≡ Equal
 same_as_itself xs = tied_itself nat_list_cmp_total xs

@@ -1,16 +1,12 @@
 -- The numbers in a value are as `serde_json` keeps them: one that is kept as a negative one is below zero.
-use Rattle.std.proofs.Common.{◌≡◌, List, [], ◌∷◌, map, arith, true, false, true≢false, sym, ◌∙◌, subst}
-use Rattle.std.specs.Prelude.{⊤, int_lt, pos, String}
-use Rattle.serde_json.specs.Data.{Data, number, array, object, Items, no_items, item, Members, no_members, member}
+use Rattle.erd_check.proofs.Common.{◌≡◌, true, false, List, [], ◌∷◌, map, pos, int_lt, String, sym, ◌∙◌, subst, true≢false, arith, Data, number, array, object, Items, no_items, item, Members, no_members, member, items_of, members_of, view_step, view, Value, map-Value, IsNumber}
+use Rattle.std.specs.Prelude.{⊤}
 use Rattle.serde_json.specs.Number.{is_valid, num_of}
-use Rattle.serde_json.specs.View.{view, view_step, items_of, members_of}
-use Rattle.serde_json.specs.declared.value.Value.{Value, map-Value}
 use Rattle.serde_json.specs.declared.number.N.{N}
 use Rattle.serde_json.specs.declared.number.N.TheVariants.{PosInt, NegInt, Float}
 use Rattle.std.specs.declared.alloc.Global.{Global}
 use Rattle.serde_json.specs.declared.value.Value.TheOpen.{Value-F}
 use Rattle.serde_json.specs.declared.value.Value.TheFolds.{fold-roll-Value, ind-Value}
-use Rattle.erd_check.specs.Trees.{IsNumber}
 
 -- each number in a value that is kept as a negative one is below zero
 abbrev mutual

@@ -1,21 +1,6 @@
 -- The objects of a report without a fault of shape, and their keyed arrays.
-use Rattle.std.proofs.Common.{◌≡◌, ℕ, List, Option, Some, None, Bool, false, codes, refl, sym, subst}
-use Rattle.std.specs.Str.{bytes_eq}
-use Rattle.serde_json.specs.Data.{Data, string, array, object, Items, no_items, item, Members}
-use Rattle.serde_json.specs.Find.{get, get_member}
-use Rattle.erd_tables.specs.declared.class.Class.{Class}
-use Rattle.erd_tables.specs.declared.class.Family.{Family}
-use Rattle.erd_tables.specs.declared.class.Role.{Role}
-use Rattle.erd_tables.specs.Table.{is_required, kind_of_member}
-use Rattle.erd_tables.specs.Classes.{role_of_class, text_of_class}
-use Rattle.erd_tables.specs.declared.class.Class.TheVariants as class
-use Rattle.erd_tables.specs.declared.class.Role.TheVariants as role
-use Rattle.erd_tables.specs.declared.member.MemberKind.TheVariants as kind
-use Rattle.erd_check.specs.declared.want.Want.{Want}
+use Rattle.erd_check.proofs.Common.{◌≡◌, ℕ, Bool, false, List, Some, None, codes, Option, bytes_eq, sym, refl, subst, Data, string, array, object, Items, no_items, item, Members, get_member, get, text_of_class, role_of_class, kind_of_member, is_required, Class, class, Family, Role, role, kind, is_empty_array, ShapeFault, NoneOf, class_of_object, asked, Want, Member, Object}
 use Rattle.erd_check.proofs.Shapes.{AsksObject, Classed, Within, classed, wanted_within, member_within, of_role}
-use Rattle.erd_check.specs.Wants.{asked, class_of_object}
-use Rattle.erd_check.specs.declared.want.Want.TheVariants.{Member, Object}
-use Rattle.erd_check.specs.Faults.{is_empty_array, NoneOf, ShapeFault}
 use Rattle.erd_check.proofs.Entries.{array_from}
 use Rattle.erd_check.proofs.TableKinds.{want_by_kind}
 

@@ -1,6 +1,5 @@
 -- Where the entries of a list stand, and what holds of each.
-use Rattle.std.proofs.Common.{◌≡◌, ◌<◌, ℕ, zero, suc, List, [], ◌∷◌, map, Some, slice_get, ap, subst, ⊎_elim}
-use Rattle.std.specs.List.{AllByRecursion}
+use Rattle.erd_check.proofs.Common.{◌≡◌, ℕ, zero, suc, ◌<◌, List, [], ◌∷◌, map, slice_get, Some, ap, subst, ⊎_elim, AllByRecursion}
 use Rattle.erd_check.proofs.Rising.{Has, Has-cases, here, later}
 
 -- an entry of a list stands at a position

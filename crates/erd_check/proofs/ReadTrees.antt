@@ -1,16 +1,9 @@
 -- What is read from a text is a tree: members go in by `put`, and a number is kept as negative only below zero.
-use Rattle.std.proofs.Common.{◌≡◌, ℕ, List, Ordering, Less, Equal, Greater, refl, ap, ◌∙◌, ◌^◌, zero, suc, pos, negsuc, neg_ℤ, Bool, true, false, ◌&&◌, if◌then◌else◌, Option, Some, None, option_map, option_and_then, subst}
-use Rattle.std.proofs.lemmas.Cmp.{nat_list_cmp_total}
-use Rattle.std.specs.Ordering.{match_ordering, ordering_reverse}
-use Rattle.std.specs.Prelude.{IfSome, nat_lt, nat_le, ◌==◌, slice_index, drop}
+use Rattle.erd_check.proofs.Common.{◌≡◌, ℕ, zero, suc, ◌^◌, Bool, true, false, ◌&&◌, List, drop, pos, negsuc, neg_ℤ, IfSome, if◌then◌else◌, nat_lt, nat_le, ◌==◌, slice_index, Some, None, Option, option_map, option_and_then, Ordering, Less, Equal, Greater, refl, ap, ◌∙◌, subst, nat_list_cmp_total, match_ordering, ordering_reverse, Num, unsigned, negative, float, Data, number, array, object, item, Members, no_members, member, put, is_integer, float_of, number_from, number_of, of_json, of_items, of_members, read, max_depth, text_cmp, IsBeforeFirst, IsNumber, IsTree, AreTrees, AreMembers}
 use Rattle.std.specs.Float.{binary64, float_is_finite}
 use Rattle.std.specs.Float.Numeral.{Parts, minus, scan_numeral, numeral_digits, nearest_float}
-use Rattle.serde_json.specs.Data.{Data, Members, no_members, member, put, Num, unsigned, negative, float, number, array, object, item}
-use Rattle.serde_json.specs.Read.{float_of, number_from, number_of, is_integer, of_json, of_items, of_members, max_depth, read}
 use Rattle.json.specs.Lex.{tokens}
 use Rattle.json.specs.Json as json
-use Rattle.erd_tables.specs.Texts.{text_cmp}
-use Rattle.erd_check.specs.Trees.{IsTree, AreMembers, IsBeforeFirst, IsNumber, AreTrees}
 
 -- ---- a value put at a name among the members of an object: their names still rise, and they are trees
 

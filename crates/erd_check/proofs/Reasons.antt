@@ -1,24 +1,5 @@
 -- The faults of one value: the list of its reasons holds each of them, and rises.
-use Rattle.std.proofs.Common.{◌≡◌, ℕ, ◌<◌, ◌≤◌, inl, inr, List, [], ◌∷◌, ◌++◌, filter, Bool, true, false, ◌&&◌, Less, nat_cmp, Some, None, refl, sym, subst, true≢false, arith, rules}
-use Rattle.std.specs.Cmp.Lexicographic.{slice_cmp}
-use Rattle.std.specs.List.{list_any, AllByRecursion}
-use Rattle.std.specs.List.Sorted.{IsStrictlySortedBy}
-use Rattle.std.specs.Str.{bytes_eq}
-use Rattle.std.proofs.lemmas.Slice.Eq.{bytes_eq-Decides}
-use Rattle.std.proofs.lemmas.Bool.{and_parts, and_from, or_right}
-use Rattle.serde_json.specs.Data.{Data}
-use Rattle.erd_tables.specs.Table.{required_names}
-use Rattle.erd_tables.specs.declared.class.Class.{Class}
-use Rattle.erd_tables.specs.declared.class.Class.TheVariants as class
-use Rattle.erd_tables.specs.declared.fault.Reason.{Reason}
-use Rattle.erd_tables.specs.declared.fault.Reason.TheVariants.{WrongKind, MissingMember, WrongClassText, NotWhole, OutsideProfile, UnknownReference, CarriedIdentity, NotPreElection, ElectionCount, EmptyArray, Repeated}
-use Rattle.erd_tables.specs.Faults.{reason_number, reason_cmp}
-use Rattle.erd_check.specs.Faults.{is_shape_fault, names_wanted, lacks}
-use Rattle.erd_check.specs.Wants.{scope_inside}
-use Rattle.erd_check.specs.code.Walk.{asked_with, missing, other_reasons, reasons}
-use Rattle.erd_check.specs.declared.want.Want.{Want}
-use Rattle.erd_check.specs.declared.want.Scope.{Scope}
-use Rattle.erd_check.specs.declared.want.Scope.TheVariants as scope
+use Rattle.erd_check.proofs.Common.{◌≡◌, ℕ, ◌<◌, ◌≤◌, Bool, true, false, ◌&&◌, List, [], ◌∷◌, ◌++◌, Some, None, filter, bytes_eq, nat_cmp, Less, sym, refl, subst, inl, inr, true≢false, arith, rules, and_parts, and_from, or_right, bytes_eq-Decides, slice_cmp, AllByRecursion, list_any, IsStrictlySortedBy, Data, reason_number, reason_cmp, required_names, Class, class, Reason, CarriedIdentity, ElectionCount, EmptyArray, MissingMember, NotPreElection, NotWhole, OutsideProfile, Repeated, UnknownReference, WrongClassText, WrongKind, lacks, names_wanted, is_shape_fault, scope_inside, asked_with, missing, other_reasons, reasons, Scope, scope, Want}
 use Rattle.erd_check.proofs.Order.{In, In-append, In-append_left, In-append_right, In-map, In-map_from, In-filter, In-filter_kept, Below, sorted_append, sorted_map, sorted_filter, In-all}
 
 -- ---- tests

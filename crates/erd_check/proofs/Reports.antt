@@ -1,8 +1,6 @@
 -- Reports for the worked examples: the small ballot, its canonical form, a report of one unit in parts that examples edit, and
 -- reports of two elections.
-use Rattle.std.proofs.Common.{ℕ, List, ◌++◌, codes, unwrap_or}
-use Rattle.serde_json.specs.Data.{Data, null}
-use Rattle.serde_json.specs.Read.{read}
+use Rattle.erd_check.proofs.Common.{ℕ, List, ◌++◌, codes, unwrap_or, Data, null, read}
 
 -- what a text is as JSON
 abbrev pub tree_of : List ℕ → Data

@@ -1,37 +1,9 @@
 -- A report without a fault of the shape: all that stands in it is asked for, so each number in it is whole and fits 64 bits, and the names of all its objects
 -- rise.
-use Rattle.std.proofs.Common.{◌≡◌, ℕ, suc, List, ◌∷◌, length, Less, nat_cmp, Bool, true, false, ◌&&◌, ◌||◌, Option, Some, None, refl, sym, ap, ◌∙◌, subst}
-use Rattle.std.specs.Prelude.{IfSome}
-use Rattle.std.specs.Cmp.Lexicographic.{slice_cmp}
-use Rattle.std.specs.List.{AllByRecursion}
-use Rattle.std.specs.List.Sorted.{IsStrictlySortedBy}
-use Rattle.std.proofs.lemmas.Bool.{or_from}
-use Rattle.serde_json.specs.Data.{Data, number, array, object, Items, no_items, item, Members, no_members, member}
-use Rattle.serde_json.specs.Find.{get_item, get_member}
-use Rattle.serde_json.specs.View.{view}
+use Rattle.erd_check.proofs.Common.{◌≡◌, ℕ, suc, Bool, true, false, ◌&&◌, ◌||◌, List, ◌∷◌, length, IfSome, Some, None, Option, nat_cmp, Less, sym, refl, ap, ◌∙◌, subst, or_from, slice_cmp, AllByRecursion, IsStrictlySortedBy, Data, number, array, object, Items, no_items, item, Members, no_members, member, get_member, get_item, view, Value, ListsAll, text_cmp, Role, role, Report, Fault, reason, kind, At, Name, ShapeFault, NoneOf, IsBeforeFirst, IsTree, AreTrees, AreMembers, IsShallow, names, IsInOrder, AreItemsInOrder, AreMembersInOrder, IsKnown, AreItemsKnown, AreMembersKnown, class_of_object, scope_inside, want_of_name, entry_want, is_compared_set, asked, is_repeated, asked_with, IsAskedInRange, Scope, scope, Want, Carried, Member, Object}
 use Rattle.serde_json.specs.Written.{has_float, items_have_float, members_have_float}
-use Rattle.serde_json.specs.declared.value.Value.{Value}
-use Rattle.erd_tables.specs.Faults.{ListsAll}
-use Rattle.erd_tables.specs.Texts.{text_cmp}
-use Rattle.erd_tables.specs.declared.class.Role.{Role}
-use Rattle.erd_tables.specs.declared.class.Role.TheVariants.{Report}
-use Rattle.erd_tables.specs.declared.class.Role.TheVariants as role
-use Rattle.erd_tables.specs.declared.fault.Fault.{Fault}
-use Rattle.erd_tables.specs.declared.fault.Reason.TheVariants as reason
-use Rattle.erd_tables.specs.declared.member.MemberKind.TheVariants as kind
-use Rattle.erd_tables.specs.declared.place.Step.TheVariants.{Name, At}
-use Rattle.erd_check.specs.Faults.{NoneOf, ShapeFault}
 use Rattle.erd_check.specs.Numbers.{HasFittingNumbers, ItemsHaveFittingNumbers, MembersHaveFittingNumbers}
 use Rattle.erd_check.specs.Shapes.{IsShaped}
-use Rattle.erd_check.specs.Trees.{IsShallow, AreMembers, AreTrees, IsBeforeFirst, IsTree}
-use Rattle.erd_check.specs.Values.{names}
-use Rattle.erd_check.specs.Wants.{asked, class_of_object, entry_want, is_compared_set, is_repeated, scope_inside, want_of_name}
-use Rattle.erd_check.specs.code.Walk.{asked_with, IsAskedInRange}
-use Rattle.erd_check.specs.Visits.{AreItemsInOrder, AreItemsKnown, AreMembersInOrder, AreMembersKnown, IsInOrder, IsKnown}
-use Rattle.erd_check.specs.declared.want.Scope.{Scope}
-use Rattle.erd_check.specs.declared.want.Scope.TheVariants as scope
-use Rattle.erd_check.specs.declared.want.Want.{Want}
-use Rattle.erd_check.specs.declared.want.Want.TheVariants.{Carried, Member, Object}
 use Rattle.erd_check.proofs.Deciding.{no_fault_from_empty}
 use Rattle.erd_check.proofs.Numbers.{has_numbers, HasNumbers, HaveNumbers, MembersHaveNumbers}
 use Rattle.erd_check.proofs.Shapes.{classed, faultless, of_label, of_role, unrepeated, AsksObject, Within, Within-root, Within-step}

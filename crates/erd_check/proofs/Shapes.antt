@@ -1,26 +1,6 @@
 -- What stands at the places of a report whose shape has no fault.
-use Rattle.std.proofs.Common.{◌≡◌, ℕ, List, [], ◌∷◌, ◌++◌, Option, Some, None, option_and_then, option_map, is_none, IsSomeAnd, Bool, true, false, not, ◌&&◌, codes, refl, sym, ap, ◌∙◌, subst, append_assoc}
-use Rattle.std.specs.List.{list_any}
-use Rattle.std.specs.Prelude.{IsTrue}
-use Rattle.std.specs.Str.{bytes_eq}
-use Rattle.std.proofs.lemmas.Bool.{false_from_ne_true, and_from, not-false}
-use Rattle.serde_json.specs.Data.{Data, string, array, object, Members, Items}
-use Rattle.serde_json.specs.Find.{get, get_member, get_item}
-use Rattle.erd_tables.specs.Classes.{text_of_class, role_of_class, class_in_role}
-use Rattle.erd_tables.specs.declared.class.Class.{Class}
-use Rattle.erd_tables.specs.declared.class.Role.{Role}
-use Rattle.erd_tables.specs.declared.place.Step.{Step}
-use Rattle.erd_tables.specs.declared.place.Step.TheVariants.{Name, At}
-use Rattle.erd_tables.specs.declared.fault.Reason.{Reason}
+use Rattle.erd_check.proofs.Common.{◌≡◌, ℕ, Bool, true, false, not, ◌&&◌, List, [], ◌∷◌, ◌++◌, is_none, IsSomeAnd, IsTrue, Some, None, codes, Option, option_map, option_and_then, bytes_eq, sym, refl, ap, ◌∙◌, subst, append_assoc, not-false, and_from, false_from_ne_true, list_any, Data, string, array, object, Items, Members, get_member, get_item, get, text_of_class, role_of_class, class_in_role, Class, Role, role, Reason, reason, kind, Step, At, Name, is_object, has_wanted_kind, names_wanted, is_reference, is_shape_fault, ShapeFault, NoneOf, IsTree, class_of_object, scope_inside, member_want, want_of_name, entry_want, is_compared_set, Asked, asked, is_repeated, asked_inside, asked_from, asked_at, Want, ClassText, Member, Object}
 use Rattle.erd_tables.proofs.Roles.{class_in_role_named}
-use Rattle.erd_tables.specs.declared.class.Role.TheVariants as role
-use Rattle.erd_tables.specs.declared.member.MemberKind.TheVariants as kind
-use Rattle.erd_tables.specs.declared.fault.Reason.TheVariants as reason
-use Rattle.erd_check.specs.Trees.{IsTree}
-use Rattle.erd_check.specs.Wants.{Asked, asked, asked_inside, asked_from, asked_at, class_of_object, scope_inside, member_want, want_of_name, entry_want, is_compared_set, is_repeated}
-use Rattle.erd_check.specs.Faults.{is_shape_fault, has_wanted_kind, is_object, names_wanted, is_reference, NoneOf, ShapeFault}
-use Rattle.erd_check.specs.declared.want.Want.{Want}
-use Rattle.erd_check.specs.declared.want.Want.TheVariants.{Object, ClassText, Member}
 use Rattle.erd_check.proofs.Entries.{object_from, string_from_text, get_item-tree}
 use Rattle.erd_check.proofs.Members.{get_member-tree}
 

@@ -1,29 +1,7 @@
 -- What is asked of the values of a report, and of a value that gives no reason: its number is whole and in range, and an array of which nothing is asked
 -- inside is empty.
-use Rattle.std.proofs.Common.{◌≡◌, ℕ, suc, arith, List, length, ◌==◌, Bool, true, false, ◌&&◌, ◌||◌, not, cond, Option, Some, None, codes, refl, sym, ap, ◌∙◌}
-use Rattle.std.specs.List.{list_all}
-use Rattle.std.specs.Str.{bytes_eq}
-use Rattle.serde_json.specs.Data.{Num, number, array, Items, no_items, item, Data}
-use Rattle.serde_json.specs.Find.{is_float}
-use Rattle.erd_tables.specs.Rows.{rows_of_class}
-use Rattle.erd_tables.specs.Table.{kind_of_identity, kind_of_member, is_required, is_reference_name}
-use Rattle.erd_tables.specs.declared.class.Family.TheVariants as family
-use Rattle.erd_tables.specs.declared.class.Class.{Class}
-use Rattle.erd_tables.specs.declared.class.Class.TheVariants as class
-use Rattle.erd_tables.specs.declared.class.Role.{Role}
-use Rattle.erd_tables.specs.declared.class.Role.TheVariants as role
-use Rattle.erd_tables.specs.declared.fault.Reason.{Reason}
-use Rattle.erd_tables.specs.declared.fault.Reason.TheVariants as reason
-use Rattle.erd_tables.specs.declared.member.MemberKind.{MemberKind}
-use Rattle.erd_tables.specs.declared.member.MemberKind.TheVariants as kind
-use Rattle.erd_check.specs.Faults.{is_shape_fault, is_empty_array, wants_whole}
+use Rattle.erd_check.proofs.Common.{◌≡◌, ℕ, suc, Bool, true, false, cond, not, ◌&&◌, ◌||◌, List, length, ◌==◌, Some, None, codes, Option, bytes_eq, sym, refl, ap, ◌∙◌, arith, list_all, Num, Data, number, array, Items, no_items, item, is_float, rows_of_class, is_reference_name, kind_of_identity, kind_of_member, is_required, Class, class, family, Role, role, Reason, reason, MemberKind, kind, is_empty_array, wants_whole, is_shape_fault, list_of_items, want_of_kind, is_report_class, member_want, carried_want, want_of_name, entry_want, asked_with, IsAskedInRange, scope, Want, Carried, ClassText, Member, Object, Reference, Status}
 use Rattle.erd_check.specs.Numbers.{IsFittingNumber}
-use Rattle.erd_check.specs.Values.{list_of_items}
-use Rattle.erd_check.specs.code.Walk.{asked_with, IsAskedInRange}
-use Rattle.erd_check.specs.Wants.{entry_want, is_report_class, member_want, carried_want, want_of_kind, want_of_name}
-use Rattle.erd_check.specs.declared.want.Scope.TheVariants as scope
-use Rattle.erd_check.specs.declared.want.Want.{Want}
-use Rattle.erd_check.specs.declared.want.Want.TheVariants.{Object, ClassText, Reference, Status, Member, Carried}
 use Rattle.erd_check.proofs.TableKinds.{kind_of_class}
 
 -- a value that gives no reason

@@ -1,13 +1,6 @@
 -- The steps inside a value: the names of members, and the positions of entries.
-use Rattle.std.proofs.Common.{◌≡◌, ℕ, suc, ◌+◌, ◌<◌, List, [], ◌∷◌, ◌++◌, length, Less, Equal, nat_cmp, is_eq, Some, sym, ap, ◌∙◌, subst, length-append, arith}
-use Rattle.std.proofs.lemmas.Cmp.{nat_list_cmp_total, tied_itself}
+use Rattle.erd_check.proofs.Common.{◌≡◌, ℕ, suc, ◌+◌, ◌<◌, List, [], ◌∷◌, ◌++◌, length, Some, nat_cmp, is_eq, Less, Equal, sym, ap, ◌∙◌, subst, arith, length-append, tied_itself, nat_list_cmp_total, bytes_eq-Decides, slice_cmp, AllByRecursion, Data, Members, no_members, member, get_member, names}
 use Rattle.std.proofs.lemmas.Map.Text.{is_eq-slice_cmp}
-use Rattle.std.proofs.lemmas.Slice.Eq.{bytes_eq-Decides}
-use Rattle.std.specs.Cmp.Lexicographic.{slice_cmp}
-use Rattle.std.specs.List.{AllByRecursion}
-use Rattle.serde_json.specs.Data.{Data, Members, no_members, member}
-use Rattle.serde_json.specs.Find.{get_member}
-use Rattle.erd_check.specs.Values.{names}
 use Rattle.erd_check.proofs.Members.{found_cases}
 
 -- ---- names

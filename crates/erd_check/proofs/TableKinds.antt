@@ -1,15 +1,5 @@
 -- What kinds the table has for a class.
-use Rattle.std.proofs.Common.{◌≡◌, ℕ, List, [], ◌∷◌, unwrap_or, Bool, true, false, ◌&&◌, cond, codes, refl, sym, ap, ◌∙◌}
-use Rattle.std.specs.List.{list_all}
-use Rattle.std.specs.Str.{bytes_eq}
-use Rattle.std.proofs.lemmas.Bool.{and_parts}
-use Rattle.erd_tables.specs.Rows.{Row, rows_of_class}
-use Rattle.erd_tables.specs.Table.{kind_in_rows, kind_of_unlisted, kind_of_identity, is_reference_name, kind_of_member, is_required}
-use Rattle.erd_tables.specs.declared.class.Class.{Class}
-use Rattle.erd_tables.specs.declared.member.MemberKind.{MemberKind}
-use Rattle.erd_tables.specs.declared.class.Class.TheVariants as class
-use Rattle.erd_tables.specs.declared.member.MemberKind.TheVariants as kind
-use Rattle.erd_check.specs.Wants.{is_report_class, want_of_kind, member_want}
+use Rattle.erd_check.proofs.Common.{◌≡◌, ℕ, Bool, true, false, cond, ◌&&◌, List, [], ◌∷◌, codes, bytes_eq, unwrap_or, sym, refl, ap, ◌∙◌, and_parts, list_all, Row, rows_of_class, kind_in_rows, is_reference_name, kind_of_identity, kind_of_unlisted, kind_of_member, is_required, Class, class, MemberKind, kind, want_of_kind, is_report_class, member_want}
 use Rattle.erd_check.proofs.Exact.{text_exact}
 
 cond_keeps : {A : Type 0} (P : A → Bool) (b : Bool) (x y : A) → P x ≡ true → P y ≡ true → P (cond b x y) ≡ true

@@ -1,20 +1,5 @@
 -- Entries that the visitor does not compare with earlier ones: what is told of them is the same whether they are compared or not, and texts may be passed over.
-use Rattle.std.proofs.Common.{◌≡◌, List, [], ◌∷◌, ◌++◌, Bool, ◌&&◌, refl, ap, ◌∙◌, ℕ, true, false, Option, Some, ap₂}
-use Rattle.std.specs.List.{list_any, list_all}
-use Rattle.std.specs.Option.{option_map_or}
-use Rattle.std.specs.Prelude.{length, IfSome}
-use Rattle.serde_json.specs.Data.{Data, string, array, object, Items, no_items, item}
-use Rattle.serde_json.specs.View.{items_of}
-use Rattle.erd_tables.specs.declared.place.Step.{Step}
-use Rattle.erd_tables.specs.declared.place.Step.TheVariants.{At}
-use Rattle.erd_tables.specs.declared.class.Family.{Family}
-use Rattle.erd_check.specs.Trees.{is_same_json}
-use Rattle.erd_check.specs.Wants.{scope_inside, entry_want, is_compared_set}
-use Rattle.erd_check.specs.Visits.{Telling, IsOfValueAlone, faults_of, told_at, told_of_items, told_of_members, AreEntriesInOrder, AreEntriesKnown, AreEntriesSilent, AreItemsInOrder, AreItemsKnown}
-use Rattle.erd_check.specs.declared.want.Want.{Want}
-use Rattle.erd_check.specs.Faults.{is_reference, is_text}
-use Rattle.erd_check.specs.code.Walk.{IsAskedInRange, reasons}
-use Rattle.erd_check.specs.declared.want.Want.TheVariants.{Reference}
+use Rattle.erd_check.proofs.Common.{◌≡◌, ℕ, Bool, true, false, ◌&&◌, List, [], ◌∷◌, ◌++◌, length, IfSome, Some, Option, refl, ap, ◌∙◌, ap₂, list_all, list_any, option_map_or, Data, string, array, object, Items, no_items, item, items_of, Family, Step, At, is_text, is_reference, is_same_json, faults_of, Telling, told_at, told_of_items, told_of_members, AreItemsInOrder, AreItemsKnown, IsOfValueAlone, AreEntriesSilent, AreEntriesKnown, AreEntriesInOrder, scope_inside, entry_want, is_compared_set, reasons, IsAskedInRange, Want, Reference}
 
 module _ (tells : Telling) (w : Want) (alone : IsOfValueAlone tells w) where
   told_alone : (outer owner : Data) (p : List Step) (one other : Bool) (d : Data) → told_at tells outer owner p w one d ≡ told_at tells outer owner p w other d

@@ -1,19 +1,5 @@
 -- A walk tells nothing of what two others tell, one after the other at each value, if and only if neither of them tells anything.
-use Rattle.std.proofs.Common.{◌≡◌, List, [], ◌∷◌, ◌++◌, Bool, false, ◌&&◌, Option, Some, None, length, refl, ap₂}
-use Rattle.std.specs.List.{list_any}
-use Rattle.std.specs.Option.{option_map_or}
-use Rattle.serde_json.specs.Data.{Data, null, boolean, number, string, array, object, Items, no_items, item, Members, no_members, member}
-use Rattle.erd_tables.specs.declared.class.Role.TheVariants.{Report}
-use Rattle.erd_tables.specs.declared.fault.Fault.{Fault}
-use Rattle.erd_tables.specs.declared.fault.Reason.{Reason}
-use Rattle.erd_tables.specs.declared.place.Step.{Step}
-use Rattle.erd_tables.specs.declared.place.Step.TheVariants.{Name, At}
-use Rattle.erd_check.specs.Trees.{is_same_json}
-use Rattle.erd_check.specs.Wants.{scope_inside, want_of_name, entry_want, is_compared_set}
-use Rattle.erd_check.specs.Visits.{AreEntriesSilent, Telling, both_tell, faults_of, told_at, told_of_items, told_of_members, told_of_report}
-use Rattle.erd_check.specs.declared.want.Scope.{Scope}
-use Rattle.erd_check.specs.declared.want.Want.{Want}
-use Rattle.erd_check.specs.declared.want.Want.TheVariants.{Object}
+use Rattle.erd_check.proofs.Common.{◌≡◌, Bool, false, ◌&&◌, List, [], ◌∷◌, ◌++◌, length, Some, None, Option, refl, ap₂, list_any, option_map_or, Data, null, boolean, number, string, array, object, Items, no_items, item, Members, no_members, member, Report, Fault, Reason, Step, At, Name, is_same_json, faults_of, Telling, both_tell, told_at, told_of_items, told_of_members, told_of_report, AreEntriesSilent, scope_inside, want_of_name, entry_want, is_compared_set, Scope, Want, Object}
 
 both_empty : (fs gs : List Fault) → fs ++ gs ≡ [] → (fs ≡ []) × (gs ≡ [])
 both_empty [] gs e = (refl, e)

@@ -1,16 +1,7 @@
 -- A set of values: one value more, and the value that is tied with a given one.
-use Rattle.std.proofs.Common.{◌≡◌, List, [], ◌∷◌, ◌++◌, Bool, true, false, ◌||◌, true≢false, not, Some, None, Ordering, Less, Equal, Greater, is_eq, map, find, refl, sym, ap, ◌∙◌}
+use Rattle.erd_check.proofs.Common.{◌≡◌, Bool, true, false, not, ◌||◌, List, [], ◌∷◌, ◌++◌, map, Some, None, find, is_eq, Ordering, Less, Equal, Greater, sym, refl, ap, ◌∙◌, true≢false, or_right, Equal-is, list_any, match_ordering, Data, view, is_same_json, StandsFor, json_cmp}
 use Rattle.std.specs.BTreeSet.{insert_key}
-use Rattle.std.specs.Cmp.{Equal-is}
-use Rattle.std.specs.List.{list_any}
-use Rattle.std.specs.Ordering.{match_ordering}
 use Rattle.std.proofs.lemmas.List.Folds.{list_any-append}
-use Rattle.std.proofs.lemmas.Bool.{or_right}
-use Rattle.serde_json.specs.Data.{Data}
-use Rattle.serde_json.specs.View.{view}
-use Rattle.erd_check.specs.Trees.{is_same_json}
-use Rattle.erd_check.specs.ValueSets.{StandsFor}
-use Rattle.erd_check.specs.code.JsonOrder.{json_cmp}
 use Rattle.erd_check.specs.declared.ordered_value.OrderedValue.{OrderedValue}
 use Rattle.erd_check.specs.declared.value_set.ValueSet.{ValueSet}
 use Rattle.erd_check.proofs.JsonTies.{same_as_tied, same_itself, same_tied, tied_same}

@@ -1,30 +1,12 @@
 -- What a walk over a report tells is the list of the reasons at each place, over all that is asked in the report.
-use Rattle.std.proofs.Common.{◌≡◌, ◌-◌, ◌≤◌, inl, inr, List, [], ◌∷◌, ◌++◌, length, take, Bool, false, ◌&&◌, Option, Some, None, refl, sym, ap, ap₂, ◌∙◌, subst, append-nil, arith, length-append, IsTrue}
+use Rattle.erd_check.proofs.Common.{◌≡◌, ◌-◌, ◌≤◌, Bool, false, ◌&&◌, List, [], ◌∷◌, ◌++◌, length, take, IsSomeAnd, IsTrue, Some, None, Option, flat_map, sym, refl, ap, ◌∙◌, subst, ap₂, inl, inr, append-nil, arith, length-append, list_any, option_map_or, Data, array, object, Items, no_items, item, Members, no_members, member, ListsAll, Report, Fault, Reason, Step, At, Name, is_shape_fault, ShapeFault, is_same_json, faults_of, Telling, told_at, told_of_items, told_of_members, told_of_report, IsInOrder, scope_inside, want_of_name, entry_want, is_compared_set, Asked, asked_at, asked_with, reasons, Scope, Want, Object}
 use Rattle.std.proofs.Math.Seq.{take-append_seam}
 use Rattle.std.proofs.lemmas.List.{take-append-le}
 use Rattle.std.proofs.lemmas.Grind.{flat_map-append}
-use Rattle.std.specs.List.{flat_map, list_any}
-use Rattle.std.specs.Option.{option_map_or}
-use Rattle.std.specs.Prelude.{IsSomeAnd}
-use Rattle.serde_json.specs.Data.{Data, array, object, Items, no_items, item, Members, no_members, member}
-use Rattle.erd_tables.specs.Faults.{ListsAll}
-use Rattle.erd_tables.specs.declared.class.Role.TheVariants.{Report}
-use Rattle.erd_tables.specs.declared.fault.Fault.{Fault}
-use Rattle.erd_tables.specs.declared.fault.Reason.{Reason}
-use Rattle.erd_tables.specs.declared.place.Step.{Step}
-use Rattle.erd_tables.specs.declared.place.Step.TheVariants.{Name, At}
-use Rattle.erd_check.specs.Trees.{is_same_json}
-use Rattle.erd_check.specs.Wants.{Asked, asked_at, scope_inside, want_of_name, entry_want, is_compared_set}
-use Rattle.erd_check.specs.code.Walk.{asked_with, reasons}
-use Rattle.erd_check.specs.Visits.{faults_of, told_at, told_of_items, told_of_members, told_of_report, IsInOrder, Telling}
-use Rattle.erd_check.specs.declared.want.Scope.{Scope}
-use Rattle.erd_check.specs.declared.want.Want.{Want}
-use Rattle.erd_check.specs.declared.want.Want.TheVariants.{Object}
 use Rattle.erd_check.proofs.AllAsked.{AskedPlace, all_asked, all_asked_from, all_asked_items, all_asked_members}
 use Rattle.erd_check.proofs.AskedInside.{all_asked_sound}
 use Rattle.erd_check.proofs.FaultsAsked.{faults_asked, faults_asked_listed, faults_there, AreReasons}
 use Rattle.erd_check.proofs.Order.{In, In-append_left, In-append_right}
-use Rattle.erd_check.specs.Faults.{is_shape_fault, ShapeFault}
 use Rattle.erd_check.proofs.Reasons.{reasons_complete, reasons_sorted, reasons_sound}
 
 -- ---- the values around a place

@@ -1,26 +1,6 @@
 -- Values in which every number is whole are equal to themselves as JSON.
-use Rattle.std.proofs.Common.{◌≡◌, ℕ, zero, suc, List, Some, None, Bool, true, false, not, ◌&&◌, ◌||◌, codes, Ordering, Equal, refl, sym, ap, ◌∙◌, subst, pos}
-use Rattle.std.specs.List.{list_all}
-use Rattle.std.specs.Str.{bytes_eq}
-use Rattle.std.proofs.lemmas.Map.Lookups.{exact_bytes}
+use Rattle.erd_check.proofs.Common.{◌≡◌, ℕ, zero, suc, Bool, true, false, not, ◌&&◌, ◌||◌, List, pos, Some, None, codes, bytes_eq, Ordering, Equal, sym, refl, ap, ◌∙◌, subst, not-true, and_parts, and_from, exact_bytes, list_all, Num, unsigned, negative, float, Data, null, boolean, number, string, array, object, Items, no_items, item, Members, no_members, member, get_member, get_item, get, text_of_class, role_of_class, rows_of_class, is_reference_name, kind_of_identity, kind_of_member, is_required, text_cmp, Class, Role, reason, MemberKind, kind, At, Name, is_not_whole, ShapeFault, NoneOf, IsTree, AreTrees, AreMembers, same_number, is_same_json, are_same_items, are_same_members, class_of_object, want_of_kind, is_report_class, carried_want, asked, Carried, Member, Object}
 use Rattle.std.proofs.lemmas.Bool.Decides.{Decides-int_eq}
-use Rattle.std.proofs.lemmas.Bool.{and_parts, and_from, not-true}
-use Rattle.serde_json.specs.Data.{Num, unsigned, negative, float, Data, null, boolean, number, string, array, object, Items, no_items, item, Members, no_members, member}
-use Rattle.serde_json.specs.Find.{get, get_member, get_item}
-use Rattle.erd_tables.specs.Classes.{text_of_class, role_of_class}
-use Rattle.erd_tables.specs.Table.{is_reference_name, kind_of_member, kind_of_identity, is_required}
-use Rattle.erd_tables.specs.Rows.{rows_of_class}
-use Rattle.erd_tables.specs.declared.class.Class.{Class}
-use Rattle.erd_tables.specs.declared.class.Role.{Role}
-use Rattle.erd_tables.specs.declared.member.MemberKind.{MemberKind}
-use Rattle.erd_tables.specs.declared.place.Step.TheVariants.{Name, At}
-use Rattle.erd_tables.specs.Texts.{text_cmp}
-use Rattle.erd_tables.specs.declared.member.MemberKind.TheVariants as kind
-use Rattle.erd_tables.specs.declared.fault.Reason.TheVariants as reason
-use Rattle.erd_check.specs.Trees.{same_number, is_same_json, are_same_items, are_same_members, IsTree, AreTrees, AreMembers}
-use Rattle.erd_check.specs.Wants.{class_of_object, is_report_class, want_of_kind, carried_want, asked}
-use Rattle.erd_check.specs.Faults.{is_not_whole, NoneOf, ShapeFault}
-use Rattle.erd_check.specs.declared.want.Want.TheVariants.{Object, Member, Carried}
 use Rattle.erd_check.proofs.Members.{get_member-first, get_member-before}
 use Rattle.erd_check.proofs.Exact.{text_itself, text_exact, flag_itself}
 use Rattle.erd_check.proofs.Entries.{string_from_text}

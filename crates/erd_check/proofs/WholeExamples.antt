@@ -1,13 +1,5 @@
 -- Whole reports are trees and have no fault of the shape, or exactly the faults that are listed, by computation.
-use Rattle.std.proofs.Common.{◌≡◌, ℕ, List, [], ◌∷◌, codes, true, length, refl, subst}
-use Rattle.serde_json.proofs.OnLiterals.{serde_json_on_literals}
-use Rattle.erd_tables.specs.Faults.{ListsAll}
-use Rattle.erd_tables.specs.declared.fault.Fault.{Fault}
-use Rattle.erd_tables.specs.declared.fault.Reason.TheVariants.{WrongKind, MissingMember, NotWhole, OutsideProfile, UnknownReference, CarriedIdentity, NotPreElection, ElectionCount}
-use Rattle.erd_tables.specs.declared.place.Step.TheVariants.{Name, At}
-use Rattle.erd_check.specs.Faults.{ShapeFault, NoneOf}
-use Rattle.erd_check.specs.Paths.{fault_at}
-use Rattle.erd_check.specs.Trees.{IsTree}
+use Rattle.erd_check.proofs.Common.{◌≡◌, ℕ, true, List, [], ◌∷◌, length, codes, refl, subst, serde_json_on_literals, ListsAll, Fault, CarriedIdentity, ElectionCount, MissingMember, NotPreElection, NotWhole, OutsideProfile, UnknownReference, WrongKind, At, Name, ShapeFault, NoneOf, fault_at, IsTree}
 use Rattle.erd_check.proofs.Deciding.{is_tree, tree_sound, faults_found, faults_listed, no_fault_listed}
 use Rattle.erd_check.proofs.Reports.{tree_of, one_unit, small_ballot, small_ballot_canonical, one_unit_report, three_contests, two_elections}
 

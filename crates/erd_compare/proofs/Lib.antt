@@ -1,3 +1,4 @@
+pub mod Common
 -- parts of whole trees are whole trees, and equality as JSON decides equality on them
 pub mod whole_trees
 -- numbers stand for keys: equal numbers for equal keys

@@ -1,3 +1,4 @@
+pub mod Common
 pub mod identity
 pub mod selections
 pub mod refused

@@ -1,12 +1,6 @@
 -- The texts of the values that calls answer as data.
-use Rattle.std.proofs.Common.{◌≡◌, ℕ, List, ◌++◌, ap, ◌∙◌, append_assoc, ◌≤◌, ◌<◌, ◌^◌, ◌⊎◌, inl, inr, pos, negsuc, Some, refl, sym, subst, arith, [], codes, false}
+use Rattle.erd_canon.proofs.Common.{◌≡◌, ℕ, ◌^◌, ◌<◌, ◌≤◌, false, ◌⊎◌, List, [], ◌++◌, pos, negsuc, Some, codes, IsUtf8, sym, refl, ap, ◌∙◌, subst, inl, inr, append_assoc, arith, digits, signed_decimal, serde_json_on_literals, Num, unsigned, negative, float, Data, number, string, array, object, Items, no_items, item, Members, no_members, member, depth, read, max_depth, number_text, outline, items_outline, members_outline, has_float, compact_text, IsFittingNumber, HasFittingNumbers, ItemsHaveFittingNumbers, MembersHaveFittingNumbers, IsTree, Preference, Difference, refused_data, IsComparison, IsSomeReport, RefusedAs, TellsRefusalAs, AppendsRefusal, IsRefusalAnswer, IsSideAnswer, Refusal, refusal, Outcome, Bad, Good, NotJson}
 use Rattle.std.proofs.lemmas.Bool.{cases_eq}
-use Rattle.std.specs.Fmt.{digits, signed_decimal}
-use Rattle.std.specs.Str.{IsUtf8}
-use Rattle.serde_json.specs.Data.{Num, unsigned, negative, float, Data, number, array, object, Items, no_items, item, Members, no_members, member, depth, string}
-use Rattle.serde_json.specs.Read.{max_depth, read}
-use Rattle.serde_json.specs.Written.{compact_text, items_outline, members_outline, number_text, outline, has_float}
-use Rattle.serde_json.proofs.OnLiterals.{serde_json_on_literals}
 use Rattle.serde_json.proofs.Texts.{print-outline}
 use Rattle.json.specs.Lex.{tokens}
 use Rattle.json.specs.Print.{IsNumber}
@@ -14,22 +8,10 @@ use Rattle.json.specs.Tree.{json_tokens, HasNumbers, ItemsHaveNumbers, MembersHa
 use Rattle.json.proofs.Printed.Decimals.{IsNumber-decimal, IsNumber-signed_decimal}
 use Rattle.json.proofs.Printed.Tokens.{tokens-print}
 use Rattle.json.proofs.Printed.Trees.{ArePrintable-json_tokens}
-use Rattle.erd_check.specs.Numbers.{HasFittingNumbers, IsFittingNumber, ItemsHaveFittingNumbers, MembersHaveFittingNumbers}
-use Rattle.erd_check.specs.Trees.{IsTree}
-use Rattle.erd_meaning.specs.Keys.{Preference}
 use Rattle.erd_normal.proofs.texts.FormTexts.{form_read}
 use Rattle.erd_compare.specs.DifferenceData.{difference_data}
-use Rattle.erd_compare.specs.declared.difference.Difference.{Difference}
 use Rattle.erd_canon.specs.DataAnswers.{IsDataText, IsCheckData, IsCheckedData, IsComparedData, IsRefusalData}
-use Rattle.erd_canon.specs.DataValues.{refused_data}
-use Rattle.erd_canon.specs.code.RefusalData.{AppendsRefusal, IsRefusalAnswer, IsSideAnswer, TellsRefusalAs}
-use Rattle.erd_canon.specs.declared.engines.outcome.Outcome.{Outcome}
-use Rattle.erd_canon.specs.declared.bytes.refusal.Refusal.{Refusal}
 use Rattle.erd_canon.proofs.data_values.DataTrees.{refusal_value, refused_depth, refused_tree, difference_value}
-use Rattle.erd_canon.specs.EngineTexts.{IsComparison}
-use Rattle.erd_canon.specs.Refused.{IsSomeReport, RefusedAs}
-use Rattle.erd_canon.specs.declared.engines.outcome.Outcome.TheVariants.{Good, Bad, NotJson}
-use Rattle.erd_canon.specs.declared.bytes.refusal.Refusal.TheVariants as refusal
 
 -- ---- texts that are written piece by piece
 

@@ -1,26 +1,12 @@
 -- The values that calls answer as data are trees, nest little, and have no number that is not whole.
-use Rattle.std.proofs.Common.{◌≡◌, ◌≤◌, ℕ, List, [], ◌∷◌, Option, Some, None, map, false, refl, sym, subst, arith}
-use Rattle.serde_json.specs.Data.{Data, depth, items_depth}
-use Rattle.serde_json.specs.View.{items_of}
-use Rattle.serde_json.specs.Written.{has_float, items_have_float}
-use Rattle.erd_tables.specs.declared.fault.Fault.{Fault}
-use Rattle.erd_tables.specs.declared.fault.Reason.{Reason}
-use Rattle.erd_tables.specs.declared.fault.Reason.TheVariants as reason
+use Rattle.erd_canon.proofs.Common.{◌≡◌, ℕ, ◌≤◌, false, List, [], ◌∷◌, map, Some, None, Option, sym, refl, subst, arith, Data, depth, items_depth, items_of, has_float, items_have_float, Fault, Reason, reason, IsTree, AreTrees, Difference, step_data, fault_data, refused_data, TellsRefusalAs, Refusal, refusal, Outcome, Bad, Good, NotJson}
 use Rattle.erd_tables.specs.declared.place.Step.{Step}
 use Rattle.erd_tables.specs.declared.place.Step.TheVariants.{Name, At}
-use Rattle.erd_check.specs.Trees.{AreTrees, IsTree}
 use Rattle.erd_meaning.specs.declared.keys.key.Key.{Key}
 use Rattle.erd_compare.specs.DifferenceData.{difference_data}
-use Rattle.erd_compare.specs.declared.difference.Difference.{Difference}
 use Rattle.erd_compare.specs.declared.difference.How.{How}
 use Rattle.erd_compare.specs.declared.difference.How.TheVariants.{OnlyLeft, OnlyRight, OtherClass, Member}
 use Rattle.erd_compare.specs.declared.difference.Part.{Part}
-use Rattle.erd_canon.specs.DataValues.{fault_data, refused_data, step_data}
-use Rattle.erd_canon.specs.code.RefusalData.{TellsRefusalAs}
-use Rattle.erd_canon.specs.declared.engines.outcome.Outcome.{Outcome}
-use Rattle.erd_canon.specs.declared.engines.outcome.Outcome.TheVariants.{Good, Bad, NotJson}
-use Rattle.erd_canon.specs.declared.bytes.refusal.Refusal.{Refusal}
-use Rattle.erd_canon.specs.declared.bytes.refusal.Refusal.TheVariants as refusal
 
 -- ---- trees
 

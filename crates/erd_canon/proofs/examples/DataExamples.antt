@@ -1,17 +1,7 @@
 -- The answers as data on worked rows, by computation.
-use Rattle.std.proofs.Common.{◌≡◌, ℕ, List, [], ◌∷◌, Some, None, map, codes, refl, inl, inr}
-use Rattle.std.specs.Fmt.{digits}
-use Rattle.serde_json.specs.Data.{Data, null, string}
-use Rattle.serde_json.specs.Read.{read}
-use Rattle.serde_json.specs.Written.{compact_text}
-use Rattle.serde_json.proofs.OnLiterals.{serde_json_on_literals}
-use Rattle.erd_tables.specs.declared.fault.Fault.{Fault}
-use Rattle.erd_tables.specs.declared.fault.Reason.TheVariants as reason
+use Rattle.erd_canon.proofs.Common.{◌≡◌, ℕ, List, [], ◌∷◌, map, Some, None, codes, refl, inl, inr, digits, serde_json_on_literals, Data, null, string, read, compact_text, Fault, reason, IsAcceptedReport, fault_data, faults_data, refused_data, comparison_data, Bad, Good, NotJson}
 use Rattle.erd_tables.specs.declared.place.Step.TheVariants.{Name, At}
-use Rattle.erd_canon.specs.Bytes.{IsAcceptedReport}
 use Rattle.erd_canon.specs.DataAnswers.{IsCheckedData, IsComparedData, IsDataText}
-use Rattle.erd_canon.specs.DataValues.{comparison_data, fault_data, faults_data, refused_data}
-use Rattle.erd_canon.specs.declared.engines.outcome.Outcome.TheVariants.{Good, Bad, NotJson}
 use Rattle.erd_canon.proofs.examples.EngineExamples.{no_bytes, null_refused, root_kind}
 
 -- ---- faults

@@ -1,22 +1,9 @@
 -- What the engines write for bytes that are no JSON, and for the JSON `null`, which has one fault.
-use Rattle.std.proofs.Common.{◌≡◌, ℕ, zero, suc, List, [], ◌∷◌, None, codes, refl, subst, lit<, inl, inr}
+use Rattle.erd_canon.proofs.Common.{◌≡◌, ℕ, zero, suc, List, [], ◌∷◌, None, codes, Contains, refl, subst, inl, inr, arith, lit<, serde_json_on_literals, Data, null, fault_cmp, Fault, Reason, reason, IsFault, IsNotJson, IsAcceptedReport, IsRefusal, IsCheckText, IsCanonicalOutput, IsCanonicalErrors, IsCompareText, IsRefusedReport, IsCompared, Bad, Good, NotJson}
 use Rattle.std.proofs.lemmas.Option.{none-some}
-use native.Mathlib.Omega.{arith}
-use Rattle.std.specs.List.{Contains}
 use Rattle.std.specs.List.Sorted.{IsStrictlySortedBy}
-use Rattle.serde_json.specs.Data.{Data, null}
-use Rattle.serde_json.proofs.OnLiterals.{serde_json_on_literals}
-use Rattle.erd_tables.specs.Faults.{fault_cmp}
-use Rattle.erd_tables.specs.declared.fault.Fault.{Fault}
-use Rattle.erd_tables.specs.declared.fault.Reason.{Reason}
-use Rattle.erd_tables.specs.declared.fault.Reason.TheVariants as reason
 use Rattle.erd_tables.specs.declared.place.Step.{Step}
 use Rattle.erd_check.specs.Faults.{ShapeFault}
-use Rattle.erd_meaning.specs.Accepted.{IsFault}
-use Rattle.erd_canon.specs.Bytes.{IsAcceptedReport, IsNotJson}
-use Rattle.erd_canon.specs.EngineTexts.{IsRefusal, IsRefusedReport, IsCheckText, IsCanonicalOutput, IsCanonicalErrors, IsCompareText}
-use Rattle.erd_canon.specs.Run.{IsCompared}
-use Rattle.erd_canon.specs.declared.engines.outcome.Outcome.TheVariants.{Good, Bad, NotJson}
 
 -- ---- no bytes are no JSON
 

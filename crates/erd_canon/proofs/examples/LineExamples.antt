@@ -1,11 +1,5 @@
 -- The exact lines, and what `clap` makes of others, on examples.
-use Rattle.std.proofs.Common.{◌≡◌, List, ℕ, [], ◌∷◌, Some, None, Bool, codes, false, true, refl, arith}
-use Rattle.clap.specs.Words.{Kinds, fault_of, subcommand_of, takes}
-use Rattle.clap.specs.declared.error.kind.ErrorKind.TheVariants.{DisplayHelp, MissingRequiredArgument, UnknownArgument}
-use Rattle.clap.proofs.OnLiterals.{clap_on_literals}
-use Rattle.erd_canon.specs.ExactLines.{HasPlainWords, words_of}
-use Rattle.erd_canon.specs.ReadLines.{request_in}
-use Rattle.erd_canon.specs.Subcommands.{program}
+use Rattle.erd_canon.proofs.Common.{◌≡◌, ℕ, Bool, true, false, List, [], ◌∷◌, Some, None, codes, refl, arith, clap_on_literals, subcommand_of, takes, Kinds, fault_of, DisplayHelp, MissingRequiredArgument, UnknownArgument, words_of, HasPlainWords, request_in, program}
 use Rattle.erd_canon.specs.declared.commands.request.Request.{Request}
 use Rattle.erd_canon.specs.declared.commands.request.Request.TheVariants.{Filter, Check, Canon, Compare}
 

@@ -1,9 +1,5 @@
 -- Worked examples, by computation: which bytes are JSON, and lines.
-use Rattle.std.proofs.Common.{◌≡◌, [], ◌∷◌, true, None, codes, refl}
-use Rattle.std.specs.Prelude.{is_some}
-use Rattle.serde_json.specs.Read.{read}
-use Rattle.serde_json.proofs.OnLiterals.{serde_json_on_literals}
-use Rattle.erd_canon.specs.EngineTexts.{text_of_lines, lines_of_side, comparison_line}
+use Rattle.erd_canon.proofs.Common.{◌≡◌, true, [], ◌∷◌, is_some, None, codes, refl, serde_json_on_literals, read, text_of_lines, comparison_line, lines_of_side}
 
 -- no bytes, and a report that lacks its last byte, are no JSON
 no_json : (read [] ≡ None) × (read (codes "{\"@type\":\"ElectionResults.ElectionReport\"") ≡ None) × (read (codes "{} x") ≡ None) × (is_some (read (codes " {} ")) ≡ true)

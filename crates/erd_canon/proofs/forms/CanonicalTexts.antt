@@ -1,12 +1,7 @@
 -- The compact text of the canonical form of a report is its canonical bytes.
-use Rattle.std.proofs.Common.{◌≡◌, ℕ, List, subst, arith}
-use Rattle.serde_json.specs.Data.{Data}
-use Rattle.erd_check.specs.Trees.{IsNoDeeper, IsShallow}
-use Rattle.erd_meaning.specs.Keys.{Preference}
-use Rattle.erd_meaning.specs.Accepted.{IsAccepted}
+use Rattle.erd_canon.proofs.Common.{◌≡◌, ℕ, List, subst, arith, Data, IsShallow, IsNoDeeper, IsAccepted, Preference, IsTreeOf, IsCanonicalBytes}
 use Rattle.erd_normal.specs.Canonical.{IsCanonicalFormOf}
 use Rattle.erd_normal.specs.CanonicalText.{IsCanonicalText}
-use Rattle.erd_canon.specs.Bytes.{IsTreeOf, IsCanonicalBytes}
 
 -- a form that is nested no deeper than a tree that was read is read back
 pub form_is_shallow : (t u : Data) → IsShallow t → IsNoDeeper u t → IsShallow u

@@ -1,18 +1,12 @@
 -- Canonical bytes are equal exactly for equal meanings, and for reports that say the same. They are their own canonical bytes, and those of each rearrangement.
-use Rattle.std.proofs.Common.{◌≡◌, ℕ, List, refl, sym, ◌∙◌, ap, subst}
-use Rattle.serde_json.specs.Data.{Data}
-use Rattle.serde_json.specs.Written.{compact_text}
+use Rattle.erd_canon.proofs.Common.{◌≡◌, ℕ, List, sym, refl, ap, ◌∙◌, subst, Data, compact_text, IsAccepted, Preference, meaning, IsTreeOf, IsCanonicalBytes}
 use Rattle.erd_check.proofs.ReadTrees.{read_is_tree}
-use Rattle.erd_meaning.specs.Accepted.{IsAccepted}
-use Rattle.erd_meaning.specs.Keys.{Preference}
-use Rattle.erd_meaning.specs.Records.{meaning}
 use Rattle.erd_normal.proofs.rearranged.RearrangedReports.{rearranged_means_the_same}
 use Rattle.erd_normal.proofs.same.complete.Complete.{says_and_means}
 use Rattle.erd_normal.proofs.unique.Unique.{unique}
 use Rattle.erd_normal.specs.Laws.{MeanAlike}
 use Rattle.erd_canon.proofs.forms.Refusing.{one_tree}
 use Rattle.erd_canon.specs.ByteLaws.{OneFormForOneMeaning, IsItsOwnForm, SameFormWhenRearranged}
-use Rattle.erd_canon.specs.Bytes.{IsTreeOf, IsCanonicalBytes}
 use Rattle.erd_canon.specs.Headline.{Headline, TellsSayings}
 
 -- the tree of canonical bytes means what the report means

@@ -1,16 +1,9 @@
 -- Why a tree is not accepted, and so the bytes that are it.
-use Rattle.std.proofs.Common.{◌≡◌, ℕ, List, [], ◌∷◌, Some, refl, sym, ◌∙◌, subst, inl}
-use Rattle.serde_json.specs.Data.{Data}
-use Rattle.erd_tables.specs.declared.fault.Fault.{Fault}
+use Rattle.erd_canon.proofs.Common.{◌≡◌, ℕ, List, [], ◌∷◌, Some, sym, refl, ◌∙◌, subst, inl, Data, Fault, IsFault, Preference, IsTreeOf, IsRefusedReport, IsSomeReport, RefusedAs, refusal_for}
 use Rattle.erd_check.proofs.Order.{contains_from_In}
 use Rattle.erd_check.specs.Refusals.{RefusedFor}
 use Rattle.erd_check.specs.declared.error.CheckError.{CheckError}
 use Rattle.erd_check.specs.declared.error.CheckError.TheVariants.{Faults, Memory}
-use Rattle.erd_meaning.specs.Keys.{Preference}
-use Rattle.erd_meaning.specs.Accepted.{IsFault}
-use Rattle.erd_canon.specs.Bytes.{IsTreeOf}
-use Rattle.erd_canon.specs.EngineTexts.{IsRefusedReport}
-use Rattle.erd_canon.specs.Refused.{IsSomeReport, RefusedAs, refusal_for}
 
 -- bytes are no two trees
 pub one_tree : (b : List ℕ) (t u : Data) → IsTreeOf b t → IsTreeOf b u → t ≡ u

@@ -1,19 +1,10 @@
 -- What `clap` makes of the exact lines.
-use Rattle.std.proofs.Common.{◌≡◌, ◌&&◌, ◌++◌, ℕ, Bool, List, [], ◌∷◌, Option, Some, None, codes, length, lt-ltb, nat_lt, true, false, arith, refl, ap, ap₂, ◌∙◌, subst, sym, ◌⊎◌, Result, Ok, Err, MatchResult, inl, inr, unwrap_or}
-use Rattle.clap.specs.Words.{Row, Text, first_of, is_simple, is_simple_and_free, subcommand_of, takes, IsAmong, fault_of}
-use Rattle.clap.specs.Simple.{Shape}
-use Rattle.clap.specs.Takes.{level_passes, step_passes, turn_passes}
-use Rattle.clap.specs.Walk.{Held, Walk, arg_by_index, finished, nothing_held, rows_after, to_positional, value, walked}
-use Rattle.clap.proofs.OnLiterals.{clap_on_literals}
+use Rattle.erd_canon.proofs.Common.{◌≡◌, ℕ, Bool, true, false, ◌&&◌, ◌⊎◌, List, [], ◌∷◌, ◌++◌, length, nat_lt, Some, None, Ok, Err, codes, Option, Result, MatchResult, unwrap_or, sym, refl, ap, ◌∙◌, subst, ap₂, inl, inr, arith, lt-ltb, clap_on_literals, Shape, step_passes, turn_passes, level_passes, arg_by_index, Held, value, Walk, to_positional, walked, finished, nothing_held, rows_after, Row, Text, first_of, is_simple, subcommand_of, takes, IsAmong, fault_of, is_simple_and_free, OutOfMemory, preference_words, words_of, IsPreferenceWord, HasPlainWords, subcommand_request, request_in, IsLineRead, IsFaultFor, program}
 use Rattle.clap.specs.declared.error.kind.ErrorKind.{ErrorKind}
-use Rattle.clap.specs.declared.error.kind.ErrorKind.TheVariants.{OutOfMemory}
-use Rattle.erd_canon.specs.Subcommands.{program}
 use Rattle.erd_canon.proofs.lines.PlainWords.{IsPlainWord, at, walked_plain, turn_plain}
 use Rattle.erd_canon.proofs.lines.PreferenceWords.{Prefers, canon_prefers, check_prefers, compare_prefers, ends, file_plain, held_first, level_preferring, rows_preferring, subcommand}
-use Rattle.erd_canon.specs.ExactLines.{HasPlainWords, IsPreferenceWord, preference_words, words_of}
 use Rattle.erd_canon.specs.declared.commands.request.Request.{Request}
 use Rattle.erd_canon.specs.declared.commands.request.Request.TheVariants.{Filter, Check, Canon, Compare}
-use Rattle.erd_canon.specs.ReadLines.{IsFaultFor, IsLineRead, request_in, subcommand_request}
 use Rattle.erd_canon.specs.declared.commands.request.LineFault.{LineFault}
 use Rattle.erd_canon.specs.declared.commands.request.LineFault.TheVariants.{Help, Usage, Memory}
 

@@ -1,11 +1,7 @@
 -- How `clap` reads a word that is no flag, at a command with no subcommands.
-use Rattle.std.proofs.Common.{◌≡◌, ◌≢◌, ◌==◌, ◌&&◌, ℕ, Bool, List, [], ◌∷◌, None, false, true, refl, ap, ap₂}
-use Rattle.std.proofs.lemmas.Bool.{ne_eqb}
-use Rattle.std.specs.Str.{bytes_eq}
+use Rattle.erd_canon.proofs.Common.{◌≡◌, ℕ, Bool, true, false, ◌&&◌, ◌≢◌, List, [], ◌∷◌, ◌==◌, None, bytes_eq, refl, ap, ap₂, ne_eqb, Shape, word_passes, step_passes, turn_passes, Rule, arg_by_id, arg_by_index, Held, option, idle, next, value, option_word, word_met, Walk, to_positional, after_step, walked, Text}
 use Rattle.clap.specs.Lexer.{long_of, short_of}
-use Rattle.clap.specs.Walk.{Held, Rule, Step, Text, Walk, after_step, arg_by_id, arg_by_index, idle, next, option, option_word, to_positional, value, walked, word_met}
-use Rattle.clap.specs.Simple.{Shape}
-use Rattle.clap.specs.Takes.{step_passes, turn_passes, word_passes}
+use Rattle.clap.specs.Walk.{Step}
 
 -- the word is neither `--` nor a flag
 pub record IsPlainWord (word : Text) : Type 0 where

@@ -1,13 +1,6 @@
 -- What `clap` makes of the words that name a preference, before the other words of a subcommand.
-use Rattle.std.proofs.Common.{◌≡◌, ◌&&◌, ◌++◌, ℕ, Bool, List, [], ◌∷◌, Option, Some, None, codes, fold, false, true, refl, ap, ap₂, ◌∙◌, unwrap_or, slice_get}
+use Rattle.erd_canon.proofs.Common.{◌≡◌, ℕ, Bool, true, false, ◌&&◌, List, [], ◌∷◌, ◌++◌, slice_get, Some, None, codes, fold, Option, unwrap_or, refl, ap, ◌∙◌, ap₂, clap_on_literals, Shape, settle_passes, turn_passes, walk_passes, default_passes, is_valid, level_passes, Held, Walk, walked, walk_from, walk, finished, nothing_held, rows_after, built, Text, preference_words, IsFileName, IsPreferenceWord, program}
 use Rattle.std.specs.List.{list_all}
-use Rattle.clap.specs.Words.{Text, built}
-use Rattle.clap.specs.Simple.{Shape}
-use Rattle.clap.specs.Takes.{default_passes, is_valid, level_passes, settle_passes, turn_passes, walk_passes}
-use Rattle.clap.specs.Walk.{Held, Walk, finished, nothing_held, rows_after, walk, walk_from, walked}
-use Rattle.clap.proofs.OnLiterals.{clap_on_literals}
-use Rattle.erd_canon.specs.Subcommands.{program}
-use Rattle.erd_canon.specs.ExactLines.{IsFileName, IsPreferenceWord, preference_words}
 use Rattle.erd_canon.proofs.lines.PlainWords.{IsPlainWord, at, plain_word, turn_waited, waits_for, walked_waited}
 
 -- a subcommand as built, by its place

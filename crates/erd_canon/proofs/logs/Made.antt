@@ -1,11 +1,5 @@
 -- How a struct whose only field owns nothing is made.
-use Rattle.std.proofs.Common.{List, [], ◌∷◌, refl}
-use seplogic.Ra.Ura.{Ura}
-use mir.Val.{Val, vstruct, vcons, vnil}
-use types.Logic.{Logic}
-use types.Kit.{Goal, Step, step, Item, ‵, ◌$◌, move, fjoin, fpack, feq_i}
-use denote.RattleType.{RattleType, Valss}
-use denote.Steps.{nothing}
+use Rattle.erd_canon.proofs.Common.{List, [], ◌∷◌, refl, RattleType, Valss, nothing, vstruct, vnil, vcons, Val, Ura, ‵, ◌$◌, step, move, fjoin, fpack, feq_i, Goal, Item, Step, Logic}
 use denote.Struct.Struct.{Struct, within}
 
 -- a struct by its fields alone

@@ -1,17 +1,11 @@
 -- What a comparison answers under one preference, it says under each other one that accepts both reports.
-use Rattle.std.proofs.Common.{◌≡◌, ◌↔◌, ℕ, List, Option, Some, None, refl, sym, ap, ◌∙◌, subst}
-use Rattle.erd_meaning.specs.Accepted.{IsAccepted}
-use Rattle.erd_meaning.specs.Keys.{Preference}
+use Rattle.erd_canon.proofs.Common.{◌≡◌, ℕ, ◌↔◌, List, Some, None, Option, sym, refl, ap, ◌∙◌, subst, IsAccepted, Preference, meaning, record_at, Differ, IsDifference, Difference, IsComparison}
 use Rattle.erd_meaning.specs.Meaning.{Meaning, ObjectRecord}
-use Rattle.erd_meaning.specs.Records.{meaning}
 use Rattle.erd_check.proofs.ReadTrees.{read_is_tree}
 use Rattle.erd_normal.proofs.same.complete.Complete.{preferences_agree, says_and_means}
-use Rattle.erd_compare.specs.Differences.{Differ, IsDifference, record_at}
-use Rattle.erd_compare.specs.declared.difference.Difference.{Difference}
 use Rattle.erd_compare.specs.declared.difference.How.{How}
 use Rattle.erd_compare.specs.declared.difference.How.TheVariants.{Member, OnlyLeft, OnlyRight, OtherClass}
 use Rattle.erd_canon.specs.ByteLaws.{AgreesUnderEach, TellsWhatIsSaid}
-use Rattle.erd_canon.specs.EngineTexts.{IsComparison}
 use Rattle.erd_canon.proofs.forms.Refusing.{one_tree}
 
 -- no record differs from itself

@@ -1,17 +1,6 @@
 -- What checking and canonicalising write is what they are to write.
-use Rattle.std.proofs.Common.{◌≡◌, ℕ, List, [], ◌∷◌, map, codes, Option, Result, Ok, Err, inl, inr, refl, subst, sym}
-use Rattle.std.specs.Prelude.{IfOk, OnOk}
-use Rattle.std.specs.Io.KnownBytes.{Appends}
-use Rattle.erd_tables.specs.Faults.{fault_line}
-use Rattle.erd_tables.specs.declared.fault.Fault.{Fault}
-use Rattle.erd_canon.specs.EngineTexts.{IsCheckText, IsCanonicalOutput, IsCanonicalErrors, IsRefusedReport, text_of_lines}
-use Rattle.erd_canon.specs.Run.{IsAnswered, IsAnswerWritten, IsChecked, IsCheckWritten, IsToldCheck, IsToldRun, IsWholeCheck, IsWholeRun}
-use Rattle.erd_canon.specs.Reading.{IsReadWhole}
-use Rattle.erd_canon.specs.declared.engines.outcome.Outcome.{Outcome}
-use Rattle.erd_canon.specs.declared.engines.outcome.RunFault.{RunFault}
-use Rattle.erd_canon.specs.declared.engines.outcome.Outcome.TheVariants.{Good, Bad, NotJson}
+use Rattle.erd_canon.proofs.Common.{◌≡◌, ℕ, List, [], ◌∷◌, map, IfOk, OnOk, Ok, Err, codes, Option, Result, sym, refl, subst, inl, inr, Appends, fault_line, Fault, Preference, text_of_lines, IsCheckText, IsCanonicalOutput, IsCanonicalErrors, IsRefusedReport, IsReadWhole, IsChecked, IsAnswered, IsAnswerWritten, IsCheckWritten, IsToldCheck, IsToldRun, IsWholeCheck, IsWholeRun, Outcome, Bad, Good, NotJson, RunFault}
 use Rattle.erd_canon.proofs.forms.Refusing.{refused_is_none}
-use Rattle.erd_meaning.specs.Keys.{Preference}
 
 -- the text of a check
 pub checked_text : (π : Preference) (bytes : List ℕ) (outcome : Outcome) (text : List ℕ) → IsChecked π bytes outcome text → IsCheckText π bytes text

@@ -1,26 +1,7 @@
 -- What a comparison of two accepted reports answers, and what is written of it.
-use Rattle.std.proofs.Common.{◌≡◌, ℕ, List, [], ◌∷◌, map, codes, Option, Some, Result, Ok, Err, inl, inr, refl, subst}
-use Rattle.std.specs.Io.KnownBytes.{Appends}
-use Rattle.std.specs.Prelude.{IfOk, OnOk}
-use Rattle.serde_json.specs.Data.{Data}
-use Rattle.erd_tables.specs.Faults.{fault_line}
-use Rattle.erd_meaning.specs.Keys.{Preference}
-use Rattle.erd_meaning.specs.Accepted.{IsAccepted}
-use Rattle.erd_meaning.specs.Records.{meaning}
+use Rattle.erd_canon.proofs.Common.{◌≡◌, ℕ, List, [], ◌∷◌, map, IfOk, OnOk, Some, Ok, Err, codes, Option, Result, refl, subst, inl, inr, Appends, Data, fault_line, IsAccepted, Preference, meaning, IsDifference, Difference, IsTreeOf, text_of_lines, IsRefusal, lines_of_side, IsCompareText, IsComparison, IsReadWhole, IsSomeReport, RefusedAs, IsSideRefused, IsCompared, IsCompareWritten, IsToldCompare, Refusal, refusal, Outcome, Bad, Good, NotJson, RunFault}
 use Rattle.erd_compare.specs.DifferenceLine.{difference_line}
-use Rattle.erd_compare.specs.Differences.{IsDifference}
-use Rattle.erd_compare.specs.declared.difference.Difference.{Difference}
-use Rattle.erd_canon.specs.Bytes.{IsTreeOf}
-use Rattle.erd_canon.specs.EngineTexts.{IsCompareText, IsComparison, IsRefusal, lines_of_side, text_of_lines}
-use Rattle.erd_canon.specs.Refused.{IsSomeReport, RefusedAs}
-use Rattle.erd_canon.specs.Run.{IsCompared, IsCompareWritten, IsSideRefused, IsToldCompare}
 use Rattle.erd_canon.specs.code.SideRefusals.{IsRefusalWritten, TellsRefusal}
-use Rattle.erd_canon.specs.Reading.{IsReadWhole}
-use Rattle.erd_canon.specs.declared.engines.outcome.Outcome.{Outcome}
-use Rattle.erd_canon.specs.declared.engines.outcome.RunFault.{RunFault}
-use Rattle.erd_canon.specs.declared.engines.outcome.Outcome.TheVariants.{Good, Bad, NotJson}
-use Rattle.erd_canon.specs.declared.bytes.refusal.Refusal.{Refusal}
-use Rattle.erd_canon.specs.declared.bytes.refusal.Refusal.TheVariants as refusal
 
 -- the first difference of the meanings of two trees that bytes are
 pub compared : (π : Preference) (left right : List ℕ) (t u r s : Data) (found : Option Difference) → IsTreeOf left t → IsAccepted π t → r ≡ t → IsTreeOf right u → IsAccepted π u → s ≡ u

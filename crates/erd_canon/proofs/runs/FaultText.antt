@@ -1,7 +1,5 @@
 -- The lines of faults, with or without words for a side before them.
-use Rattle.std.proofs.Common.{◌≡◌, ℕ, List, []}
-use Rattle.std.proofs.lemmas.List.{map-id}
-use Rattle.erd_canon.specs.EngineTexts.{lines_of_side}
+use Rattle.erd_canon.proofs.Common.{◌≡◌, ℕ, List, [], map-id, lines_of_side}
 
 -- no words before a line
 pub no_side : (lines : List (List ℕ)) → lines_of_side [] lines ≡ lines

@@ -1,9 +1,6 @@
 -- What a loop of reads or writes keeps of the known bytes.
-use Rattle.std.proofs.Common.{◌≡◌, ◌+◌, ◌<◌, ◌≤◌, ℕ, Bool, false, List, ◌++◌, Option, take, drop, length, sym, subst, arith, length-append}
-use Rattle.std.proofs.Math.Seq.{take-add}
+use Rattle.erd_canon.proofs.Common.{◌≡◌, ℕ, ◌+◌, ◌<◌, ◌≤◌, Bool, false, List, ◌++◌, length, take, drop, Option, sym, subst, arith, length-append, take-add, Appends, Consumes, Exceeds}
 use Rattle.std.proofs.KnownBytes.{Appends-trans, Consumes-trans}
-use Rattle.std.specs.Io.KnownBytes.{Appends, Consumes}
-use Rattle.erd_canon.specs.Reading.{Exceeds}
 
 -- the reads so far: no more bytes than the limit, each read gave one at least, and none failed
 pub record IsFilled (limit room : ℕ) (failed : Bool) (first_read reads first_given given : ℕ) (before after : Option (List ℕ)) (bytes : List ℕ) : Type 0 where

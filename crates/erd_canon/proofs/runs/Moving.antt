@@ -1,12 +1,7 @@
 -- What moves from a buffer to a writer, in one step after another.
-use Rattle.std.proofs.Common.{◌≡◌, ℕ, List, [], ◌++◌, Option, Result, Ok, Err, take, drop, length, sym, ap, ◌∙◌, append-nil, append_assoc, subst, take-append-drop}
-use Rattle.std.specs.Result.{OnErr, OnOk}
-use Rattle.std.proofs.lemmas.Result.{on_err_weaker, on_ok_weaker}
+use Rattle.erd_canon.proofs.Common.{◌≡◌, ℕ, List, [], ◌++◌, length, take, drop, OnOk, OnErr, Ok, Err, Option, Result, sym, ap, ◌∙◌, subst, append_assoc, append-nil, take-append-drop, on_ok_weaker, on_err_weaker, Appends, IsPartWritten, IsFrontMoved, IsMoved}
 use Rattle.std.proofs.KnownBytes.{Appends-trans}
-use Rattle.std.specs.Io.KnownBytes.{Appends}
 use lib.Seq.{take-append_seam}
-use Rattle.erd_canon.specs.Writing.{IsPartWritten}
-use Rattle.erd_canon.specs.code.Pending.{IsFrontMoved, IsMoved}
 
 -- where an error holds it, it holds
 pub on_err : {T E P : Type 0} (r : Result T E) → P → OnErr r P

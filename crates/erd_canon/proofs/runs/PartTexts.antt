@@ -1,17 +1,6 @@
 -- What canonicalising leaves where a write has failed.
-use Rattle.std.proofs.Common.{◌≡◌, ◌≢◌, ℕ, List, [], map, Option, Result, Ok, Err, refl}
-use Rattle.std.specs.Result.{IsErrAnd}
-use Rattle.erd_tables.specs.Faults.{fault_line}
-use Rattle.erd_tables.specs.declared.fault.Fault.{Fault}
-use Rattle.erd_canon.specs.Bytes.{IsCanonicalBytes}
-use Rattle.erd_canon.specs.EngineTexts.{IsRefusedReport, text_of_lines}
-use Rattle.erd_canon.specs.Run.{IsToldNotJson}
-use Rattle.erd_canon.specs.Writing.{IsAnswerPartWritten, IsPartWritten}
-use Rattle.erd_canon.specs.declared.engines.outcome.Outcome.{Outcome}
-use Rattle.erd_canon.specs.declared.engines.outcome.RunFault.{RunFault}
+use Rattle.erd_canon.proofs.Common.{◌≡◌, ℕ, ◌≢◌, List, [], map, IsErrAnd, Ok, Err, Option, Result, refl, fault_line, Fault, Preference, IsCanonicalBytes, text_of_lines, IsRefusedReport, IsToldNotJson, IsAnswerPartWritten, IsPartWritten, Outcome, Bad, Good, NotJson, RunFault}
 use Rattle.erd_canon.specs.declared.engines.outcome.RunFault.TheVariants.{Write}
-use Rattle.erd_canon.specs.declared.engines.outcome.Outcome.TheVariants.{Good, Bad, NotJson}
-use Rattle.erd_meaning.specs.Keys.{Preference}
 
 -- a run that ended by another fault has no failed write
 pub not_of_fault : (r : Result Outcome RunFault) (fault : RunFault) → IsErrAnd r (λ found. found ≡ fault) → fault ≢ Write → r ≡ Err Write → ⊥

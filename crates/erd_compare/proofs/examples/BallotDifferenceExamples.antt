@@ -1,29 +1,9 @@
 -- The first difference of the small ballot and of the ballot with its order exchanged is that order: all before it is the same.
-use Rattle.std.proofs.Common.{◌≡◌, ℕ, List, [], ◌∷◌, codes, slice_get, Option, Some, None, Bool, true, false, refl, sym, ap, ◌∙◌, lit<}
-use Rattle.std.specs.Prelude.{option_and_then, option_map, unwrap_or}
+use Rattle.erd_compare.proofs.Common.{◌≡◌, ℕ, Bool, true, false, List, [], ◌∷◌, slice_get, Some, None, codes, Option, option_map, option_and_then, unwrap_or, sym, refl, ap, ◌∙◌, lit<, serde_json_on_literals, Data, null, Class, Family, family, role, entries_at, local_key, same_object, AgreeAt, AreAmong, ObjectsAgree, same_at_key, ObjectsAgreeButOne, SameMember, same_at_key_with, HaveKeys, keys_of_family, nothing_at, same_family, selection_with_name, SelectionsAgreeButOne, same_at_name, HaveNames, names_of_selections, same_selections, same_sole_election, has_keys, key_cmp, a_selection_map, NameParts, contests, meaning, plain_member, selection_map, object_record, records_of, election_records, name_of, Key, part_cmp, record_at, IsFirstDifference, Member, Part}
 use Rattle.std.specs.declared.cmp.Ordering.TheVariants.{Less}
-use Rattle.serde_json.specs.Data.{Data, null}
-use Rattle.serde_json.proofs.OnLiterals.{serde_json_on_literals}
-use Rattle.erd_tables.specs.declared.class.Class.{Class}
-use Rattle.erd_tables.specs.declared.class.Class.TheVariants as class
-use Rattle.erd_tables.specs.declared.class.Family.{Family}
-use Rattle.erd_tables.specs.declared.class.Family.TheVariants as family
-use Rattle.erd_tables.specs.declared.class.Role.TheVariants as role
-use Rattle.erd_meaning.proofs.examples.RecordExamples.{local_key}
-use Rattle.erd_meaning.proofs.meanings.WholeMeanings.{same_object, same_sole_election, AreAmong, AgreeAt, ObjectsAgree, same_at_key, ObjectsAgreeButOne, SameMember, same_at_key_with, HaveKeys, keys_of_family, nothing_at, same_family, selection_with_name, SelectionsAgreeButOne, same_at_name, HaveNames, names_of_selections, same_selections}
-use Rattle.erd_meaning.specs.Keys.{has_keys, key_cmp}
-use Rattle.erd_check.specs.Values.{entries_at}
-use Rattle.erd_meaning.specs.Meaning.{a_selection_map}
-use Rattle.erd_meaning.specs.NameParts.{NameParts}
-use Rattle.erd_meaning.specs.Objects.{contests}
-use Rattle.erd_meaning.specs.Records.{election_records, plain_member, object_record, selection_map, records_of, meaning}
-use Rattle.erd_meaning.specs.SelectionNames.{name_of}
-use Rattle.erd_meaning.specs.declared.keys.key.Key.{Key}
 use Rattle.erd_compare.proofs.examples.FirstDifferenceExamples.{election_in, not_in}
 use Rattle.erd_compare.proofs.examples.OrderExamples.{first_member, left, right}
-use Rattle.erd_compare.specs.Differences.{record_at, part_cmp, IsFirstDifference}
-use Rattle.erd_compare.specs.declared.difference.How.TheVariants.{Member}
-use Rattle.erd_compare.specs.declared.difference.Part.{Part}
+use Rattle.erd_tables.specs.declared.class.Class.TheVariants as class
 use Rattle.erd_compare.specs.declared.difference.Part.TheVariants as part
 
 abbrev MeansTheSame : Family → List ℕ → Type 0

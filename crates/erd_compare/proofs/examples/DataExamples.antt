@@ -1,15 +1,6 @@
 -- The JSON objects of differences, by computation.
-use Rattle.std.proofs.Common.{◌≡◌, [], ◌∷◌, Option, Some, None, map, codes, refl}
-use Rattle.serde_json.proofs.OnLiterals.{serde_json_on_literals}
-use Rattle.serde_json.specs.Written.{compact_text}
-use Rattle.erd_meaning.specs.declared.keys.key.Key.{Key}
-use Rattle.erd_meaning.proofs.examples.RecordExamples.{local_key}
+use Rattle.erd_compare.proofs.Common.{◌≡◌, [], ◌∷◌, map, Some, None, codes, Option, refl, serde_json_on_literals, compact_text, local_key, Key, Difference, How, Member, OnlyLeft, OnlyRight, OtherClass, Part, part}
 use Rattle.erd_compare.specs.DifferenceData.{difference_data}
-use Rattle.erd_compare.specs.declared.difference.Difference.{Difference}
-use Rattle.erd_compare.specs.declared.difference.How.{How}
-use Rattle.erd_compare.specs.declared.difference.How.TheVariants.{OnlyLeft, OnlyRight, OtherClass, Member}
-use Rattle.erd_compare.specs.declared.difference.Part.{Part}
-use Rattle.erd_compare.specs.declared.difference.Part.TheVariants as part
 
 abbrev difference : Part → Option Key → How → Difference
 difference p k h = record { part = p; key = k; how = h }

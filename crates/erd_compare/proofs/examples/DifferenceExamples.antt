@@ -1,22 +1,9 @@
 -- Differences of the small ballot and edits of it, and the lines that tell them, by computation.
-use Rattle.std.proofs.Common.{◌≡◌, ℕ, List, [], ◌∷◌, ◌++◌, Option, Some, None, map, codes, true, false, refl}
-use Rattle.std.specs.Prelude.{option_map, is_some}
+use Rattle.erd_compare.proofs.Common.{◌≡◌, ℕ, true, false, List, [], ◌∷◌, ◌++◌, map, is_some, Some, None, codes, Option, option_map, refl, serde_json_on_literals, tree_of, small_ballot_with, header_node, contest_node, small_ballot, local_key, MemberValue, ObjectRecord, Meaning, meaning, Key, part_cmp, record_at, Differ, Difference, How, Member, OnlyLeft, OnlyRight, OtherClass, Part, part}
 use Rattle.std.specs.declared.cmp.Ordering.TheVariants.{Less}
-use Rattle.serde_json.proofs.OnLiterals.{serde_json_on_literals}
-use Rattle.erd_tables.specs.declared.class.Class.TheVariants as class
-use Rattle.erd_check.proofs.Reports.{tree_of, small_ballot, small_ballot_with, header_node, contest_node}
-use Rattle.erd_meaning.specs.Meaning.{MemberValue, ObjectRecord, Meaning}
-use Rattle.erd_meaning.specs.Records.{meaning}
-use Rattle.erd_meaning.specs.declared.keys.key.Key.{Key}
-use Rattle.erd_meaning.proofs.examples.RecordExamples.{local_key}
 use Rattle.erd_compare.proofs.examples.OrderExamples.{begins_with_header}
 use Rattle.erd_compare.specs.DifferenceLine.{difference_line}
-use Rattle.erd_compare.specs.Differences.{record_at, part_cmp, Differ}
-use Rattle.erd_compare.specs.declared.difference.Difference.{Difference}
-use Rattle.erd_compare.specs.declared.difference.How.{How}
-use Rattle.erd_compare.specs.declared.difference.How.TheVariants.{OnlyLeft, OnlyRight, OtherClass, Member}
-use Rattle.erd_compare.specs.declared.difference.Part.{Part}
-use Rattle.erd_compare.specs.declared.difference.Part.TheVariants as part
+use Rattle.erd_tables.specs.declared.class.Class.TheVariants as class
 
 -- ---- lines
 

@@ -1,33 +1,12 @@
 -- The first difference of reports of elections: a contest in another election, and an election that has lost its key.
-use Rattle.std.proofs.Common.{◌≡◌, ℕ, List, [], ◌∷◌, ◌++◌, codes, Bool, true, false, true≢false, Option, Some, None, find, map, refl, sym, ap, ◌∙◌, subst}
-use Rattle.std.specs.List.{slice_get}
-use Rattle.std.specs.Option.{option_cmp}
-use Rattle.std.specs.Ordering.{is_eq}
-use Rattle.std.specs.Prelude.{option_and_then, unwrap_or, ⊤}
-use Rattle.std.specs.Str.{bytes_eq}
+use Rattle.erd_compare.proofs.Common.{◌≡◌, ℕ, Bool, true, false, List, [], ◌∷◌, ◌++◌, map, slice_get, Some, None, codes, Option, find, option_and_then, bytes_eq, is_eq, unwrap_or, sym, refl, ap, ◌∙◌, subst, true≢false, option_cmp, serde_json_on_literals, Data, null, family, role, tree_of, one_unit_report, status, unit, election, one_unit, identifier, other_election, report_of_two, party_contest, local_key, same_object, is_key_in, same_at_every_key, no_record, value_with_key, same_at_key, HaveKeys, keys_of_family, nothing_at, election_has_key, no_election_id, equal_keys, key_cmp, key_of, ObjectRecord, Placed, report_of, elections, meaning, member_of_class, object_record, record_in_election, records_of, Key, part_cmp, record_at, DifferFirstAt, IsFirstDifference, Member, OnlyLeft, OnlyRight, Part}
+use Rattle.std.specs.Prelude.{⊤}
 use Rattle.std.specs.declared.cmp.Ordering.TheVariants.{Less}
-use Rattle.serde_json.specs.Data.{Data, null}
-use Rattle.serde_json.proofs.OnLiterals.{serde_json_on_literals}
-use Rattle.erd_tables.specs.declared.class.Class.TheVariants as class
-use Rattle.erd_tables.specs.declared.class.Family.TheVariants as family
-use Rattle.erd_tables.specs.declared.class.Role.TheVariants as role
-use Rattle.erd_check.proofs.Reports.{tree_of, one_unit_report, one_unit, status, unit, election, identifier, other_election, party_contest, report_of_two}
-use Rattle.erd_meaning.specs.Keys.{key_cmp, key_of}
-use Rattle.erd_meaning.specs.Meaning.{ObjectRecord}
-use Rattle.erd_meaning.specs.Objects.{Placed, elections, report_of}
-use Rattle.erd_meaning.specs.Records.{member_of_class, object_record, record_in_election, records_of, meaning}
-use Rattle.erd_meaning.specs.declared.keys.key.Key.{Key}
-use Rattle.erd_meaning.proofs.examples.RecordExamples.{local_key}
-use Rattle.erd_meaning.proofs.meanings.WholeRecords.{no_election_id}
-use Rattle.erd_meaning.proofs.meanings.WholeMeanings.{HaveKeys, election_has_key, is_key_in, keys_of_family, no_record, nothing_at, same_at_every_key, same_at_key, same_object, value_with_key}
-use Rattle.erd_meaning.proofs.orders.EqualNames.{equal_keys}
 use Rattle.erd_compare.specs.DifferenceLine.{difference_line}
-use Rattle.erd_compare.specs.Differences.{record_at, part_cmp, DifferFirstAt, IsFirstDifference}
-use Rattle.erd_compare.specs.declared.difference.How.TheVariants.{OnlyLeft, OnlyRight, Member}
-use Rattle.erd_compare.specs.declared.difference.Part.{Part}
-use Rattle.erd_compare.specs.declared.difference.Part.TheVariants as part
 use Rattle.erd_compare.proofs.examples.FirstDifferenceExamples.{not_in}
 use Rattle.erd_compare.proofs.least_difference.HeldRecords.{told_at_election}
+use Rattle.erd_tables.specs.declared.class.Class.TheVariants as class
+use Rattle.erd_compare.specs.declared.difference.Part.TheVariants as part
 
 -- ---- reports
 

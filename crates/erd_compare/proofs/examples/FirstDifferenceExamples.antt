@@ -1,31 +1,6 @@
 -- The first difference of whole reports, each of one unit: none, and one for each of some edits.
-use Rattle.std.proofs.Common.{◌≡◌, ◌≢◌, ℕ, List, [], ◌∷◌, codes, slice_get, Bool, true, false, true≢false, Option, Some, None, refl, sym, ap, ◌∙◌, Equal}
-use Rattle.std.proofs.lemmas.Slice.Eq.{bytes_eq-Decides}
-use Rattle.std.specs.Ordering.{is_eq, is_lt}
-use Rattle.std.specs.Prelude.{option_and_then, unwrap_or, is_some}
-use Rattle.std.specs.Str.{bytes_eq}
+use Rattle.erd_compare.proofs.Common.{◌≡◌, ℕ, Bool, true, false, ◌≢◌, List, [], ◌∷◌, is_some, slice_get, Some, None, codes, Option, option_and_then, bytes_eq, is_eq, is_lt, Equal, unwrap_or, sym, refl, ap, ◌∙◌, true≢false, bytes_eq-Decides, serde_json_on_literals, Data, null, string, text_cmp, class, Family, family, role, tree_of, one_unit_report, status, unit, election, one_unit, local_key, same_but_one, same_object, is_key_in, same_at_every_key, no_record, same_at_key, same_sole_election, same_meaning, absent_member, equal_keys, key_cmp, untranslated, a_json, a_label, MemberValue, a_plain, ObjectRecord, Placed, report_of, elections, meaning, member_of_class, object_record, records_of, election_records, Key, part_cmp, record_at, IsDifference, IsFirstDifference, How, Member, OnlyLeft, OnlyRight, Part}
 use Rattle.std.specs.declared.cmp.Ordering.TheVariants.{Less}
-use Rattle.serde_json.specs.Data.{Data, null, string}
-use Rattle.serde_json.proofs.OnLiterals.{serde_json_on_literals}
-use Rattle.erd_tables.specs.Texts.{text_cmp}
-use Rattle.erd_tables.specs.declared.class.Class.TheVariants as class
-use Rattle.erd_tables.specs.declared.class.Family.{Family}
-use Rattle.erd_tables.specs.declared.class.Family.TheVariants as family
-use Rattle.erd_tables.specs.declared.class.Role.TheVariants as role
-use Rattle.erd_check.proofs.Reports.{tree_of, one_unit_report, status, unit, election, one_unit}
-use Rattle.erd_meaning.specs.Keys.{key_cmp}
-use Rattle.erd_meaning.specs.Meaning.{ObjectRecord, MemberValue, a_plain, a_label, a_json, untranslated}
-use Rattle.erd_meaning.specs.Objects.{Placed, elections, report_of}
-use Rattle.erd_meaning.specs.Records.{election_records, member_of_class, object_record, records_of, meaning}
-use Rattle.erd_meaning.specs.declared.keys.key.Key.{Key}
-use Rattle.erd_meaning.proofs.examples.RecordExamples.{local_key}
-use Rattle.erd_meaning.proofs.orders.EqualNames.{equal_keys}
-use Rattle.erd_meaning.proofs.meanings.WholeMeanings.{same_at_key, same_but_one, same_object, same_sole_election, is_key_in, same_at_every_key, no_record, same_meaning}
-use Rattle.erd_meaning.proofs.meanings.WholeRecords.{absent_member}
-use Rattle.erd_compare.specs.Differences.{record_at, part_cmp, IsFirstDifference, IsDifference}
-use Rattle.erd_compare.specs.declared.difference.How.{How}
-use Rattle.erd_compare.specs.declared.difference.How.TheVariants.{OnlyLeft, OnlyRight, Member}
-use Rattle.erd_compare.specs.declared.difference.Part.{Part}
 use Rattle.erd_compare.specs.declared.difference.Part.TheVariants as part
 
 -- ---- members

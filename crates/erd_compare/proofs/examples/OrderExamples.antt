@@ -1,24 +1,6 @@
 -- The ballot's order exchanged: the style's `OrderedContent` is the first member at which its two records differ.
-use Rattle.std.proofs.Common.{◌≡◌, ◌≢◌, ℕ, List, [], ◌∷◌, ◌++◌, Bool, true, false, true≢false, Option, Some, codes, refl, sym, ap, ◌∙◌, None}
-use Rattle.std.proofs.lemmas.Bool.{or_from, or_parts}
-use Rattle.std.proofs.lemmas.Slice.Eq.{bytes_eq-Decides}
-use Rattle.std.specs.List.{list_any}
-use Rattle.std.specs.Str.{bytes_eq}
+use Rattle.erd_compare.proofs.Common.{◌≡◌, ℕ, Bool, true, false, ◌≢◌, List, [], ◌∷◌, ◌++◌, Some, None, codes, Option, bytes_eq, sym, refl, ap, ◌∙◌, true≢false, or_parts, or_from, bytes_eq-Decides, list_any, serde_json_on_literals, Data, text_cmp, class, family, tree_of, small_ballot_with, header_node, contest_node, small_ballot, value_with_key, absent_member, same_at_other_names, first_node, a_header, a_content, MemberValue, a_plain, meaning, member_of_class, Key, record_at, Differ, Member, part}
 use Rattle.std.specs.declared.cmp.Ordering.TheVariants.{Less}
-use Rattle.serde_json.specs.Data.{Data}
-use Rattle.serde_json.proofs.OnLiterals.{serde_json_on_literals}
-use Rattle.erd_tables.specs.Texts.{text_cmp}
-use Rattle.erd_tables.specs.declared.class.Class.TheVariants as class
-use Rattle.erd_tables.specs.declared.class.Family.TheVariants as family
-use Rattle.erd_check.proofs.Reports.{tree_of, small_ballot, small_ballot_with, header_node, contest_node}
-use Rattle.erd_meaning.specs.Meaning.{first_node, a_header, a_content, MemberValue, a_plain}
-use Rattle.erd_meaning.specs.Records.{member_of_class, meaning}
-use Rattle.erd_meaning.specs.declared.keys.key.Key.{Key}
-use Rattle.erd_meaning.proofs.meanings.WholeMeanings.{value_with_key}
-use Rattle.erd_meaning.proofs.meanings.WholeRecords.{absent_member, same_at_other_names}
-use Rattle.erd_compare.specs.Differences.{record_at, Differ}
-use Rattle.erd_compare.specs.declared.difference.How.TheVariants.{Member}
-use Rattle.erd_compare.specs.declared.difference.Part.TheVariants as part
 
 abbrev style_key : Key
 style_key = record { kind = codes "local-level"; other = []; value = codes "S1" }

@@ -1,20 +1,5 @@
 -- How two records differ, with the keys of elections laid over them as the member `ElectionId`.
-use Rattle.std.proofs.Common.{◌≡◌, ◌≢◌, ℕ, List, Bool, true, false, true≢false, cond, codes, Option, Some, None, Ordering, Less, Equal, Greater, is_lt, refl, sym, ap, ◌∙◌, subst}
-use Rattle.std.specs.Str.{bytes_eq}
-use Rattle.std.proofs.lemmas.Cmp.{nat_list_cmp_total, tied_itself}
-use Rattle.std.proofs.lemmas.Map.Lookups.{exact_bytes}
-use Rattle.std.proofs.lemmas.Slice.Eq.{bytes_eq-Decides}
-use Rattle.erd_tables.specs.Texts.{text_cmp}
-use Rattle.erd_meaning.specs.Meaning.{MemberValue, ObjectRecord, a_key, a_plain}
-use Rattle.erd_meaning.specs.Records.{record_in_election, with_election_id}
-use Rattle.erd_meaning.specs.declared.keys.key.Key.{Key}
-use Rattle.erd_meaning.proofs.meanings.WholeRecords.{other_than_election}
-use Rattle.erd_meaning.proofs.orders.RisingOrders.{greater_turned}
-use Rattle.erd_compare.specs.code.Comparing.{TellsHow}
-use Rattle.erd_compare.specs.code.HeldDifferences.{HasNoElectionId, TellsHeld, is_before_election}
-use Rattle.erd_compare.specs.Differences.{DifferFirstAt}
-use Rattle.erd_compare.specs.declared.difference.How.{How}
-use Rattle.erd_compare.specs.declared.difference.How.TheVariants.{OnlyLeft, OnlyRight, OtherClass, Member}
+use Rattle.erd_compare.proofs.Common.{◌≡◌, ℕ, Bool, true, false, cond, ◌≢◌, List, Some, None, codes, Option, bytes_eq, is_lt, Ordering, Less, Equal, Greater, sym, refl, ap, ◌∙◌, subst, true≢false, tied_itself, nat_list_cmp_total, exact_bytes, bytes_eq-Decides, text_cmp, other_than_election, greater_turned, a_key, MemberValue, a_plain, ObjectRecord, with_election_id, record_in_election, Key, DifferFirstAt, TellsHow, is_before_election, HasNoElectionId, TellsHeld, How, Member, OnlyLeft, OnlyRight, OtherClass}
 
 abbrev Members : Type 0
 Members = List ℕ → Option MemberValue

@@ -1,22 +1,5 @@
 -- The rising keys of two reports in a part, walked in step: the first entries that differ tell the least key.
-use Rattle.std.proofs.Common.{◌≡◌, ◌+◌, ℕ, zero, suc, List, [], ◌∷◌, drop, map, Option, Some, None, option_map, Ordering, Less, Equal, Greater, is_eq, slice_get, true, refl, sym, ap, ◌∙◌, subst}
-use Rattle.std.specs.List.{AllByRecursion}
-use Rattle.std.proofs.lemmas.List.{drop_more}
-use Rattle.std.proofs.lemmas.Option.{get_or_from_slice_get, slice_get_within}
-use Rattle.serde_json.specs.Data.{Data}
-use Rattle.erd_meaning.specs.Keys.{Preference, key_cmp}
-use Rattle.erd_meaning.specs.Records.{meaning}
-use Rattle.erd_meaning.specs.declared.keys.key.Key.{Key}
-use Rattle.erd_meaning.proofs.orders.EqualNames.{equal_keys, options_exact}
-use Rattle.erd_meaning.proofs.selections.PositionedKeys.{KeyPosition}
-use Rattle.erd_meaning.proofs.orders.RisingOrders.{greater_turned}
-use Rattle.erd_compare.specs.code.Comparing.{DifferAtKey, RecordMap}
-use Rattle.erd_compare.specs.code.KeyedDifferences.{HasKeyAt, IsComparable, IsOnly, IsOnlyLesser, TellsAtPositions, TellsLeast, TellsNext, is_ranked, rising_in_role, role_of_part}
-use Rattle.erd_compare.specs.Differences.{Differ, record_at}
-use Rattle.erd_compare.specs.declared.difference.How.{How}
-use Rattle.erd_compare.specs.declared.difference.How.TheVariants.{OnlyLeft, OnlyRight}
-use Rattle.erd_compare.specs.declared.difference.Part.{Part}
-use Rattle.erd_compare.specs.declared.difference.Part.TheVariants as part
+use Rattle.erd_compare.proofs.Common.{◌≡◌, ℕ, zero, suc, ◌+◌, true, List, [], ◌∷◌, map, drop, slice_get, Some, None, Option, option_map, is_eq, Ordering, Less, Equal, Greater, sym, refl, ap, ◌∙◌, subst, drop_more, slice_get_within, get_or_from_slice_get, AllByRecursion, Data, options_exact, equal_keys, greater_turned, KeyPosition, key_cmp, Preference, meaning, Key, record_at, Differ, RecordMap, DifferAtKey, role_of_part, is_ranked, rising_in_role, TellsAtPositions, TellsLeast, IsOnly, IsOnlyLesser, TellsNext, HasKeyAt, IsComparable, How, OnlyLeft, OnlyRight, Part, part}
 use Rattle.erd_compare.specs.declared.first.tables.KeyedDifference.{KeyedDifference}
 use Rattle.erd_compare.proofs.least_difference.KeyedRecords.{differ_left, differ_right, none_beside, some_record}
 use Rattle.erd_compare.proofs.least_difference.RisingKeys.{all_rise, all_stand, by_key, by_key_total, entries, entry_keys, keys_rise}

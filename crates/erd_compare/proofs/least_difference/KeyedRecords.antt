@@ -1,48 +1,15 @@
 -- What a report means at the keys of a part are the records of its objects: each object of an accepted report has a record,
 -- and no two of a part have one key.
-use Rattle.std.proofs.Common.{◌≡◌, ◌≤◌, ℕ, zero, suc, ◌⊎◌, inl, inr, List, [], ◌∷◌, Bool, true, false, length, nat_lt, Option, Some, None, option_and_then, option_map, find, refl, sym, ap, ◌∙◌, subst, arith}
-use Rattle.std.specs.Cmp.{Equal-is}
-use Rattle.std.specs.List.{slice_get}
-use Rattle.std.specs.Option.{option_cmp}
-use Rattle.std.specs.Ordering.{is_eq}
-use Rattle.std.proofs.lemmas.Cmp.{tied_itself}
-use Rattle.std.proofs.lemmas.Option.{slice_get_within}
-use Rattle.serde_json.specs.Data.{Data}
-use Rattle.erd_tables.specs.declared.class.Class.{Class}
-use Rattle.erd_tables.specs.declared.class.Family.{Family}
-use Rattle.erd_tables.specs.declared.class.Family.TheVariants as family
-use Rattle.erd_tables.specs.declared.class.Role.{Role}
-use Rattle.erd_tables.specs.declared.class.Role.TheVariants as role
+use Rattle.erd_compare.proofs.Common.{◌≡◌, ℕ, zero, suc, ◌≤◌, Bool, true, false, ◌⊎◌, List, [], ◌∷◌, length, nat_lt, slice_get, Some, None, Option, option_map, find, option_and_then, is_eq, sym, refl, ap, ◌∙◌, subst, inl, inr, arith, tied_itself, slice_get_within, Equal-is, option_cmp, Data, Class, Family, family, Role, role, In, any_at, position_of, has_at, find-Some, find-any, option_map-Some, has_identifier, in_at, one_key, no_election_id, options_exact, equal_keys, has_keys, key_cmp, Preference, key_of, election_key_in, election_in, ObjectRecord, Placed, report_of, elections, objects, has_several, election_of_place, meaning, member_of_class, object_record, record_in_election, placed_record, records_of, election_records, key_cmp_total, Key, record_with_key, record_without_key, record_at, Differ, TellsHow, RecordMap, IsWholeTree, HasNoElectionId, TellsHeld, role_of_part, objects_in, key_with_role, holder_key_in, is_ranked, TellsAtPositions, HasKeyAt, IsComparable, How, OnlyLeft, OnlyRight, Part, part}
 use Rattle.erd_check.specs.Wants.{asked, class_of_object}
 use Rattle.erd_check.specs.declared.want.Want.TheVariants.{Object}
 use Rattle.erd_check.proofs.ObjectsAt.{ObjectIn, object_in}
-use Rattle.erd_check.proofs.Order.{In, any_at}
 use Rattle.erd_check.proofs.Shapes.{Within, Within-root}
-use Rattle.erd_check.proofs.Positions.{has_at, position_of}
-use Rattle.erd_meaning.specs.Keys.{Preference, has_keys, key_cmp, key_of}
-use Rattle.erd_meaning.specs.Lookups.{election_in, election_key_in}
-use Rattle.erd_meaning.specs.Meaning.{ObjectRecord}
-use Rattle.erd_meaning.specs.Objects.{Placed, election_of_place, elections, has_several, objects, report_of}
-use Rattle.erd_meaning.specs.code.Orders.{key_cmp_total}
-use Rattle.erd_meaning.specs.Records.{election_records, meaning, member_of_class, object_record, placed_record, record_in_election, records_of}
-use Rattle.erd_meaning.specs.declared.keys.key.Key.{Key}
-use Rattle.erd_meaning.proofs.orders.EqualNames.{equal_keys, options_exact}
-use Rattle.erd_meaning.proofs.finding.OneObject.{in_at, one_key}
 use Rattle.erd_meaning.proofs.finding.TwinElections.{one_election_key}
 use Rattle.erd_meaning.proofs.accepted.DistinctKeys.{election_has_identifier}
 use Rattle.erd_meaning.proofs.accepted.Phases.{no_identity_fault, no_shape_fault}
-use Rattle.erd_meaning.proofs.accepted.References.{find-Some, find-any, has_identifier, option_map-Some}
 use Rattle.erd_meaning.proofs.accepted.Skeleton.{election_stands, skeleton}
 use Rattle.erd_meaning.proofs.accepted.Standing.{stands}
-use Rattle.erd_meaning.proofs.meanings.WholeRecords.{no_election_id}
-use Rattle.erd_compare.specs.code.Comparing.{IsWholeTree, RecordMap, TellsHow}
-use Rattle.erd_compare.specs.Differences.{Differ, record_at, record_with_key, record_without_key}
-use Rattle.erd_compare.specs.code.HeldDifferences.{HasNoElectionId, TellsHeld}
-use Rattle.erd_compare.specs.code.KeyedDifferences.{HasKeyAt, IsComparable, TellsAtPositions, holder_key_in, is_ranked, key_with_role, objects_in, role_of_part}
-use Rattle.erd_compare.specs.declared.difference.How.{How}
-use Rattle.erd_compare.specs.declared.difference.How.TheVariants.{OnlyLeft, OnlyRight}
-use Rattle.erd_compare.specs.declared.difference.Part.{Part}
-use Rattle.erd_compare.specs.declared.difference.Part.TheVariants as part
 use Rattle.erd_compare.proofs.least_difference.StepWalks.{IsNoneBeside}
 use Rattle.erd_compare.proofs.whole_trees.WholeTrees.{whole_election, whole_object}
 

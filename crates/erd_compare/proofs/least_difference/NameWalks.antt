@@ -1,30 +1,7 @@
 -- The names of the members of two objects, walked in step: the first name at which the objects differ is the least.
-use Rattle.std.proofs.Common.{◌≡◌, ◌<◌, ◌+◌, ℕ, inl, inr, List, [], ◌∷◌, length, Bor, Bool, true, false, cond, Option, Some, None, option_map, Ordering, Less, Equal, Greater, refl, sym, ap, ap₂, ◌∙◌, subst, arith}
-use Rattle.std.specs.List.{AllByRecursion}
-use Rattle.std.specs.List.Sorted.{IsStrictlySortedBy}
-use Rattle.std.specs.Str.{bytes_eq}
-use Rattle.std.proofs.Math.Path.{fun_ext}
-use Rattle.std.proofs.lemmas.Slice.Eq.{bytes_eq-Decides}
-use Rattle.std.proofs.lemmas.Cmp.{nat_list_cmp_total, tied_itself}
-use Rattle.std.proofs.lemmas.Map.Lookups.{exact_bytes}
-use Rattle.serde_json.specs.Data.{Data, object, Members, no_members, member}
-use Rattle.serde_json.specs.Find.{as_object, get, get_member}
-use Rattle.erd_tables.specs.Texts.{text_cmp}
-use Rattle.erd_tables.specs.declared.class.Class.{Class}
-use Rattle.erd_check.specs.Trees.{AreMembers, IsTree}
-use Rattle.erd_check.specs.Values.{names}
-use Rattle.erd_check.proofs.Order.{In}
+use Rattle.erd_compare.proofs.Common.{◌≡◌, ℕ, ◌+◌, ◌<◌, Bool, true, false, cond, List, [], ◌∷◌, length, Some, None, Option, option_map, bytes_eq, Ordering, Less, Equal, Greater, sym, refl, ap, ◌∙◌, subst, ap₂, inl, inr, arith, Bor, fun_ext, tied_itself, nat_list_cmp_total, exact_bytes, bytes_eq-Decides, AllByRecursion, IsStrictlySortedBy, Data, object, Members, no_members, member, get_member, get, as_object, text_cmp, Class, text_itself, get_member-first, get_member-later, found_cases, In, IsTree, AreMembers, names, greater_turned, Preference, member_of_class, DifferFirstAt, Decides, record_of_class, lesser_name, DifferAtName, first_of, names_past, AreMembersOf}
 use Rattle.erd_check.proofs.Deciding.{names_rise, before_all}
-use Rattle.erd_check.proofs.Exact.{text_itself}
-use Rattle.erd_check.proofs.Members.{found_cases, get_member-first, get_member-later}
-use Rattle.erd_meaning.specs.Keys.{Preference}
-use Rattle.erd_meaning.specs.Records.{member_of_class}
-use Rattle.erd_meaning.proofs.orders.RisingOrders.{greater_turned}
-use Rattle.erd_compare.specs.Differences.{DifferFirstAt}
-use Rattle.erd_compare.specs.code.LeastNames.{DifferAtName, lesser_name, record_of_class}
-use Rattle.erd_compare.specs.code.NamesInStep.{first_of, names_past, AreMembersOf}
 use Rattle.erd_compare.proofs.least_difference.StepWalks.{IsInStep, IsNoneBeside, NoneLess, all_left, below_head, equal_all, none_less-before, none_less-empty, none_less-head, pass_both, pass_left, pass_right}
-use Rattle.erd_compare.specs.code.Comparing.{Decides}
 
 -- ---- the first name that is left
 

@@ -1,23 +1,6 @@
 -- The members of two objects are walked in step, and a test of the pairs decides whether the maps of the two are equal.
-use Rattle.std.proofs.Common.{◌≡◌, ◌<◌, ◌+◌, ℕ, List, length, Bool, true, false, true≢false, Option, Some, None, option_map, refl, sym}
-use Rattle.std.proofs.lemmas.Cmp.{nat_list_cmp_total}
-use Rattle.serde_json.specs.Data.{Data, Members}
-use Rattle.serde_json.specs.Find.{as_object, get}
-use Rattle.serde_json.specs.View.{view}
-use Rattle.erd_tables.specs.Texts.{text_cmp}
-use Rattle.erd_tables.specs.declared.class.Class.{Class}
-use Rattle.erd_check.specs.Trees.{IsTree}
-use Rattle.erd_check.specs.Values.{names}
-use Rattle.erd_meaning.specs.Keys.{Preference}
-use Rattle.erd_meaning.specs.Records.{member_of_class}
-use Rattle.erd_meaning.proofs.meanings.WholeRecords.{absent_member}
-use Rattle.erd_compare.specs.code.Comparing.{Decides}
-use Rattle.erd_compare.specs.code.PlainParts.{member_found}
+use Rattle.erd_compare.proofs.Common.{◌≡◌, ℕ, ◌+◌, ◌<◌, Bool, true, false, List, length, Some, None, Option, option_map, sym, refl, true≢false, nat_list_cmp_total, Data, Members, get, as_object, view, text_cmp, Class, IsTree, names, absent_member, Preference, member_of_class, Decides, MemberMap, TellsLeastName, lesser_name, DifferAtName, IsMapOf, DecideNames, IsPairOf, first_of, names_past, member_found, MemberPair}
 use Rattle.erd_compare.proofs.least_difference.NameWalks.{found-Decides, both_objects, next_name, none_left}
-use Rattle.erd_compare.specs.code.LeastNames.{DifferAtName, MemberMap, TellsLeastName, lesser_name}
-use Rattle.erd_compare.specs.code.MemberPairs.{DecideNames, IsMapOf, IsPairOf}
-use Rattle.erd_compare.specs.code.NamesInStep.{first_of, names_past}
-use Rattle.erd_compare.specs.declared.objects.least_name.MemberPair.{MemberPair}
 use Rattle.erd_compare.proofs.least_difference.StepWalks.{IsInStep, equal_below}
 
 -- a map with nothing

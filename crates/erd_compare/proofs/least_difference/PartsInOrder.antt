@@ -1,23 +1,6 @@
 -- The first difference of two meanings, as the parts are gone over in their order.
-use Rattle.std.proofs.Common.{◌≡◌, ℕ, zero, suc, ◌+◌, ◌<◌, ◌≤◌, ◌⊎◌, inl, inr, List, [], ◌∷◌, length, get_or, Option, Some, None, Ordering, Less, Equal, Greater, refl, sym, ap, ◌∙◌, subst, arith}
-use Rattle.std.specs.Cmp.{nat_cmp_is}
-use Rattle.std.specs.Option.{option_cmp}
-use Rattle.std.specs.Ordering.{nat_cmp, ordering_then}
+use Rattle.erd_compare.proofs.Common.{◌≡◌, ℕ, zero, suc, ◌+◌, ◌<◌, ◌≤◌, ◌⊎◌, List, [], ◌∷◌, length, get_or, Some, None, Option, nat_cmp, Ordering, Less, Equal, Greater, sym, refl, ap, ◌∙◌, subst, inl, inr, arith, cases_order, nat_cmp_is, option_cmp, ordering_then, Data, Family, family, same_meaning, key_cmp, Preference, Meaning, meaning, records_of, Key, part_number, part_cmp, record_at, Differ, IsFirstDifference, DifferAtPart, Difference, Part, part}
 use Rattle.std.specs.Prelude.{⊤}
-use Rattle.std.proofs.lemmas.Bool.{cases_order}
-use Rattle.serde_json.specs.Data.{Data}
-use Rattle.erd_tables.specs.declared.class.Family.{Family}
-use Rattle.erd_tables.specs.declared.class.Family.TheVariants as family
-use Rattle.erd_meaning.specs.Keys.{Preference, key_cmp}
-use Rattle.erd_meaning.specs.Meaning.{Meaning}
-use Rattle.erd_meaning.specs.Records.{meaning, records_of}
-use Rattle.erd_meaning.specs.declared.keys.key.Key.{Key}
-use Rattle.erd_meaning.proofs.meanings.WholeMeanings.{same_meaning}
-use Rattle.erd_compare.specs.code.Comparing.{DifferAtPart}
-use Rattle.erd_compare.specs.Differences.{Differ, IsFirstDifference, part_cmp, part_number, record_at}
-use Rattle.erd_compare.specs.declared.difference.Difference.{Difference}
-use Rattle.erd_compare.specs.declared.difference.Part.{Part}
-use Rattle.erd_compare.specs.declared.difference.Part.TheVariants as part
 
 -- ---- the parts
 

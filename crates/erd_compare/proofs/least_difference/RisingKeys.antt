@@ -1,35 +1,9 @@
 -- The keys of the objects with a role, in rising order: no key stands twice, and each stands at its rank.
-use Rattle.std.proofs.Common.{◌≡◌, ◌+◌, ℕ, List, map, filter, length, cond, true, Option, Some, None, option_and_then, option_map, Ordering, is_lt, slice_get, refl, sym, ap, ◌∙◌, arith}
-use Rattle.std.specs.Cmp.{IsTotalOrder}
+use Rattle.erd_compare.proofs.Common.{◌≡◌, ℕ, ◌+◌, true, cond, List, map, length, slice_get, Some, None, filter, Option, option_map, option_and_then, is_lt, Ordering, sym, refl, ap, ◌∙◌, arith, slice_get-map, IsTotalOrder, AllByRecursion, IsDistinct, IsStrictlySortedBy, option_cmp, eq_by_cmp, Data, Family, Role, role, In, In-all, all_weakened, option_map-Some, in_at, distinct_from_one_place, options_exact, equal_keys, all_rising, rising_strictly, stands_at_rank, KeyPosition, positioned_made, positioned_keys, all_positioned, rising_positioned, has_keys, key_cmp, Preference, key_of, rank_of, rising_keys, election_rank_of, rising_election_keys, Placed, elections, objects, rising_list, positioned, rank_in_keys, rising_positions, key_cmp_total, Key, objects_in, key_with_role, keys_in_role, key_in_role, is_ranked, rising_in_role, HasKeyAt, IsComparable}
 use Rattle.std.specs.Cmp.Lexicographic.{options_total}
-use Rattle.std.specs.List.{AllByRecursion, IsDistinct}
-use Rattle.std.specs.List.Sorted.{IsStrictlySortedBy}
-use Rattle.std.specs.Option.{option_cmp}
-use Rattle.std.specs.Ordering.{eq_by_cmp}
-use Rattle.std.proofs.lemmas.Option.{slice_get-map}
-use Rattle.serde_json.specs.Data.{Data}
-use Rattle.erd_check.proofs.Order.{In, In-all}
-use Rattle.erd_check.proofs.Positions.{all_weakened}
-use Rattle.erd_tables.specs.declared.class.Family.{Family}
-use Rattle.erd_tables.specs.declared.class.Role.{Role}
-use Rattle.erd_tables.specs.declared.class.Role.TheVariants as role
-use Rattle.erd_meaning.specs.Keys.{Preference, has_keys, key_cmp, key_of}
-use Rattle.erd_meaning.specs.Lookups.{election_rank_of, rank_of, rising_election_keys, rising_keys}
-use Rattle.erd_meaning.specs.Objects.{Placed, elections, objects}
-use Rattle.erd_meaning.specs.SelectionNames.{rising_list}
-use Rattle.erd_meaning.specs.code.KeyOrders.{positioned, rank_in_keys, rising_positions}
-use Rattle.erd_meaning.specs.code.Orders.{key_cmp_total}
-use Rattle.erd_meaning.specs.declared.keys.key.Key.{Key}
-use Rattle.erd_meaning.proofs.accepted.References.{option_map-Some}
-use Rattle.erd_meaning.proofs.finding.OneObject.{in_at}
 use Rattle.erd_meaning.proofs.orders.Counted.{count_map}
-use Rattle.erd_meaning.proofs.orders.DistinctEntries.{distinct_from_one_place}
-use Rattle.erd_meaning.proofs.orders.EqualNames.{equal_keys, options_exact}
-use Rattle.erd_meaning.proofs.orders.RisingOrders.{all_rising, rising_strictly, stands_at_rank}
 use Rattle.erd_meaning.proofs.orders.RisingLists.{rising_list_map}
 use Rattle.erd_meaning.proofs.orders.RisingSets.{rising-In}
-use Rattle.erd_meaning.proofs.selections.PositionedKeys.{KeyPosition, all_positioned, positioned_keys, positioned_made, rising_positioned}
-use Rattle.erd_compare.specs.code.KeyedDifferences.{HasKeyAt, IsComparable, is_ranked, key_in_role, key_with_role, keys_in_role, objects_in, rising_in_role}
 use Rattle.erd_compare.proofs.least_difference.KeyedRecords.{one_object}
 
 -- keys are compared, and none comes before each

@@ -1,16 +1,5 @@
 -- At a rank both reports have the same key if and only if the common rank there is the rank.
-use Rattle.std.proofs.Common.{◌≡◌, ◌==◌, ℕ, List, ◌++◌, map, cond, Bool, true, false, Option, Some, None, option_map, slice_get, refl, sym, ap, ◌∙◌}
-use Rattle.std.proofs.lemmas.Bool.Decides.{Decides-eqb}
-use Rattle.std.proofs.lemmas.Option.{slice_get-map, same_Some}
-use Rattle.serde_json.specs.View.{view}
-use Rattle.erd_tables.specs.declared.class.Role.{Role}
-use Rattle.erd_meaning.specs.Judged.{Judged}
-use Rattle.erd_meaning.specs.code.KeyOrders.{rising_positions}
-use Rattle.erd_meaning.specs.declared.keys.key.Key.{Key}
-use Rattle.erd_meaning.proofs.accepted.References.{option_map-Some}
-use Rattle.erd_meaning.proofs.selections.PositionedKeys.{KeyPosition}
-use Rattle.erd_compare.specs.code.CommonRanks.{AreCommonRanks, common_rank, place_of}
-use Rattle.erd_compare.specs.code.KeyedDifferences.{IsComparable, is_ranked, keys_in_role, rising_in_role, shared, shared_at}
+use Rattle.erd_compare.proofs.Common.{◌≡◌, ℕ, Bool, true, false, cond, List, ◌++◌, map, ◌==◌, slice_get, Some, None, Option, option_map, sym, refl, ap, ◌∙◌, Decides-eqb, same_Some, slice_get-map, view, Role, option_map-Some, KeyPosition, Judged, rising_positions, Key, place_of, common_rank, AreCommonRanks, keys_in_role, is_ranked, rising_in_role, shared, shared_at, IsComparable}
 use Rattle.erd_compare.proofs.least_difference.RisingKeys.{entries, entry_keys, keys_rise}
 use Rattle.erd_compare.proofs.same_ranks.KeyPlaces.{first_at, place_first, place_stands, place_there, stands_second}
 

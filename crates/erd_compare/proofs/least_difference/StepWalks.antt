@@ -1,11 +1,6 @@
 -- Two maps are compared along two rising lists of their keys, which are walked in step.
-use Rattle.std.proofs.Common.{◌≡◌, ◌⊎◌, inl, inr, List, [], ◌∷◌, Option, None, Ordering, Less, sym, ◌∙◌, subst}
-use Rattle.std.specs.Cmp.{IsTotalOrder}
-use Rattle.std.specs.List.{AllByRecursion}
-use Rattle.std.specs.List.Sorted.{IsStrictlySortedBy}
+use Rattle.erd_compare.proofs.Common.{◌≡◌, ◌⊎◌, List, [], ◌∷◌, None, Option, Ordering, Less, sym, ◌∙◌, subst, inl, inr, IsTotalOrder, AllByRecursion, IsStrictlySortedBy, In, In-all, not_below_itself}
 use Rattle.std.proofs.lemmas.Map.Keys.{sorted_head, sorted_tail}
-use Rattle.erd_check.proofs.Order.{In, In-all}
-use Rattle.erd_check.proofs.Rising.{not_below_itself}
 
 -- the key is below all of these
 abbrev pub IsBelow : {K : Type 0} → (K → K → Ordering) → K → List K → Type 0

@@ -1,23 +1,6 @@
 -- The rising keys of two reports in a part, walked in step by rank.
-use Rattle.std.proofs.Common.{◌≡◌, ◌+◌, ◌<◌, ℕ, List, ◌∷◌, drop, length, Option, Some, None, option_map, Bor, slice_get, sym, ap, ap₂, ◌∙◌, subst}
-use Rattle.std.specs.Option.{option_copied}
-use Rattle.std.proofs.lemmas.List.{length-map}
-use Rattle.std.proofs.lemmas.Option.{slice_get-map, slice_get_within}
-use Rattle.serde_json.specs.Data.{Data}
-use Rattle.serde_json.specs.View.{view}
-use Rattle.erd_tables.specs.declared.class.Role.{Role}
-use Rattle.erd_meaning.specs.Judged.{Judged}
-use Rattle.erd_meaning.specs.Keys.{Preference}
-use Rattle.erd_meaning.specs.Records.{meaning}
-use Rattle.erd_meaning.specs.code.KeyOrders.{rising_positions}
-use Rattle.erd_meaning.specs.declared.keys.key.Key.{Key}
-use Rattle.erd_meaning.proofs.selections.PositionedKeys.{KeyPosition}
-use Rattle.erd_compare.specs.Differences.{record_at}
-use Rattle.erd_compare.specs.code.Comparing.{DifferAtKey}
-use Rattle.erd_compare.specs.code.KeyedDifferences.{TellsAtPositions, TellsLeast, TellsNext, key_in_role, keys_in_role, rising_in_role, role_of_part, shared_at}
+use Rattle.erd_compare.proofs.Common.{◌≡◌, ℕ, ◌+◌, ◌<◌, List, ◌∷◌, length, drop, slice_get, Some, None, Option, option_map, option_copied, sym, ap, ◌∙◌, subst, ap₂, Bor, length-map, slice_get-map, slice_get_within, Data, view, Role, KeyPosition, Judged, Preference, meaning, rising_positions, Key, record_at, DifferAtKey, role_of_part, keys_in_role, key_in_role, rising_in_role, shared_at, TellsAtPositions, TellsLeast, TellsNext, How, Part}
 use Rattle.erd_compare.specs.code.RisingParts.{AreRising}
-use Rattle.erd_compare.specs.declared.difference.How.{How}
-use Rattle.erd_compare.specs.declared.difference.Part.{Part}
 use Rattle.erd_compare.specs.declared.first.tables.KeyedDifference.{KeyedDifference}
 use Rattle.erd_compare.specs.declared.first.tables.Rising.{Rising}
 use Rattle.erd_compare.proofs.least_difference.KeyWalks.{AreLeft, both_differ, both_heads, both_same, part_ranked, told_next}

@@ -1,16 +1,7 @@
 -- What a node of a ballot's order is, by its class, and what stands inside it.
-use Rattle.std.proofs.Common.{◌≡◌, ◌<◌, ◌≤◌, ℕ, zero, suc, List, [], ◌∷◌, length, get_or, Option, Some, None, Ordering, Equal, is_eq, Bool, true, false, codes, refl, sym, ap, ◌∙◌, arith}
+use Rattle.erd_compare.proofs.Common.{◌≡◌, ℕ, zero, suc, ◌<◌, ◌≤◌, Bool, true, false, List, [], ◌∷◌, length, get_or, Some, None, codes, Option, is_eq, Ordering, Equal, sym, refl, ap, ◌∙◌, arith, Data, object, Members, no_members, member, depth, items_depth, members_depth, get_member, get, view, items_view, Value, text_cmp, get_member-depth, Preference, Content, no_content, class_of_node, is_header_class, content_of, node_of, content_inside, Decides}
 use Rattle.std.proofs.lemmas.Map.Text.{is_eq-slice_cmp}
-use Rattle.serde_json.specs.Data.{Data, object, Members, no_members, member, depth, items_depth, members_depth}
-use Rattle.serde_json.specs.Find.{get, get_member}
-use Rattle.serde_json.specs.View.{items_view, view}
-use Rattle.serde_json.specs.declared.value.Value.{Value}
-use Rattle.erd_tables.specs.Texts.{text_cmp}
-use Rattle.erd_check.proofs.Members.{get_member-depth}
-use Rattle.erd_meaning.specs.Keys.{Preference}
-use Rattle.erd_meaning.specs.Meaning.{Content, no_content}
-use Rattle.erd_meaning.specs.Records.{class_of_node, content_inside, content_of, contest_node, header_node, is_header_class, node_of}
-use Rattle.erd_compare.specs.code.Comparing.{Decides}
+use Rattle.erd_meaning.specs.Records.{contest_node, header_node}
 use Rattle.erd_compare.specs.code.ContentParts.{content_within}
 
 -- ---- what stands inside

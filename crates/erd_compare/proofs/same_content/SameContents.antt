@@ -1,17 +1,6 @@
 -- When two orders of a ballot are the same: node by node, and each node part by part.
-use Rattle.std.proofs.Common.{◌≡◌, ◌==◌, length, suc, arith, List, [], ◌∷◌, map, Bool, true, false, Option, refl, sym, ap, ap₂, ◌∙◌, true≢false}
-use Rattle.std.proofs.lemmas.Bool.Decides.{Decides-eqb}
+use Rattle.erd_compare.proofs.Common.{◌≡◌, suc, Bool, true, false, List, [], ◌∷◌, map, length, ◌==◌, Option, sym, refl, ap, ◌∙◌, ap₂, true≢false, arith, Decides-eqb, Data, array, Items, no_items, item, view, Value, list_of_items, entries_of, Preference, JsonMap, Content, no_content, first_node, Node, a_contest, a_header, NameParts, content_of, nodes_of, node_of, Key, Decides}
 use Rattle.std.proofs.lemmas.Simd.{map-map}
-use Rattle.serde_json.specs.Data.{Data, array, Items, no_items, item}
-use Rattle.serde_json.specs.View.{view}
-use Rattle.serde_json.specs.declared.value.Value.{Value}
-use Rattle.erd_check.specs.Values.{entries_of, list_of_items}
-use Rattle.erd_meaning.specs.Keys.{Preference}
-use Rattle.erd_meaning.specs.Meaning.{JsonMap, Content, no_content, first_node, Node, a_contest, a_header}
-use Rattle.erd_meaning.specs.NameParts.{NameParts}
-use Rattle.erd_meaning.specs.Records.{content_of, node_of, nodes_of}
-use Rattle.erd_meaning.specs.declared.keys.key.Key.{Key}
-use Rattle.erd_compare.specs.code.Comparing.{Decides}
 
 -- ---- content as a list of nodes
 

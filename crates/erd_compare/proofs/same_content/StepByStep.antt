@@ -1,7 +1,5 @@
 -- Two lists that are compared one entry after another: what is left of them is the same exactly if they are.
-use Rattle.std.proofs.Common.{◌≡◌, ◌<◌, ◌+◌, ℕ, List, ◌∷◌, map, drop, length, get_or, true, false, true≢false, add-one, sym, ap, ap₂, ◌∙◌}
-use Rattle.std.proofs.Math.Seq.{drop-cons}
-use Rattle.erd_compare.specs.code.Comparing.{Decides}
+use Rattle.erd_compare.proofs.Common.{◌≡◌, ℕ, ◌+◌, ◌<◌, true, false, List, ◌∷◌, map, length, get_or, drop, sym, ap, ◌∙◌, ap₂, true≢false, add-one, drop-cons, Decides}
 
 -- two lists are the same exactly if what is left of them is
 pub record AreSameIfLeft {B : Type 0} (all all' left left' : List B) : Type 0 where

@@ -1,16 +1,7 @@
 -- The positions of keys that are added to a list one after another, each once.
-use Rattle.std.proofs.Common.{◌≡◌, ◌≤◌, ◌+◌, ℕ, List, [], ◌∷◌, ◌++◌, length, map, drop, Bool, true, false, not, cond, ◌||◌, eqb, Option, Some, None, option_map, Ordering, is_eq, inl, inr, refl, sym, ap, ap₂, ◌∙◌, subst, append-nil, arith}
-use Rattle.std.proofs.lemmas.Bool.Decides.{Decides-eqb}
-use Rattle.std.proofs.lemmas.Cmp.{tied_itself}
-use Rattle.std.proofs.lemmas.List.{drop_all, drop_more, map-append}
-use Rattle.std.proofs.lemmas.Option.{get_or_from_slice_get, slice_get_within}
+use Rattle.erd_compare.proofs.Common.{◌≡◌, ℕ, ◌+◌, ◌≤◌, Bool, true, false, cond, not, ◌||◌, eqb, List, [], ◌∷◌, ◌++◌, map, length, drop, slice_get, Some, None, Option, option_map, filter_map, is_eq, Ordering, sym, refl, ap, ◌∙◌, subst, ap₂, inl, inr, append-nil, arith, Decides-eqb, tied_itself, map-append, drop_more, drop_all, CmpEqualImpliesEq, slice_get_within, get_or_from_slice_get, Equal-is, IsTotalOrder, cons_option, list_any, position_or_len, eq_by_cmp, In}
 use Rattle.std.proofs.lemmas.List.Folds.{list_any-append, position_or_len_push}
-use Rattle.std.proofs.lemmas.Map.Lookups.{CmpEqualImpliesEq}
-use Rattle.std.specs.Cmp.{Equal-is, IsTotalOrder}
-use Rattle.std.specs.List.{cons_option, filter_map, list_any, position_or_len, slice_get}
-use Rattle.std.specs.Ordering.{eq_by_cmp}
 use Rattle.indexmap.specs.IndexSet.{insert_all, insert_key}
-use Rattle.erd_check.proofs.Order.{In}
 
 -- ---- the first that passes a test
 

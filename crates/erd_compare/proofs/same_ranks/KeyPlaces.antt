@@ -1,16 +1,5 @@
 -- The first position of a key in a list.
-use Rattle.std.proofs.Common.{◌≡◌, ◌+◌, ◌<◌, ℕ, zero, suc, Less, Equal, ◌⊎◌, inl, inr, List, [], ◌∷◌, ◌++◌, length, cond, Bool, true, false, true≢false, Option, Some, is_eq, refl, sym, ap, ◌∙◌, subst, arith}
-use Rattle.std.specs.List.{slice_get}
-use Rattle.std.specs.List.Sorted.{IsStrictlySortedBy}
-use Rattle.std.specs.Option.{option_cmp}
-use Rattle.std.proofs.lemmas.Cmp.{tied_itself}
-use Rattle.std.proofs.lemmas.Bool.{cases_order}
-use Rattle.std.proofs.lemmas.Option.{same_Some}
-use Rattle.erd_meaning.specs.Keys.{key_cmp}
-use Rattle.erd_meaning.specs.declared.keys.key.Key.{Key}
-use Rattle.erd_meaning.proofs.finding.OneObject.{sorted_at}
-use Rattle.erd_meaning.proofs.orders.EqualNames.{equal_keys, options_exact}
-use Rattle.erd_compare.specs.code.CommonRanks.{place_of}
+use Rattle.erd_compare.proofs.Common.{◌≡◌, ℕ, zero, suc, ◌+◌, ◌<◌, Bool, true, false, cond, ◌⊎◌, List, [], ◌∷◌, ◌++◌, length, slice_get, Some, Option, is_eq, Less, Equal, sym, refl, ap, ◌∙◌, subst, inl, inr, true≢false, arith, cases_order, tied_itself, same_Some, IsStrictlySortedBy, option_cmp, sorted_at, options_exact, equal_keys, key_cmp, Key, place_of}
 use Rattle.erd_compare.proofs.least_difference.RisingKeys.{by_key, by_key_total}
 
 -- the key is in the list

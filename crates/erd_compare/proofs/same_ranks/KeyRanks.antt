@@ -1,24 +1,6 @@
 -- The common ranks of the keys of two reports: equal ranks for equal keys.
-use Rattle.std.proofs.Common.{◌≡◌, ◌==◌, ℕ, List, ◌++◌, true≢false, true, Option, Some, None, option_map, refl, sym, ap, ◌∙◌}
-use Rattle.std.specs.List.{slice_get}
-use Rattle.std.specs.Option.{option_eq}
-use Rattle.std.proofs.lemmas.Bool.Decides.{Decides-eqb}
-use Rattle.std.proofs.lemmas.Option.{slice_get-map}
-use Rattle.serde_json.specs.Data.{Data}
-use Rattle.serde_json.specs.View.{view}
-use Rattle.erd_tables.specs.declared.class.Role.{Role}
-use Rattle.erd_meaning.specs.Judged.{Judged}
-use Rattle.erd_meaning.specs.Keys.{Preference}
-use Rattle.erd_meaning.specs.code.KeyOrders.{rank_in_keys}
-use Rattle.erd_meaning.specs.declared.keys.key.Key.{Key}
+use Rattle.erd_compare.proofs.Common.{◌≡◌, ℕ, true, List, ◌++◌, ◌==◌, slice_get, Some, None, Option, option_map, sym, refl, ap, ◌∙◌, true≢false, Decides-eqb, slice_get-map, option_eq, Data, view, Role, Judged, Preference, rank_in_keys, Key, place_of, common_rank, rank_of_key, AreCommonRanks, common_ranks_in, AreAllCommonRanks, Decides, keys_in_role, is_ranked, rising_in_role, HasKeyAt, IsComparable, on_side, AreCommonByRank, CommonRanks, Side, Left, Right}
 use Rattle.erd_meaning.proofs.orders.DistinctEntries.{place_of as place_in}
-use Rattle.erd_compare.specs.code.Comparing.{Decides}
-use Rattle.erd_compare.specs.code.CommonRanks.{AreAllCommonRanks, AreCommonRanks, common_rank, common_ranks_in, place_of, rank_of_key}
-use Rattle.erd_compare.specs.code.KeyedDifferences.{HasKeyAt, IsComparable, is_ranked, keys_in_role, rising_in_role}
-use Rattle.erd_compare.specs.code.RankedSides.{AreCommonByRank, on_side}
-use Rattle.erd_compare.specs.declared.ranks.common_ranks.CommonRanks.{CommonRanks}
-use Rattle.erd_compare.specs.declared.ranks.side.Side.{Side}
-use Rattle.erd_compare.specs.declared.ranks.side.Side.TheVariants.{Left, Right}
 use Rattle.erd_compare.proofs.least_difference.RisingKeys.{all_rise, at_rank, keys_rise}
 use Rattle.erd_compare.proofs.same_ranks.KeyPlaces.{Stands, one_place, place_first, place_there, stands_first, stands_second}
 

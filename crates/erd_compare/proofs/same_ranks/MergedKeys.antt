@@ -1,15 +1,5 @@
 -- Two rising lists of keys are merged: how far the merge has come, and its steps.
-use Rattle.std.proofs.Common.{◌≡◌, ◌≤◌, ◌<◌, ◌+◌, ◌++◌, ◌⊎◌, ℕ, zero, suc, inl, inr, List, [], ◌∷◌, map, take, length, Option, Some, None, Ordering, Less, Equal, Greater, is_eq, slice_get, refl, sym, ap, ◌∙◌, subst, arith}
-use Rattle.std.proofs.lemmas.List.{map-append, take_all, take_more}
-use Rattle.std.proofs.lemmas.Option.{get_or_from_slice_get, slice_get_within, same_Some}
-use Rattle.std.specs.List.Sorted.{IsStrictlySortedBy}
-use Rattle.std.proofs.lemmas.Bool.{cases_order}
-use Rattle.erd_meaning.specs.Keys.{key_cmp}
-use Rattle.erd_meaning.specs.declared.keys.key.Key.{Key}
-use Rattle.erd_meaning.proofs.finding.OneObject.{sorted_at}
-use Rattle.erd_meaning.proofs.orders.RisingOrders.{greater_turned}
-use Rattle.erd_meaning.proofs.orders.EqualNames.{equal_keys, options_exact}
-use Rattle.erd_compare.specs.code.CommonRanks.{next_cmp, place_of}
+use Rattle.erd_compare.proofs.Common.{◌≡◌, ℕ, zero, suc, ◌+◌, ◌<◌, ◌≤◌, ◌⊎◌, List, [], ◌∷◌, ◌++◌, map, length, take, slice_get, Some, None, Option, is_eq, Ordering, Less, Equal, Greater, sym, refl, ap, ◌∙◌, subst, inl, inr, arith, take_all, cases_order, map-append, take_more, same_Some, slice_get_within, get_or_from_slice_get, IsStrictlySortedBy, sorted_at, options_exact, equal_keys, greater_turned, key_cmp, Key, place_of, next_cmp}
 use Rattle.erd_compare.proofs.least_difference.RisingKeys.{by_key, by_key_total}
 use Rattle.erd_compare.proofs.same_ranks.KeyPlaces.{StandsNowhere, not_itself, place_first, place_second, place_there}
 

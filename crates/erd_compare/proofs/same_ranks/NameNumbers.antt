@@ -1,31 +1,9 @@
 -- The numbers of the names of selections: names of two reports are equal if and only if their numbers are.
-use Rattle.std.proofs.Common.{◌≡◌, ◌==◌, ℕ, List, [], ◌∷◌, map, true, true≢false, Option, Some, None, option_and_then, option_map, refl, sym, ap, ap₂, ◌∙◌, subst}
-use Rattle.std.proofs.lemmas.Bool.Decides.{Decides-eqb}
-use Rattle.std.proofs.lemmas.Option.{option_and_then_some}
-use Rattle.std.specs.List.{cons_option, filter_map, list_any, position_or_len}
-use Rattle.std.specs.Option.{option_eq}
-use Rattle.serde_json.specs.Data.{Data}
+use Rattle.erd_compare.proofs.Common.{◌≡◌, ℕ, true, List, [], ◌∷◌, map, ◌==◌, Some, None, Option, option_map, filter_map, option_and_then, sym, refl, ap, ◌∙◌, subst, ap₂, true≢false, Decides-eqb, option_and_then_some, cons_option, list_any, position_or_len, option_eq, Data, family, In, position_of, find-Some, option_map-Some, in_at, Judged, NameParts, NumberedParts, numbered_name_cmp, Placed, objects, has_id, owner_at, owner, name_of, name_named, numbered_name_cmp_total, numbered_name_cmp_exact, name_by_ranks, name_by_ranks_of, name_told, name_eq, names_on, names_of_both, number_of_name, number_of_selection, numbers_on, AreNameNumbers, Decides, on_side, AreCommonByRank, CommonRanks, Side, Left, Right}
 use Rattle.indexmap.specs.IndexSet.{insert_all}
-use Rattle.erd_check.proofs.Order.{In}
-use Rattle.erd_check.proofs.Positions.{position_of}
-use Rattle.erd_tables.specs.declared.class.Family.TheVariants as family
-use Rattle.erd_meaning.proofs.accepted.References.{find-Some, option_map-Some}
-use Rattle.erd_meaning.proofs.finding.OneObject.{in_at}
 use Rattle.erd_meaning.proofs.selections.KeysInNames.{known_name}
-use Rattle.erd_meaning.specs.Judged.{Judged}
-use Rattle.erd_meaning.specs.NameParts.{NameParts}
-use Rattle.erd_meaning.specs.Objects.{Placed, has_id, objects, owner, owner_at}
-use Rattle.erd_meaning.specs.SelectionNames.{name_named, name_of}
-use Rattle.erd_meaning.specs.NumberedNames.{NumberedParts, numbered_name_cmp}
-use Rattle.erd_meaning.specs.code.NumberedOrders.{numbered_name_cmp_exact, numbered_name_cmp_total}
 use Rattle.erd_meaning.specs.code.RanksAmong.{HasKeysIn}
-use Rattle.erd_compare.specs.code.CommonNames.{AreNameNumbers, name_eq, name_told, names_of_both, names_on, number_of_name, number_of_selection, name_by_ranks, name_by_ranks_of, numbers_on}
-use Rattle.erd_compare.specs.code.Comparing.{Decides}
-use Rattle.erd_compare.specs.code.RankedSides.{AreCommonByRank, on_side}
-use Rattle.erd_compare.specs.declared.ranks.common_ranks.CommonRanks.{CommonRanks}
 use Rattle.erd_compare.specs.declared.ranks.name_numbers.NameNumbers.{NameNumbers}
-use Rattle.erd_compare.specs.declared.ranks.side.Side.{Side}
-use Rattle.erd_compare.specs.declared.ranks.side.Side.TheVariants.{Left, Right}
 use Rattle.erd_compare.proofs.same_ranks.InsertedKeys.{added_any, in_told, one_position, positions_stay, stands_all}
 use Rattle.erd_compare.proofs.same_ranks.NamesOnSides.{from_ranks, name_is_told}
 use Rattle.erd_compare.proofs.same_ranks.KeyRanks.{prefer_on, tree_on}

@@ -1,33 +1,8 @@
 -- The common ranks of the keys that references name, and of the keys of the elections that hold objects.
-use Rattle.std.proofs.Common.{◌≡◌, ◌==◌, ℕ, List, Bool, true, false, Option, Some, None, option_and_then, option_map, refl, sym, ap, ap₂, ◌∙◌}
-use Rattle.std.specs.List.{slice_get}
-use Rattle.std.specs.Option.{option_eq}
-use Rattle.std.proofs.lemmas.Option.{option_and_then_some}
-use Rattle.serde_json.specs.Data.{Data}
-use Rattle.serde_json.specs.View.{view}
-use Rattle.erd_tables.specs.Classes.{family_number}
-use Rattle.erd_tables.specs.declared.class.Family.{Family}
-use Rattle.erd_tables.specs.declared.class.Role.{Role}
-use Rattle.erd_tables.specs.declared.class.Role.TheVariants as role
-use Rattle.erd_meaning.specs.Judged.{Judged}
-use Rattle.erd_meaning.specs.Keys.{Preference, has_keys, key_of}
-use Rattle.erd_meaning.specs.Lookups.{FindsId, election_key_in}
-use Rattle.erd_meaning.specs.Objects.{Placed, elections, has_id, objects, owner, owner_at}
-use Rattle.erd_meaning.specs.SelectionNames.{key_named}
-use Rattle.erd_meaning.specs.code.KeyOrders.{rank_in_keys}
-use Rattle.erd_meaning.specs.declared.keys.key.Key.{Key}
-use Rattle.erd_meaning.proofs.accepted.References.{find-Some, option_map-Some}
-use Rattle.erd_compare.specs.code.CommonRanks.{common_rank_of, rank_of_key}
-use Rattle.erd_compare.specs.code.KeyedDifferences.{HasKeyAt, holder_in, holder_key_in, is_ranked, key_in_role, key_with_role, keys_in_role}
-use Rattle.erd_compare.specs.code.RankedSides.{AreCommonByRank, on_side, rank_with_id}
-use Rattle.erd_compare.specs.declared.ranks.common_ranks.CommonRanks.{CommonRanks}
-use Rattle.erd_compare.specs.declared.ranks.side.Side.{Side}
-use Rattle.erd_compare.specs.declared.ranks.side.Side.TheVariants.{Left, Right}
+use Rattle.erd_compare.proofs.Common.{◌≡◌, ℕ, Bool, true, false, List, ◌==◌, slice_get, Some, None, Option, option_map, option_and_then, sym, refl, ap, ◌∙◌, ap₂, option_and_then_some, option_eq, Data, view, family_number, Family, Role, role, position_of, find-Some, option_map-Some, Judged, has_keys, Preference, key_of, election_key_in, FindsId, Placed, elections, objects, has_id, owner_at, owner, key_named, rank_in_keys, Key, rank_of_key, common_rank_of, Decides, key_with_role, keys_in_role, key_in_role, holder_in, holder_key_in, is_ranked, HasKeyAt, on_side, rank_with_id, AreCommonByRank, CommonRanks, Side, Left, Right}
 use Rattle.erd_compare.proofs.same_ranks.KeyRanks.{IsKnown, known_on, ranks_decide}
-use Rattle.erd_compare.specs.code.Comparing.{Decides}
 use Rattle.erd_compare.proofs.same_values.EqualOptions.{decides_as}
 use Rattle.erd_compare.proofs.same_values.ReferencedKeys.{key_elsewhere, key_here, key_nowhere}
-use Rattle.erd_check.proofs.Positions.{position_of}
 
 -- ---- keys by role
 

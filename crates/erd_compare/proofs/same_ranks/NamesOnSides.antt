@@ -1,35 +1,11 @@
 -- The names that a report gives to its selections: each key in them is that of an object, so it has a common rank, which is
 -- found by its rank.
-use Rattle.std.proofs.Common.{◌≡◌, ℕ, List, [], ◌∷◌, map, true, Option, Some, None, option_and_then, option_map, refl, sym, ap, ap₂, ◌∙◌, subst}
-use Rattle.std.specs.List.{AllByRecursion, cons_option, filter_map, slice_get}
-use Rattle.serde_json.specs.Data.{Data}
-use Rattle.serde_json.specs.View.{view}
-use Rattle.erd_check.proofs.Order.{In-from_contains}
-use Rattle.erd_check.proofs.Positions.{all_weakened}
-use Rattle.erd_tables.specs.declared.class.Family.{Family}
-use Rattle.erd_tables.specs.declared.class.Family.TheVariants as family
-use Rattle.erd_tables.specs.declared.class.Role.{Role}
-use Rattle.erd_tables.specs.declared.class.Role.TheVariants as role
+use Rattle.erd_compare.proofs.Common.{◌≡◌, ℕ, true, List, [], ◌∷◌, map, slice_get, Some, None, Option, option_map, filter_map, option_and_then, sym, refl, ap, ◌∙◌, subst, ap₂, AllByRecursion, cons_option, Data, view, Family, family, Role, role, In-from_contains, all_weakened, Judged, has_keys, rank_of, NameParts, NumberedParts, without_keys, numbered_parts, Placed, objects, numbered_selections, family_chosen, ranked_name, PlacedName, ranked_selection_in, name_of, Key, role_of_name, ranks_in_name, name_by_ranks, name_by_ranks_of, ranks_told, name_told, rank_of_key, common_rank_of, HasKeyAt, on_side, AreCommonByRank, CommonRanks, Side}
 use Rattle.erd_meaning.proofs.orders.DistinctEntries.{place_of as place_in}
 use Rattle.erd_meaning.proofs.selections.NumberedSelections.{numbered_at}
 use Rattle.erd_meaning.proofs.selections.KeysInNames.{known_name}
 use Rattle.erd_meaning.proofs.selections.RankedReports.{chosen_keyed}
-use Rattle.erd_meaning.specs.Judged.{Judged}
-use Rattle.erd_meaning.specs.Keys.{has_keys}
-use Rattle.erd_meaning.specs.Lookups.{rank_of}
-use Rattle.erd_meaning.specs.NameParts.{NameParts}
-use Rattle.erd_meaning.specs.Objects.{Placed, objects, numbered_selections}
-use Rattle.erd_meaning.specs.SelectionNames.{name_of}
-use Rattle.erd_meaning.specs.NumberedNames.{NumberedParts, numbered_parts, without_keys}
 use Rattle.erd_meaning.specs.code.RanksAmong.{HasKeysIn, IsKeyIn}
-use Rattle.erd_meaning.specs.RankedNames.{PlacedName, family_chosen, ranked_name, ranked_selection_in}
-use Rattle.erd_meaning.specs.declared.keys.key.Key.{Key}
-use Rattle.erd_compare.specs.code.CommonRanks.{common_rank_of, rank_of_key}
-use Rattle.erd_compare.specs.code.KeyedDifferences.{HasKeyAt}
-use Rattle.erd_compare.specs.code.RankedSides.{AreCommonByRank, on_side}
-use Rattle.erd_compare.specs.code.CommonNames.{name_by_ranks, name_by_ranks_of, name_told, ranks_in_name, ranks_told, role_of_name}
-use Rattle.erd_compare.specs.declared.ranks.common_ranks.CommonRanks.{CommonRanks}
-use Rattle.erd_compare.specs.declared.ranks.side.Side.{Side}
 use Rattle.erd_compare.proofs.least_difference.RisingKeys.{family_rank}
 use Rattle.erd_compare.proofs.same_ranks.KeyRanks.{both_keys, known_on, one_rank, prefer_on, tree_on}
 use Rattle.erd_compare.proofs.same_ranks.KeyPlaces.{Stands}

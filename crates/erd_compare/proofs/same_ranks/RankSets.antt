@@ -1,38 +1,10 @@
 -- The common ranks of the keys that references name are put into a set one after another, and two such sets are equal if and
 -- only if the sets of the keys are.
-use Rattle.std.proofs.Common.{◌≡◌, ◌==◌, ℕ, List, [], ◌∷◌, map, Bool, true, false, ◌||◌, Ordering, Equal, is_eq, inl, inr, Option, Some, None, option_and_then, option_map, refl, sym, ap, ap₂, ◌∙◌, subst}
-use Rattle.std.proofs.Math.Path.{fun_ext}
-use Rattle.std.proofs.lemmas.Bool.{and_from, and_parts}
-use Rattle.std.proofs.lemmas.Bool.Decides.{Decides-eqb}
-use Rattle.std.proofs.lemmas.Cmp.{nat_cmp_total, tied_itself}
+use Rattle.erd_compare.proofs.Common.{◌≡◌, ℕ, Bool, true, false, ◌||◌, List, [], ◌∷◌, map, ◌==◌, Some, None, Option, option_map, IsPermutation, IsSorted, filter_map, option_and_then, nat_cmp, is_eq, Ordering, Equal, sym, refl, ap, ◌∙◌, subst, ap₂, inl, inr, fun_ext, and_parts, and_from, Decides-eqb, tied_itself, nat_cmp_total, CmpEqualImpliesEq, exact_unsigned, IsTotalOrder, both_ways, unsigned_ties, cons_option, dedup, list_any, Data, as_str, view, Value, Family, Role, role, In, In-map, In-map_from, In-from_contains, contains_from_In, Judged, has_keys, key_cmp, KeySet, key_set, key_named, keys_named, key_cmp_total, key_cmp_exact, Key, rank_of_key, Decides, on_side, rank_with_id, list_of_ranks, rank_set, IsRankSet, Side}
 use Rattle.std.proofs.lemmas.List.Kept.{Contains-dedup_nat, Contains-from_dedup, IsStrictlySortedBy-dedup}
 use Rattle.std.proofs.lemmas.List.Sorted.{list_any-IsPermutation}
-use Rattle.std.proofs.lemmas.Map.Lookups.{CmpEqualImpliesEq, exact_unsigned}
-use Rattle.std.specs.Cmp.{IsTotalOrder, unsigned_ties, both_ways}
 use Rattle.std.specs.Cmp.Lexicographic.{pointwise}
-use Rattle.std.specs.List.{cons_option, dedup, filter_map, list_any}
-use Rattle.std.specs.List.Sorted.{IsPermutation, IsSorted}
-use Rattle.std.specs.Ordering.{nat_cmp}
-use Rattle.serde_json.specs.Data.{Data}
-use Rattle.serde_json.specs.Find.{as_str}
-use Rattle.serde_json.specs.View.{view}
-use Rattle.serde_json.specs.declared.value.Value.{Value}
-use Rattle.erd_check.proofs.Order.{In, In-from_contains, In-map, In-map_from, contains_from_In}
-use Rattle.erd_tables.specs.declared.class.Family.{Family}
-use Rattle.erd_tables.specs.declared.class.Role.{Role}
-use Rattle.erd_tables.specs.declared.class.Role.TheVariants as role
 use Rattle.erd_meaning.proofs.orders.Sets.{set_unique}
-use Rattle.erd_meaning.specs.Judged.{Judged}
-use Rattle.erd_meaning.specs.Keys.{has_keys, key_cmp}
-use Rattle.erd_meaning.specs.code.Orders.{key_cmp_exact, key_cmp_total}
-use Rattle.erd_meaning.specs.Records.{key_set}
-use Rattle.erd_meaning.specs.SelectionNames.{key_named, keys_named}
-use Rattle.erd_meaning.specs.declared.keys.key.Key.{Key}
-use Rattle.erd_meaning.specs.Meaning.{KeySet}
-use Rattle.erd_compare.specs.code.Comparing.{Decides}
-use Rattle.erd_compare.specs.code.CommonRanks.{rank_of_key}
-use Rattle.erd_compare.specs.code.RankedSides.{IsRankSet, rank_with_id, rank_set, list_of_ranks, on_side}
-use Rattle.erd_compare.specs.declared.ranks.side.Side.{Side}
 use Rattle.erd_compare.proofs.same_ranks.KeyRanks.{both_keys, one_rank}
 use Rattle.erd_compare.proofs.same_ranks.KeyPlaces.{Stands}
 use Rattle.erd_compare.proofs.same_ranks.NamedRanks.{value_named, value_known}

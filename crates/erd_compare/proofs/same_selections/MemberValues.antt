@@ -1,21 +1,5 @@
 -- What members mean: the selections of a contest, and all others, which mean what they do by themselves.
-use Rattle.std.proofs.Common.{◌≡◌, ℕ, Bor, List, Bool, false, not, is_some, Option, Some, None, Result, Ok, Err, IfOk, option_map, refl, sym, ap, ◌∙◌, subst}
-use Rattle.std.specs.Prelude.{IfSome}
-use Rattle.std.proofs.Math.Path.{fun_ext}
-use Rattle.serde_json.specs.Data.{Data, null, boolean, number, string, array, object, no_items, item}
-use Rattle.serde_json.specs.View.{view}
-use Rattle.serde_json.specs.declared.value.Value.{Value}
-use Rattle.erd_check.specs.Values.{entries_of}
-use Rattle.erd_tables.specs.declared.class.Family.TheVariants as family
-use Rattle.erd_tables.specs.declared.member.MemberKind.{MemberKind}
-use Rattle.erd_tables.specs.declared.member.MemberKind.TheVariants as kind
-use Rattle.erd_meaning.specs.Keys.{Preference}
-use Rattle.erd_meaning.specs.Meaning.{PlainValue, MemberValue, SelectionRecord, a_plain, a_selection_map}
-use Rattle.erd_meaning.specs.NameParts.{NameParts}
-use Rattle.erd_meaning.specs.Records.{member_value, selection_map}
-use Rattle.erd_compare.specs.code.Comparing.{Decides, IsWholeTree}
-use Rattle.erd_compare.specs.code.LeastNames.{MemberMap, TellsLeastName}
-use Rattle.erd_compare.specs.code.SelectionMembers.{if_filled, is_selections, selections_meant}
+use Rattle.erd_compare.proofs.Common.{◌≡◌, ℕ, Bool, false, not, List, is_some, IfSome, IfOk, Some, None, Ok, Err, Option, Result, option_map, sym, refl, ap, ◌∙◌, subst, Bor, fun_ext, Data, null, boolean, number, string, array, object, no_items, item, view, Value, family, MemberKind, kind, entries_of, Preference, PlainValue, SelectionRecord, MemberValue, a_plain, a_selection_map, NameParts, selection_map, member_value, Decides, IsWholeTree, MemberMap, TellsLeastName, is_selections, if_filled, selections_meant}
 
 -- ---- selections
 

@@ -1,15 +1,6 @@
 -- The selections of a contest are put into a map one after another, the first of each name. Names are given by their numbers.
-use Rattle.std.proofs.Common.{◌≡◌, ◌==◌, ℕ, List, [], ◌∷◌, Bool, true, false, true≢false, cond, Option, Some, None, option_map, map, find, is_some, Bor, refl, sym, ap, ◌∙◌}
-use Rattle.std.proofs.lemmas.Bool.Decides.{Decides-eqb}
+use Rattle.erd_compare.proofs.Common.{◌≡◌, ℕ, Bool, true, false, cond, List, [], ◌∷◌, map, is_some, ◌==◌, Some, None, Option, option_map, find, sym, refl, ap, ◌∙◌, true≢false, Bor, Decides-eqb, option_eq, option_or, Data, view, Value, Judged, number_of_selection, has_number, IsByNumber, Side}
 use Rattle.std.specs.Map.{lookup}
-use Rattle.std.specs.Option.{option_eq, option_or}
-use Rattle.serde_json.specs.Data.{Data}
-use Rattle.serde_json.specs.View.{view}
-use Rattle.serde_json.specs.declared.value.Value.{Value}
-use Rattle.erd_meaning.specs.Judged.{Judged}
-use Rattle.erd_compare.specs.code.CommonNames.{number_of_selection}
-use Rattle.erd_compare.specs.code.SelectionsByName.{IsByNumber, has_number}
-use Rattle.erd_compare.specs.declared.ranks.side.Side.{Side}
 
 -- selections by their names
 abbrev pub Named : Type 0

@@ -1,36 +1,12 @@
 -- The selections of a contest among those of their report.
-use Rattle.std.proofs.Common.{◌≡◌, ◌==◌, ◌+◌, ℕ, List, Bool, true, false, cond, Option, Some, None, option_and_then, option_map, slice_get, codes, refl, sym, ap, ◌∙◌, subst}
-use Rattle.std.proofs.lemmas.Option.{option_and_then_some, slice_get-map}
-use Rattle.serde_json.specs.Data.{Data}
-use Rattle.serde_json.specs.Find.{get}
-use Rattle.serde_json.specs.View.{view}
-use Rattle.erd_tables.specs.Classes.{role_of_class}
-use Rattle.erd_tables.specs.Table.{kind_of_member}
-use Rattle.erd_tables.specs.declared.class.Class.{Class}
-use Rattle.erd_tables.specs.declared.member.MemberKind.{MemberKind}
-use Rattle.erd_tables.specs.declared.class.Family.TheVariants as family
-use Rattle.erd_tables.specs.declared.class.Role.TheVariants as role
-use Rattle.erd_tables.specs.declared.member.MemberKind.TheVariants as kind
-use Rattle.erd_check.proofs.Order.{In, In-flat_map}
-use Rattle.erd_check.specs.Values.{entries_at, entries_of}
-use Rattle.erd_meaning.proofs.accepted.References.{option_map-Some}
+use Rattle.erd_compare.proofs.Common.{◌≡◌, ℕ, ◌+◌, Bool, true, false, cond, List, ◌==◌, slice_get, Some, None, codes, Option, option_map, option_and_then, sym, refl, ap, ◌∙◌, subst, slice_get-map, option_and_then_some, Data, get, view, role_of_class, kind_of_member, Class, family, role, MemberKind, kind, In, In-flat_map, entries_of, entries_at, option_map-Some, in_at, Judged, Placed, contests, selections_of_contest, objects, numbered_selections, name_of, IsPairOf, IsPlaced, AreSelectionsAt, AreSelectionsIn, on_side, is_selections, MemberPair, Side}
 use Rattle.erd_meaning.proofs.accepted.Skeleton.{values-placed_entries}
-use Rattle.erd_meaning.proofs.finding.OneObject.{in_at}
 use Rattle.erd_meaning.proofs.selections.NumberedSelections.{numbered_at}
-use Rattle.erd_meaning.specs.Judged.{Judged}
 use Rattle.erd_meaning.specs.code.SelectionWalk.{StandFrom, if_of_contest, selection_of}
-use Rattle.erd_meaning.specs.Objects.{Placed, contests, numbered_selections, objects, selections_of_contest}
-use Rattle.erd_meaning.specs.SelectionNames.{name_of}
 use Rattle.erd_meaning.proofs.orders.DistinctEntries.{place_of as place_in}
-use Rattle.erd_meaning.proofs.meanings.SelectionKinds as kinds
-use Rattle.erd_compare.specs.code.MemberPairs.{IsPairOf}
-use Rattle.erd_compare.specs.code.PlacedObjects.{AreSelectionsAt, AreSelectionsIn, IsPlaced}
-use Rattle.erd_compare.specs.code.SelectionMembers.{is_selections}
-use Rattle.erd_compare.specs.declared.objects.least_name.MemberPair.{MemberPair}
-use Rattle.erd_compare.specs.code.RankedSides.{on_side}
-use Rattle.erd_compare.specs.declared.ranks.side.Side.{Side}
 use Rattle.erd_compare.proofs.same_ranks.NameNumbers.{selection_named}
 use Rattle.erd_compare.proofs.same_ranks.NumberedSelections.{AreNamed}
+use Rattle.erd_meaning.proofs.meanings.SelectionKinds as kinds
 
 -- ---- the member of a contest
 

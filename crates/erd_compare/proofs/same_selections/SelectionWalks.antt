@@ -1,28 +1,8 @@
 -- The selections of two contests by the numbers of their names: what the right has at each name of the left is taken out.
-use Rattle.std.proofs.Common.{◌≡◌, ◌==◌, ◌↔◌, ℕ, ◌⊎◌, inl, inr, List, [], ◌∷◌, length, suc, Bool, true, false, true≢false, cond, Option, Some, None, option_and_then, option_map, find, Bor, refl, sym, ap, ◌∙◌, subst}
-use Rattle.std.proofs.Math.Path.{fun_ext}
-use Rattle.std.specs.List.{AllByRecursion, IsDistinct}
+use Rattle.erd_compare.proofs.Common.{◌≡◌, ℕ, suc, Bool, true, false, cond, ◌⊎◌, ◌↔◌, List, [], ◌∷◌, length, ◌==◌, Some, None, Option, option_map, find, option_and_then, sym, refl, ap, ◌∙◌, subst, inl, inr, true≢false, Bor, fun_ext, AllByRecursion, IsDistinct, option_eq, Data, view, Value, Class, all-Has, find-Some, Judged, Preference, SelectionRecord, plain_member, selection_record, name_in_class, selection_role, number_of_name, Decides, IsWholeTree, on_side, has_number, IsByNumber, numbered_map, Side, Left, Right}
 use Rattle.std.specs.Map.{keys_of, lookup}
-use Rattle.std.specs.Option.{option_eq}
-use Rattle.serde_json.specs.Data.{Data}
-use Rattle.serde_json.specs.View.{view}
-use Rattle.serde_json.specs.declared.value.Value.{Value}
 use Rattle.erd_check.specs.Wants.{class_of_object}
-use Rattle.erd_check.proofs.Rising.{all-Has}
-use Rattle.erd_meaning.proofs.accepted.References.{find-Some}
-use Rattle.erd_meaning.specs.Judged.{Judged}
-use Rattle.erd_meaning.specs.Keys.{Preference}
-use Rattle.erd_meaning.specs.Meaning.{SelectionRecord}
-use Rattle.erd_meaning.specs.Records.{plain_member, selection_record}
-use Rattle.erd_meaning.specs.SelectionNames.{name_in_class, selection_role}
 use Rattle.erd_meaning.proofs.identity.ObjectFamilies.{itself}
-use Rattle.erd_tables.specs.declared.class.Class.{Class}
-use Rattle.erd_compare.specs.code.Comparing.{Decides, IsWholeTree}
-use Rattle.erd_compare.specs.code.CommonNames.{number_of_name}
-use Rattle.erd_compare.specs.code.SelectionsByName.{IsByNumber, has_number, numbered_map}
-use Rattle.erd_compare.specs.code.RankedSides.{on_side}
-use Rattle.erd_compare.specs.declared.ranks.side.Side.{Side}
-use Rattle.erd_compare.specs.declared.ranks.side.Side.TheVariants.{Left, Right}
 use Rattle.erd_compare.proofs.same_selections.NameMaps.{one_number}
 use Rattle.erd_compare.proofs.whole_trees.WholeTrees.{AreWholeTrees}
 

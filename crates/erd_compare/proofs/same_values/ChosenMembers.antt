@@ -1,20 +1,5 @@
 -- The chosen members of whole trees are the same, member by member, exactly if they are the same under each name.
-use Rattle.std.proofs.Common.{◌≡◌, ℕ, List, Bool, true, false, cond, Option, Some, None, Ordering, Equal, refl, sym, ap, ◌∙◌, subst}
-use Rattle.std.proofs.Math.Path.{fun_ext}
-use Rattle.std.proofs.lemmas.Bool.{or_from, or_parts}
-use Rattle.std.proofs.lemmas.Cmp.{nat_list_cmp_total}
-use Rattle.std.proofs.lemmas.Map.Lookups.{exact_bytes}
-use Rattle.std.specs.Ordering.{match_ordering}
-use Rattle.serde_json.specs.Data.{Data, null, object, Members, no_members, member}
-use Rattle.serde_json.specs.Find.{get, get_member}
-use Rattle.serde_json.specs.Written.{has_float, members_have_float}
-use Rattle.erd_tables.specs.Texts.{text_cmp}
-use Rattle.erd_check.specs.Trees.{AreMembers, IsBeforeFirst, are_same_members}
-use Rattle.erd_check.proofs.Exact.{are_same_members_exact}
-use Rattle.erd_check.proofs.Members.{members_unique}
-use Rattle.erd_meaning.specs.Meaning.{JsonMap}
-use Rattle.erd_compare.specs.code.Choices.{takes_name, chosen_members, chosen_in, members_in}
-use Rattle.erd_compare.specs.code.Comparing.{Decides, IsWholeTree}
+use Rattle.erd_compare.proofs.Common.{◌≡◌, ℕ, Bool, true, false, cond, List, Some, None, Option, Ordering, Equal, sym, refl, ap, ◌∙◌, subst, fun_ext, or_parts, or_from, nat_list_cmp_total, exact_bytes, match_ordering, Data, null, object, Members, no_members, member, get_member, get, has_float, members_have_float, text_cmp, are_same_members_exact, members_unique, IsBeforeFirst, AreMembers, are_same_members, JsonMap, takes_name, chosen_members, members_in, chosen_in, Decides, IsWholeTree}
 use Rattle.erd_compare.specs.declared.values.chosen_members.Choice.{Choice}
 use Rattle.erd_compare.proofs.whole_trees.WholeTrees.{members_themselves}
 

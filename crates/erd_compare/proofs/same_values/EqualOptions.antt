@@ -1,6 +1,5 @@
 -- Answers that decide whether two values are equal.
-use Rattle.std.proofs.Common.{◌≡◌, Bool, sym, ◌∙◌}
-use Rattle.erd_compare.specs.code.Comparing.{Decides}
+use Rattle.erd_compare.proofs.Common.{◌≡◌, Bool, sym, ◌∙◌, Decides}
 
 -- an answer about equal values
 pub decides_as : {A : Type 0} {p q : Bool} {a a' b b' : A} → q ≡ p → a ≡ a' → b ≡ b' → Decides p a b → Decides q a' b'

@@ -1,17 +1,8 @@
 -- Two lists are the same set of values exactly if each value of either is in the other.
-use Rattle.std.proofs.Common.{◌≡◌, List, [], ◌∷◌, Bool, true, false, ◌&&◌, refl, sym, ap, ◌∙◌, subst}
-use Rattle.std.proofs.Math.Path.{fun_ext}
-use Rattle.std.proofs.lemmas.Bool.{and_from, and_parts}
-use Rattle.std.specs.List.{list_all}
-use Rattle.std.specs.Cmp.{both_ways}
-use Rattle.serde_json.specs.Data.{Data}
-use Rattle.erd_check.specs.Trees.{is_same_json}
+use Rattle.erd_compare.proofs.Common.{◌≡◌, Bool, true, false, ◌&&◌, List, [], ◌∷◌, sym, refl, ap, ◌∙◌, subst, fun_ext, and_parts, and_from, both_ways, list_all, Data, here, later, all-Has, Has, is_same_json, json_set, Decides, IsWholeTree}
 use Rattle.erd_check.specs.ValueSets.{StandsFor, values_in}
 use Rattle.erd_check.specs.declared.value_set.ValueSet.{ValueSet}
-use Rattle.erd_check.proofs.Rising.{Has, here, later, all-Has}
-use Rattle.erd_meaning.specs.Records.{json_set}
 use Rattle.erd_meaning.proofs.orders.Sets.{any-has, has-any}
-use Rattle.erd_compare.specs.code.Comparing.{Decides, IsWholeTree}
 use Rattle.erd_compare.proofs.whole_trees.WholeTrees.{AreWholeTrees, whole_tree-exact, whole_tree-itself}
 
 -- ---- tests

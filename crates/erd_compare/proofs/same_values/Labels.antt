@@ -1,15 +1,5 @@
 -- Two labels that are objects mean the same exactly if they have the same members beside the same translations.
-use Rattle.std.proofs.Common.{◌≡◌, ℕ, List, Bool, true, false, cond, not, ◌&&◌, ◌||◌, Option, None, codes, refl, ap, ap₂}
-use Rattle.std.specs.Str.{bytes_eq}
-use Rattle.std.proofs.lemmas.Bool.{and_from, and_parts}
-use Rattle.serde_json.specs.Data.{Data}
-use Rattle.serde_json.specs.Find.{get}
-use Rattle.erd_check.specs.Values.{entries_at}
-use Rattle.erd_meaning.specs.Meaning.{JsonMap, JsonSet, Label, translated, untranslated}
-use Rattle.erd_meaning.specs.Records.{label_beside_text, json_set}
-use Rattle.erd_compare.specs.code.Choices.{takes_name, translated_label}
-use Rattle.erd_compare.specs.code.Comparing.{Decides}
-use Rattle.erd_compare.specs.declared.values.chosen_members.Choice.TheVariants.{BesideText}
+use Rattle.erd_compare.proofs.Common.{◌≡◌, ℕ, Bool, true, false, cond, not, ◌&&◌, ◌||◌, List, None, codes, Option, bytes_eq, refl, ap, ap₂, and_parts, and_from, Data, get, entries_at, JsonMap, JsonSet, Label, untranslated, translated, json_set, label_beside_text, takes_name, translated_label, Decides, BesideText}
 
 -- the members beside the translations
 abbrev beside_in : Label → JsonMap

@@ -1,23 +1,7 @@
 -- A value that means something by itself means what its kind says.
-use Rattle.std.proofs.Common.{◌≡◌, ℕ, List, [], ◌∷◌, unwrap_or, Bool, true, false, cond, codes, refl, Some, Result, IfOk, sym, ap}
-use Rattle.std.proofs.lemmas.Bool.{and_parts}
-use Rattle.std.specs.List.{list_all}
-use Rattle.std.specs.Option.{is_some}
-use Rattle.std.specs.Str.{bytes_eq}
-use Rattle.std.proofs.lemmas.Result.{IfOk-weaker}
-use Rattle.serde_json.specs.Data.{Data, null, boolean, number, string, array, object, no_items, item}
-use Rattle.erd_tables.specs.Classes.{family_of_class}
+use Rattle.erd_compare.proofs.Common.{◌≡◌, ℕ, Bool, true, false, cond, List, [], ◌∷◌, is_some, IfOk, Some, codes, Result, bytes_eq, unwrap_or, sym, refl, ap, and_parts, IfOk-weaker, list_all, Data, null, boolean, number, string, array, object, no_items, item, family_of_class, kind_in_rows, is_reference_name, kind_of_identity, kind_of_unlisted, kind_of_member, Class, class, MemberKind, kind, has_keys, Preference, unless_empty, plain_value, NamesKeys, Decides, means_nothing, meant_value}
 use Rattle.erd_tables.specs.Rows.{Row, rows_of_class}
-use Rattle.erd_tables.specs.Table.{is_reference_name, kind_in_rows, kind_of_identity, kind_of_member, kind_of_unlisted}
-use Rattle.erd_tables.specs.declared.class.Class.{Class}
-use Rattle.erd_tables.specs.declared.member.MemberKind.{MemberKind}
-use Rattle.erd_tables.specs.declared.class.Class.TheVariants as class
-use Rattle.erd_tables.specs.declared.member.MemberKind.TheVariants as kind
 use Rattle.erd_check.specs.Faults.{is_empty_array}
-use Rattle.erd_meaning.specs.Keys.{has_keys, Preference}
-use Rattle.erd_meaning.specs.Records.{plain_value, unless_empty}
-use Rattle.erd_compare.specs.code.Comparing.{NamesKeys, Decides}
-use Rattle.erd_compare.specs.code.PlainParts.{means_nothing, meant_value}
 use Rattle.erd_compare.proofs.same_values.EqualOptions.{decides_as}
 
 -- ---- a reference of the table names objects that have keys: none names a selection

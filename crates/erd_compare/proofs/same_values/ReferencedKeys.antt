@@ -1,20 +1,6 @@
 -- The key of the object that is found by an `@id` is the key that a reference names.
-use Rattle.std.proofs.Common.{◌≡◌, ◌==◌, ℕ, List, cond, true, false, Option, Some, None, option_and_then, option_map, refl, sym, ap, ◌∙◌}
-use Rattle.std.specs.List.{slice_get}
-use Rattle.serde_json.specs.Data.{Data}
-use Rattle.serde_json.specs.View.{view}
-use Rattle.erd_tables.specs.Classes.{family_number}
-use Rattle.erd_tables.specs.declared.class.Family.{Family}
-use Rattle.erd_tables.specs.declared.class.Family.TheVariants as family
+use Rattle.erd_compare.proofs.Common.{◌≡◌, ℕ, true, false, cond, List, ◌==◌, slice_get, Some, None, Option, option_map, option_and_then, sym, refl, ap, ◌∙◌, Data, view, family_number, Family, family, Judged, has_keys, Preference, key_of, key_of_family_object, key_in, FindsId, Placed, objects, owner_at, key_named, name_of, name_named, number_of_name, number_of_selection, on_side, Side}
 use Rattle.erd_meaning.proofs.finding.OwnedObjects.{owner_elsewhere, owner_here, owner_nowhere}
-use Rattle.erd_meaning.specs.Keys.{Preference, has_keys, key_of, key_of_family_object}
-use Rattle.erd_meaning.specs.Lookups.{FindsId, key_in}
-use Rattle.erd_meaning.specs.Objects.{Placed, objects, owner_at}
-use Rattle.erd_meaning.specs.SelectionNames.{key_named, name_named, name_of}
-use Rattle.erd_meaning.specs.Judged.{Judged}
-use Rattle.erd_compare.specs.code.CommonNames.{number_of_name, number_of_selection}
-use Rattle.erd_compare.specs.code.RankedSides.{on_side}
-use Rattle.erd_compare.specs.declared.ranks.side.Side.{Side}
 
 -- ---- its key
 

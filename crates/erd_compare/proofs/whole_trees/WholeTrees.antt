@@ -1,30 +1,9 @@
 -- Whole trees: their members and entries are whole trees, and equality as JSON decides equality on them.
-use Rattle.std.proofs.Common.{◌≡◌, ◌<◌, ℕ, zero, suc, pos, List, [], ◌∷◌, true, false, ◌&&◌, Option, Some, None, option_map, Bor, map, length, get_or, refl, sym, subst, arith, ◌+◌, ◌++◌, flat_map, codes}
-use Rattle.std.proofs.lemmas.Bool.{and_from, or_parts}
-use Rattle.std.proofs.lemmas.Bool.Decides.{Decides-int_eq}
-use Rattle.std.specs.List.{AllByRecursion}
-use Rattle.std.specs.Prelude.{IfSome}
-use Rattle.std.specs.Option.{option_map_or}
-use Rattle.serde_json.specs.Data.{Num, unsigned, negative, float, Data, null, boolean, number, string, array, object, Items, no_items, item, Members, no_members, member}
-use Rattle.serde_json.specs.Find.{get, is_float}
-use Rattle.serde_json.specs.View.{view}
-use Rattle.serde_json.specs.Written.{has_float, items_have_float, members_have_float}
-use Rattle.serde_json.specs.declared.value.Value.{Value}
-use Rattle.erd_tables.specs.declared.class.Family.{Family}
+use Rattle.erd_compare.proofs.Common.{◌≡◌, ℕ, zero, suc, ◌+◌, ◌<◌, true, false, ◌&&◌, List, [], ◌∷◌, ◌++◌, map, length, get_or, pos, IfSome, Some, None, codes, Option, option_map, flat_map, sym, refl, subst, arith, Bor, and_from, or_parts, Decides-int_eq, AllByRecursion, option_map_or, Num, unsigned, negative, float, Data, null, boolean, number, string, array, object, Items, no_items, item, Members, no_members, member, get, is_float, view, has_float, items_have_float, members_have_float, Value, Family, family, text_itself, flag_itself, is_same_exact, get_member-tree, all-Has, Has, IsTree, AreTrees, same_number, is_same_json, are_same_items, are_same_members, list_of_items, entries_of, entries_at, Placed, placed_from, placed_entries, report_of, elections, contests, objects, Decides, IsWholeTree, IsPairOf, MemberPair}
 use Rattle.erd_tables.specs.declared.place.Step.{Step}
 use Rattle.erd_tables.specs.declared.place.Step.TheVariants.{Name}
-use Rattle.erd_tables.specs.declared.class.Family.TheVariants as family
-use Rattle.erd_check.specs.Trees.{IsTree, AreTrees, is_same_json, are_same_items, are_same_members, same_number}
-use Rattle.erd_check.specs.Values.{entries_of, list_of_items, entries_at}
-use Rattle.erd_check.proofs.Exact.{is_same_exact, text_itself, flag_itself}
-use Rattle.erd_check.proofs.Members.{get_member-tree}
-use Rattle.erd_check.proofs.Rising.{Has, all-Has}
 use Rattle.erd_meaning.proofs.selections.WholeParts.{whole_get}
-use Rattle.erd_meaning.specs.Objects.{Placed, contests, elections, objects, placed_entries, placed_from, report_of}
 use Rattle.erd_meaning.proofs.accepted.HeldObjects.{has-flat}
-use Rattle.erd_compare.specs.code.Comparing.{Decides, IsWholeTree}
-use Rattle.erd_compare.specs.code.MemberPairs.{IsPairOf}
-use Rattle.erd_compare.specs.declared.objects.least_name.MemberPair.{MemberPair}
 
 -- values that are whole trees
 abbrev pub AreWholeTrees : List Data → Type 0

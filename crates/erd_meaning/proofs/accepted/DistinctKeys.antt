@@ -1,34 +1,13 @@
 -- In a report without faults of identity no two objects of a family and no two elections have one key, and each of several elections has one.
-use Rattle.std.proofs.Common.{◌≡◌, true, Option, Some, None, refl, ℕ, List, map, length, Bool, false, nat_lt, cond, codes, option_and_then, is_eq, slice_get, sym, ap, ap₂, ◌∙◌, subst, arith}
-use Rattle.std.proofs.lemmas.Bool.{ltb-false}
-use Rattle.std.proofs.lemmas.Option.{slice_get_within}
-use Rattle.std.proofs.lemmas.Simd.{map-map}
-use Rattle.std.specs.Cmp.{Equal-is}
-use Rattle.std.specs.List.{IsDistinct}
-use Rattle.std.specs.Option.{option_cmp}
-use Rattle.std.specs.Ordering.{eq_by_cmp}
-use Rattle.serde_json.specs.Data.{Data}
-use Rattle.erd_tables.specs.declared.class.Family.{Family}
-use Rattle.erd_tables.specs.declared.class.Role.TheVariants as role
-use Rattle.erd_tables.specs.declared.fault.Reason.TheVariants as reason
-use Rattle.erd_check.proofs.Rising.{Has}
-use Rattle.erd_check.specs.Faults.{NoneOf}
-use Rattle.erd_check.specs.Values.{entries_at}
-use Rattle.erd_meaning.specs.Keys.{Preference, key_of, has_keys, key_cmp, key_of_family_object}
-use Rattle.erd_meaning.specs.LaterFaults.{IdentityFault}
-use Rattle.erd_meaning.specs.Objects.{Placed, elections, has_several, objects, report_of}
-use Rattle.erd_meaning.specs.declared.keys.key.Key.{Key}
+use Rattle.erd_meaning.proofs.Common.{◌≡◌, ℕ, Bool, true, false, cond, List, map, length, nat_lt, slice_get, Some, None, codes, Option, option_and_then, is_eq, sym, refl, ap, ◌∙◌, subst, ap₂, arith, ltb-false, slice_get_within, map-map, Equal-is, IsDistinct, option_cmp, eq_by_cmp, Data, Family, reason, Has, NoneOf, entries_at, has_keys, key_cmp, Preference, key_of, key_of_family_object, IdentityFault, key_in, Placed, report_of, elections, objects, has_several, AreDistinct, HaveDistinctKeys, Kept, kept, kept_objects, election_keys, key_cmp_exact, Key}
 use Rattle.erd_meaning.proofs.accepted.References.{Contains-Has, has_identifier}
-use Rattle.erd_meaning.specs.Lookups.{key_in}
-use Rattle.erd_meaning.specs.code.KeyOrders.{AreDistinct, HaveDistinctKeys}
-use Rattle.erd_meaning.specs.code.ObjectWalk.{Kept, election_keys, kept, kept_objects}
-use Rattle.erd_meaning.specs.code.Orders.{key_cmp_exact}
 use Rattle.erd_meaning.proofs.accepted.Skeleton.{values-placed_entries}
 use Rattle.erd_meaning.proofs.finding.Lookups.{those_kept}
 use Rattle.erd_meaning.proofs.finding.OneObject.{in_at, one_key}
 use Rattle.erd_meaning.proofs.finding.TwinElections.{one_election_key}
 use Rattle.erd_meaning.proofs.orders.DistinctEntries.{distinct_from_one_place, distinct_map}
 use Rattle.erd_meaning.proofs.orders.RisingSets.{has_from_In}
+use Rattle.erd_tables.specs.declared.class.Role.TheVariants as role
 
 -- ---- the keys of elections
 

@@ -1,13 +1,5 @@
 -- In which election an object stands, where in it, and the key of that election.
-use Rattle.std.proofs.Common.{◌≡◌, ◌+◌, ℕ, zero, suc, List, [], ◌∷◌, ◌++◌, Some, option_and_then, refl, flat_map, slice_get, codes, sym, ap, ◌∙◌, subst, ◌⊎◌, inl, inr, ⊎_elim, arith}
-use Rattle.serde_json.specs.Data.{Data}
-use Rattle.erd_tables.specs.declared.place.Step.{Step}
-use Rattle.erd_tables.specs.declared.place.Step.TheVariants.{At, Name}
-use Rattle.erd_check.proofs.Rising.{Has, Has-cases, here, later}
-use Rattle.erd_check.specs.Values.{entries_at}
-use Rattle.erd_meaning.specs.Keys.{Preference, key_of}
-use Rattle.erd_meaning.specs.Lookups.{election_key_in, election_key_of}
-use Rattle.erd_meaning.specs.Objects.{Placed, election_of_place, elections, placed_entries, placed_from}
+use Rattle.erd_meaning.proofs.Common.{◌≡◌, ℕ, zero, suc, ◌+◌, ◌⊎◌, List, [], ◌∷◌, ◌++◌, slice_get, Some, codes, flat_map, option_and_then, sym, refl, ap, ◌∙◌, subst, inl, inr, ⊎_elim, arith, Data, Step, At, Name, here, later, Has-cases, Has, entries_at, Preference, key_of, election_key_in, election_key_of, Placed, placed_from, placed_entries, elections, election_of_place}
 
 pub has-append : {A : Type 0} (xs ys : List A) (x : A) → Has (xs ++ ys) x → Has xs x ⊎ Has ys x
 has-append [] ys x h = inr h

@@ -1,10 +1,5 @@
 -- A report is accepted exactly if none of the four phases has a fault.
-use Rattle.std.proofs.Common.{inl, inr}
-use Rattle.serde_json.specs.Data.{Data}
-use Rattle.erd_check.specs.Faults.{ShapeFault, NoneOf}
-use Rattle.erd_meaning.specs.Keys.{Preference}
-use Rattle.erd_meaning.specs.Accepted.{IsAccepted}
-use Rattle.erd_meaning.specs.LaterFaults.{IdentityFault, ReferenceFault, SelectionFault}
+use Rattle.erd_meaning.proofs.Common.{inl, inr, Data, ShapeFault, NoneOf, IsAccepted, Preference, IdentityFault, ReferenceFault, SelectionFault}
 
 pub no_shape_fault : (π : Preference) (t : Data) → IsAccepted π t → NoneOf (ShapeFault t)
 no_shape_fault π t accepted p r h = accepted p r (inl h)

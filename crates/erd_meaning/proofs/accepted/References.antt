@@ -1,27 +1,5 @@
 -- What the references of an accepted report name.
-use Rattle.std.proofs.Common.{◌≡◌, ℕ, zero, suc, List, [], ◌∷◌, ◌++◌, Option, Some, None, option_map, option_and_then, is_some, Contains, Bool, true, false, codes, find, refl, sym, ap, ◌∙◌, subst, arith, not, is_none, ◌&&◌}
-use Rattle.std.specs.Prelude.{IsTrue}
-use Rattle.std.specs.List.{list_any}
-use Rattle.std.proofs.lemmas.Bool.{true_from_ne_false, false_from_ne_true}
-use Rattle.serde_json.specs.Data.{Data, string}
-use Rattle.erd_tables.specs.declared.class.Family.{Family}
-use Rattle.erd_tables.specs.declared.place.Step.{Step}
-use Rattle.erd_tables.specs.declared.place.Step.TheVariants.{At, Name}
-use Rattle.erd_tables.specs.declared.class.Family.TheVariants as family
-use Rattle.erd_tables.specs.declared.class.Role.TheVariants as role
-use Rattle.erd_tables.specs.declared.fault.Reason.TheVariants as reason
-use Rattle.erd_check.specs.Faults.{NoneOf}
-use Rattle.erd_check.specs.Wants.{Asked, asked_at, asked}
-use Rattle.erd_check.proofs.Rising.{Has, here, later}
-use Rattle.erd_check.specs.declared.want.Want.TheVariants.{Reference}
-use Rattle.erd_check.proofs.Shapes.{Within, not_within}
-use Rattle.erd_meaning.specs.declared.keys.key.Key.{Key}
-use Rattle.erd_meaning.specs.Accepted.{IsAccepted}
-use Rattle.erd_meaning.specs.LaterFaults.{IdentityFault, is_reference_fault, is_selection_in}
-use Rattle.erd_meaning.specs.Objects.{Placed, has_id, is_owned, objects, owner}
-use Rattle.erd_meaning.specs.SelectionNames.{key_named}
-use Rattle.erd_meaning.specs.Keys.{Preference, has_keys, key_of}
-use Rattle.erd_check.specs.Values.{text_at}
+use Rattle.erd_meaning.proofs.Common.{◌≡◌, ℕ, zero, suc, Bool, true, false, not, ◌&&◌, List, [], ◌∷◌, ◌++◌, is_some, is_none, IsTrue, Some, None, codes, Contains, Option, option_map, find, option_and_then, sym, refl, ap, ◌∙◌, subst, arith, false_from_ne_true, true_from_ne_false, list_any, Data, string, Family, family, role, reason, Step, At, Name, here, later, Has, not_within, Within, NoneOf, text_at, Asked, asked, asked_at, Reference, IsAccepted, has_keys, Preference, key_of, IdentityFault, is_reference_fault, is_selection_in, Placed, objects, has_id, owner, is_owned, key_named, Key}
 use Rattle.erd_meaning.proofs.accepted.Phases.{no_reference_fault, no_identity_fault}
 
 found_either : (some any : Bool) → not any ≡ false → (not some && any) ≡ false → some ≡ true

@@ -1,25 +1,6 @@
 -- The report and its elections, and where the objects of families stand.
-use Rattle.std.proofs.Common.{◌≡◌, sym, ◌+◌, ℕ, suc, List, [], ◌∷◌, ◌++◌, Option, Some, None, map, flat_map, true, codes, refl, ap, ap₂, ◌∙◌, subst, ◌⊎◌, inl, inr, arith}
-use Rattle.std.proofs.lemmas.List.{map-append}
-use Rattle.serde_json.specs.Data.{Data, array, object, Items, no_items, item, Members}
-use Rattle.serde_json.specs.Find.{get_member, get_item}
-use Rattle.erd_tables.specs.declared.place.Step.{Step}
-use Rattle.erd_tables.specs.declared.place.Step.TheVariants.{At, Name}
-use Rattle.erd_tables.specs.declared.class.Class.TheVariants as class
-use Rattle.erd_tables.specs.declared.class.Role.TheVariants as role
-use Rattle.erd_tables.specs.declared.member.MemberKind.TheVariants as kind
-use Rattle.erd_tables.specs.declared.fault.Reason.TheVariants as reason
-use Rattle.erd_check.specs.declared.want.Want.TheVariants.{Member, Object}
-use Rattle.erd_check.proofs.ObjectsAt.{ObjectAt, election_class, not_empty, object_at, report_class}
-use Rattle.erd_check.proofs.Shapes.{Within, Within-root, Within-step, asked_at-step, asked_inside_object, faultless, wanted_within, lacks_none, member_within, of_role}
-use Rattle.erd_check.specs.Faults.{NoneOf, ShapeFault}
-use Rattle.erd_check.specs.Wants.{asked, asked_at, asked_inside}
-use Rattle.erd_check.proofs.Entries.{array_from, entries_in, list_of_items-place}
-use Rattle.erd_check.proofs.Rising.{Has, Has-cases}
-use Rattle.erd_meaning.specs.Keys.{Preference}
-use Rattle.erd_meaning.specs.Accepted.{IsAccepted}
-use Rattle.erd_meaning.specs.Objects.{Placed, elections, placed_entries, placed_from}
-use Rattle.erd_check.specs.Values.{entries_at, list_of_items}
+use Rattle.erd_meaning.proofs.Common.{◌≡◌, ℕ, suc, ◌+◌, true, ◌⊎◌, List, [], ◌∷◌, ◌++◌, map, Some, None, codes, Option, flat_map, sym, refl, ap, ◌∙◌, subst, ap₂, inl, inr, arith, map-append, Data, array, object, Items, no_items, item, Members, get_member, get_item, class, role, reason, kind, Step, At, Name, entries_in, array_from, list_of_items-place, object_at, report_class, election_class, not_empty, ObjectAt, Has-cases, Has, asked_at-step, Within-step, Within-root, of_role, asked_inside_object, faultless, wanted_within, lacks_none, member_within, Within, ShapeFault, NoneOf, list_of_items, entries_at, asked, asked_inside, asked_at, Member, IsAccepted, Preference, Placed, placed_from, placed_entries, elections}
+use Rattle.erd_check.specs.declared.want.Want.TheVariants.{Object}
 use Rattle.erd_meaning.proofs.accepted.Phases.{no_shape_fault}
 
 -- the report and the array of its elections

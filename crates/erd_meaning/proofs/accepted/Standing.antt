@@ -1,45 +1,11 @@
 -- Each object stands at its place, and no two have one `@id`.
-use Rattle.std.proofs.Common.{◌≡◌, ◌+◌, ℕ, List, [], ◌∷◌, ◌++◌, Option, Some, flat_map, true, false, codes, Ordering, Less, Equal, Greater, refl, sym, ap, ◌∙◌, subst, arith, None, option_map, find}
-use Rattle.std.specs.Ordering.{ordering_reverse}
-use Rattle.std.specs.Str.{bytes_eq}
-use Rattle.std.specs.Option.{option_map_or}
-use Rattle.serde_json.specs.Data.{Data, array, object, Members}
-use Rattle.serde_json.specs.Find.{get_member}
-use Rattle.erd_tables.specs.declared.class.Class.{Class}
-use Rattle.erd_tables.specs.declared.class.Family.{Family}
-use Rattle.erd_tables.specs.declared.class.Role.{Role}
-use Rattle.erd_tables.specs.declared.place.Step.TheVariants.{At, Name}
-use Rattle.erd_tables.specs.Table.{is_required, kind_of_member}
-use Rattle.erd_tables.specs.Places.{place_cmp}
-use Rattle.erd_tables.proofs.PlaceOrder.{place_cmp_exact, place_cmp_total}
-use Rattle.erd_tables.specs.Classes.{role_of_class}
-use Rattle.erd_tables.specs.declared.class.Class.TheVariants as class
-use Rattle.erd_tables.specs.declared.class.Family.TheVariants as family
-use Rattle.erd_tables.specs.declared.class.Role.TheVariants as role
-use Rattle.erd_tables.specs.declared.member.MemberKind.TheVariants as kind
-use Rattle.erd_tables.specs.declared.fault.Reason.TheVariants as reason
-use Rattle.erd_check.specs.declared.want.Want.{Want}
-use Rattle.erd_check.proofs.Rising.{Has, here, later}
-use Rattle.erd_check.proofs.ObjectsAt.{MayBeArray, ObjectAt, ObjectIn, is_filled_array, keyed_list, is_absent, object_in}
-use Rattle.erd_check.specs.declared.want.Want.TheVariants.{Member, Object}
-use Rattle.erd_check.proofs.Shapes.{Within, asked_inside_object, asked_at-step}
-use Rattle.erd_check.specs.Faults.{NoneOf, ShapeFault}
-use Rattle.erd_check.specs.Wants.{asked, asked_at}
-use Rattle.erd_check.proofs.Entries.{entries_in}
-use Rattle.erd_check.specs.Values.{entries_at}
+use Rattle.erd_meaning.proofs.Common.{◌≡◌, ℕ, ◌+◌, true, false, List, [], ◌∷◌, ◌++◌, Some, None, codes, Option, option_map, find, flat_map, bytes_eq, Ordering, Less, Equal, Greater, sym, refl, ap, ◌∙◌, subst, arith, option_map_or, ordering_reverse, Data, array, object, Members, get_member, place_cmp_total, place_cmp_exact, role_of_class, place_cmp, kind_of_member, is_required, Class, class, Family, family, Role, role, reason, kind, At, Name, entries_in, object_in, is_absent, is_filled_array, keyed_list, MayBeArray, ObjectAt, ObjectIn, here, later, Has, asked_at-step, asked_inside_object, Within, want_by_kind, ShapeFault, NoneOf, entries_at, asked, asked_at, Want, Member, IsAccepted, has_keys, Preference, key_of, IsBefore, NameParts, Placed, placed_from, placed_entries, report_of, elections, contests, selections_of_contest, objects, id_of, has_id, owner, name_of, Key}
+use Rattle.erd_check.specs.declared.want.Want.TheVariants.{Object}
 use Rattle.erd_check.proofs.Exact.{text_exact, text_itself}
-use Rattle.erd_check.proofs.TableKinds.{want_by_kind}
-use Rattle.erd_meaning.specs.declared.keys.key.Key.{Key}
 use Rattle.erd_meaning.proofs.accepted.References.{Contains-Has, find-Some, find-any, option_map-Some}
-use Rattle.erd_meaning.specs.Accepted.{IsAccepted}
-use Rattle.erd_meaning.specs.LaterFaults.{IsBefore}
-use Rattle.erd_meaning.specs.Objects.{Placed, contests, elections, has_id, id_of, objects, owner, placed_entries, placed_from, report_of, selections_of_contest}
 use Rattle.erd_meaning.proofs.accepted.HeldObjects.{HeldObject, has-flat, held_object}
 use Rattle.erd_meaning.proofs.accepted.Skeleton.{Skeleton, election_object, election_stands, placed_index, skeleton_of_shape}
 use Rattle.erd_meaning.proofs.orders.Sets.{any-has}
-use Rattle.erd_meaning.specs.Keys.{Preference, has_keys, key_of}
-use Rattle.erd_meaning.specs.SelectionNames.{name_of}
-use Rattle.erd_meaning.specs.NameParts.{NameParts}
 use Rattle.erd_meaning.proofs.accepted.Phases.{no_shape_fault, no_identity_fault, no_selection_fault}
 
 -- the objects in an array stand at their places

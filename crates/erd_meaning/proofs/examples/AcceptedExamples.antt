@@ -1,9 +1,6 @@
 -- Whole reports that are accepted, by computation.
-use Rattle.std.proofs.Common.{◌≡◌, ℕ, List, length, refl, None}
-use Rattle.serde_json.proofs.OnLiterals.{serde_json_on_literals}
-use Rattle.erd_check.proofs.Reports.{tree_of, one_unit, small_ballot, small_ballot_canonical, three_contests, two_elections}
+use Rattle.erd_meaning.proofs.Common.{◌≡◌, ℕ, List, length, None, refl, serde_json_on_literals, tree_of, small_ballot, small_ballot_canonical, one_unit, two_elections, three_contests, IsAccepted}
 use Rattle.erd_check.proofs.WholeExamples.{IsFaultless, one_unit_is_faultless, small_ballot_is_faultless, small_ballot_canonical_is_faultless, three_contests_is_faultless, two_elections_is_faultless}
-use Rattle.erd_meaning.specs.Accepted.{IsAccepted}
 use Rattle.erd_meaning.proofs.identity.IdentityFaults.{identity_told}
 use Rattle.erd_meaning.proofs.refused.Refused.{accepted_by_lists}
 use Rattle.erd_meaning.proofs.references.SelectionEntries.{reference_faults}

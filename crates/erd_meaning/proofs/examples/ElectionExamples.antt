@@ -1,18 +1,5 @@
 -- Reports with several elections: positions, keys and references across them, by computation.
-use Rattle.std.proofs.Common.{◌≡◌, ℕ, List, [], ◌∷◌, Option, Some, None, map, codes, true, false, refl}
-use Rattle.std.specs.Prelude.{option_map}
-use Rattle.serde_json.specs.Data.{Data}
-use Rattle.serde_json.proofs.OnLiterals.{serde_json_on_literals}
-use Rattle.erd_tables.specs.declared.class.Family.TheVariants as family
-use Rattle.erd_tables.specs.declared.class.Role.TheVariants as role
-use Rattle.erd_tables.specs.declared.fault.Reason.TheVariants.{SelectionOfOtherContest}
-use Rattle.erd_tables.specs.declared.place.Step.TheVariants.{Name, At}
-use Rattle.erd_check.specs.Paths.{fault_at}
-use Rattle.erd_check.proofs.Reports.{tree_of, one_unit, three_contests, two_elections}
-use Rattle.erd_meaning.specs.Keys.{Preference}
-use Rattle.erd_meaning.specs.Lookups.{election_in, election_key_in, key_in, rising_keys, selection_in}
-use Rattle.erd_meaning.specs.Objects.{election_of_place, has_several, needs_key}
-use Rattle.erd_meaning.specs.declared.keys.key.Key.{Key}
+use Rattle.erd_meaning.proofs.Common.{◌≡◌, ℕ, true, false, List, [], ◌∷◌, map, Some, None, codes, Option, option_map, refl, serde_json_on_literals, Data, family, role, SelectionOfOtherContest, At, Name, tree_of, one_unit, two_elections, three_contests, fault_at, Preference, key_in, rising_keys, election_key_in, election_in, selection_in, has_several, needs_key, election_of_place, Key}
 use Rattle.erd_meaning.proofs.examples.RecordExamples.{local_key}
 use Rattle.erd_meaning.proofs.references.SelectionEntries.{reference_faults}
 

@@ -1,22 +1,8 @@
 -- Faults of identity, of references and of selections, as facts on small trees, by computation.
-use Rattle.std.proofs.Common.{◌≡◌, ℕ, [], ◌∷◌, Some, None, codes, true, false, refl, lit<}
-use Rattle.std.specs.Prelude.{slice_get, unwrap_or, option_and_then}
-use Rattle.serde_json.specs.Data.{Data, boolean}
-use Rattle.serde_json.proofs.OnLiterals.{serde_json_on_literals}
-use Rattle.erd_tables.specs.declared.class.Class.TheVariants as class
-use Rattle.erd_tables.specs.declared.class.Family.{Family}
+use Rattle.erd_meaning.proofs.Common.{◌≡◌, ℕ, true, false, [], ◌∷◌, slice_get, Some, None, codes, option_and_then, unwrap_or, refl, lit<, serde_json_on_literals, Data, boolean, class, Family, DuplicateId, NoIdentifier, SelectionOfOtherContest, TwinIdentifier, TwinSelection, WrongFamily, At, Name, tree_of, asked, Reference, IdentityFault, ReferenceFault, SelectionFault, a_json, Placed, report_of, elections, objects, selection_record, name_in_class, name_of}
+use Rattle.erd_check.specs.declared.want.Want.TheVariants.{Object}
 use Rattle.erd_tables.specs.declared.class.Family.TheVariants as family
 use Rattle.erd_tables.specs.declared.class.Role.TheVariants as role
-use Rattle.erd_tables.specs.declared.fault.Reason.TheVariants.{NoIdentifier, TwinIdentifier, DuplicateId, WrongFamily, SelectionOfOtherContest, TwinSelection}
-use Rattle.erd_tables.specs.declared.place.Step.TheVariants.{Name, At}
-use Rattle.erd_check.proofs.Reports.{tree_of}
-use Rattle.erd_check.specs.Wants.{asked}
-use Rattle.erd_check.specs.declared.want.Want.TheVariants.{Object, Reference}
-use Rattle.erd_meaning.specs.LaterFaults.{IdentityFault, ReferenceFault, SelectionFault}
-use Rattle.erd_meaning.specs.Meaning.{a_json}
-use Rattle.erd_meaning.specs.Objects.{Placed, elections, objects, report_of}
-use Rattle.erd_meaning.specs.Records.{selection_record}
-use Rattle.erd_meaning.specs.SelectionNames.{name_of, name_in_class}
 
 -- the object at this position of its family
 abbrev pub object_at : Data → Family → ℕ → Placed

@@ -1,16 +1,7 @@
 -- The names of the selections of the small ballot, by computation.
-use Rattle.std.proofs.Common.{◌≡◌, ℕ, List, [], ◌∷◌, Option, Some, None, map, codes, Bool, true, false, ◌&&◌, is_lt, refl}
-use Rattle.std.specs.Prelude.{ℤ, pos, negsuc}
-use Rattle.serde_json.specs.Data.{Data}
-use Rattle.serde_json.proofs.OnLiterals.{serde_json_on_literals}
-use Rattle.erd_tables.specs.declared.class.Class.TheVariants as class
-use Rattle.erd_tables.specs.declared.class.Family.TheVariants as family
-use Rattle.erd_check.proofs.Reports.{tree_of, small_ballot, small_ballot_canonical}
-use Rattle.erd_meaning.specs.NameParts.{NameParts}
-use Rattle.erd_meaning.specs.Objects.{objects}
-use Rattle.erd_meaning.specs.SelectionNames.{name_of, name_cmp}
-use Rattle.erd_meaning.specs.declared.keys.key.Key.{Key}
+use Rattle.erd_meaning.proofs.Common.{◌≡◌, ℕ, Bool, true, false, ◌&&◌, List, [], ◌∷◌, map, ℤ, pos, negsuc, Some, None, codes, Option, is_lt, refl, serde_json_on_literals, Data, family, tree_of, small_ballot, small_ballot_canonical, NameParts, objects, name_of, name_cmp, Key}
 use Rattle.erd_meaning.proofs.examples.RecordExamples.{local_key}
+use Rattle.erd_tables.specs.declared.class.Class.TheVariants as class
 
 abbrev names_in : Data → List (Option NameParts)
 names_in t = map (λ o. name_of None t o.value) (objects family.Selection t)

@@ -1,9 +1,5 @@
 -- Keys of one object under preferences of identifier types, by computation.
-use Rattle.std.proofs.Common.{◌≡◌, ℕ, List, [], ◌∷◌, Option, Some, None, map, codes, refl}
-use Rattle.serde_json.proofs.OnLiterals.{serde_json_on_literals}
-use Rattle.erd_check.proofs.Reports.{tree_of}
-use Rattle.erd_meaning.specs.Keys.{Preference, key_of}
-use Rattle.erd_meaning.specs.declared.keys.key.Key.{Key}
+use Rattle.erd_meaning.proofs.Common.{◌≡◌, ℕ, List, [], ◌∷◌, map, Some, None, codes, Option, refl, serde_json_on_literals, tree_of, Preference, key_of, Key}
 
 abbrev key : List ℕ → List ℕ → List ℕ → Key
 key kind other value = record { kind = kind; other = other; value = value }

@@ -1,28 +1,6 @@
 -- What objects of the small ballot mean, in it and in its canonical form, by computation.
-use Rattle.std.proofs.Common.{◌≡◌, ℕ, List, [], ◌∷◌, Option, Some, None, map, filter, codes, Bool, true, false, not, ◌||◌, refl, ap}
-use Rattle.std.proofs.Math.Path.{fun_ext}
-use Rattle.std.specs.Ordering.{is_eq}
-use Rattle.std.specs.Str.{bytes_eq}
-use Rattle.std.specs.Prelude.{option_and_then, option_map, unwrap_or}
-use Rattle.serde_json.specs.Data.{Data, null, boolean, string}
-use Rattle.serde_json.proofs.OnLiterals.{serde_json_on_literals}
-use Rattle.erd_tables.specs.Classes.{families}
-use Rattle.erd_tables.specs.Rows.{unit_rows, party_rows, person_rows, office_rows, header_rows, candidate_rows, rows_of_class}
-use Rattle.erd_tables.specs.declared.class.Class.TheVariants as class
-use Rattle.erd_tables.specs.declared.class.Family.{Family}
-use Rattle.erd_tables.specs.declared.class.Family.TheVariants as family
-use Rattle.erd_tables.specs.declared.member.MemberKind.TheVariants as kind
-use Rattle.erd_tables.specs.declared.place.Step.{Step}
-use Rattle.erd_tables.specs.declared.place.Step.TheVariants.{Name, At}
-use Rattle.erd_check.proofs.Reports.{tree_of, small_ballot, small_ballot_canonical, with_report_member, with_unit_member}
-use Rattle.erd_check.specs.Values.{entries_of}
-use Rattle.erd_check.specs.Wants.{asked_at}
+use Rattle.erd_meaning.proofs.Common.{◌≡◌, ℕ, Bool, true, false, not, ◌||◌, List, [], ◌∷◌, map, Some, None, codes, filter, Option, option_map, option_and_then, bytes_eq, is_eq, unwrap_or, refl, ap, fun_ext, serde_json_on_literals, Data, null, boolean, string, families, unit_rows, party_rows, person_rows, office_rows, header_rows, candidate_rows, rows_of_class, class, Family, family, kind, Step, At, Name, tree_of, small_ballot, small_ballot_canonical, with_report_member, with_unit_member, entries_of, asked_at, key_cmp, Label, untranslated, Content, no_content, first_node, Node, a_contest, a_header, a_json, a_label, a_key, a_key_set, MemberValue, a_plain, json_set, carried_members, label_beside_text, label_of, content_of, meaning, plain_value, plain_member, selection_record, member_of_class, records_of, name_named, Key}
 use Rattle.erd_check.proofs.ValueSets.{or_exchanged}
-use Rattle.erd_meaning.specs.Keys.{key_cmp}
-use Rattle.erd_meaning.specs.Meaning.{Label, Content, no_content, first_node, Node, a_contest, a_header, a_json, a_label, untranslated, a_key, a_key_set, MemberValue, a_plain}
-use Rattle.erd_meaning.specs.Records.{selection_record, member_of_class, plain_member, label_of, content_of, json_set, plain_value, records_of, label_beside_text, carried_members, meaning}
-use Rattle.erd_meaning.specs.SelectionNames.{name_named}
-use Rattle.erd_meaning.specs.declared.keys.key.Key.{Key}
 use Rattle.erd_meaning.proofs.meanings.WholeMeanings.{record_of_members, value_with_key}
 use Rattle.erd_meaning.proofs.meanings.WholeRecords.{names_in, absent_plain, absent_member, same_at_every_name}
 

@@ -1,22 +1,5 @@
 -- Keys, places and what references name, in the small ballot and in edits of the report of one unit, by computation.
-use Rattle.std.proofs.Common.{◌≡◌, ℕ, List, [], ◌∷◌, Option, Some, None, map, codes, Bool, true, false, refl}
-use Rattle.std.specs.Prelude.{option_map, is_some}
-use Rattle.std.specs.List.{filter_map}
-use Rattle.serde_json.specs.Data.{Data}
-use Rattle.serde_json.proofs.OnLiterals.{serde_json_on_literals}
-use Rattle.erd_tables.specs.Classes.{families}
-use Rattle.erd_tables.specs.declared.class.Family.{Family}
-use Rattle.erd_tables.specs.declared.class.Family.TheVariants as family
-use Rattle.erd_tables.specs.declared.fault.Reason.TheVariants.{Repeated, Unresolved, WrongFamily}
-use Rattle.erd_tables.specs.declared.place.Step.{Step}
-use Rattle.erd_tables.specs.declared.place.Step.TheVariants.{Name, At}
-use Rattle.erd_check.proofs.Reports.{tree_of, small_ballot, small_ballot_canonical, with_unit_member}
-use Rattle.erd_check.specs.Wants.{asked_at}
-use Rattle.erd_meaning.specs.Keys.{key_of}
-use Rattle.erd_meaning.specs.LaterFaults.{is_reference_fault, is_in_other_contest}
-use Rattle.erd_meaning.specs.Objects.{Placed, objects, owner, owner_at, id_of, numbered_selections}
-use Rattle.erd_meaning.specs.SelectionNames.{key_named}
-use Rattle.erd_meaning.specs.declared.keys.key.Key.{Key}
+use Rattle.erd_meaning.proofs.Common.{◌≡◌, ℕ, Bool, true, false, List, [], ◌∷◌, map, is_some, Some, None, codes, Option, option_map, filter_map, refl, serde_json_on_literals, Data, families, Family, family, Repeated, Unresolved, WrongFamily, Step, At, Name, tree_of, small_ballot, small_ballot_canonical, with_unit_member, asked_at, key_of, is_reference_fault, is_in_other_contest, Placed, objects, numbered_selections, id_of, owner_at, owner, key_named, Key}
 
 -- ---- keys
 

@@ -1,18 +1,6 @@
 -- Whole reports that are refused, each with the list of all its faults: one or more for each phase, by computation.
-use Rattle.std.proofs.Common.{◌≡◌, ℕ, List, [], ◌∷◌, ◌++◌, codes, refl, None}
-use Rattle.serde_json.specs.Data.{Data}
-use Rattle.serde_json.proofs.OnLiterals.{serde_json_on_literals}
-use Rattle.erd_tables.specs.Faults.{ListsAll}
-use Rattle.erd_tables.specs.declared.fault.Fault.{Fault}
-use Rattle.erd_tables.specs.declared.fault.Reason.{Reason}
-use Rattle.erd_tables.specs.declared.fault.Reason.TheVariants.{NoIdentifier, TwinIdentifier, Unresolved, WrongFamily, SelectionOfOtherContest, TwinSelection}
-use Rattle.erd_tables.specs.declared.place.Step.{Step}
-use Rattle.erd_tables.specs.declared.place.Step.TheVariants.{Name, At}
-use Rattle.erd_check.specs.Paths.{fault_at}
-use Rattle.erd_check.proofs.Deciding.{no_fault_listed, tree_sound}
-use Rattle.erd_check.proofs.Reports.{tree_of, small_ballot_with, header_node, contest_node, with_election_member, election, report_of_two, two_elections_with}
+use Rattle.erd_meaning.proofs.Common.{◌≡◌, ℕ, List, [], ◌∷◌, ◌++◌, None, codes, refl, serde_json_on_literals, Data, ListsAll, Fault, Reason, NoIdentifier, SelectionOfOtherContest, TwinIdentifier, TwinSelection, Unresolved, WrongFamily, Step, At, Name, tree_sound, no_fault_listed, tree_of, small_ballot_with, header_node, contest_node, election, with_election_member, report_of_two, two_elections_with, fault_at, IsFault}
 use Rattle.erd_check.proofs.WholeExamples.{faulty, faulty_faults, faulty_has_all, no_election, no_election_faults, no_election_has_all}
-use Rattle.erd_meaning.specs.Accepted.{IsFault}
 use Rattle.erd_meaning.proofs.refused.Refused.{refused_by_shape, refused_by_identity, refused_by_references, refused_by_selections}
 
 -- ---- the shape: a report with no election, and one with many faults

@@ -1,29 +1,6 @@
 -- The elections of a report by position: their values, their keys, and which one holds an object.
-use Rattle.std.proofs.Common.{◌≡◌, ◌<◌, ◌+◌, arith, ℕ, zero, suc, List, [], ◌∷◌, ◌++◌, length, map, false, codes, replicate, Option, Some, None, is_lt, option_and_then, option_map, refl, sym, ap, ap₂, ◌∙◌}
-use Rattle.std.specs.List.{flat_map, slice_get}
-use Rattle.std.specs.Str.{bytes_eq}
-use Rattle.std.proofs.lemmas.List.{length-map, map-append}
-use Rattle.std.proofs.lemmas.Option.{slice_get-map}
-use Rattle.std.proofs.lemmas.Simd.{map-map}
-use Rattle.std.specs.Option.{option_cmp}
-use Rattle.serde_json.specs.Data.{Data, no_items}
-use Rattle.serde_json.specs.View.{view}
-use Rattle.serde_json.specs.declared.value.Value.{Value}
-use Rattle.erd_tables.specs.declared.class.Family.{Family}
-use Rattle.erd_tables.specs.declared.class.Family.TheVariants as family
-use Rattle.erd_tables.specs.declared.place.Step.{Step}
-use Rattle.erd_tables.specs.declared.place.Step.TheVariants.{At, Name}
-use Rattle.erd_check.specs.Faults.{NoneOf, ShapeFault}
-use Rattle.erd_check.specs.Values.{entries_at}
-use Rattle.erd_check.proofs.Entries.{list_of_items_exact}
-use Rattle.erd_meaning.specs.Keys.{Preference, key_cmp, key_of}
-use Rattle.erd_meaning.specs.Lookups.{election_in, election_key_in, election_rank_of}
-use Rattle.erd_meaning.specs.Objects.{Placed, election_of_place, elections, placed_entries, placed_from}
-use Rattle.erd_meaning.specs.code.ElectionKeys.{held_from}
+use Rattle.erd_meaning.proofs.Common.{◌≡◌, ℕ, zero, suc, ◌+◌, ◌<◌, false, List, [], ◌∷◌, ◌++◌, map, length, replicate, slice_get, Some, None, codes, Option, option_map, flat_map, option_and_then, bytes_eq, is_lt, sym, refl, ap, ◌∙◌, ap₂, arith, map-append, length-map, slice_get-map, map-map, option_cmp, Data, no_items, view, Value, Family, family, Step, At, Name, list_of_items_exact, ShapeFault, NoneOf, entries_at, key_cmp, Preference, key_of, election_rank_of, election_key_in, election_in, Placed, placed_from, placed_entries, elections, election_of_place, held_from, rank_in_keys, election_keys, Key}
 use Rattle.erd_meaning.specs.code.Holding.{AreHeld, held}
-use Rattle.erd_meaning.specs.code.KeyOrders.{rank_in_keys}
-use Rattle.erd_meaning.specs.code.ObjectWalk.{election_keys}
-use Rattle.erd_meaning.specs.declared.keys.key.Key.{Key}
 use Rattle.erd_meaning.specs.declared.objects.holders.Holders.{Holders}
 use Rattle.erd_meaning.proofs.accepted.Skeleton.{election_entries, skeleton_of_shape, values-placed_from}
 use Rattle.erd_meaning.proofs.meanings.HeldValues.{mapped_then}

@@ -1,35 +1,10 @@
 -- What is found by a key or by an `@id` is what has it.
-use Rattle.std.proofs.Common.{◌≡◌, ℕ, List, map, true, Option, Some, None, option_and_then, option_map, refl, sym, ap, ap₂, ◌∙◌, subst}
-use Rattle.std.specs.List.{position, slice_get}
-use Rattle.std.specs.Ordering.{is_eq}
-use Rattle.std.proofs.lemmas.Cmp.{tied_itself}
-use Rattle.std.proofs.lemmas.Option.{same_Some, some_pair_parts}
-use Rattle.std.proofs.lemmas.Slice.Eq.{bytes_eq-Decides}
-use Rattle.std.proofs.lemmas.Bool.{and_parts, and_from}
-use Rattle.serde_json.specs.Data.{Data}
-use Rattle.serde_json.specs.View.{view}
-use Rattle.serde_json.specs.declared.value.Value.{Value}
-use Rattle.erd_tables.specs.declared.class.Family.{Family}
-use Rattle.erd_tables.specs.Classes.{family_number}
-use Rattle.erd_check.proofs.Order.{In, In-filter}
-use Rattle.erd_check.specs.Faults.{NoneOf}
-use Rattle.erd_meaning.specs.Keys.{Preference}
-use Rattle.erd_meaning.specs.LaterFaults.{IdentityFault}
-use Rattle.erd_meaning.specs.Lookups.{FindsId, FindsKey, id_in, key_in}
-use Rattle.erd_meaning.specs.code.ObjectIndexes.{number_at, number_of_id, number_of_key, rank}
-use Rattle.erd_meaning.specs.code.ObjectLookups.{is_keyed, keeps_id, is_of_family, those_of}
+use Rattle.erd_meaning.proofs.Common.{◌≡◌, ℕ, true, List, map, slice_get, Some, None, Option, option_map, position, option_and_then, is_eq, sym, refl, ap, ◌∙◌, subst, ap₂, and_parts, and_from, tied_itself, same_Some, some_pair_parts, bytes_eq-Decides, Data, view, Value, family_number, Family, In, In-filter, NoneOf, Preference, IdentityFault, key_in, id_in, FindsKey, FindsId, rank, number_at, number_of_id, number_of_key, is_of_family, those_of, is_keyed, keeps_id, Kept, kept_objects, same_key, same_id, key_cmp_total, IsResolved, NumberedName, shown, Key, Object}
 use Rattle.erd_meaning.specs.code.OwnIds.{HaveOwnIds}
-use Rattle.erd_meaning.specs.code.ObjectWalk.{Kept, kept_objects, same_id, same_key}
-use Rattle.erd_meaning.specs.code.Resolved.{IsResolved}
-use Rattle.erd_meaning.specs.code.Shown.{shown}
-use Rattle.erd_meaning.specs.declared.keys.key.Key.{Key}
-use Rattle.erd_meaning.specs.code.SelectionWalk.{NumberedName}
-use Rattle.erd_meaning.specs.declared.objects.object.Object.{Object}
 use Rattle.erd_meaning.proofs.finding.OneObject.{hit, in_at, missed, one_id, one_key}
 use Rattle.erd_meaning.proofs.identity.IdentityFaults.{same_id_from, same_key_from}
 use Rattle.erd_meaning.proofs.finding.Lookups.{kept_part, part_at, ranked}
 use Rattle.erd_meaning.proofs.identity.ObjectFamilies.{itself}
-use Rattle.erd_meaning.specs.code.Orders.{key_cmp_total}
 
 -- what a family has at a position, with the object that is kept
 record Standing (ks : List Kept) (f : Family) (part : Kept → Type 0) : Type 0 where

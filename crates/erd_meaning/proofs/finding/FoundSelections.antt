@@ -1,15 +1,5 @@
 -- What is found of the selections of a report by position, and by contest and name.
-use Rattle.std.proofs.Common.{◌≡◌, ℕ, List, Option, Some, None, sym, ap, ◌∙◌, subst}
-use Rattle.std.specs.List.{position}
-use Rattle.std.proofs.lemmas.Option.{same_Some}
-use Rattle.serde_json.specs.View.{view}
-use Rattle.serde_json.specs.declared.value.Value.{Value}
-use Rattle.erd_meaning.specs.Keys.{Preference}
-use Rattle.erd_meaning.specs.Lookups.{FindsSelection, selection_in}
-use Rattle.erd_meaning.specs.NameParts.{NameParts}
-use Rattle.erd_meaning.specs.code.Resolved.{IsResolved}
-use Rattle.erd_meaning.specs.code.SelectionWalk.{NumberedName, is_selection_named}
-use Rattle.erd_meaning.specs.declared.objects.object.Object.{Object}
+use Rattle.erd_meaning.proofs.Common.{◌≡◌, ℕ, List, Some, None, Option, position, sym, ap, ◌∙◌, subst, same_Some, view, Value, Preference, selection_in, FindsSelection, NameParts, IsResolved, NumberedName, is_selection_named, Object}
 use Rattle.erd_meaning.proofs.selections.NamesTold.{is_named_from, is_named_itself}
 use Rattle.erd_meaning.proofs.finding.OneObject.{hit, in_at, missed}
 use Rattle.erd_meaning.proofs.selections.SelectionsMet.{one_selection}

@@ -1,15 +1,5 @@
 -- The object that an index of `@id` texts leads to is the first object with the `@id`, if it is of the family.
-use Rattle.std.proofs.Common.{◌≡◌, ◌==◌, ◌+◌, ℕ, List, [], ◌∷◌, ◌++◌, length, cond, find, Bool, true, false, not, Option, Some, None, option_and_then, option_map, refl, sym, ap, ◌∙◌, subst}
-use Rattle.std.specs.List.{position, position_from, slice_get}
-use Rattle.std.proofs.Math.Seq.{append_snoc}
-use Rattle.std.proofs.lemmas.Iterator.Adapters.{position_from-zero}
-use Rattle.std.proofs.lemmas.List.{length_push}
-use Rattle.std.proofs.lemmas.Option.{some_pair_parts}
-use Rattle.erd_tables.specs.Classes.{family_number}
-use Rattle.erd_tables.specs.declared.class.Family.{Family}
-use Rattle.erd_meaning.specs.code.ObjectIndexes.{number_among, number_at, number_of_id, rank}
-use Rattle.erd_meaning.specs.code.ObjectLookups.{is_of_family, keeps_id, object_among, those_of}
-use Rattle.erd_meaning.specs.code.ObjectWalk.{Kept}
+use Rattle.erd_meaning.proofs.Common.{◌≡◌, ℕ, ◌+◌, Bool, true, false, cond, not, List, [], ◌∷◌, ◌++◌, length, ◌==◌, slice_get, Some, None, Option, option_map, position, find, option_and_then, sym, refl, ap, ◌∙◌, subst, append_snoc, position_from-zero, length_push, some_pair_parts, position_from, family_number, Family, rank, number_at, number_of_id, number_among, is_of_family, those_of, keeps_id, object_among, Kept}
 use Rattle.erd_meaning.proofs.finding.Lookups.{ranked}
 use Rattle.erd_meaning.proofs.finding.OneObject.{hit}
 use Rattle.erd_meaning.proofs.finding.Pushed.{get_last}

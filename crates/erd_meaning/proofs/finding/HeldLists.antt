@@ -1,10 +1,5 @@
 -- The positions of the elections that hold objects, added one after another.
-use Rattle.std.proofs.Common.{◌≡◌, ◌<◌, ◌≤◌, ◌+◌, ℕ, List, [], ◌∷◌, ◌++◌, length, map, drop, get_or, replicate, sym, ap, ◌∙◌, append_assoc, append-nil}
-use Rattle.std.proofs.lemmas.List.{at_drop_all, at_drop_more, length-map}
-use Rattle.serde_json.specs.View.{view}
-use Rattle.serde_json.specs.declared.value.Value.{Value}
-use Rattle.erd_check.specs.Values.{entries_at}
-use Rattle.erd_meaning.specs.code.ElectionKeys.{held_from}
+use Rattle.erd_meaning.proofs.Common.{◌≡◌, ℕ, ◌+◌, ◌<◌, ◌≤◌, List, [], ◌∷◌, ◌++◌, map, length, get_or, drop, replicate, sym, ap, ◌∙◌, append_assoc, append-nil, length-map, at_drop_more, at_drop_all, view, Value, entries_at, held_from}
 
 -- one entry of an election after another
 pub one_held : (vs : List Value) (i : ℕ) (v : Value) (n : ℕ) (ns ms whole : List ℕ) → i < length vs → ns ++ replicate (length (drop i vs)) n ≡ whole → ms ≡ ns ++ n ∷ []

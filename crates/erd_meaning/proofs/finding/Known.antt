@@ -1,22 +1,5 @@
 -- What earlier objects have is what the indexes know.
-use Rattle.std.proofs.Common.{Bor, ◌≡◌, ◌==◌, ◌&&◌, ◌||◌, ◌+◌, ℕ, List, [], ◌∷◌, length, cond, Bool, true, false, Option, Some, None, is_some, option_and_then, option_map, refl, sym, ap, ap₂, ◌∙◌}
-use Rattle.std.specs.Cmp.{Equal-is, both_ways}
-use Rattle.std.specs.List.{list_any, position, position_from}
-use Rattle.std.specs.Option.{option_map_or}
-use Rattle.std.specs.Ordering.{is_eq}
-use Rattle.std.proofs.lemmas.Bool.Decides.{Decides-eqb}
-use Rattle.std.proofs.lemmas.Cmp.{tied_itself}
-use Rattle.std.proofs.lemmas.Iterator.Adapters.{position_from-zero}
-use Rattle.std.proofs.Math.Bool.{and-false}
-use Rattle.erd_tables.specs.Classes.{family_number}
-use Rattle.erd_tables.specs.declared.class.Family.{Family}
-use Rattle.erd_meaning.specs.Keys.{key_cmp}
-use Rattle.erd_meaning.specs.code.Indexed.{same_owned}
-use Rattle.erd_meaning.specs.code.ObjectIndexes.{number_at, number_of_id, number_of_key, rank}
-use Rattle.erd_meaning.specs.code.ObjectLookups.{is_keyed, keeps_id, those_of}
-use Rattle.erd_meaning.specs.code.ObjectWalk.{Kept, has_same_id, has_same_key, same_id, same_key}
-use Rattle.erd_meaning.specs.code.Orders.{key_cmp_exact, key_cmp_total}
-use Rattle.erd_meaning.specs.declared.keys.key.Key.{Key}
+use Rattle.erd_meaning.proofs.Common.{◌≡◌, ℕ, ◌+◌, Bool, true, false, cond, ◌&&◌, ◌||◌, List, [], ◌∷◌, length, is_some, ◌==◌, Some, None, Option, option_map, position, option_and_then, is_eq, sym, refl, ap, ◌∙◌, ap₂, Bor, and-false, Decides-eqb, tied_itself, position_from-zero, Equal-is, both_ways, list_any, position_from, option_map_or, family_number, Family, key_cmp, same_owned, rank, number_at, number_of_id, number_of_key, those_of, is_keyed, keeps_id, Kept, same_key, same_id, has_same_key, has_same_id, key_cmp_total, key_cmp_exact, Key}
 use Rattle.erd_meaning.proofs.finding.OneObject.{hit}
 use Rattle.erd_meaning.proofs.finding.OwnedKeys.{owned_exact}
 use Rattle.erd_meaning.proofs.references.ReferenceLookups.{text_same}

@@ -1,21 +1,6 @@
 -- Objects by family and position: those that are kept of a report, and those of the definition.
-use Rattle.std.proofs.Common.{◌≡◌, ◌≤◌, ◌<◌, ◌^◌, ℕ, arith, zero, suc, List, [], ◌∷◌, length, map, take, cond, Bool, true, false, Option, Some, option_and_then, option_map, refl, ap, ◌∙◌}
-use Rattle.std.specs.List.{count_by, slice_get}
-use Rattle.std.proofs.lemmas.List.{length-map}
+use Rattle.erd_meaning.proofs.Common.{◌≡◌, ℕ, zero, suc, ◌^◌, ◌<◌, ◌≤◌, Bool, true, false, cond, List, [], ◌∷◌, map, length, take, slice_get, Some, count_by, Option, option_map, option_and_then, refl, ap, ◌∙◌, arith, length-map, Data, view, Value, Family, Preference, Placed, objects, IsBounded, rank, is_of_family, those_of, Kept, kept, Met, an_object, an_election, Located, located, all_located, objects_among, kept_objects, IsResolved, NumberedName, shown, Object}
 use Rattle.std.proofs.lemmas.List.Sums.{count_by-le-length, length-filter}
-use Rattle.serde_json.specs.View.{view}
-use Rattle.serde_json.specs.declared.value.Value.{Value}
-use Rattle.serde_json.specs.Data.{Data}
-use Rattle.erd_tables.specs.declared.class.Family.{Family}
-use Rattle.erd_meaning.specs.Keys.{Preference}
-use Rattle.erd_meaning.specs.code.ObjectIndexes.{rank}
-use Rattle.erd_meaning.specs.code.ObjectLookups.{is_of_family, those_of}
-use Rattle.erd_meaning.specs.Objects.{IsBounded, Placed, objects}
-use Rattle.erd_meaning.specs.code.ObjectWalk.{Kept, Located, Met, all_located, an_election, an_object, kept, kept_objects, located, objects_among}
-use Rattle.erd_meaning.specs.code.Resolved.{IsResolved}
-use Rattle.erd_meaning.specs.code.Shown.{shown}
-use Rattle.erd_meaning.specs.code.SelectionWalk.{NumberedName}
-use Rattle.erd_meaning.specs.declared.objects.object.Object.{Object}
 use Rattle.erd_meaning.proofs.identity.ObjectFamilies.{is_object_of, objects_met, pick}
 
 -- the objects of a family, as they are kept

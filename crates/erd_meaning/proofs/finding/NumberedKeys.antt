@@ -1,12 +1,6 @@
 -- A set whose keys have numbers answers as the list of its keys.
-use Rattle.std.proofs.Common.{◌≡◌, ◌==◌, ◌&&◌, ◌||◌, ◌+◌, ℕ, Bool, true, false, not, cond, List, [], ◌∷◌, ◌++◌, map, Option, Some, None, refl, sym, ap, ap₂, ◌∙◌}
-use Rattle.std.proofs.lemmas.Iterator.Adapters.{position_from-zero}
-use Rattle.std.specs.Hash.{HashWrites}
-use Rattle.std.specs.List.{list_any, position, position_from, position_or_len}
-use Rattle.indexmap.specs.IndexSet.{insert_key}
-use Rattle.erd_meaning.specs.code.Salts.{AreNumbered, keys_in, salted_number}
+use Rattle.erd_meaning.proofs.Common.{◌≡◌, ℕ, ◌+◌, Bool, true, false, cond, not, ◌&&◌, ◌||◌, List, [], ◌∷◌, ◌++◌, map, ◌==◌, Some, None, Option, position, sym, refl, ap, ◌∙◌, ap₂, position_from-zero, HashWrites, list_any, position_from, position_or_len, insert_key, salted_number, keys_in, AreNumbered, Salted}
 use Rattle.erd_meaning.specs.declared.keys.salt.Salt.{Salt}
-use Rattle.erd_meaning.specs.declared.keys.salted.Salted.{Salted}
 use Rattle.erd_meaning.proofs.finding.SaltedTests.{number_implied}
 
 module _ {K : Type 0} (writes : K → HashWrites) (salt : Salt) where

@@ -1,16 +1,5 @@
 -- Where no object has the `@id` of another, the first object with an `@id`, if it is of the family, is the first of the family.
-use Rattle.std.proofs.Common.{◌≡◌, ℕ, inl, inr, List, [], ◌∷◌, cond, find, Bool, true, false, ◌&&◌, ◌==◌, Option, Some, None, option_and_then, refl, sym, ap, ◌∙◌}
-use Rattle.std.proofs.Math.Bool.{and-false}
-use Rattle.serde_json.specs.Data.{Data}
-use Rattle.erd_tables.specs.Classes.{family_number}
-use Rattle.erd_tables.specs.declared.class.Family.{Family}
-use Rattle.erd_check.specs.Faults.{NoneOf}
-use Rattle.erd_check.proofs.Order.{In, In-filter_kept}
-use Rattle.erd_meaning.specs.Keys.{Preference}
-use Rattle.erd_meaning.specs.LaterFaults.{IdentityFault}
-use Rattle.erd_meaning.specs.Lookups.{id_in}
-use Rattle.erd_meaning.specs.code.ObjectLookups.{is_of_family, keeps_id, object_among, those_of}
-use Rattle.erd_meaning.specs.code.ObjectWalk.{Kept, kept_objects}
+use Rattle.erd_meaning.proofs.Common.{◌≡◌, ℕ, Bool, true, false, cond, ◌&&◌, List, [], ◌∷◌, ◌==◌, Some, None, Option, find, option_and_then, sym, refl, ap, ◌∙◌, inl, inr, and-false, Data, family_number, Family, In, In-filter_kept, NoneOf, Preference, IdentityFault, id_in, is_of_family, those_of, keeps_id, object_among, Kept, kept_objects}
 use Rattle.erd_meaning.proofs.finding.Lookups.{kept_part}
 use Rattle.erd_meaning.proofs.finding.OneObject.{one_id}
 use Rattle.erd_meaning.proofs.identity.IdentityFaults.{same_id_from}

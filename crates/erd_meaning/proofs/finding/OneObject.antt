@@ -1,23 +1,5 @@
 -- What names an object names one object: by its key in its family, by its `@id` in the report.
-use Rattle.std.proofs.Common.{◌≡◌, ◌<◌, ◌+◌, ℕ, zero, suc, ◌⊎◌, inl, inr, List, [], ◌∷◌, length, Bool, true, false, cond, Less, Ordering, Option, Some, None, option_and_then, option_map, refl, sym, ap, ◌∙◌, subst, arith}
-use Rattle.std.specs.List.{position, position_from, slice_get}
-use Rattle.std.specs.List.Sorted.{IsStrictlySortedBy}
-use Rattle.std.proofs.lemmas.Iterator.Adapters.{position_from-zero}
-use Rattle.std.proofs.lemmas.Option.{slice_get-map}
-use Rattle.std.proofs.lemmas.Bool.{cases_order}
-use Rattle.serde_json.specs.Data.{Data}
-use Rattle.erd_tables.specs.Places.{place_cmp}
-use Rattle.erd_tables.specs.declared.class.Family.{Family}
-use Rattle.erd_tables.specs.declared.class.Role.TheVariants as role
-use Rattle.erd_tables.specs.declared.fault.Reason.TheVariants.{TwinIdentifier, DuplicateId}
-use Rattle.erd_check.specs.Faults.{NoneOf}
-use Rattle.erd_check.proofs.Order.{In, In-all, contains_from_In, sorted_filter}
-use Rattle.erd_meaning.specs.LaterFaults.{IdentityFault}
-use Rattle.erd_meaning.specs.Lookups.{id_in, key_in}
-use Rattle.erd_meaning.specs.Objects.{Placed, id_of, objects}
-use Rattle.erd_meaning.specs.code.ObjectWalk.{Located, Met, all_located, an_election, an_object, located, located_one}
-use Rattle.erd_meaning.specs.Keys.{Preference, key_of_family_object}
-use Rattle.erd_meaning.specs.declared.keys.key.Key.{Key}
+use Rattle.erd_meaning.proofs.Common.{◌≡◌, ℕ, zero, suc, ◌+◌, ◌<◌, Bool, true, false, cond, ◌⊎◌, List, [], ◌∷◌, length, slice_get, Some, None, Option, option_map, position, option_and_then, Ordering, Less, sym, refl, ap, ◌∙◌, subst, inl, inr, arith, cases_order, position_from-zero, slice_get-map, position_from, IsStrictlySortedBy, Data, place_cmp, Family, role, DuplicateId, TwinIdentifier, In, contains_from_In, In-all, sorted_filter, NoneOf, Preference, key_of_family_object, IdentityFault, key_in, id_in, Placed, objects, id_of, Met, an_object, an_election, Located, located_one, located, all_located, Key}
 use Rattle.erd_meaning.proofs.identity.IdentityFaults.{kept_keyed}
 use Rattle.erd_meaning.proofs.identity.MetSources.{is_met}
 use Rattle.erd_meaning.proofs.identity.ObjectFamilies.{is_of, objects_met}

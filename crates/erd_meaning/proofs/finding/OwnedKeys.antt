@@ -1,20 +1,8 @@
 -- The test by which an index of keys is asked: one family and one key.
-use Rattle.std.proofs.Common.{◌≡◌, ◌==◌, ◌&&◌, ℕ, true, rules}
-use Rattle.std.specs.Cmp.{Equal-is}
-use Rattle.std.specs.Ordering.{is_eq}
-use Rattle.std.proofs.lemmas.Bool.{and_parts}
-use Rattle.erd_tables.specs.Classes.{family_number}
-use Rattle.erd_tables.specs.declared.class.Family.{Family}
-use Rattle.erd_tables.specs.contracts.class.FamilyPartialEq as family_eq
-use Rattle.erd_meaning.specs.Hashes.{key_writes}
-use Rattle.erd_meaning.specs.Keys.{key_cmp}
-use Rattle.erd_meaning.specs.code.Indexed.{is_salted_owned, same_owned}
-use Rattle.erd_meaning.specs.code.Salts.{salted_number}
+use Rattle.erd_meaning.proofs.Common.{◌≡◌, ℕ, true, ◌&&◌, ◌==◌, is_eq, rules, and_parts, Equal-is, family_number, Family, key_writes, key_cmp, same_owned, is_salted_owned, key_cmp_exact, salted_number, Key, Salted}
 use Rattle.erd_meaning.specs.declared.keys.salt.Salt.{Salt}
-use Rattle.erd_meaning.specs.declared.keys.salted.Salted.{Salted}
-use Rattle.erd_meaning.specs.code.Orders.{key_cmp_exact}
-use Rattle.erd_meaning.specs.declared.keys.key.Key.{Key}
 use Rattle.erd_meaning.proofs.identity.ObjectFamilies.{family_exact}
+use Rattle.erd_tables.specs.contracts.class.FamilyPartialEq as family_eq
 
 pub families_same : (f g : Family) → family_eq.TheImpl.ghosts.eq f g ≡ (family_number f == family_number g)
 families_same f g = search rules

@@ -1,19 +1,10 @@
 -- What an `@id` names is the object that is found by it, if it is of the family that is asked for.
-use Rattle.std.proofs.Common.{◌≡◌, ◌==◌, ℕ, List, ◌∷◌, true, false, true≢false, Option, Some, None, option_and_then, refl, sym, ap, ◌∙◌, subst}
-use Rattle.std.proofs.lemmas.Option.{some_pair_parts}
-use Rattle.std.specs.List.{slice_get}
-use Rattle.serde_json.specs.Data.{Data}
-use Rattle.erd_tables.specs.Classes.{family_number}
-use Rattle.erd_tables.specs.declared.class.Family.{Family}
-use Rattle.erd_check.proofs.Rising.{Has}
-use Rattle.erd_check.proofs.Positions.{has_at, position_of}
+use Rattle.erd_meaning.proofs.Common.{◌≡◌, ℕ, true, false, List, ◌∷◌, ◌==◌, slice_get, Some, None, Option, option_and_then, sym, refl, ap, ◌∙◌, subst, true≢false, some_pair_parts, Data, family_number, Family, position_of, has_at, Has, id_in, FindsId, Placed, objects, id_of, has_id, owner_at}
 use Rattle.erd_meaning.proofs.identity.ObjectFamilies.{family_exact, itself}
 use Rattle.erd_meaning.proofs.finding.OneObject.{with_part}
 use Rattle.erd_meaning.proofs.accepted.References.{find-any, find-Some}
 use Rattle.erd_meaning.proofs.orders.Sets.{any-has}
 use Rattle.erd_meaning.proofs.accepted.Standing.{has_id-from, has_id-Some}
-use Rattle.erd_meaning.specs.Lookups.{FindsId, id_in}
-use Rattle.erd_meaning.specs.Objects.{Placed, has_id, id_of, objects, owner_at}
 
 -- ---- positions in lists
 

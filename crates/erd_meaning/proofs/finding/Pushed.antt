@@ -1,18 +1,5 @@
 -- What the indexes answer, once an object was added at the end.
-use Rattle.std.proofs.Common.{◌≡◌, ◌<◌, ◌+◌, ℕ, zero, suc, List, [], ◌∷◌, ◌++◌, length, cond, Bool, true, false, Option, Some, None, option_and_then, option_map, is_some, refl, sym, ap, ◌∙◌, subst, append_assoc, append-nil, arith}
-use Rattle.std.specs.List.{position, position_from, slice_get}
-use Rattle.std.specs.Map.{lookup}
-use Rattle.std.specs.Option.{option_or}
-use Rattle.std.proofs.Math.Seq.{append_snoc, take-append_seam}
-use Rattle.std.proofs.lemmas.Iterator.Adapters.{position_from-zero}
-use Rattle.std.proofs.lemmas.List.{length_push, take-append-le}
-use Rattle.std.proofs.lemmas.Option.{slice_get_within}
-use Rattle.erd_tables.specs.declared.class.Family.{Family}
-use Rattle.erd_tables.specs.declared.class.Family.TheVariants as family
-use Rattle.erd_meaning.specs.code.ObjectIndexes.{contests_before, contests_noted, number_at, number_of_id, number_of_key, places_from, rank, with_place}
-use Rattle.erd_meaning.specs.code.ObjectLookups.{is_keyed, is_of_family, keeps_id, those_of}
-use Rattle.erd_meaning.specs.code.ObjectWalk.{Kept}
-use Rattle.erd_meaning.specs.declared.keys.key.Key.{Key}
+use Rattle.erd_meaning.proofs.Common.{◌≡◌, ℕ, zero, suc, ◌+◌, ◌<◌, Bool, true, false, cond, List, [], ◌∷◌, ◌++◌, length, is_some, slice_get, Some, None, Option, option_map, position, option_and_then, sym, refl, ap, ◌∙◌, subst, append_assoc, append-nil, arith, append_snoc, take-append_seam, position_from-zero, take-append-le, length_push, slice_get_within, position_from, lookup, option_or, Family, family, with_place, places_from, rank, number_at, number_of_id, number_of_key, contests_noted, contests_before, is_of_family, those_of, is_keyed, keeps_id, Kept, Key}
 use Rattle.erd_meaning.proofs.finding.OneObject.{hit}
 
 -- ---- lists

@@ -1,6 +1,5 @@
 -- A test that compares the numbers of keys too says no more than the test of the keys, where these have their numbers.
-use Rattle.std.proofs.Common.{◌≡◌, ◌==◌, ◌&&◌, ℕ, Bool, true, false, refl, sym, ap, ◌∙◌}
-use Rattle.std.proofs.lemmas.Bool.Decides.{Decides-eqb}
+use Rattle.erd_meaning.proofs.Common.{◌≡◌, ℕ, Bool, true, false, ◌&&◌, ◌==◌, sym, refl, ap, ◌∙◌, Decides-eqb}
 
 and_implied : (a b : Bool) → (b ≡ true → a ≡ true) → (a && b) ≡ b
 and_implied true b h = refl

@@ -1,22 +1,10 @@
 -- Elections stand in the order of their positions, and no two of a report without faults of identity have one key.
-use Rattle.std.proofs.Common.{◌≡◌, ◌<◌, ℕ, inl, inr, map, Some, option_map, refl, ap, ◌∙◌, subst}
-use Rattle.std.specs.List.{slice_get}
-use Rattle.std.proofs.lemmas.Option.{slice_get-map}
-use Rattle.std.proofs.lemmas.Bool.{cases_order}
-use Rattle.serde_json.specs.Data.{Data}
-use Rattle.erd_tables.specs.declared.class.Role.TheVariants as role
-use Rattle.erd_tables.specs.declared.fault.Reason.TheVariants.{TwinIdentifier}
-use Rattle.erd_check.specs.Faults.{NoneOf}
-use Rattle.erd_check.proofs.Order.{contains_from_In, sorted_filter}
-use Rattle.erd_meaning.specs.Keys.{Preference, key_of}
-use Rattle.erd_meaning.specs.LaterFaults.{IdentityFault, IsBefore}
-use Rattle.erd_meaning.specs.Objects.{Placed, elections, has_several}
-use Rattle.erd_meaning.specs.code.ObjectWalk.{all_located, located_election}
-use Rattle.erd_meaning.specs.declared.keys.key.Key.{Key}
+use Rattle.erd_meaning.proofs.Common.{◌≡◌, ℕ, ◌<◌, map, slice_get, Some, option_map, refl, ap, ◌∙◌, subst, inl, inr, cases_order, slice_get-map, Data, TwinIdentifier, contains_from_In, sorted_filter, NoneOf, Preference, key_of, IsBefore, IdentityFault, Placed, elections, has_several, located_election, all_located, Key}
 use Rattle.erd_meaning.proofs.finding.OneObject.{in_at, sorted_at}
 use Rattle.erd_meaning.proofs.identity.MetElections.{elections_picked, is_election}
 use Rattle.erd_meaning.proofs.identity.ObjectPlaces.{AreApart, all_parted, apart}
 use Rattle.erd_meaning.proofs.identity.ToldFaults.{before_apart}
+use Rattle.erd_tables.specs.declared.class.Role.TheVariants as role
 
 module _ (π : Preference) (t : Data) where
   elections_apart : AreApart (map (located_election π (has_several t)) (elections t))

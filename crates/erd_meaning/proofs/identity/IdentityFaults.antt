@@ -1,33 +1,10 @@
 -- The walk over the elections and the objects of a report tells exactly the faults of identity.
-use Rattle.std.proofs.Common.{◌≡◌, ℕ, inl, inr, List, [], ◌∷◌, Bool, true, false, cond, ◌||◌, true≢false, Ordering, Equal, is_eq, Option, Some, None, is_none, refl, sym, ap, ◌++◌, ◌==◌, Less, ◌∙◌, subst}
-use Rattle.std.specs.List.{list_any}
-use Rattle.std.proofs.lemmas.Slice.Eq.{bytes_eq-Decides}
-use Rattle.std.specs.Prelude.{IsTrue}
-use Rattle.std.proofs.lemmas.Cmp.{tied_itself}
-use Rattle.std.proofs.lemmas.Bool.{and_parts, and_from}
-use Rattle.serde_json.specs.Data.{Data}
-use Rattle.erd_tables.specs.declared.class.Family.{Family}
-use Rattle.erd_tables.specs.declared.fault.Fault.{Fault}
-use Rattle.erd_tables.specs.Classes.{family_number}
-use Rattle.erd_tables.specs.Faults.{ListsAll}
-use Rattle.erd_tables.specs.Places.{place_cmp}
-use Rattle.erd_tables.specs.declared.class.Role.{Role}
-use Rattle.erd_tables.specs.declared.fault.Reason.{Reason}
-use Rattle.erd_tables.specs.declared.fault.Reason.TheVariants.{NoIdentifier, TwinIdentifier, DuplicateId}
-use Rattle.erd_tables.specs.declared.place.Step.{Step}
-use Rattle.erd_tables.specs.declared.class.Role.TheVariants as role
-use Rattle.erd_check.proofs.Order.{In, In-append, In-append_left, In-append_right, In-from_contains, contains_from_In, any_at}
-use Rattle.erd_check.specs.Paths.{fault_at}
-use Rattle.erd_meaning.specs.Keys.{Preference, has_keys, key_of, key_of_family_object, is_keyed_role}
-use Rattle.erd_meaning.specs.code.ObjectWalk.{fault_if, same_id, same_key, Located, Met, all_located, an_election, an_object, are_named_alike, are_twins, faults_after, is_keyless, kept, located_election, located_one}
-use Rattle.erd_meaning.specs.code.Orders.{key_cmp_exact, key_cmp_total}
-use Rattle.erd_meaning.specs.declared.keys.key.Key.{Key}
-use Rattle.erd_meaning.specs.LaterFaults.{IdentityFault, LacksIdentifier, RepeatsId, RepeatsKey}
-use Rattle.erd_meaning.specs.Objects.{Placed, elections, has_several, id_of, needs_key, objects, objects_with_role}
+use Rattle.erd_meaning.proofs.Common.{◌≡◌, ℕ, Bool, true, false, cond, ◌||◌, List, [], ◌∷◌, ◌++◌, is_none, IsTrue, ◌==◌, Some, None, Option, is_eq, Ordering, Less, Equal, sym, refl, ap, ◌∙◌, subst, inl, inr, true≢false, and_parts, and_from, tied_itself, bytes_eq-Decides, list_any, Data, family_number, ListsAll, place_cmp, Family, Role, Fault, Reason, DuplicateId, NoIdentifier, TwinIdentifier, Step, In, In-append_left, In-append_right, In-append, any_at, In-from_contains, contains_from_In, fault_at, has_keys, is_keyed_role, Preference, key_of, key_of_family_object, IdentityFault, LacksIdentifier, RepeatsId, RepeatsKey, Placed, elections, objects, has_several, objects_with_role, needs_key, id_of, kept, Met, an_object, an_election, Located, located_one, located_election, all_located, same_key, same_id, fault_if, is_keyless, are_twins, are_named_alike, faults_after, key_cmp_total, key_cmp_exact, Key}
 use Rattle.erd_meaning.proofs.identity.MetSources.{IsElectionMet, IsObjectMet, election_is_met, is_met, source}
 use Rattle.erd_meaning.proofs.identity.ObjectFamilies.{family_exact, itself}
 use Rattle.erd_meaning.proofs.identity.ObjectPlaces.{all_parted, id_place}
 use Rattle.erd_meaning.proofs.identity.ToldFaults.{Complete, Told, complete, duplicate_id, has_twin, in_if, is_named_before, no_identifier, told, told_rising, told_sound, twin_identifier}
+use Rattle.erd_tables.specs.declared.class.Role.TheVariants as role
 
 -- ---- what the tests of keys and `@id` texts that the walk makes say of one object or of two
 

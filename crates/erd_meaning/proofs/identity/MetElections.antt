@@ -1,13 +1,5 @@
 -- The elections of a report are those that the walk meets, in the same order.
-use Rattle.std.proofs.Common.{◌≡◌, List, [], ◌∷◌, ◌++◌, map, filter, Bool, true, false, cond, codes, refl, ap, ap₂, ◌∙◌, append-nil}
-use Rattle.std.proofs.lemmas.List.Elements.{filter-append}
-use Rattle.std.specs.List.{flat_map}
-use Rattle.serde_json.specs.Data.{Data}
-use Rattle.erd_tables.specs.declared.class.Family.{Family}
-use Rattle.erd_tables.specs.declared.class.Family.TheVariants as family
-use Rattle.erd_meaning.specs.Keys.{Preference, key_of}
-use Rattle.erd_meaning.specs.Objects.{Placed, elections, has_several, placed_entries, report_of, selections_of_contest}
-use Rattle.erd_meaning.specs.code.ObjectWalk.{Located, Met, all_located, all_met, an_election, an_object, contest_located, election_keys, election_located, elections_among, inside_election, located, located_election, shared_located}
+use Rattle.erd_meaning.proofs.Common.{◌≡◌, Bool, true, false, cond, List, [], ◌∷◌, ◌++◌, map, codes, filter, flat_map, refl, ap, ◌∙◌, ap₂, append-nil, filter-append, Data, Family, family, Preference, key_of, Placed, placed_entries, report_of, elections, selections_of_contest, has_several, Met, an_object, an_election, Located, located_election, located, contest_located, inside_election, election_located, shared_located, all_located, elections_among, all_met, election_keys}
 
 -- what is met is an election
 abbrev pub is_election_met : Met → Bool

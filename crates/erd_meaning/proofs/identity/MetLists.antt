@@ -1,10 +1,5 @@
 -- The walk over the elections and the objects of a report, as lists: what it has met, and what it has told.
-use Rattle.std.proofs.Common.{◌≡◌, List, [], ◌∷◌, ◌++◌, map, Bool, false, ◌&&◌, ◌||◌, is_none, Option, refl, sym, ap, ap₂, ◌∙◌, append_assoc, append-nil}
-use Rattle.std.specs.List.{list_any}
-use Rattle.std.proofs.lemmas.List.Elements.{filter_map-append}
-use Rattle.erd_meaning.specs.Keys.{has_keys}
-use Rattle.erd_meaning.specs.code.ObjectWalk.{Kept, Located, Met, ObjectsMet, an_election, an_object, are_named_alike, are_twins, elections_among, election_met, faults_after, faults_told, has_same_id, has_same_key, met_all, met_one, object_met, objects_among, same_key}
-use Rattle.erd_meaning.specs.declared.keys.key.Key.{Key}
+use Rattle.erd_meaning.proofs.Common.{◌≡◌, Bool, false, ◌&&◌, ◌||◌, List, [], ◌∷◌, ◌++◌, map, is_none, Option, sym, refl, ap, ◌∙◌, ap₂, append_assoc, append-nil, filter_map-append, list_any, has_keys, Kept, Met, an_object, an_election, Located, object_met, election_met, objects_among, elections_among, same_key, has_same_key, has_same_id, faults_told, are_twins, are_named_alike, faults_after, ObjectsMet, met_one, met_all, Key}
 use Rattle.erd_meaning.proofs.identity.ToldFaults.{told}
 
 -- ---- what has been met

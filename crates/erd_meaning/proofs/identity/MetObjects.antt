@@ -1,15 +1,5 @@
 -- Meeting objects, some and then more.
-use Rattle.std.proofs.Common.{◌≡◌, ◌<◌, ◌+◌, ℕ, Bool, List, [], ◌∷◌, ◌++◌, length, drop, map, get_or, refl, sym, ap, ◌∙◌}
-use Rattle.std.specs.List.{flat_map}
-use Rattle.std.proofs.lemmas.List.{at_drop_more}
-use Rattle.serde_json.specs.View.{view}
-use Rattle.serde_json.specs.declared.value.Value.{Value}
-use Rattle.erd_tables.specs.declared.place.Step.{Step}
-use Rattle.erd_tables.specs.declared.place.Step.TheVariants.{At}
-use Rattle.erd_tables.specs.declared.class.Family.TheVariants.{Contest, Selection}
-use Rattle.erd_meaning.specs.Keys.{Preference}
-use Rattle.erd_meaning.specs.Objects.{Placed, placed_from, selections_of_contest}
-use Rattle.erd_meaning.specs.code.ObjectWalk.{Located, ObjectsMet, located, located_election, located_one, contest_located, election_located, inside_election, met_one, met_all}
+use Rattle.erd_meaning.proofs.Common.{◌≡◌, ℕ, ◌+◌, ◌<◌, Bool, List, [], ◌∷◌, ◌++◌, map, length, get_or, drop, flat_map, sym, refl, ap, ◌∙◌, at_drop_more, view, Value, Contest, Selection, Step, At, Preference, Placed, placed_from, selections_of_contest, Located, located_one, located_election, located, contest_located, inside_election, election_located, ObjectsMet, met_one, met_all}
 
 pub met_all_append : (m : ObjectsMet) (xs ys : List Located) → met_all m (xs ++ ys) ≡ met_all (met_all m xs) ys
 met_all_append m [] ys = refl

@@ -1,12 +1,5 @@
 -- What the walk over a report meets is an object of a family or an election, and each of these is met.
-use Rattle.std.proofs.Common.{◌≡◌, ◌⊎◌, inl, inr, true, refl, sym, ap, ◌∙◌, subst}
-use Rattle.serde_json.specs.Data.{Data}
-use Rattle.erd_tables.specs.Classes.{family_number}
-use Rattle.erd_tables.specs.declared.class.Family.{Family}
-use Rattle.erd_check.proofs.Order.{In, In-filter, In-filter_kept, In-map, In-map_from}
-use Rattle.erd_meaning.specs.Keys.{Preference}
-use Rattle.erd_meaning.specs.Objects.{Placed, elections, has_several, objects}
-use Rattle.erd_meaning.specs.code.ObjectWalk.{Located, Met, all_located, an_election, an_object, located_election, located_one}
+use Rattle.erd_meaning.proofs.Common.{◌≡◌, true, ◌⊎◌, sym, refl, ap, ◌∙◌, subst, inl, inr, Data, family_number, Family, In, In-map, In-map_from, In-filter, In-filter_kept, Preference, Placed, elections, objects, has_several, Met, an_object, an_election, Located, located_one, located_election, all_located}
 use Rattle.erd_meaning.proofs.identity.MetElections.{elections_picked, is_election, is_election_met}
 use Rattle.erd_meaning.proofs.identity.ObjectFamilies.{is_object_of, is_of, itself, objects_met}
 

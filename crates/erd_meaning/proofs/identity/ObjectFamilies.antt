@@ -1,15 +1,5 @@
 -- The objects of a family are those that the walk meets of it, in the same order.
-use Rattle.std.proofs.Common.{◌≡◌, ℕ, List, [], ◌∷◌, ◌++◌, filter, cond, Bool, true, false, ◌==◌, codes, refl, sym, ap, ap₂, ◌∙◌, append-nil, append_assoc, find, Option, Some, subst}
-use Rattle.std.proofs.lemmas.Bool.Decides.{Decides-eqb}
-use Rattle.std.proofs.lemmas.List.Elements.{filter-append}
-use Rattle.std.specs.List.{flat_map}
-use Rattle.serde_json.specs.Data.{Data}
-use Rattle.erd_tables.specs.Classes.{families, family_number}
-use Rattle.erd_tables.specs.declared.class.Family.{Family}
-use Rattle.erd_tables.specs.declared.class.Family.TheVariants as family
-use Rattle.erd_meaning.specs.Keys.{Preference}
-use Rattle.erd_meaning.specs.code.ObjectWalk.{Located, Met, an_object, an_election, located, located_one, contest_located, election_located, shared_located, all_located}
-use Rattle.erd_meaning.specs.Objects.{Placed, elections, has_several, objects, placed_entries, report_of, selections_of_contest}
+use Rattle.erd_meaning.proofs.Common.{◌≡◌, ℕ, Bool, true, false, cond, List, [], ◌∷◌, ◌++◌, ◌==◌, Some, codes, filter, Option, find, flat_map, sym, refl, ap, ◌∙◌, subst, ap₂, append_assoc, append-nil, Decides-eqb, filter-append, Data, families, family_number, Family, family, Preference, Placed, placed_entries, report_of, elections, selections_of_contest, objects, has_several, Met, an_object, an_election, Located, located_one, located, contest_located, election_located, shared_located, all_located}
 
 -- what is met is an object of the family
 abbrev pub is_object_of : Family → Met → Bool

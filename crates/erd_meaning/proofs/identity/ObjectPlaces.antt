@@ -1,20 +1,6 @@
 -- The elections and the objects that the walk meets stand apart: the place of the `@id` of each comes before the places of all later ones.
-use Rattle.std.proofs.Common.{◌≡◌, ℕ, ◌+◌, ◌<◌, ◌≤◌, Bool, inl, inr, List, [], ◌∷◌, ◌++◌, codes, Ordering, Less, refl, sym, ap, ap₂, ◌∙◌, subst, append_assoc, append-nil, arith}
-use Rattle.std.specs.List.{AllByRecursion, flat_map}
-use Rattle.std.specs.List.Sorted.{IsStrictlySortedBy}
-use Rattle.serde_json.specs.Data.{Data}
-use Rattle.erd_tables.specs.Places.{place_cmp, step_cmp}
-use Rattle.erd_tables.specs.Texts.{text_cmp}
-use Rattle.erd_tables.specs.declared.class.Family.{Family}
-use Rattle.erd_tables.specs.declared.class.Family.TheVariants as family
-use Rattle.erd_tables.specs.declared.place.Step.{Step}
-use Rattle.erd_tables.specs.declared.place.Step.TheVariants.{Name, At}
-use Rattle.erd_tables.proofs.PlaceOrder.{steps_less}
-use Rattle.erd_check.proofs.Order.{In, In-append, Below, all_from_In, sorted_append}
+use Rattle.erd_meaning.proofs.Common.{◌≡◌, ℕ, ◌+◌, ◌<◌, ◌≤◌, Bool, List, [], ◌∷◌, ◌++◌, codes, flat_map, Ordering, Less, sym, refl, ap, ◌∙◌, subst, ap₂, inl, inr, append_assoc, append-nil, arith, AllByRecursion, IsStrictlySortedBy, Data, steps_less, step_cmp, place_cmp, text_cmp, Family, family, Step, At, Name, In, In-append, all_from_In, Below, sorted_append, Preference, Placed, placed_from, placed_entries, report_of, elections, selections_of_contest, has_several, Located, located_one, located_election, located, contest_located, inside_election, election_located, shared_located, all_located}
 use Rattle.erd_check.proofs.Steps.{at_less}
-use Rattle.erd_meaning.specs.Keys.{Preference}
-use Rattle.erd_meaning.specs.code.ObjectWalk.{Located, located, located_election, located_one, contest_located, election_located, inside_election, shared_located, all_located}
-use Rattle.erd_meaning.specs.Objects.{Placed, placed_from, placed_entries, elections, has_several, selections_of_contest, report_of}
 
 abbrev pub id_place : List Step → List Step
 id_place p = p ++ Name (codes "@id") ∷ []

@@ -1,15 +1,5 @@
 -- What the walk over the elections and the objects of a report leaves.
-use Rattle.std.proofs.Common.{◌≡◌, List, [], map, length, sym, ap, ◌∙◌, subst}
-use Rattle.serde_json.specs.Data.{Data}
-use Rattle.erd_tables.specs.Faults.{ListsAll}
-use Rattle.erd_tables.specs.declared.fault.Fault.{Fault}
-use Rattle.erd_check.specs.Faults.{NoneOf}
-use Rattle.erd_check.proofs.Deciding.{none_from_empty}
-use Rattle.erd_meaning.specs.Keys.{Preference}
-use Rattle.erd_meaning.specs.LaterFaults.{IdentityFault}
-use Rattle.erd_meaning.specs.code.ObjectWalk.{ObjectsMet, all_located, election_keys, kept_objects, met_all}
-use Rattle.erd_meaning.specs.code.Shown.{shown}
-use Rattle.erd_meaning.specs.code.ShownWalks.{met_of}
+use Rattle.erd_meaning.proofs.Common.{◌≡◌, List, [], map, length, sym, ap, ◌∙◌, subst, Data, ListsAll, Fault, none_from_empty, NoneOf, Preference, IdentityFault, all_located, kept_objects, election_keys, ObjectsMet, met_all, shown, met_of}
 use Rattle.erd_meaning.specs.declared.objects.object_walk.ObjectWalk.{ObjectWalk}
 use Rattle.erd_meaning.proofs.identity.IdentityFaults.{identity_listed, identity_told}
 use Rattle.erd_meaning.proofs.identity.MetElections.{election_keys_met}

@@ -1,12 +1,5 @@
 -- The keys of elections that were seen, once one more election was met.
-use Rattle.std.proofs.Common.{◌≡◌, List, [], ◌∷◌, ◌++◌, Bool, true, false, cond, ◌||◌, Option, Some, None, refl, sym, ap, ◌∙◌}
-use Rattle.std.specs.List.{list_any}
-use Rattle.std.specs.Ordering.{is_eq}
-use Rattle.erd_meaning.specs.Keys.{key_cmp}
-use Rattle.erd_meaning.specs.code.ElectionKeys.{AreSeen, is_seen, seen_with}
-use Rattle.erd_meaning.specs.code.ObjectWalk.{same_key}
-use Rattle.erd_meaning.specs.code.Orders.{key_cmp_exact}
-use Rattle.erd_meaning.specs.declared.keys.key.Key.{Key}
+use Rattle.erd_meaning.proofs.Common.{◌≡◌, Bool, true, false, cond, ◌||◌, List, [], ◌∷◌, ◌++◌, Some, None, Option, is_eq, sym, refl, ap, ◌∙◌, list_any, key_cmp, AreSeen, is_seen, seen_with, same_key, key_cmp_exact, Key}
 use Rattle.erd_meaning.proofs.identity.IdentityFaults.{tied_from}
 
 any-append : {A : Type 0} (test : A → Bool) (xs : List A) (x : A) → list_any test (xs ++ x ∷ []) ≡ (list_any test xs || test x)

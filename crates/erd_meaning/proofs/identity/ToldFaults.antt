@@ -1,16 +1,5 @@
 -- What is told of what a walk meets: of each election and each object, after all that stand before it, and in order.
-use Rattle.std.proofs.Common.{◌≡◌, ◌⊎◌, inl, inr, List, [], ◌∷◌, ◌++◌, Bool, true, false, Less, refl, sym, ap, ◌∙◌, subst}
-use Rattle.std.specs.List.{list_any}
-use Rattle.std.specs.List.Sorted.{IsStrictlySortedBy}
-use Rattle.erd_tables.specs.Faults.{fault_cmp}
-use Rattle.erd_tables.specs.Places.{place_cmp}
-use Rattle.erd_tables.specs.declared.fault.Fault.{Fault}
-use Rattle.erd_tables.specs.declared.fault.Reason.TheVariants.{NoIdentifier, TwinIdentifier, DuplicateId}
-use Rattle.erd_tables.specs.declared.place.Step.{Step}
-use Rattle.erd_tables.proofs.PlaceOrder.{place_cmp_total, place_same, start_less}
-use Rattle.erd_check.specs.Paths.{fault_at}
-use Rattle.erd_check.proofs.Order.{In, In-append, In-append_left, In-append_right, In-all, Below, sorted_append}
-use Rattle.erd_meaning.specs.code.ObjectWalk.{Located, Met, are_named_alike, are_twins, fault_if, faults_after, is_keyless}
+use Rattle.erd_meaning.proofs.Common.{◌≡◌, Bool, true, false, ◌⊎◌, List, [], ◌∷◌, ◌++◌, Less, sym, refl, ap, ◌∙◌, subst, inl, inr, list_any, IsStrictlySortedBy, place_cmp_total, start_less, place_same, fault_cmp, place_cmp, Fault, DuplicateId, NoIdentifier, TwinIdentifier, Step, In, In-append_left, In-append_right, In-append, In-all, Below, sorted_append, fault_at, Met, Located, fault_if, is_keyless, are_twins, are_named_alike, faults_after}
 use Rattle.erd_meaning.proofs.identity.ObjectPlaces.{AreApart, apart, id_place}
 
 -- ---- the walk as lists

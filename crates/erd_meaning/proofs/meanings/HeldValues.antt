@@ -1,20 +1,5 @@
 -- The objects of a family without their places, each with the key of the election that holds it.
-use Rattle.std.proofs.Common.{◌≡◌, ◌+◌, ◌++◌, ℕ, suc, List, [], ◌∷◌, map, flat_map, false, if◌then◌else◌, codes, Option, Some, None, option_and_then, option_map, refl, sym, ap, ap₂, ◌∙◌, arith}
-use Rattle.std.proofs.lemmas.List.{map-append}
-use Rattle.std.proofs.lemmas.Option.{slice_get-map}
-use Rattle.std.specs.List.{slice_get}
-use Rattle.std.specs.Str.{bytes_eq}
-use Rattle.serde_json.specs.Data.{Data}
-use Rattle.erd_tables.specs.declared.class.Family.{Family}
-use Rattle.erd_tables.specs.declared.class.Role.TheVariants as role
-use Rattle.erd_tables.specs.declared.place.Step.TheVariants.{At, Name}
-use Rattle.erd_check.specs.Values.{entries_at}
-use Rattle.erd_meaning.specs.Keys.{Preference, key_of}
-use Rattle.erd_meaning.specs.Lookups.{election_key_in, election_key_of}
-use Rattle.erd_meaning.specs.Meaning.{ObjectRecord}
-use Rattle.erd_meaning.specs.Objects.{Placed, elections, objects, placed_entries, placed_from, report_of}
-use Rattle.erd_meaning.specs.Records.{object_record, record_in_election}
-use Rattle.erd_meaning.specs.declared.keys.key.Key.{Key}
+use Rattle.erd_meaning.proofs.Common.{◌≡◌, ℕ, suc, ◌+◌, false, List, [], ◌∷◌, ◌++◌, map, if◌then◌else◌, slice_get, Some, None, codes, Option, option_map, flat_map, option_and_then, bytes_eq, sym, refl, ap, ◌∙◌, ap₂, arith, map-append, slice_get-map, Data, Family, role, At, Name, entries_at, Preference, key_of, election_key_in, election_key_of, ObjectRecord, Placed, placed_from, placed_entries, report_of, elections, objects, object_record, record_in_election, Key}
 use Rattle.erd_meaning.proofs.accepted.Skeleton.{values-placed_entries}
 
 -- the key of the election that holds an object, if one does and has a key, and the value of the object

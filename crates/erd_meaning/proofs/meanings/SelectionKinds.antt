@@ -1,24 +1,7 @@
 -- Which members hold selections: `ContestSelection` of contests alone.
-use Rattle.std.proofs.Common.{◌≡◌, ℕ, List, Bool, true, false, not, ◌||◌, Option, Some, None, option_and_then, is_some, if◌then◌else◌, codes, refl, sym, ap, ◌∙◌, subst}
-use Rattle.std.specs.List.{list_all}
-use Rattle.std.specs.Str.{bytes_eq}
-use Rattle.serde_json.specs.Data.{Data}
-use Rattle.serde_json.specs.Find.{as_str, get}
+use Rattle.erd_meaning.proofs.Common.{◌≡◌, ℕ, Bool, true, false, not, ◌||◌, List, is_some, if◌then◌else◌, Some, None, codes, Option, option_and_then, bytes_eq, sym, refl, ap, ◌∙◌, subst, list_all, Data, get, as_str, role_of_class, family_of_class, class_in_role, rows_of_class, kind_of_member, Class, class, Family, family, Role, role, MemberKind, kind, kind_of_name, kind_of_id, class_of_object}
 use Rattle.erd_tables.proofs.Roles.{class_in_role_named}
-use Rattle.erd_tables.specs.Classes.{class_in_role, family_of_class, role_of_class}
-use Rattle.erd_tables.specs.Rows.{rows_of_class}
-use Rattle.erd_tables.specs.Table.{kind_of_member}
-use Rattle.erd_tables.specs.declared.class.Class.{Class}
-use Rattle.erd_tables.specs.declared.class.Class.TheVariants as class
-use Rattle.erd_tables.specs.declared.class.Family.{Family}
-use Rattle.erd_tables.specs.declared.class.Family.TheVariants as family
-use Rattle.erd_tables.specs.declared.class.Role.{Role}
-use Rattle.erd_tables.specs.declared.class.Role.TheVariants as role
-use Rattle.erd_tables.specs.declared.member.MemberKind.{MemberKind}
-use Rattle.erd_tables.specs.declared.member.MemberKind.TheVariants as kind
-use Rattle.erd_check.specs.Wants.{class_of_object}
 use Rattle.erd_check.proofs.Exact.{text_exact}
-use Rattle.erd_check.proofs.TableKinds.{kind_of_id, kind_of_name}
 
 -- `@type` is in no class's rows
 pub kind_of_type : (c : Class) → kind_of_member c (codes "@type") ≡ kind.ClassText

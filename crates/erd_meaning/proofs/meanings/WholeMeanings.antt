@@ -1,33 +1,6 @@
 -- When two reports mean the same: the report, and the election and the object of each key, mean the same.
-use Rattle.std.proofs.Common.{◌≡◌, ℕ, List, [], ◌∷◌, ◌++◌, Bool, true, false, true≢false, not, ◌&&◌, ◌||◌, Contains, Option, Some, None, find, filter, map, Ordering, refl, sym, ap, ap₂, ◌∙◌, subst, zero, suc, arith}
-use Rattle.std.proofs.Math.Path.{fun_ext}
-use Rattle.std.proofs.lemmas.Bool.{and_parts, or_from, or_parts}
+use Rattle.erd_meaning.proofs.Common.{◌≡◌, ℕ, zero, suc, Bool, true, false, not, ◌&&◌, ◌||◌, List, [], ◌∷◌, ◌++◌, map, is_some, Some, None, Contains, filter, Option, option_map, find, option_and_then, bytes_eq, is_eq, Ordering, unwrap_or, sym, refl, ap, ◌∙◌, subst, ap₂, true≢false, arith, fun_ext, and_parts, or_parts, or_from, bytes_eq-Decides, list_any, option_cmp, ⊤, Data, null, get, kind_of_member, Class, Family, family, Role, role, MemberKind, kind, class_of_object, has_keys, key_cmp, Preference, key_of, election_key_of, Record, NameParts, Placed, report_of, elections, objects, if_carried, carried_members, label_beside_text, meaning, plain_member, record_with, selection_record, selection_map, member_of_class, object_record, record_in_election, placed_record, placed_with_key, records_of, election_records, selection_role, name_of, name_cmp, Key}
 use Rattle.std.proofs.lemmas.List.Folds.{list_any-append}
-use Rattle.std.proofs.lemmas.Slice.Eq.{bytes_eq-Decides}
-use Rattle.std.specs.List.{list_any}
-use Rattle.std.specs.Option.{option_cmp}
-use Rattle.std.specs.Ordering.{is_eq}
-use Rattle.std.specs.Prelude.{option_and_then, option_map, unwrap_or, is_some, ⊤}
-use Rattle.std.specs.Str.{bytes_eq}
-use Rattle.serde_json.specs.Data.{Data, null}
-use Rattle.serde_json.specs.Find.{get}
-use Rattle.erd_tables.specs.Table.{kind_of_member}
-use Rattle.erd_tables.specs.declared.class.Class.{Class}
-use Rattle.erd_tables.specs.declared.class.Family.{Family}
-use Rattle.erd_tables.specs.declared.class.Family.TheVariants as family
-use Rattle.erd_tables.specs.declared.class.Role.{Role}
-use Rattle.erd_tables.specs.declared.class.Role.TheVariants as role
-use Rattle.erd_tables.specs.declared.member.MemberKind.{MemberKind}
-use Rattle.erd_tables.specs.declared.member.MemberKind.TheVariants as kind
-use Rattle.erd_check.specs.Wants.{class_of_object}
-use Rattle.erd_meaning.specs.Keys.{Preference, has_keys, key_cmp, key_of}
-use Rattle.erd_meaning.specs.Meaning.{Record}
-use Rattle.erd_meaning.specs.NameParts.{NameParts}
-use Rattle.erd_meaning.specs.Lookups.{election_key_of}
-use Rattle.erd_meaning.specs.Objects.{Placed, elections, objects, report_of}
-use Rattle.erd_meaning.specs.Records.{election_records, placed_record, placed_with_key, record_in_election, if_carried, carried_members, label_beside_text, plain_member, member_of_class, record_with, object_record, selection_record, selection_map, records_of, meaning}
-use Rattle.erd_meaning.specs.SelectionNames.{selection_role, name_cmp, name_of}
-use Rattle.erd_meaning.specs.declared.keys.key.Key.{Key}
 use Rattle.erd_meaning.proofs.orders.EqualNames.{options_exact, equal_keys, equal_names}
 use Rattle.erd_meaning.proofs.meanings.WholeRecords.{names_in, nothing_either_way, absent_member, absent_plain, same_at_every_name, same_at_other_names}
 

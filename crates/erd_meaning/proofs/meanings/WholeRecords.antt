@@ -1,26 +1,6 @@
 -- When two objects have one record: they agree at the names that either has, and neither has any other.
-use Rattle.std.proofs.Common.{◌≡◌, ℕ, List, Bool, true, false, Option, Some, None, codes, refl, sym, ap, ap₂, ◌∙◌, subst, [], ◌∷◌, true≢false, ◌||◌, map, Ordering, Equal}
-use Rattle.std.proofs.Math.Path.{fun_ext}
-use Rattle.std.proofs.lemmas.Slice.Eq.{bytes_eq-Decides}
-use Rattle.std.specs.Prelude.{option_and_then, cond, option_map}
-use Rattle.std.specs.Str.{bytes_eq}
-use Rattle.std.proofs.lemmas.Bool.{or_parts}
+use Rattle.erd_meaning.proofs.Common.{◌≡◌, ℕ, Bool, true, false, cond, ◌||◌, List, [], ◌∷◌, map, Some, None, codes, Option, option_map, option_and_then, bytes_eq, nat_cmp, is_eq, Ordering, Equal, sym, refl, ap, ◌∙◌, subst, ap₂, true≢false, fun_ext, or_parts, bytes_eq-Decides, slice_cmp, list_any, match_ordering, Data, object, Members, no_members, member, get_member, get, kind_of_member, Class, class, family, MemberKind, kind, Preference, PlainValue, MemberValue, a_plain, ObjectRecord, plain_value, is_in_envelope, plain_member, member_value, member_of_class, with_election_id, record_in_election, Key}
 use Rattle.std.proofs.lemmas.Map.Text.{is_eq-slice_cmp}
-use Rattle.std.specs.Cmp.Lexicographic.{slice_cmp}
-use Rattle.std.specs.List.{list_any}
-use Rattle.std.specs.Ordering.{nat_cmp, is_eq, match_ordering}
-use Rattle.serde_json.specs.Data.{Data, object, Members, no_members, member}
-use Rattle.serde_json.specs.Find.{get, get_member}
-use Rattle.erd_tables.specs.Table.{kind_of_member}
-use Rattle.erd_tables.specs.declared.class.Class.{Class}
-use Rattle.erd_tables.specs.declared.member.MemberKind.{MemberKind}
-use Rattle.erd_tables.specs.declared.class.Class.TheVariants as class
-use Rattle.erd_tables.specs.declared.member.MemberKind.TheVariants as kind
-use Rattle.erd_tables.specs.declared.class.Family.TheVariants as family
-use Rattle.erd_meaning.specs.Keys.{Preference}
-use Rattle.erd_meaning.specs.Meaning.{MemberValue, ObjectRecord, PlainValue, a_plain}
-use Rattle.erd_meaning.specs.Records.{is_in_envelope, plain_value, plain_member, member_value, member_of_class, record_in_election, with_election_id}
-use Rattle.erd_meaning.specs.declared.keys.key.Key.{Key}
 
 -- the names of an object
 abbrev pub names_of_members : Members → List (List ℕ)

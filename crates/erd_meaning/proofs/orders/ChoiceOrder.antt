@@ -1,17 +1,6 @@
 -- What comes first in the order in which the program chooses among identifiers is the key that they give; the order is
 -- total, and tells unequal triples apart.
-use Rattle.std.proofs.Common.{◌≡◌, List, [], ◌∷◌, Bool, true, false, Some, None, map, cond, if◌then◌else◌, filter, refl, sym, ap, ◌∙◌}
-use Rattle.std.proofs.lemmas.Cmp.{back_total, on_total, then_total}
-use Rattle.std.proofs.lemmas.Map.Lookups.{CmpEqualImpliesEq}
-use Rattle.std.specs.Cmp.{IsTotalOrder, bool_cmp_total}
-use Rattle.std.specs.Option.{option_or}
-use Rattle.std.specs.Ordering.{bool_cmp, is_lt}
-use Rattle.serde_json.specs.Data.{Data}
-use Rattle.erd_tables.proofs.PlaceOrder.{then_both}
-use Rattle.erd_meaning.specs.Keys.{Preference, key_cmp, key_of_identifiers, least_key, least_key_of, lesser_key, preferred_key, triple_of}
-use Rattle.erd_meaning.specs.code.ChosenKeys.{choice, choice_cmp, choice_of, choice_of_two, is_preferred}
-use Rattle.erd_meaning.specs.code.Orders.{key_cmp_exact, key_cmp_total}
-use Rattle.erd_meaning.specs.declared.keys.key.Key.{Key}
+use Rattle.erd_meaning.proofs.Common.{◌≡◌, Bool, true, false, cond, List, [], ◌∷◌, map, if◌then◌else◌, Some, None, filter, is_lt, sym, refl, ap, ◌∙◌, on_total, then_total, back_total, CmpEqualImpliesEq, IsTotalOrder, bool_cmp_total, option_or, bool_cmp, Data, then_both, key_cmp, triple_of, lesser_key, least_key_of, least_key, Preference, preferred_key, key_of_identifiers, is_preferred, choice_cmp, choice_of_two, choice_of, choice, key_cmp_total, key_cmp_exact, Key}
 
 pub choice_cmp_total : (π : Preference) → IsTotalOrder (choice_cmp π)
 choice_cmp_total π = then_total (back_total (on_total (is_preferred π) bool_cmp_total)) key_cmp_total

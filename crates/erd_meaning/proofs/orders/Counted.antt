@@ -1,7 +1,5 @@
 -- How many entries of a list pass a test: whatever their order, and after a map.
-use Rattle.std.proofs.Common.{◌≡◌, ◌<◌, ◌≤◌, suc, inl, inr, List, [], ◌∷◌, map, filter, length, Bool, true, false, cond, Ordering, refl, sym, ap, ◌∙◌, arith}
-use Rattle.erd_check.proofs.Order.{In}
-use Rattle.erd_meaning.specs.SelectionNames.{rising_list}
+use Rattle.erd_meaning.proofs.Common.{◌≡◌, suc, ◌<◌, ◌≤◌, Bool, true, false, cond, List, [], ◌∷◌, map, length, filter, Ordering, sym, refl, ap, ◌∙◌, inl, inr, arith, In, rising_list}
 use Rattle.erd_meaning.proofs.orders.Reordered.{count-reordered, reordered_rising}
 
 -- ---- a test that passes more

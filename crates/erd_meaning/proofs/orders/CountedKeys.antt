@@ -1,15 +1,7 @@
 -- The rank of a key among the keys of a list is the number of entries with lesser keys. Wherever entries have the keys, the
 -- ranks are in the order of the keys.
-use Rattle.std.proofs.Common.{◌≡◌, ◌<◌, ℕ, List, filter, length, Bool, true, Option, Some, None, Ordering, Less, Equal, Greater, nat_cmp, is_lt, refl, sym, ap, ◌∙◌}
-use Rattle.std.proofs.lemmas.Cmp.{nat_cmp_total, tied_itself}
-use Rattle.std.specs.Option.{option_cmp}
-use Rattle.std.specs.Ordering.{ordering_reverse}
-use Rattle.erd_check.proofs.Order.{In}
+use Rattle.erd_meaning.proofs.Common.{◌≡◌, ℕ, ◌<◌, Bool, true, List, length, Some, None, filter, Option, nat_cmp, is_lt, Ordering, Less, Equal, Greater, sym, refl, ap, ◌∙◌, tied_itself, nat_cmp_total, option_cmp, ordering_reverse, less, In, key_cmp, key_cmp_total, key_cmp_exact, Key}
 use Rattle.erd_check.proofs.Steps.{at_less}
-use Rattle.erd_check.proofs.Deciding.{less}
-use Rattle.erd_meaning.specs.Keys.{key_cmp}
-use Rattle.erd_meaning.specs.code.Orders.{key_cmp_exact, key_cmp_total}
-use Rattle.erd_meaning.specs.declared.keys.key.Key.{Key}
 use Rattle.erd_meaning.proofs.orders.Counted.{more_pass}
 
 module _ {A : Type 0} (key : A → Option Key) (xs : List A) where

@@ -1,17 +1,5 @@
 -- Lists in which no two entries compare as equal, from what is known of their positions, and of arrays that are sets.
-use Rattle.std.proofs.Common.{◌≡◌, ◌<◌, ℕ, zero, suc, ◌⊎◌, inl, inr, List, [], ◌∷◌, map, take, Bool, true, false, true≢false, Some, Ordering, Equal, slice_get, refl, sym, ap, ◌∙◌, subst, arith}
-use Rattle.std.specs.Cmp.{Equal-is}
-use Rattle.std.specs.List.{IsDistinct}
-use Rattle.std.specs.Ordering.{eq_by_cmp}
-use Rattle.std.proofs.lemmas.Bool.{false_from_ne_true}
-use Rattle.serde_json.specs.Data.{Data, Items, no_items, item}
-use Rattle.serde_json.specs.Find.{get_item}
-use Rattle.erd_check.specs.Trees.{is_same_json}
-use Rattle.erd_check.specs.Values.{list_of_items}
-use Rattle.erd_check.specs.Wants.{is_repeated}
-use Rattle.erd_check.proofs.Positions.{has_mapped}
-use Rattle.erd_check.proofs.Rising.{Has, Has-cases, all-Has}
-use Rattle.erd_check.proofs.Order.{In, In-all, In-map_from, all_from_In, any_at}
+use Rattle.erd_meaning.proofs.Common.{◌≡◌, ℕ, zero, suc, ◌<◌, Bool, true, false, ◌⊎◌, List, [], ◌∷◌, map, take, slice_get, Some, Ordering, Equal, sym, refl, ap, ◌∙◌, subst, inl, inr, true≢false, arith, false_from_ne_true, Equal-is, IsDistinct, eq_by_cmp, Data, Items, no_items, item, get_item, In, In-map_from, any_at, all_from_In, In-all, has_mapped, Has-cases, all-Has, Has, is_same_json, list_of_items, is_repeated}
 
 -- where an entry of a list stands
 pub place_of : {A : Type 0} (x : A) (xs : List A) → In x xs → (i : ℕ) × (slice_get xs i ≡ Some x)

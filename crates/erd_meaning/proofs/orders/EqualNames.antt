@@ -1,21 +1,7 @@
 -- Keys and names that are equal in their orders are equal.
-use Rattle.std.proofs.Common.{◌≡◌, ℕ, ℤ, List, [], ◌∷◌, Bool, true, false, ◌++◌, codes, Option, Some, None, Ordering, refl, sym, ap, ◌∙◌}
-use Rattle.std.proofs.lemmas.Bool.{and_parts}
-use Rattle.std.proofs.lemmas.Bool.Decides.{Decides-int_eq}
+use Rattle.erd_meaning.proofs.Common.{◌≡◌, ℕ, Bool, true, false, List, [], ◌∷◌, ◌++◌, ℤ, Some, None, codes, Option, int_cmp, is_eq, Ordering, sym, refl, ap, ◌∙◌, and_parts, Decides-int_eq, bytes_eq-Decides, tied_then, slice_cmp, option_cmp, bool_cmp, ordering_then, class_name, text_of_class, text_cmp, Class, key_cmp, NameParts, class_cmp, name_cmp, Key}
 use Rattle.std.proofs.lemmas.Map.Text.{is_eq-slice_cmp}
-use Rattle.std.proofs.lemmas.Slice.Eq.{bytes_eq-Decides}
-use Rattle.std.specs.Cmp.{tied_then}
-use Rattle.std.specs.Cmp.Lexicographic.{slice_cmp}
-use Rattle.std.specs.Option.{option_cmp}
-use Rattle.std.specs.Ordering.{is_eq, bool_cmp, int_cmp, ordering_then}
 use Rattle.erd_tables.proofs.ClassTexts.{names_its_class}
-use Rattle.erd_tables.specs.Classes.{class_name, text_of_class}
-use Rattle.erd_tables.specs.Texts.{text_cmp}
-use Rattle.erd_tables.specs.declared.class.Class.{Class}
-use Rattle.erd_meaning.specs.Keys.{key_cmp}
-use Rattle.erd_meaning.specs.NameParts.{NameParts}
-use Rattle.erd_meaning.specs.SelectionNames.{class_cmp, name_cmp}
-use Rattle.erd_meaning.specs.declared.keys.key.Key.{Key}
 
 both_equal : (x y : Ordering) → is_eq (ordering_then x y) ≡ true → (is_eq x ≡ true) × (is_eq y ≡ true)
 both_equal x y h = and_parts (is_eq x) (is_eq y) (tied_then x y ∙ h)

@@ -1,15 +1,5 @@
 -- The order that is made of distinct keys: the positions in the rising order of the keys, and the rank of each key.
-use Rattle.std.proofs.Common.{◌≡◌, ◌+◌, ◌<◌, ℕ, List, [], ◌∷◌, map, length, replicate, Option, Some, None, Ordering, is_lt, slice_get, option_map, refl, sym, ap, ◌∙◌, subst, arith}
-use Rattle.std.proofs.lemmas.Cmp.{on_total}
-use Rattle.std.proofs.lemmas.List.{length-map, length-replicate}
-use Rattle.std.proofs.lemmas.Option.{slice_get-map, slice_get_within}
-use Rattle.std.specs.Cmp.{IsTotalOrder}
-use Rattle.std.specs.List.{AllByRecursion, IsDistinct}
-use Rattle.std.specs.Ordering.{eq_by_cmp}
-use Rattle.erd_check.proofs.Order.{all_from_In}
-use Rattle.erd_meaning.specs.SelectionNames.{rising_list}
-use Rattle.erd_meaning.specs.code.KeyOrders.{positioned, positions_by, rank_by}
-use Rattle.erd_meaning.specs.Places.{places_put}
+use Rattle.erd_meaning.proofs.Common.{◌≡◌, ℕ, ◌+◌, ◌<◌, List, [], ◌∷◌, map, length, replicate, slice_get, Some, None, Option, option_map, is_lt, Ordering, sym, refl, ap, ◌∙◌, subst, arith, on_total, length-map, length-replicate, slice_get-map, slice_get_within, IsTotalOrder, AllByRecursion, IsDistinct, eq_by_cmp, all_from_In, places_put, rising_list, positioned, rank_by, positions_by}
 use Rattle.erd_meaning.proofs.finding.OneObject.{in_at}
 use Rattle.erd_meaning.proofs.orders.PlacesPut.{StandOnce, length_put, put_at, same_entries}
 use Rattle.erd_meaning.proofs.orders.RisingLists.{by_first}

@@ -1,9 +1,5 @@
 -- The places of positions, each put at its position: the list of places is the inverse of the list of positions.
-use Rattle.std.proofs.Common.{◌≡◌, ◌+◌, ◌<◌, ℕ, zero, suc, inl, inr, List, [], ◌∷◌, length, Some, slice_get, slice_set, refl, sym, ap, ap₂, ◌∙◌, subst, arith}
-use Rattle.std.proofs.lemmas.List.{length-set}
-use Rattle.std.specs.List.{AllByRecursion}
-use Rattle.erd_check.proofs.Order.{all_from_In}
-use Rattle.erd_meaning.specs.Places.{places_put}
+use Rattle.erd_meaning.proofs.Common.{◌≡◌, ℕ, zero, suc, ◌+◌, ◌<◌, List, [], ◌∷◌, length, slice_get, slice_set, Some, sym, refl, ap, ◌∙◌, subst, ap₂, inl, inr, arith, length-set, AllByRecursion, all_from_In, places_put}
 use Rattle.erd_meaning.proofs.orders.DistinctEntries.{place_of}
 
 -- one entry set

@@ -1,9 +1,6 @@
 -- Lists with the same entries, each as often, in some order; and what doesn't depend on the order.
-use Rattle.std.proofs.Common.{◌≡◌, ◌<◌, ℕ, zero, suc, List, [], ◌∷◌, ◌++◌, map, filter, filter_map, flat_map, length, Bool, true, false, ◌||◌, cond, Option, Some, None, Ordering, is_lt, refl, sym, ap, ◌∙◌, arith}
-use Rattle.std.specs.List.{cons_option, list_any, slice_index_or, slice_set, swap, AllByRecursion}
-use Rattle.erd_check.proofs.Rising.{Has, here, later}
+use Rattle.erd_meaning.proofs.Common.{◌≡◌, ℕ, zero, suc, ◌<◌, Bool, true, false, cond, ◌||◌, List, [], ◌∷◌, ◌++◌, map, length, get_or as slice_index_or, slice_set, Some, None, filter, Option, swap, flat_map, filter_map, is_lt, Ordering, sym, refl, ap, ◌∙◌, arith, AllByRecursion, cons_option, list_any, here, later, Has, with_inserted, rising_list}
 use Rattle.erd_check.proofs.ValueSets.{or_exchanged}
-use Rattle.erd_meaning.specs.SelectionNames.{rising_list, with_inserted}
 
 -- the one list has the entries of the other, each as often
 pub data Reordered {A : Type 0} : List A → List A → Type 0 where

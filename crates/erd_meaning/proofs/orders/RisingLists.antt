@@ -1,11 +1,5 @@
 -- A stable sort gives the rising list: a list in order is determined by what ties with each value, in its order.
-use Rattle.std.proofs.Common.{◌≡◌, ◌<◌, suc, List, [], ◌∷◌, map, filter, cond, Bool, true, false, not, ◌&&◌, Ordering, refl, sym, ap, ◌∙◌, subst, add-one, arith}
-use Rattle.std.specs.Cmp.{IsStrictWeakOrder, IsTotalOrder}
-use Rattle.std.proofs.lemmas.List.Sorted.{ranks_by}
-use Rattle.std.specs.List.{AllByRecursion}
-use Rattle.std.specs.List.Sorted.{IsSorted, IsStable, ties}
-use Rattle.std.specs.Ordering.{is_lt}
-use Rattle.erd_meaning.specs.SelectionNames.{rising_list, with_inserted}
+use Rattle.erd_meaning.proofs.Common.{◌≡◌, suc, ◌<◌, Bool, true, false, cond, not, ◌&&◌, List, [], ◌∷◌, map, filter, IsSorted, is_lt, Ordering, sym, refl, ap, ◌∙◌, subst, add-one, arith, ranks_by, IsStrictWeakOrder, IsTotalOrder, AllByRecursion, IsStable, ties, with_inserted, rising_list}
 
 -- pairs by their keys
 abbrev pub by_first : {K T : Type 0} → (K → K → Ordering) → K × T → K × T → Ordering

@@ -1,15 +1,5 @@
 -- A list in rising order: what goes in, that it rises, and that the position of an entry is its rank.
-use Rattle.std.proofs.Common.{◌≡◌, List, [], ◌∷◌, Bool, true, false, cond, Ordering, Less, Equal, Greater, is_lt, refl, sym, ap, ◌∙◌, inl, inr, is_eq, is_gt, subst, ℕ, zero, suc, map, filter, length, Some, slice_get}
-use Rattle.std.specs.Cmp.{IsTotalOrder}
-use Rattle.std.specs.Ordering.{ordering_reverse, eq_by_cmp}
-use Rattle.std.proofs.lemmas.Map.Lookups.{CmpEqualImpliesEq}
-use Rattle.std.specs.List.{AllByRecursion, IsDistinct}
-use Rattle.std.specs.Prelude.{⊤}
-use Rattle.std.specs.List.Sorted.{IsStrictlySortedBy}
-use Rattle.std.proofs.lemmas.Cmp.{tied_back, upto, on_total, tied_itself}
-use Rattle.erd_check.proofs.Deciding.{less}
-use Rattle.erd_check.proofs.Order.{In, In-all, all_from_In}
-use Rattle.erd_meaning.specs.SelectionNames.{with_inserted, rising_list}
+use Rattle.erd_meaning.proofs.Common.{◌≡◌, ℕ, zero, suc, Bool, true, false, cond, List, [], ◌∷◌, map, length, slice_get, Some, filter, is_eq, is_lt, is_gt, Ordering, Less, Equal, Greater, sym, refl, ap, ◌∙◌, subst, inl, inr, upto, tied_itself, tied_back, on_total, CmpEqualImpliesEq, IsTotalOrder, AllByRecursion, IsDistinct, IsStrictlySortedBy, eq_by_cmp, ordering_reverse, ⊤, less, In, all_from_In, In-all, with_inserted, rising_list}
 use Rattle.erd_meaning.proofs.orders.RisingSets.{In-inserted, In-rising, rising-In}
 use Rattle.erd_meaning.proofs.finding.OneObject.{in_at}
 use Rattle.erd_meaning.proofs.orders.Counted.{count-rising, count_map}

@@ -1,10 +1,5 @@
 -- A list in rising order has the same entries, and as many.
-use Rattle.std.proofs.Common.{◌≡◌, ◌⊎◌, inl, inr, List, [], ◌∷◌, length, Ordering, refl, sym, subst, arith}
-use Rattle.std.proofs.lemmas.List.Sorted.{IsPermutation-cons, IsPermutation-refl, IsPermutation-swap, IsPermutation-trans}
-use Rattle.std.specs.List.Sorted.{IsPermutation}
-use Rattle.erd_check.proofs.Order.{In}
-use Rattle.erd_check.proofs.Rising.{Has, Has-cases, here, later}
-use Rattle.erd_meaning.specs.SelectionNames.{rising_list, with_inserted}
+use Rattle.erd_meaning.proofs.Common.{◌≡◌, ◌⊎◌, List, [], ◌∷◌, length, IsPermutation, Ordering, sym, refl, subst, inl, inr, arith, IsPermutation-refl, IsPermutation-cons, IsPermutation-swap, IsPermutation-trans, In, here, later, Has-cases, Has, with_inserted, rising_list}
 use Rattle.erd_meaning.proofs.orders.Reordered.{length-reordered, reordered_rising, Reordered, no_entry, one_kept, two_exchanged, in_turn, reordered_back, reordered_inserted, reordered-has}
 
 -- ---- what doesn't depend on the order of a list

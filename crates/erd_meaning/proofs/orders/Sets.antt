@@ -1,11 +1,5 @@
 -- A set that is written as a rising list is determined by its membership test.
-use Rattle.std.proofs.Common.{◌≡◌, List, [], ◌∷◌, Bool, true, false, ◌||◌, is_eq, Ordering, Equal, refl, sym, ap, ◌∙◌, subst}
-use Rattle.std.specs.List.{list_any}
-use Rattle.std.specs.Cmp.{IsTotalOrder}
-use Rattle.std.proofs.lemmas.Cmp.{tied_itself}
-use Rattle.std.proofs.lemmas.Map.Lookups.{CmpEqualImpliesEq}
-use Rattle.std.specs.List.Sorted.{IsStrictlySortedBy}
-use Rattle.erd_check.proofs.Rising.{Has, here, later, rising_unique}
+use Rattle.erd_meaning.proofs.Common.{◌≡◌, Bool, true, false, ◌||◌, List, [], ◌∷◌, is_eq, Ordering, Equal, sym, refl, ap, ◌∙◌, subst, tied_itself, CmpEqualImpliesEq, IsTotalOrder, list_any, IsStrictlySortedBy, here, later, rising_unique, Has}
 
 pub any-has : {A : Type 0} (test : A → Bool) (xs : List A) (x : A) → Has xs x → test x ≡ true → list_any test xs ≡ true
 any-has test xs x (here {xs = ys}) e = rw e

@@ -1,28 +1,5 @@
 -- Arrays of references in which no reason is told: each names an object of the family, and no two entries of a set name one.
-use Rattle.std.proofs.Common.{◌≡◌, ◌==◌, ◌≤◌, ◌<◌, ◌+◌, ℕ, List, [], ◌∷◌, ◌++◌, length, Bool, true, false, ◌&&◌, Option, Some, None, refl, sym, ap, ap₂, ◌∙◌, subst, arith, append_assoc, ◌||◌, drop, get_or, map}
-use Rattle.std.proofs.lemmas.Bool.{eqb-false, ne_eqb, false_from_ne_true}
-use Rattle.std.proofs.lemmas.List.{at_drop_all, drop_more}
-use Rattle.std.specs.List.{AllByRecursion, IsDistinct, list_any}
-use Rattle.std.specs.Option.{option_map_or}
-use Rattle.std.specs.Prelude.{⊤}
-use Rattle.std.specs.Str.{bytes_eq}
-use Rattle.std.specs.Cmp.Lexicographic.{bytes_decides}
-use Rattle.serde_json.specs.Data.{Data, string}
-use Rattle.serde_json.specs.Find.{as_str}
-use Rattle.serde_json.specs.View.{items_of, view}
-use Rattle.serde_json.specs.declared.value.Value.{Value}
-use Rattle.erd_tables.specs.declared.class.Family.{Family}
-use Rattle.erd_tables.specs.declared.fault.Reason.{Reason}
-use Rattle.erd_tables.specs.declared.fault.Reason.TheVariants.{Repeated}
-use Rattle.erd_tables.specs.declared.place.Step.{Step}
-use Rattle.erd_tables.specs.declared.place.Step.TheVariants.{At}
-use Rattle.erd_check.specs.Trees.{is_same_json}
-use Rattle.erd_check.specs.Visits.{faults_of, told_at, told_of_items}
-use Rattle.erd_check.specs.declared.want.Want.TheVariants.{Reference}
-use Rattle.erd_meaning.specs.code.ObjectIndexes.{number_among}
-use Rattle.erd_meaning.specs.code.ObjectWalk.{Kept}
-use Rattle.erd_meaning.specs.code.ReferenceReasons.{AreClear, IsClear, id_reasons, reason_if, reference_reasons_told}
-use Rattle.erd_meaning.specs.code.RisingNumbers.{IsRisingFrom}
+use Rattle.erd_meaning.proofs.Common.{◌≡◌, ℕ, ◌+◌, ◌<◌, ◌≤◌, Bool, true, false, ◌&&◌, ◌||◌, List, [], ◌∷◌, ◌++◌, map, length, get_or, drop, ◌==◌, Some, None, Option, bytes_eq, sym, refl, ap, ◌∙◌, subst, ap₂, append_assoc, arith, ne_eqb, eqb-false, false_from_ne_true, drop_more, at_drop_all, bytes_decides, AllByRecursion, IsDistinct, list_any, option_map_or, ⊤, Data, string, as_str, items_of, view, Value, Family, Reason, Repeated, Step, At, is_same_json, faults_of, told_at, told_of_items, Reference, number_among, Kept, reason_if, id_reasons, reference_reasons_told, AreClear, IsClear, IsRisingFrom}
 
 -- ---- numbers that differ
 

@@ -1,22 +1,7 @@
 -- The reasons of a reference, by one look-up of its text.
-use Rattle.std.proofs.Common.{◌≡◌, ℕ, List, Option, Some, true, false, not, refl, ap, ◌∙◌, ◌==◌, ◌&&◌, ◌++◌, [], ◌∷◌, Bool, None, is_none, is_some, option_map, sym, ap₂}
-use Rattle.std.specs.Option.{option_map_or, option_to_list}
+use Rattle.erd_meaning.proofs.Common.{◌≡◌, ℕ, Bool, true, false, not, ◌&&◌, List, [], ◌∷◌, ◌++◌, is_some, is_none, ◌==◌, Some, None, Option, option_map, option_to_list, sym, refl, ap, ◌∙◌, ap₂, and-false, option_map_or, Data, string, as_str, family_number, Family, family, Reason, SelectionOfOtherContest, Unresolved, WrongFamily, Want, Reference, number_of_id, is_in_contest, number_among, object_among, Kept, leads_to_references, is_known, is_of_others, is_selection_family, is_selection_elsewhere, is_elsewhere, reason_if, id_reasons, reference_reasons_told}
 use Rattle.std.specs.Bool.{then_some}
-use Rattle.std.proofs.Math.Bool.{and-false}
-use Rattle.serde_json.specs.Data.{Data, string}
-use Rattle.serde_json.specs.Find.{as_str}
-use Rattle.erd_tables.specs.declared.class.Family.{Family}
-use Rattle.erd_tables.specs.Classes.{family_number}
-use Rattle.erd_tables.specs.declared.fault.Reason.{Reason}
-use Rattle.erd_tables.specs.declared.fault.Reason.TheVariants.{Unresolved, WrongFamily, SelectionOfOtherContest}
-use Rattle.erd_tables.specs.declared.class.Family.TheVariants as family
-use Rattle.erd_check.specs.declared.want.Want.{Want}
-use Rattle.erd_check.specs.declared.want.Want.TheVariants.{Reference}
-use Rattle.erd_meaning.specs.code.ObjectIndexes.{is_in_contest, number_among, number_of_id}
-use Rattle.erd_meaning.specs.code.ObjectWalk.{Kept}
 use Rattle.erd_meaning.proofs.references.SilentWalks.{TellsOfReferences}
-use Rattle.erd_meaning.specs.code.ObjectLookups.{object_among}
-use Rattle.erd_meaning.specs.code.ReferenceReasons.{id_reasons, is_elsewhere, is_known, is_of_others, is_selection_elsewhere, is_selection_family, leads_to_references, reason_if, reference_reasons_told}
 use Rattle.erd_meaning.proofs.finding.FoundWithId.{with_id_none, with_id_of_other, with_id_some}
 use Rattle.erd_meaning.proofs.finding.Known.{id_known}
 

@@ -1,23 +1,5 @@
 -- The reasons of a reference at its place: they rise, each is a fault, and none is left out.
-use Rattle.std.proofs.Common.{◌≡◌, ◌-◌, ℕ, List, [], ◌∷◌, ◌++◌, inl, inr, filter, length, take, drop, codes, Bool, true, false, ◌&&◌, true≢false, Option, Some, None, refl, sym, ap, ◌∙◌, subst, arith, rules, length-append}
-use Rattle.std.proofs.Math.Seq.{take-append_seam, drop-append_seam}
-use Rattle.std.proofs.lemmas.List.{take-append-drop}
-use Rattle.std.proofs.lemmas.Slice.Eq.{bytes_eq-Decides}
-use Rattle.std.specs.List.Sorted.{IsStrictlySortedBy}
-use Rattle.std.specs.Option.{option_map_or}
-use Rattle.std.specs.Prelude.{IsSomeAnd, IsTrue}
-use Rattle.std.specs.Str.{bytes_eq}
-use Rattle.std.proofs.lemmas.Bool.{and_parts, and_from}
-use Rattle.serde_json.specs.Data.{Data}
-use Rattle.erd_tables.specs.Faults.{reason_cmp}
-use Rattle.erd_tables.specs.declared.fault.Reason.{Reason}
-use Rattle.erd_tables.specs.declared.fault.Reason.TheVariants.{Repeated, Unresolved, WrongFamily, SelectionOfOtherContest}
-use Rattle.erd_tables.specs.declared.place.Step.{Step}
-use Rattle.erd_tables.specs.declared.place.Step.TheVariants.{Name, At}
-use Rattle.erd_check.specs.Wants.{Asked, asked_at}
-use Rattle.erd_check.proofs.Order.{In, In-filter_kept}
-use Rattle.erd_meaning.specs.LaterFaults.{is_reference_fault, is_other_selection, entry_place, NamesOtherContest, ReferenceFault}
-use Rattle.erd_check.proofs.Walks.{outer_place}
+use Rattle.erd_meaning.proofs.Common.{◌≡◌, ℕ, ◌-◌, Bool, true, false, ◌&&◌, List, [], ◌∷◌, ◌++◌, length, take, drop, IsSomeAnd, IsTrue, Some, None, codes, filter, Option, bytes_eq, sym, refl, ap, ◌∙◌, subst, inl, inr, true≢false, arith, length-append, take-append-drop, rules, drop-append_seam, take-append_seam, and_parts, and_from, bytes_eq-Decides, IsStrictlySortedBy, option_map_or, Data, reason_cmp, Reason, Repeated, SelectionOfOtherContest, Unresolved, WrongFamily, Step, At, Name, In, In-filter_kept, outer_place, Asked, asked_at, is_reference_fault, is_other_selection, entry_place, ReferenceFault, NamesOtherContest}
 
 -- ---- the entries of an object's list
 

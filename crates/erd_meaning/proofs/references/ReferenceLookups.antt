@@ -1,23 +1,5 @@
 -- What is looked up among the objects that are kept of a report is what its `@id` texts name.
-use Rattle.std.proofs.Common.{◌≡◌, ℕ, inl, inr, List, [], ◌∷◌, filter, find, cond, Bool, true, false, ◌&&◌, ◌||◌, Option, Some, None, option_map, is_some, refl, sym, ap, ◌∙◌}
-use Rattle.std.specs.List.{list_any}
-use Rattle.std.specs.Option.{option_map_or}
-use Rattle.std.specs.Str.{bytes_eq}
-use Rattle.std.proofs.lemmas.Slice.Eq.{bytes_eq-Decides}
-use Rattle.std.proofs.lemmas.Bool.{and_from}
-use Rattle.std.specs.Cmp.{both_ways}
-use Rattle.serde_json.specs.Data.{Data}
-use Rattle.erd_tables.specs.Classes.{families, family_number}
-use Rattle.erd_tables.specs.declared.class.Family.{Family}
-use Rattle.erd_tables.specs.declared.class.Family.TheVariants as family
-use Rattle.erd_check.proofs.Order.{In, any_at}
-use Rattle.erd_check.specs.Faults.{NoneOf}
-use Rattle.erd_meaning.specs.Keys.{Preference}
-use Rattle.erd_meaning.specs.LaterFaults.{IdentityFault}
-use Rattle.erd_meaning.specs.code.ObjectLookups.{is_of_family, keeps_id}
-use Rattle.erd_meaning.specs.Objects.{Placed, has_id, id_of, is_owned, objects, owner}
-use Rattle.erd_meaning.specs.code.ObjectWalk.{Kept, kept, kept_objects, same_id}
-use Rattle.erd_meaning.specs.code.ReferenceReasons.{is_known, owner_among}
+use Rattle.erd_meaning.proofs.Common.{◌≡◌, ℕ, Bool, true, false, cond, ◌&&◌, ◌||◌, List, [], ◌∷◌, is_some, Some, None, filter, Option, option_map, find, bytes_eq, sym, refl, ap, ◌∙◌, inl, inr, and_from, bytes_eq-Decides, both_ways, list_any, option_map_or, Data, families, family_number, Family, family, In, any_at, NoneOf, Preference, IdentityFault, Placed, objects, id_of, has_id, owner, is_owned, is_of_family, keeps_id, Kept, kept, kept_objects, same_id, is_known, owner_among}
 use Rattle.erd_meaning.proofs.identity.IdentityFaults.{any_from}
 use Rattle.erd_meaning.proofs.finding.Lookups.{kept_of, those_kept}
 use Rattle.erd_meaning.proofs.finding.OneFamily.{among_first}

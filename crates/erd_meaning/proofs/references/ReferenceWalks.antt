@@ -1,28 +1,7 @@
 -- The walk that judges references tells exactly the faults of references.
-use Rattle.std.proofs.Common.{◌≡◌, ℕ, List, [], ◌∷◌, ◌++◌, filter, cond, Bool, true, false, not, ◌&&◌, Option, Some, None, is_none, refl, sym, ap, ap₂, ◌∙◌, append-nil}
-use Rattle.std.specs.Option.{option_map_or}
-use Rattle.std.proofs.Math.Bool.{and-false}
-use Rattle.serde_json.specs.Data.{Data}
-use Rattle.serde_json.specs.Find.{as_str}
-use Rattle.erd_tables.specs.Faults.{ListsAll}
-use Rattle.erd_tables.specs.declared.class.Family.{Family}
-use Rattle.erd_tables.specs.declared.class.Family.TheVariants as family
-use Rattle.erd_tables.specs.declared.class.Role.TheVariants.{Report}
-use Rattle.erd_tables.specs.declared.fault.Reason.{Reason}
-use Rattle.erd_tables.specs.declared.fault.Reason.TheVariants.{Repeated, Unresolved, WrongFamily, SelectionOfOtherContest}
-use Rattle.erd_tables.specs.declared.place.Step.{Step}
+use Rattle.erd_meaning.proofs.Common.{◌≡◌, ℕ, Bool, true, false, cond, not, ◌&&◌, List, [], ◌∷◌, ◌++◌, is_none, Some, None, filter, Option, sym, refl, ap, ◌∙◌, ap₂, append-nil, and-false, option_map_or, Data, as_str, ListsAll, Family, family, Report, Reason, Repeated, SelectionOfOtherContest, Unresolved, WrongFamily, Step, walk_lists, Agrees, Around, NoneOf, told_of_report, IsInOrder, Asked, Want, Reference, Preference, IdentityFault, is_in_other_contest, is_other_selection, ReferenceFault, owner, is_owned, kept_objects, is_known, is_of_others, is_selection_family, is_elsewhere, reason_if, id_reasons, reference_reasons_told}
 use Rattle.erd_check.specs.code.Walk.{asked_with}
-use Rattle.erd_check.specs.Visits.{told_of_report, IsInOrder}
-use Rattle.erd_check.specs.Wants.{Asked}
-use Rattle.erd_check.specs.declared.want.Want.{Want}
-use Rattle.erd_check.specs.declared.want.Want.TheVariants.{Object, Reference}
-use Rattle.erd_check.proofs.Walks.{walk_lists, Agrees, Around}
-use Rattle.erd_meaning.specs.Keys.{Preference}
-use Rattle.erd_check.specs.Faults.{NoneOf}
-use Rattle.erd_meaning.specs.LaterFaults.{IdentityFault, is_in_other_contest, is_other_selection, ReferenceFault}
-use Rattle.erd_meaning.specs.Objects.{is_owned, owner}
-use Rattle.erd_meaning.specs.code.ObjectWalk.{kept_objects}
-use Rattle.erd_meaning.specs.code.ReferenceReasons.{id_reasons, is_elsewhere, is_known, is_of_others, is_selection_family, reason_if, reference_reasons_told}
+use Rattle.erd_check.specs.declared.want.Want.TheVariants.{Object}
 use Rattle.erd_meaning.proofs.references.ReferenceFaultLists.{reference_reasons}
 use Rattle.erd_meaning.proofs.references.ReferenceLookups.{known_same, owner_same}
 use Rattle.erd_meaning.proofs.references.SelectionsElsewhere.{elsewhere_same}

@@ -1,40 +1,8 @@
 -- A reference to a selection is asked for in the list of an object alone, so that no test of its place is needed.
-use Rattle.std.proofs.Common.{◌≡◌, ◌-◌, ◌<◌, ◌≤◌, ℕ, List, [], ◌∷◌, ◌++◌, filter, length, take, codes, Bool, true, false, cond, not, ◌&&◌, true≢false, Option, Some, None, option_map, option_and_then, refl, sym, ap, ◌∙◌, subst, arith, length-drop}
-use Rattle.std.proofs.lemmas.List.{take-append-drop}
-use Rattle.std.proofs.lemmas.Slice.Eq.{bytes_eq-Decides}
-use Rattle.std.specs.List.{list_all}
-use Rattle.std.specs.Option.{option_map_or}
-use Rattle.std.specs.Str.{bytes_eq}
-use Rattle.std.proofs.lemmas.Bool.{and_parts, and_from}
-use Rattle.serde_json.specs.Data.{Data, array, object}
-use Rattle.serde_json.specs.Find.{get_item, get_member}
-use Rattle.erd_tables.specs.Faults.{reason_cmp, ListsAll}
-use Rattle.erd_tables.specs.Rows.{Row, rows_of_class}
-use Rattle.erd_tables.specs.Table.{kind_of_member, kind_of_identity, is_required}
-use Rattle.erd_tables.specs.declared.class.Class.{Class}
-use Rattle.erd_tables.specs.declared.class.Class.TheVariants as class
-use Rattle.erd_tables.specs.declared.class.Family.{Family}
-use Rattle.erd_tables.specs.declared.class.Family.TheVariants as family
-use Rattle.erd_tables.specs.declared.class.Role.TheVariants.{Report}
-use Rattle.erd_tables.specs.declared.fault.Fault.{Fault}
-use Rattle.erd_tables.specs.declared.fault.Reason.{Reason}
-use Rattle.erd_tables.specs.declared.fault.Reason.TheVariants.{SelectionOfOtherContest}
-use Rattle.erd_tables.specs.declared.member.MemberKind.{MemberKind}
-use Rattle.erd_tables.specs.declared.member.MemberKind.TheVariants as kind
-use Rattle.erd_tables.specs.declared.place.Step.{Step}
-use Rattle.erd_tables.specs.declared.place.Step.TheVariants.{Name, At}
-use Rattle.erd_check.specs.Trees.{IsTree}
-use Rattle.erd_check.specs.Wants.{Asked, asked, asked_at, asked_from, asked_inside, asked_of_member, carried_want, entry_want, is_compared_set, is_repeated, is_report_class, member_want, scope_inside, want_of_kind, want_of_name}
-use Rattle.erd_check.specs.declared.want.Scope.{Scope}
-use Rattle.erd_check.specs.declared.want.Scope.TheVariants as scope
-use Rattle.erd_check.specs.declared.want.Want.{Want}
-use Rattle.erd_check.specs.declared.want.Want.TheVariants.{Object, ClassText, Reference, Status, Member, Carried}
-use Rattle.erd_check.proofs.Deciding.{tree_in_order}
+use Rattle.erd_meaning.proofs.Common.{◌≡◌, ℕ, ◌-◌, ◌<◌, ◌≤◌, Bool, true, false, cond, not, ◌&&◌, List, [], ◌∷◌, ◌++◌, length, take, Some, None, codes, filter, Option, option_map, option_and_then, bytes_eq, sym, refl, ap, ◌∙◌, subst, true≢false, arith, length-drop, take-append-drop, and_parts, and_from, bytes_eq-Decides, list_all, option_map_or, Data, array, object, get_member, get_item, reason_cmp, ListsAll, Row, rows_of_class, kind_of_identity, kind_of_member, is_required, Class, class, Family, family, Report, Fault, Reason, SelectionOfOtherContest, MemberKind, kind, Step, At, Name, tree_in_order, In, In-filter, In-filter_kept, sorted_filter, kind_of_name, kind_of_id, outer_place, IsTree, scope_inside, want_of_kind, is_report_class, member_want, carried_want, want_of_name, entry_want, is_compared_set, Asked, asked, is_repeated, asked_of_member, asked_inside, asked_from, asked_at, Want, Carried, ClassText, Member, Reference, Status, is_reference_fault, is_other_selection, ReferenceFault}
+use Rattle.erd_check.specs.declared.want.Scope.{Scope, Scope as scope}
+use Rattle.erd_check.specs.declared.want.Want.TheVariants.{Object}
 use Rattle.erd_check.proofs.FaultsAsked.{faults_asked, faults_asked_listed, AreReasons}
-use Rattle.erd_check.proofs.Order.{In, In-filter, In-filter_kept, sorted_filter}
-use Rattle.erd_check.proofs.TableKinds.{kind_of_name, kind_of_id}
-use Rattle.erd_meaning.specs.LaterFaults.{is_other_selection, is_reference_fault, ReferenceFault}
-use Rattle.erd_check.proofs.Walks.{outer_place}
 use Rattle.erd_check.proofs.Options.{and_then-Some}
 use Rattle.erd_meaning.proofs.references.ReferenceFaultLists.{are_entry_steps, fault_of_reason, has_reference_reason, is_elsewhere, last_steps, reason_of_fault, reference_reasons, reference_reasons_rise}
 

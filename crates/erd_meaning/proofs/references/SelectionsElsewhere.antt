@@ -1,24 +1,5 @@
 -- Whether a selection is in another contest than the one that is named is told by the number of its contest.
-use Rattle.std.proofs.Common.{◌≡◌, ◌==◌, ◌+◌, ◌&&◌, ◌⊎◌, inl, inr, ℕ, zero, suc, List, [], ◌∷◌, map, cond, Bool, true, false, not, codes, Option, Some, None, option_and_then, option_map, is_some, refl, sym, ap, ap₂, ◌∙◌, subst, arith}
-use Rattle.std.specs.List.{enumerate_from, list_any, slice_get}
-use Rattle.std.specs.Option.{option_map_or}
-use Rattle.std.proofs.lemmas.Bool.Decides.{Decides-eqb}
-use Rattle.std.proofs.lemmas.Option.{same_Some, slice_get-map}
-use Rattle.std.specs.Cmp.{both_ways}
-use Rattle.serde_json.specs.Data.{Data}
-use Rattle.erd_tables.specs.Classes.{family_number}
-use Rattle.erd_tables.specs.declared.class.Family.{Family}
-use Rattle.erd_tables.specs.declared.class.Family.TheVariants as family
-use Rattle.erd_check.specs.Faults.{NoneOf}
-use Rattle.erd_check.specs.Values.{text_at}
-use Rattle.erd_check.proofs.Order.{In, In-flat_map, In-map, In-map_from, any_at}
-use Rattle.erd_meaning.specs.Keys.{Preference}
-use Rattle.erd_meaning.specs.LaterFaults.{IdentityFault, is_in_other_contest, is_selection_in}
-use Rattle.erd_meaning.specs.Lookups.{FindsId, id_in}
-use Rattle.erd_meaning.specs.Objects.{Placed, contests, has_id, id_of, numbered_selections, numbered_selections_of, objects, owner, owner_at, selections_of_contest}
-use Rattle.erd_meaning.specs.code.ObjectIndexes.{contests_before, is_in_contest, number_among, number_of_id}
-use Rattle.erd_meaning.specs.code.ObjectWalk.{kept_objects}
-use Rattle.erd_meaning.specs.code.ReferenceReasons.{is_elsewhere}
+use Rattle.erd_meaning.proofs.Common.{◌≡◌, ℕ, zero, suc, ◌+◌, Bool, true, false, cond, not, ◌&&◌, ◌⊎◌, List, [], ◌∷◌, map, is_some, ◌==◌, slice_get, Some, None, codes, Option, option_map, option_and_then, sym, refl, ap, ◌∙◌, subst, ap₂, inl, inr, arith, Decides-eqb, same_Some, slice_get-map, both_ways, enumerate_from, list_any, option_map_or, Data, family_number, Family, family, In, In-map, In-map_from, In-flat_map, any_at, NoneOf, text_at, Preference, IdentityFault, is_selection_in, is_in_other_contest, id_in, FindsId, Placed, contests, selections_of_contest, objects, numbered_selections_of, numbered_selections, id_of, has_id, owner_at, owner, number_of_id, contests_before, is_in_contest, number_among, kept_objects, is_elsewhere}
 use Rattle.erd_meaning.proofs.accepted.Skeleton.{values-placed_entries}
 use Rattle.erd_meaning.proofs.accepted.Standing.{has_id-from, has_id-Some}
 use Rattle.erd_meaning.proofs.finding.Found.{finds_kept_id}

@@ -1,32 +1,8 @@
 -- No reference stands in an identifier, a text or a carried value, so a walk that tells of references alone tells nothing there.
-use Rattle.std.proofs.Common.{◌≡◌, ℕ, List, [], ◌∷◌, ◌++◌, length, Bool, true, false, ◌&&◌, ◌||◌, cond, Option, Some, None, option_and_then, codes, refl, sym, ap, ap₂, ◌∙◌}
-use Rattle.std.specs.List.{list_all, list_any}
-use Rattle.std.specs.Option.{option_map_or}
-use Rattle.std.specs.Str.{bytes_eq}
-use Rattle.serde_json.specs.Data.{Data, array, object, Items, no_items, item, Members, no_members, member}
-use Rattle.serde_json.specs.Find.{get, as_str}
+use Rattle.erd_meaning.proofs.Common.{◌≡◌, ℕ, Bool, true, false, cond, ◌&&◌, ◌||◌, List, [], ◌∷◌, ◌++◌, length, Some, None, codes, Option, option_and_then, bytes_eq, sym, refl, ap, ◌∙◌, ap₂, list_all, list_any, option_map_or, Data, array, object, Items, no_items, item, Members, no_members, member, get, as_str, role_of_class, class_in_role, rows_of_class, is_reference_name, kind_of_identity, kind_of_member, is_required, Class, class, Role, role, MemberKind, kind, Step, At, Name, if_some, kind_of_class, is_same_json, faults_of, Telling, told_at, told_of_items, told_of_members, IsKnown, AreItemsKnown, AreMembersKnown, IsSilent, IsKnownOfAll, AreEntriesKnown, class_of_object, scope_inside, want_of_kind, is_report_class, member_want, carried_want, want_of_name, entry_want, is_compared_set, Want, Carried, ClassText, Member, Status, leads_to_references}
 use Rattle.erd_tables.proofs.Roles.{class_in_role_named}
-use Rattle.erd_tables.specs.Classes.{class_in_role, role_of_class}
-use Rattle.erd_tables.specs.Rows.{rows_of_class}
-use Rattle.erd_tables.specs.Table.{is_reference_name, kind_of_identity, kind_of_member, is_required}
-use Rattle.erd_tables.specs.declared.class.Class.{Class}
-use Rattle.erd_tables.specs.declared.class.Class.TheVariants as class
-use Rattle.erd_tables.specs.declared.class.Role.{Role}
-use Rattle.erd_tables.specs.declared.class.Role.TheVariants as role
-use Rattle.erd_tables.specs.declared.member.MemberKind.{MemberKind}
-use Rattle.erd_tables.specs.declared.member.MemberKind.TheVariants as kind
-use Rattle.erd_tables.specs.declared.place.Step.{Step}
-use Rattle.erd_tables.specs.declared.place.Step.TheVariants.{Name, At}
-use Rattle.erd_check.specs.Trees.{is_same_json}
-use Rattle.erd_check.specs.Wants.{class_of_object, carried_want, entry_want, is_compared_set, is_report_class, member_want, scope_inside, want_of_kind, want_of_name}
-use Rattle.erd_meaning.specs.code.ReferenceReasons.{leads_to_references}
-use Rattle.erd_check.specs.Visits.{faults_of, told_at, told_of_items, told_of_members, AreEntriesKnown, AreItemsKnown, AreMembersKnown, IsKnown, IsKnownOfAll, IsSilent, Telling}
-use Rattle.erd_check.specs.declared.want.Scope.{Scope}
-use Rattle.erd_check.specs.declared.want.Scope.TheVariants as scope
-use Rattle.erd_check.specs.declared.want.Want.{Want}
-use Rattle.erd_check.specs.declared.want.Want.TheVariants.{Object, ClassText, Status, Member, Carried}
-use Rattle.erd_check.proofs.Deciding.{if_some}
-use Rattle.erd_check.proofs.TableKinds.{kind_of_class}
+use Rattle.erd_check.specs.declared.want.Scope.{Scope, Scope as scope}
+use Rattle.erd_check.specs.declared.want.Want.TheVariants.{Object}
 
 -- ---- what is asked inside
 

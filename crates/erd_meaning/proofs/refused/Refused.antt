@@ -1,21 +1,7 @@
 -- A report that is refused for the faults of its first phase with any is refused for all its faults; and the list of them.
-use Rattle.std.proofs.Common.{List, ◌≡◌, [], ◌∷◌, length, inl, inr, refl, subst}
-use Rattle.std.specs.Prelude.{◌≢◌}
-use Rattle.serde_json.specs.Data.{Data}
-use Rattle.erd_tables.specs.declared.fault.Reason.{Reason}
-use Rattle.erd_tables.specs.declared.place.Step.{Step}
-use Rattle.erd_tables.specs.Faults.{ListsAll}
-use Rattle.erd_tables.specs.declared.fault.Fault.{Fault}
-use Rattle.erd_check.specs.Faults.{NoneOf, ShapeFault}
-use Rattle.erd_check.specs.Refusals.{RefusedFor}
+use Rattle.erd_meaning.proofs.Common.{◌≡◌, ◌≢◌, List, [], ◌∷◌, length, refl, subst, inl, inr, Data, ListsAll, Fault, Reason, Step, none_from_empty, contains_from_In, ShapeFault, NoneOf, RefusedFor, IsTree, OrElse, IsFault, IsAccepted, Preference, IdentityFault, ReferenceFault, SelectionFault}
 use Rattle.erd_check.specs.declared.error.CheckError.{CheckError}
 use Rattle.erd_check.specs.declared.error.CheckError.TheVariants.{Faults, Memory}
-use Rattle.erd_check.specs.Trees.{IsTree}
-use Rattle.erd_check.proofs.Deciding.{none_from_empty}
-use Rattle.erd_check.proofs.Order.{contains_from_In}
-use Rattle.erd_meaning.specs.Keys.{Preference}
-use Rattle.erd_meaning.specs.Accepted.{IsFault, OrElse, IsAccepted}
-use Rattle.erd_meaning.specs.LaterFaults.{IdentityFault, ReferenceFault, SelectionFault}
 use Rattle.erd_meaning.proofs.identity.IdentityFaults.{identity_listed, identity_told}
 use Rattle.erd_meaning.proofs.accepted.Phases.{accepted_by_phases}
 use Rattle.erd_meaning.proofs.references.SelectionEntries.{reference_faults, reference_faults_listed}

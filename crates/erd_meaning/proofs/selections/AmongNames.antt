@@ -1,22 +1,5 @@
 -- The names of selections with look-ups among the objects that are kept are those of the definition.
-use Rattle.std.proofs.Common.{◌≡◌, ℕ, List, [], ◌∷◌, find, cond, Bool, true, false, Option, Some, None, option_and_then, option_map, codes, refl, ap, ◌∙◌}
-use Rattle.std.specs.List.{cons_option}
-use Rattle.serde_json.specs.Data.{Data}
-use Rattle.serde_json.specs.Find.{as_str}
-use Rattle.erd_tables.specs.declared.class.Class.{Class}
-use Rattle.erd_tables.specs.declared.class.Class.TheVariants as class
-use Rattle.erd_tables.specs.declared.class.Family.{Family}
-use Rattle.erd_tables.specs.declared.class.Family.TheVariants as family
-use Rattle.erd_check.specs.Faults.{NoneOf}
-use Rattle.erd_check.specs.Wants.{class_of_object}
-use Rattle.erd_meaning.specs.LaterFaults.{IdentityFault}
-use Rattle.erd_meaning.specs.Keys.{Preference, has_keys, key_cmp, key_of, key_of_family_object}
-use Rattle.erd_check.specs.Values.{entries_at}
-use Rattle.erd_meaning.specs.code.ObjectLookups.{is_of_family, keeps_id}
-use Rattle.erd_meaning.specs.code.NamesAmong.{class_name_among, key_among, keys_among, name_among, selection_keys_among}
-use Rattle.erd_meaning.specs.Objects.{Placed, has_id, id_of, objects}
-use Rattle.erd_meaning.specs.code.ObjectWalk.{Kept, kept, kept_objects}
-use Rattle.erd_meaning.specs.SelectionNames.{is_write_in, key_named, keys_named, keys_of_selection, label_of_selection, name_in_class, name_of, order_of_selection, rising_list, selection_role}
+use Rattle.erd_meaning.proofs.Common.{◌≡◌, ℕ, Bool, true, false, cond, List, [], ◌∷◌, Some, None, codes, Option, option_map, find, option_and_then, refl, ap, ◌∙◌, cons_option, Data, as_str, Class, class, Family, family, NoneOf, entries_at, class_of_object, has_keys, key_cmp, Preference, key_of, key_of_family_object, IdentityFault, Placed, objects, id_of, has_id, rising_list, key_named, keys_named, keys_of_selection, is_write_in, order_of_selection, label_of_selection, name_in_class, selection_role, name_of, key_among, keys_among, selection_keys_among, class_name_among, name_among, is_of_family, keeps_id, Kept, kept, kept_objects}
 use Rattle.erd_meaning.proofs.finding.Lookups.{kept_of, those_kept}
 use Rattle.erd_meaning.proofs.finding.OneFamily.{among_first}
 use Rattle.erd_meaning.proofs.references.ReferenceLookups.{find_both, named_same}

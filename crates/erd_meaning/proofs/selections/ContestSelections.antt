@@ -1,22 +1,6 @@
 -- The selections of a contest stand one after another among those of the report, after as many as the contests before have. They
 -- begin after the last selection up to which no more contests stand than before the contest.
-use Rattle.std.proofs.Common.{◌≡◌, ◌==◌, ◌<◌, ◌≤◌, ◌+◌, ◌⊎◌, ⊎_elim, inl, inr, ℕ, zero, suc, List, [], ◌∷◌, ◌++◌, length, map, cond, Bool, true, false, true≢false, Option, Some, None, option_and_then, refl, sym, ap, ap₂, ◌∙◌, subst, take, append_assoc, append-nil, length-append, arith}
-use Rattle.std.proofs.Math.Dec.{leb}
-use Rattle.std.proofs.lemmas.Bool.{le-leb}
-use Rattle.std.proofs.lemmas.Bool.Decides.{Decides-eqb, leb_tells}
-use Rattle.std.proofs.lemmas.List.{get_or_append_left, get_or-append-add, length-map}
-use Rattle.std.specs.Prelude.{⊤}
-use Rattle.std.specs.List.{AllByRecursion, flat_map, slice_get, slice_index_or}
-use Rattle.std.specs.List.Sorted.{IsNonDecreasingBy}
-use Rattle.serde_json.specs.Data.{Data}
-use Rattle.erd_tables.specs.Classes.{family_number}
-use Rattle.erd_tables.specs.declared.class.Family.TheVariants as family
-use Rattle.erd_meaning.specs.code.SelectionWalk.{StandFrom, if_of_contest, numbered_from}
-use Rattle.erd_meaning.specs.Lookups.{selections_before}
-use Rattle.erd_meaning.specs.Objects.{Placed, contests, numbered_selections, numbered_selections_of, selections_of_contest}
-use Rattle.erd_meaning.specs.code.ObjectIndexes.{IsStart, contests_before}
-use Rattle.erd_meaning.specs.code.ObjectLookups.{is_of_family}
-use Rattle.erd_meaning.specs.code.ObjectWalk.{Kept}
+use Rattle.erd_meaning.proofs.Common.{◌≡◌, ℕ, zero, suc, ◌+◌, ◌<◌, ◌≤◌, Bool, true, false, cond, leb, ◌⊎◌, List, [], ◌∷◌, ◌++◌, map, length, get_or as slice_index_or, take, ◌==◌, slice_get, Some, None, Option, flat_map, option_and_then, sym, refl, ap, ◌∙◌, subst, ap₂, inl, inr, ⊎_elim, true≢false, append_assoc, append-nil, arith, length-append, get_or-append-add, le-leb, Decides-eqb, leb_tells, length-map, get_or_append_left, AllByRecursion, IsNonDecreasingBy, ⊤, Data, family_number, family, selections_before, Placed, contests, selections_of_contest, numbered_selections_of, numbered_selections, contests_before, IsStart, is_of_family, Kept, numbered_from, if_of_contest, StandFrom}
 use Rattle.erd_meaning.proofs.identity.ObjectFamilies.{itself}
 use Rattle.erd_meaning.proofs.selections.ListParts.{get_first, get_later, within_or_after}
 use Rattle.erd_meaning.proofs.selections.NamesTold.{Numbered}

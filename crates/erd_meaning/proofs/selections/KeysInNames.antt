@@ -1,21 +1,5 @@
 -- The keys in the name of a selection are those of objects of the report.
-use Rattle.std.proofs.Common.{◌≡◌, ℕ, List, [], ◌∷◌, codes, Option, Some, None, option_and_then, option_map, refl, ap, ◌∙◌, subst}
-use Rattle.std.specs.List.{AllByRecursion, cons_option}
-use Rattle.serde_json.specs.Data.{Data}
-use Rattle.serde_json.specs.Find.{as_str}
-use Rattle.erd_tables.specs.declared.class.Class.{Class}
-use Rattle.erd_tables.specs.declared.class.Class.TheVariants as class
-use Rattle.erd_tables.specs.declared.class.Family.{Family}
-use Rattle.erd_tables.specs.declared.class.Family.TheVariants as family
-use Rattle.erd_check.specs.Values.{entries_at}
-use Rattle.erd_check.specs.Wants.{class_of_object}
-use Rattle.erd_meaning.specs.Keys.{Preference, key_cmp, key_of}
-use Rattle.erd_meaning.specs.NameParts.{NameParts}
-use Rattle.erd_meaning.specs.Objects.{objects, owner}
-use Rattle.erd_meaning.specs.SelectionNames.{key_named, keys_named, keys_of_selection, name_in_class, name_of, selection_role}
-use Rattle.erd_meaning.specs.code.RanksAmong.{HasKeysIn, IsKeyIn}
-use Rattle.erd_meaning.specs.RankedNames.{family_chosen}
-use Rattle.erd_meaning.specs.declared.keys.key.Key.{Key}
+use Rattle.erd_meaning.proofs.Common.{◌≡◌, ℕ, List, [], ◌∷◌, Some, None, codes, Option, option_map, option_and_then, refl, ap, ◌∙◌, subst, AllByRecursion, cons_option, Data, as_str, Class, class, Family, family, entries_at, class_of_object, key_cmp, Preference, key_of, NameParts, objects, owner, family_chosen, key_named, keys_named, keys_of_selection, name_in_class, selection_role, name_of, HasKeysIn, IsKeyIn, Key}
 use Rattle.erd_meaning.proofs.accepted.References.{Contains-Has}
 use Rattle.erd_meaning.proofs.accepted.Standing.{owned_by}
 use Rattle.erd_meaning.proofs.orders.RisingOrders.{all_rising}

@@ -1,16 +1,5 @@
 -- Meeting selections, some and then more.
-use Rattle.std.proofs.Common.{◌≡◌, ◌<◌, ◌≤◌, ◌+◌, ℕ, List, [], ◌∷◌, ◌++◌, length, drop, map, get_or, codes, Option, refl, sym, ap, ap₂, ◌∙◌, arith, length-append}
-use Rattle.std.specs.List.{flat_map}
-use Rattle.std.proofs.lemmas.List.{at_drop_all, at_drop_more}
-use Rattle.serde_json.specs.Data.{Data}
-use Rattle.serde_json.specs.View.{view}
-use Rattle.serde_json.specs.declared.value.Value.{Value}
-use Rattle.erd_tables.specs.declared.place.Step.{Step}
-use Rattle.erd_tables.specs.declared.place.Step.TheVariants.{Name}
-use Rattle.erd_check.specs.Values.{entries_at}
-use Rattle.erd_meaning.specs.NameParts.{NameParts}
-use Rattle.erd_meaning.specs.Objects.{Placed, contests, numbered_selections_of, placed_entries, placed_from}
-use Rattle.erd_meaning.specs.code.SelectionWalk.{NamesMet, named_all, named_one, numbered_from}
+use Rattle.erd_meaning.proofs.Common.{◌≡◌, ℕ, ◌+◌, ◌<◌, ◌≤◌, List, [], ◌∷◌, ◌++◌, map, length, get_or, drop, codes, Option, flat_map, sym, refl, ap, ◌∙◌, ap₂, arith, length-append, at_drop_more, at_drop_all, Data, view, Value, Step, Name, entries_at, NameParts, Placed, placed_from, placed_entries, contests, numbered_selections_of, numbered_from, NamesMet, named_one, named_all}
 use Rattle.erd_meaning.proofs.identity.MetObjects.{entry}
 use Rattle.erd_meaning.proofs.selections.NumberedObjects.{numbered_from-append}
 

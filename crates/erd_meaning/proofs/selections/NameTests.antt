@@ -1,12 +1,5 @@
 -- The test by which an index of names is asked: one contest and one name.
-use Rattle.std.proofs.Common.{◌≡◌, ◌==◌, ◌&&◌, ℕ, ◌∷◌, ◌++◌, Bool, true, ap, ◌∙◌}
-use Rattle.std.specs.Cmp.{Equal-is, both_ways}
-use Rattle.std.specs.Ordering.{is_eq}
-use Rattle.std.proofs.lemmas.Cmp.{tied_itself}
-use Rattle.erd_meaning.specs.NameParts.{NameParts}
-use Rattle.erd_meaning.specs.SelectionNames.{name_cmp}
-use Rattle.erd_meaning.specs.code.Orders.{name_cmp_exact, name_cmp_total}
-use Rattle.erd_meaning.specs.code.SelectionWalk.{NumberedName, is_selection_named}
+use Rattle.erd_meaning.proofs.Common.{◌≡◌, ℕ, Bool, true, ◌&&◌, ◌∷◌, ◌++◌, ◌==◌, is_eq, ap, ◌∙◌, tied_itself, Equal-is, both_ways, NameParts, name_cmp, name_cmp_total, name_cmp_exact, NumberedName, is_selection_named}
 use Rattle.erd_meaning.proofs.finding.Known.{number_swap}
 
 names_one_way : (m n : NameParts) → is_eq (name_cmp m n) ≡ true → is_eq (name_cmp n m) ≡ true

@@ -1,25 +1,6 @@
 -- What the walk over selections tells of them: of each selection with a name, after all that stand before it, and in order.
-use Rattle.std.proofs.Common.{◌≡◌, ℕ, ◌⊎◌, inl, inr, List, [], ◌∷◌, ◌++◌, ◌||◌, Bool, cond, true, false, ◌==◌, Ordering, Less, is_eq, Option, Some, None, refl, sym, ap, ap₂, ◌∙◌, subst, append_assoc, append-nil}
-use Rattle.std.specs.List.{flat_map}
-use Rattle.std.specs.List.Sorted.{IsStrictlySortedBy}
-use Rattle.std.specs.Option.{option_map_or}
-use Rattle.std.proofs.lemmas.Bool.Decides.{Decides-eqb}
-use Rattle.std.proofs.lemmas.Cmp.{tied_itself}
+use Rattle.erd_meaning.proofs.Common.{◌≡◌, ℕ, Bool, true, false, cond, ◌||◌, ◌⊎◌, List, [], ◌∷◌, ◌++◌, ◌==◌, Some, None, Option, flat_map, is_eq, Ordering, Less, sym, refl, ap, ◌∙◌, subst, ap₂, inl, inr, append_assoc, append-nil, and_parts, and_from, Decides-eqb, tied_itself, IsStrictlySortedBy, option_map_or, Data, fault_cmp, place_cmp, Fault, TwinSelection, In, In-append_left, In-append_right, In-append, any_at, In-all, sorted_append, fault_at, NameParts, Placed, name_cmp, fault_if, name_cmp_total, name_cmp_exact, NumberedName, is_selection_named, is_taken, NamesMet, added_name, with_name, named_one, named_all}
 use Rattle.std.proofs.lemmas.List.Folds.{list_any-append}
-use Rattle.std.proofs.lemmas.Bool.{and_parts, and_from}
-use Rattle.serde_json.specs.Data.{Data}
-use Rattle.erd_tables.specs.Faults.{fault_cmp}
-use Rattle.erd_tables.specs.Places.{place_cmp}
-use Rattle.erd_tables.specs.declared.fault.Fault.{Fault}
-use Rattle.erd_tables.specs.declared.fault.Reason.TheVariants.{TwinSelection}
-use Rattle.erd_check.specs.Paths.{fault_at}
-use Rattle.erd_check.proofs.Order.{In, In-append, In-append_left, In-append_right, In-all, any_at, sorted_append}
-use Rattle.erd_meaning.specs.NameParts.{NameParts}
-use Rattle.erd_meaning.specs.Objects.{Placed}
-use Rattle.erd_meaning.specs.code.ObjectWalk.{fault_if}
-use Rattle.erd_meaning.specs.code.Orders.{name_cmp_exact, name_cmp_total}
-use Rattle.erd_meaning.specs.SelectionNames.{name_cmp}
-use Rattle.erd_meaning.specs.code.SelectionWalk.{NamesMet, NumberedName, added_name, is_selection_named, is_taken, named_all, named_one, with_name}
 use Rattle.erd_meaning.proofs.identity.IdentityFaults.{any_from, at_true, tied_from}
 use Rattle.erd_meaning.proofs.identity.ObjectFamilies.{itself}
 use Rattle.erd_meaning.proofs.identity.ToldFaults.{if_sorted, in_if, less_itself, turned, earlier_fault}

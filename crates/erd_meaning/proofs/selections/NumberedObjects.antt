@@ -1,17 +1,5 @@
 -- How many contests stand before each selection that is kept of a report is the number of its contest and one.
-use Rattle.std.proofs.Common.{◌≡◌, ◌==◌, ◌+◌, ℕ, List, [], ◌∷◌, ◌++◌, length, map, Bool, false, codes, refl, sym, ap, ap₂, ◌∙◌, append_assoc, append-nil, length-append, arith}
-use Rattle.std.specs.List.{flat_map}
-use Rattle.std.proofs.lemmas.List.{map-append}
-use Rattle.std.proofs.lemmas.List.Elements.{filter_map-append}
-use Rattle.serde_json.specs.Data.{Data}
-use Rattle.erd_tables.specs.Classes.{family_number}
-use Rattle.erd_tables.specs.declared.class.Family.{Family}
-use Rattle.erd_tables.specs.declared.class.Family.TheVariants as family
-use Rattle.erd_meaning.specs.Keys.{Preference}
-use Rattle.erd_meaning.specs.Objects.{Placed, contests, elections, has_several, numbered_selections, numbered_selections_of, placed_entries, report_of, selections_of_contest}
-use Rattle.erd_meaning.specs.code.ObjectIndexes.{contests_before}
-use Rattle.erd_meaning.specs.code.SelectionWalk.{numbered_from}
-use Rattle.erd_meaning.specs.code.ObjectWalk.{Kept, Located, contest_located, election_located, inside_election, kept_objects, located, object_met, objects_among, shared_located}
+use Rattle.erd_meaning.proofs.Common.{◌≡◌, ℕ, ◌+◌, Bool, false, List, [], ◌∷◌, ◌++◌, map, length, ◌==◌, codes, flat_map, sym, refl, ap, ◌∙◌, ap₂, append_assoc, append-nil, arith, length-append, map-append, filter_map-append, Data, family_number, Family, family, Preference, Placed, placed_entries, report_of, elections, contests, selections_of_contest, has_several, numbered_selections_of, numbered_selections, contests_before, Kept, Located, located, contest_located, inside_election, election_located, shared_located, object_met, objects_among, kept_objects, numbered_from}
 use Rattle.erd_meaning.proofs.selections.NamesTold.{Numbered}
 
 -- what is kept of objects at their places

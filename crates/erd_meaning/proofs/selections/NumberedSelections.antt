@@ -1,16 +1,6 @@
 -- The selections of a report with the numbers of their contests: they rise by place, and a number names one contest.
-use Rattle.std.proofs.Common.{◌≡◌, ◌+◌, ℕ, suc, inl, inr, List, [], ◌∷◌, ◌++◌, map, Ordering, Less, Some, option_map, refl, sym, ap, ap₂, ◌∙◌, subst, arith}
-use Rattle.std.specs.List.{enumerate_from, flat_map, slice_get}
-use Rattle.std.specs.List.Sorted.{IsStrictlySortedBy}
-use Rattle.std.proofs.lemmas.List.{map-append}
-use Rattle.std.proofs.lemmas.Option.{same_Some, slice_get-map}
-use Rattle.serde_json.specs.Data.{Data}
-use Rattle.erd_tables.specs.declared.class.Family.TheVariants.{Selection}
+use Rattle.erd_meaning.proofs.Common.{◌≡◌, ℕ, suc, ◌+◌, List, [], ◌∷◌, ◌++◌, map, slice_get, Some, option_map, flat_map, Ordering, Less, sym, refl, ap, ◌∙◌, subst, ap₂, inl, inr, arith, map-append, same_Some, slice_get-map, enumerate_from, IsStrictlySortedBy, Data, Selection, In, In-map, In-map_from, In-flat_map, all_from_In, In-all, Preference, Placed, contests, selections_of_contest, objects, numbered_selections_of, numbered_selections, Located, located_one, located}
 use Rattle.erd_check.proofs.FaultsAsked.{In-flat_map_from}
-use Rattle.erd_check.proofs.Order.{In, In-all, In-flat_map, In-map, In-map_from, all_from_In}
-use Rattle.erd_meaning.specs.Keys.{Preference}
-use Rattle.erd_meaning.specs.Objects.{Placed, contests, numbered_selections, numbered_selections_of, objects, selections_of_contest}
-use Rattle.erd_meaning.specs.code.ObjectWalk.{Located, located, located_one}
 use Rattle.erd_meaning.proofs.selections.NamesTold.{Numbered, in_places}
 use Rattle.erd_meaning.proofs.identity.ObjectFamilies.{located-append}
 use Rattle.erd_meaning.proofs.identity.ObjectPlaces.{apart}

@@ -1,26 +1,5 @@
 -- Keys with their positions: one more, in rising order, and those of a family with their ranks.
-use Rattle.std.proofs.Common.{◌≡◌, ◌+◌, ◌<◌, ◌++◌, ℕ, zero, suc, inl, inr, List, [], ◌∷◌, length, filter, map, cond, Bool, true, false, Ordering, Option, Some, None, is_lt, option_and_then, option_map, slice_get, take, refl, sym, ap, ap₂, ◌∙◌, arith}
-use Rattle.std.proofs.lemmas.List.{length-map, length-take, map-append, take_more}
-use Rattle.std.proofs.lemmas.Option.{get_or_from_slice_get, slice_get-map}
-use Rattle.std.proofs.lemmas.Simd.{map-map}
-use Rattle.std.specs.List.{AllByRecursion, IsDistinct, enumerate_from}
-use Rattle.std.specs.Option.{option_cmp, option_copied}
-use Rattle.std.specs.Ordering.{eq_by_cmp}
-use Rattle.erd_check.proofs.Order.{In}
-use Rattle.erd_check.proofs.Positions.{all_weakened}
-use Rattle.erd_tables.specs.declared.class.Family.{Family}
-use Rattle.serde_json.specs.Data.{Data}
-use Rattle.erd_meaning.specs.Keys.{Preference, key_cmp, key_of_family_object}
-use Rattle.erd_meaning.specs.Lookups.{rising_keys}
-use Rattle.erd_meaning.specs.Objects.{Placed, objects}
-use Rattle.erd_meaning.specs.code.KeyOrders.{IsOrder, family_keys, keys_seen, lent_key_cmp, positioned, rank_in_keys, seen_keys}
-use Rattle.erd_meaning.specs.code.RanksAmong.{AreRanks, key_at_among, rising_keys_among}
-use Rattle.erd_meaning.specs.SelectionNames.{rising_list}
-use Rattle.erd_meaning.specs.code.ObjectLookups.{those_of}
-use Rattle.erd_meaning.specs.code.ObjectWalk.{Kept}
-use Rattle.erd_meaning.specs.declared.keys.key.Key.{Key}
-use Rattle.erd_meaning.specs.declared.objects.order.Order.{Order}
-use denote.Ref.{Bor}
+use Rattle.erd_meaning.proofs.Common.{◌≡◌, ℕ, zero, suc, ◌+◌, ◌<◌, Bool, true, false, cond, List, [], ◌∷◌, ◌++◌, map, length, take, slice_get, Some, None, filter, Option, option_map, option_and_then, option_copied, is_lt, Ordering, sym, refl, ap, ◌∙◌, ap₂, inl, inr, arith, length-take, Bor, map-append, length-map, take_more, slice_get-map, get_or_from_slice_get, map-map, AllByRecursion, IsDistinct, enumerate_from, option_cmp, eq_by_cmp, Data, Family, In, all_weakened, key_cmp, Preference, key_of_family_object, rising_keys, Placed, objects, rising_list, positioned, seen_keys, keys_seen, lent_key_cmp, rank_in_keys, family_keys, IsOrder, those_of, Kept, AreRanks, key_at_among, rising_keys_among, Key, Order}
 use Rattle.erd_meaning.proofs.finding.OneObject.{at_low}
 use Rattle.erd_meaning.proofs.orders.Counted.{count_map}
 use Rattle.erd_meaning.proofs.orders.RisingOrders.{all_rising}

@@ -1,35 +1,6 @@
 -- The ranks of keys are in the order of the keys, wherever objects of the family have the keys. The keys in the name of a
 -- selection are those of objects.
-use Rattle.std.proofs.Common.{◌≡◌, ℕ, inl, inr, List, [], ◌∷◌, map, find, Bool, true, false, cond, Option, Some, None, is_some, option_and_then, option_map, codes, nat_cmp, is_eq, refl, sym, ap, ◌∙◌, subst}
-use Rattle.std.proofs.lemmas.Option.{slice_get-map}
-use Rattle.std.proofs.lemmas.Cmp.{on_total, tied_itself}
-use Rattle.std.specs.Cmp.{IsTotalOrder}
-use Rattle.std.specs.Cmp.Lexicographic.{options_total}
-use Rattle.std.specs.List.{AllByRecursion, cons_option, list_all, position, slice_get}
-use Rattle.std.specs.Option.{option_cmp, option_copied}
-use Rattle.std.proofs.lemmas.Bool.{and_parts, and_from}
-use Rattle.serde_json.specs.Data.{Data}
-use Rattle.serde_json.specs.Find.{as_str}
-use Rattle.erd_tables.specs.declared.class.Class.{Class}
-use Rattle.erd_tables.specs.declared.class.Class.TheVariants as class
-use Rattle.erd_tables.specs.declared.class.Family.{Family}
-use Rattle.erd_tables.specs.declared.class.Family.TheVariants as family
-use Rattle.erd_check.proofs.Order.{In}
-use Rattle.erd_check.specs.Values.{entries_at}
-use Rattle.erd_check.specs.Wants.{class_of_object}
-use Rattle.erd_meaning.specs.Keys.{Preference, key_cmp, key_of}
-use Rattle.erd_meaning.specs.NameParts.{NameParts}
-use Rattle.erd_meaning.specs.SelectionNames.{is_write_in, label_of_selection, order_of_selection, rising_list, selection_role}
-use Rattle.erd_meaning.specs.code.NamesAmong.{class_name_among, key_among, keys_among, name_among, selection_keys_among}
-use Rattle.erd_meaning.specs.code.ObjectIndexes.{number_of_key, rank}
-use Rattle.erd_meaning.specs.code.ObjectLookups.{is_keyed, is_of_family, keeps_id, those_of}
-use Rattle.erd_meaning.specs.code.ObjectWalk.{Kept, same_key}
-use Rattle.erd_meaning.specs.code.Orders.{key_cmp_total}
-use Rattle.erd_meaning.specs.code.KeyOrders.{lent_key_cmp}
-use Rattle.erd_meaning.specs.code.RanksAmong.{AreRanks, IsRanked, has_keys_among, is_key_among, rank_among, ranked_key, ranked_name_among, ranked_parts}
-use Rattle.erd_meaning.specs.RankedNames.{RankedParts, family_chosen}
-use Rattle.erd_meaning.specs.declared.keys.key.Key.{Key}
-use denote.Ref.{Bor}
+use Rattle.erd_meaning.proofs.Common.{◌≡◌, ℕ, Bool, true, false, cond, List, [], ◌∷◌, map, is_some, slice_get, Some, None, codes, Option, option_map, position, find, option_and_then, option_copied, nat_cmp, is_eq, sym, refl, ap, ◌∙◌, subst, inl, inr, Bor, and_parts, and_from, tied_itself, on_total, slice_get-map, IsTotalOrder, options_total, AllByRecursion, cons_option, list_all, option_cmp, Data, as_str, Class, class, Family, family, In, entries_at, class_of_object, key_cmp, Preference, key_of, NameParts, family_chosen, RankedParts, rising_list, is_write_in, order_of_selection, label_of_selection, selection_role, lent_key_cmp, key_among, keys_among, selection_keys_among, class_name_among, name_among, rank, number_of_key, is_of_family, those_of, is_keyed, keeps_id, Kept, same_key, key_cmp_total, rank_among, AreRanks, ranked_key, is_key_among, ranked_parts, ranked_name_among, has_keys_among, IsRanked, Key}
 use Rattle.erd_meaning.proofs.finding.Lookups.{ranked}
 use Rattle.erd_meaning.proofs.finding.OneObject.{hit, in_at, missed}
 use Rattle.erd_meaning.proofs.identity.IdentityFaults.{same_key_from}

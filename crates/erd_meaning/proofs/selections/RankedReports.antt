@@ -1,29 +1,5 @@
 -- The names that a report keeps with ranks are those of its selections, with the ranks of their keys in the report.
-use Rattle.std.proofs.Common.{◌≡◌, ℕ, List, map, filter, length, cond, true, is_lt, Option, Some, None, option_and_then, option_map, slice_get, refl, sym, ap, ◌∙◌}
-use Rattle.std.proofs.lemmas.Option.{slice_get-map}
-use Rattle.std.proofs.lemmas.Simd.{map-map}
-use Rattle.std.specs.Option.{option_cmp}
-use Rattle.serde_json.specs.View.{view}
-use Rattle.serde_json.specs.declared.value.Value.{Value}
-use Rattle.erd_tables.specs.declared.class.Class.{Class}
-use Rattle.erd_tables.specs.declared.class.Class.TheVariants as class
-use Rattle.erd_tables.specs.declared.class.Family.{Family}
-use Rattle.erd_check.proofs.Order.{In-all}
-use Rattle.erd_meaning.specs.Keys.{Preference, has_keys, key_cmp, key_of, key_of_family_object}
-use Rattle.erd_meaning.specs.code.KeyOrders.{positioned}
-use Rattle.erd_meaning.specs.code.RanksAmong.{AllAreRanked, IsRanked, names_of, rank_among, ranked_parts, rising_keys_among}
-use Rattle.erd_meaning.specs.Lookups.{key_in, rank_of, rising_keys}
-use Rattle.erd_meaning.specs.NameParts.{NameParts}
-use Rattle.erd_meaning.specs.SelectionNames.{rising_list}
-use Rattle.erd_meaning.specs.Objects.{Placed, objects}
-use Rattle.erd_meaning.specs.code.ObjectLookups.{those_of}
-use Rattle.erd_meaning.specs.code.ObjectWalk.{Kept, kept}
-use Rattle.erd_meaning.specs.RankedNames.{PlacedName, RankedParts, family_chosen, ranked_name, ranked_selection_in}
-use Rattle.erd_meaning.specs.code.Resolved.{IsResolved}
-use Rattle.erd_meaning.specs.code.SelectionWalk.{NumberedName}
-use Rattle.erd_meaning.specs.code.Shown.{shown}
-use Rattle.erd_meaning.specs.declared.keys.key.Key.{Key}
-use Rattle.erd_meaning.specs.declared.objects.object.Object.{Object}
+use Rattle.erd_meaning.proofs.Common.{◌≡◌, ℕ, true, cond, List, map, length, slice_get, Some, None, filter, Option, option_map, option_and_then, is_lt, sym, refl, ap, ◌∙◌, slice_get-map, map-map, option_cmp, view, Value, Class, class, Family, In-all, has_keys, key_cmp, Preference, key_of, key_of_family_object, key_in, rank_of, rising_keys, NameParts, Placed, objects, family_chosen, RankedParts, ranked_name, PlacedName, ranked_selection_in, rising_list, positioned, those_of, Kept, kept, rank_among, rising_keys_among, ranked_parts, names_of, AllAreRanked, IsRanked, IsResolved, NumberedName, shown, Key, Object}
 use Rattle.erd_meaning.proofs.accepted.References.{has_identifier}
 use Rattle.erd_meaning.proofs.finding.Lookups.{those_shown}
 use Rattle.erd_meaning.proofs.finding.OneObject.{in_at}

@@ -1,33 +1,7 @@
 -- The tests by which an index of names with ranks is asked are those of the names.
-use Rattle.std.proofs.Common.{◌≡◌, ◌<◌, ◌≤◌, ◌==◌, ◌&&◌, ◌||◌, ◌+◌, ℕ, suc, drop, get_or, length, arith, List, [], ◌∷◌, ◌++◌, map, Bool, true, false, cond, if◌then◌else◌, flat_map, Some, Ordering, Less, Equal, Greater, nat_cmp, is_eq, refl, sym, ap, ap₂, ◌∙◌, subst}
-use Rattle.std.proofs.lemmas.Bool.Decides.{Decides-eqb}
-use Rattle.std.proofs.lemmas.Cmp.{lists_total, nat_cmp_total, tied_itself}
-use Rattle.std.proofs.lemmas.List.{at_drop_all, at_drop_more, length-map}
-use Rattle.std.proofs.lemmas.Map.Lookups.{exact_unsigned}
-use Rattle.std.proofs.lemmas.Iterator.Adapters.{position_from-zero}
-use Rattle.std.specs.Cmp.{Equal-is, both_ways}
-use Rattle.std.specs.Hash.{HashWrites, str, usize}
-use Rattle.std.specs.Cmp.Lexicographic.{slice_cmp}
-use Rattle.std.specs.List.{list_all, list_any, position, position_from}
-use Rattle.std.specs.Ordering.{eq_by_cmp, ordering_then}
-use Rattle.erd_check.proofs.Order.{In, In-all}
-use Rattle.std.proofs.lemmas.Bool.{and_parts}
-use Rattle.erd_tables.specs.Classes.{text_of_class}
-use Rattle.erd_meaning.specs.Keys.{key_cmp}
-use Rattle.erd_meaning.specs.NameParts.{NameParts}
-use Rattle.erd_meaning.specs.SelectionNames.{class_cmp, name_cmp}
-use Rattle.erd_meaning.specs.Hashes.{after_keys_writes}
-use Rattle.erd_meaning.specs.NumberedNames.{numbered_name_cmp, numbered_parts, without_keys}
+use Rattle.erd_meaning.proofs.Common.{◌≡◌, ℕ, suc, ◌+◌, ◌<◌, ◌≤◌, Bool, true, false, cond, ◌&&◌, ◌||◌, List, [], ◌∷◌, ◌++◌, map, length, get_or, drop, if◌then◌else◌, ◌==◌, Some, position, flat_map, nat_cmp, is_eq, Ordering, Less, Equal, Greater, sym, refl, ap, ◌∙◌, subst, ap₂, arith, and_parts, Decides-eqb, tied_itself, nat_cmp_total, lists_total, position_from-zero, length-map, at_drop_more, at_drop_all, exact_unsigned, Equal-is, both_ways, slice_cmp, HashWrites, str, usize, list_all, list_any, position_from, eq_by_cmp, ordering_then, text_of_class, Class, Family, In, In-all, after_keys_writes, key_cmp, NameParts, without_keys, numbered_parts, numbered_name_cmp, family_chosen, RankedParts, PlacedName, ranked_name_cmp, ranked_name_writes, class_cmp, name_cmp, Kept, classes_exact, rank_among, is_key_among, fed_rank, ranked_parts, has_keys_among, names_of, are_ranks_of, is_sought, AllAreRanked, IsRanked, NumberedName, is_selection_named, is_taken, added_name, Key}
 use Rattle.erd_meaning.specs.code.NumberedOrders.{numbered_as_named, numbers_as_keys}
-use Rattle.erd_meaning.specs.code.ObjectWalk.{Kept}
-use Rattle.erd_meaning.specs.code.Orders.{classes_exact}
-use Rattle.erd_meaning.specs.code.RanksAmong.{AllAreRanked, IsRanked, are_ranks_of, fed_rank, has_keys_among, is_key_among, is_sought, names_of, rank_among, ranked_parts}
-use Rattle.erd_meaning.specs.RankedNames.{PlacedName, RankedParts, family_chosen, ranked_name_cmp, ranked_name_writes}
 use Rattle.erd_meaning.specs.code.RankedOrders.{equal_ranked_alike}
-use Rattle.erd_meaning.specs.code.SelectionWalk.{NumberedName, added_name, is_selection_named, is_taken}
-use Rattle.erd_meaning.specs.declared.keys.key.Key.{Key}
-use Rattle.erd_tables.specs.declared.class.Class.{Class}
-use Rattle.erd_tables.specs.declared.class.Family.{Family}
 use Rattle.erd_meaning.proofs.selections.NameTests.{name_test}
 use Rattle.erd_meaning.proofs.selections.NamesTold.{is_named_from}
 use Rattle.erd_meaning.proofs.selections.RankedKeys.{each_passes, rank_as_key}

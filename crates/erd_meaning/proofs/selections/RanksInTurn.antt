@@ -1,26 +1,9 @@
 -- The ranks of keys are in the order of the keys, wherever objects of the family have the keys. So names with ranks in place
 -- of their keys are in the order of names.
-use Rattle.std.proofs.Common.{◌≡◌, ℕ, Option, Some, None, option_and_then, option_map, slice_get, Equal, nat_cmp, refl, sym, ap, ap₂, ◌∙◌, subst}
-use Rattle.std.specs.Cmp.Lexicographic.{slice_cmp}
-use Rattle.std.specs.Option.{option_cmp}
-use Rattle.serde_json.specs.Data.{Data}
-use Rattle.erd_tables.specs.declared.class.Class.{Class}
-use Rattle.erd_tables.specs.declared.class.Family.{Family}
-use Rattle.erd_check.proofs.Order.{In, In-all, In-from_contains}
-use Rattle.erd_check.specs.Wants.{class_of_object}
+use Rattle.erd_meaning.proofs.Common.{◌≡◌, ℕ, slice_get, Some, None, Option, option_map, option_and_then, nat_cmp, Equal, sym, refl, ap, ◌∙◌, subst, ap₂, slice_cmp, option_cmp, Data, Class, Family, In, In-from_contains, In-all, class_of_object, key_cmp, Preference, key_of, rank_of, NameParts, NumberedParts, numbered_parts, numbered_name_cmp, Placed, objects, numbered_selections, family_chosen, RankedParts, ranked_name, IsRankedIn, name_in_class, selection_role, name_of, class_cmp, name_cmp, classes_exact, IsKeyIn, Key}
 use Rattle.erd_meaning.proofs.orders.CountedKeys.{IsKeyOf, counted_as_key}
 use Rattle.erd_meaning.proofs.selections.KeysInNames.{keys_in_name}
-use Rattle.erd_meaning.specs.Keys.{Preference, key_cmp, key_of}
-use Rattle.erd_meaning.specs.Lookups.{rank_of}
-use Rattle.erd_meaning.specs.NameParts.{NameParts}
-use Rattle.erd_meaning.specs.Objects.{Placed, numbered_selections, objects}
-use Rattle.erd_meaning.specs.SelectionNames.{class_cmp, name_cmp, name_in_class, name_of, selection_role}
-use Rattle.erd_meaning.specs.NumberedNames.{NumberedParts, numbered_name_cmp, numbered_parts}
 use Rattle.erd_meaning.specs.code.NumberedOrders.{numbered_as_named, numbers_as_keys}
-use Rattle.erd_meaning.specs.code.Orders.{classes_exact}
-use Rattle.erd_meaning.specs.code.RanksAmong.{IsKeyIn}
-use Rattle.erd_meaning.specs.RankedNames.{IsRankedIn, RankedParts, family_chosen, ranked_name}
-use Rattle.erd_meaning.specs.declared.keys.key.Key.{Key}
 
 module _ (π : Preference) (t : Data) where
   its_key : (f : Family) (k : Key) → IsKeyIn π t f k → IsKeyOf (λ (o : Placed). key_of π o.value) (objects f t) k

@@ -1,19 +1,5 @@
 -- The walk over the selections of a report tells exactly the faults of selections.
-use Rattle.std.proofs.Common.{◌≡◌, ◌⊎◌, inl, inr, List, [], Some, refl, sym, subst}
-use Rattle.serde_json.specs.Data.{Data}
-use Rattle.erd_tables.specs.Faults.{ListsAll}
-use Rattle.erd_tables.specs.declared.fault.Fault.{Fault}
-use Rattle.erd_tables.specs.declared.fault.Reason.{Reason}
-use Rattle.erd_tables.specs.declared.fault.Reason.TheVariants.{TwinSelection}
-use Rattle.erd_tables.specs.declared.place.Step.{Step}
-use Rattle.erd_check.specs.Paths.{fault_at}
-use Rattle.erd_check.proofs.Order.{In, In-from_contains, contains_from_In}
-use Rattle.erd_meaning.specs.Keys.{Preference}
-use Rattle.erd_meaning.specs.LaterFaults.{IsBefore, RepeatsName, SelectionFault}
-use Rattle.erd_meaning.specs.NameParts.{NameParts}
-use Rattle.erd_meaning.specs.Objects.{contests, numbered_selections, selections_of_contest}
-use Rattle.erd_meaning.specs.SelectionNames.{name_of}
-use Rattle.erd_meaning.specs.code.SelectionWalk.{NumberedName}
+use Rattle.erd_meaning.proofs.Common.{◌≡◌, ◌⊎◌, List, [], Some, sym, refl, subst, inl, inr, Data, ListsAll, Fault, Reason, TwinSelection, Step, In, In-from_contains, contains_from_In, fault_at, Preference, IsBefore, SelectionFault, RepeatsName, NameParts, contests, selections_of_contest, numbered_selections, name_of, NumberedName}
 use Rattle.erd_meaning.proofs.selections.NamesTold.{HasEarlier, Numbered, ToldTwin, names_rising, names_told, told_twin, twin_told}
 use Rattle.erd_meaning.proofs.selections.NumberedSelections.{numbered_rising, of_its_contest, one_contest, with_number}
 

@@ -1,24 +1,5 @@
 -- The names that the walk over the selections of a report meets are those of the definition, where its shape has no fault.
-use Rattle.std.proofs.Common.{◌≡◌, ◌<◌, ℕ, zero, suc, inl, inr, List, [], ◌∷◌, ◌++◌, flat_map, Option, Some, None, option_and_then, option_map, refl, sym, ap, ◌∙◌}
-use Rattle.std.specs.List.{slice_get}
-use Rattle.std.specs.Option.{option_map_or}
-use Rattle.std.proofs.lemmas.Bool.{cases_order}
-use Rattle.serde_json.specs.Data.{Data}
-use Rattle.erd_tables.specs.declared.class.Class.{Class}
-use Rattle.erd_tables.specs.declared.class.Family.TheVariants.{Selection}
-use Rattle.erd_tables.specs.declared.fault.Reason.TheVariants.{TwinSelection}
-use Rattle.erd_check.specs.Faults.{NoneOf, ShapeFault}
-use Rattle.erd_check.specs.Wants.{class_of_object}
-use Rattle.erd_check.proofs.ObjectsAt.{ObjectIn, object_in}
-use Rattle.erd_check.proofs.Order.{In, In-flat_map}
-use Rattle.erd_meaning.specs.Keys.{Preference}
-use Rattle.erd_meaning.specs.LaterFaults.{SelectionFault}
-use Rattle.erd_meaning.specs.Lookups.{selection_in}
-use Rattle.erd_meaning.specs.NameParts.{NameParts}
-use Rattle.erd_meaning.specs.Objects.{Placed, contests, numbered_selections, objects, selections_of_contest}
-use Rattle.erd_meaning.specs.code.Resolved.{AreNames}
-use Rattle.erd_meaning.specs.SelectionNames.{name_in_class, name_of, selection_role}
-use Rattle.erd_meaning.specs.code.SelectionWalk.{NumberedName}
+use Rattle.erd_meaning.proofs.Common.{◌≡◌, ℕ, zero, suc, ◌<◌, List, [], ◌∷◌, ◌++◌, slice_get, Some, None, Option, option_map, flat_map, option_and_then, sym, refl, ap, ◌∙◌, inl, inr, cases_order, option_map_or, Data, Class, Selection, TwinSelection, object_in, ObjectIn, In, In-flat_map, ShapeFault, NoneOf, class_of_object, Preference, SelectionFault, selection_in, NameParts, Placed, contests, selections_of_contest, objects, numbered_selections, name_in_class, selection_role, name_of, AreNames, NumberedName}
 use Rattle.erd_meaning.proofs.selections.NamesTold.{Numbered, in_places, name_list}
 use Rattle.erd_meaning.proofs.selections.NumberedSelections.{numbered_rising, of_its_contest}
 use Rattle.erd_meaning.proofs.finding.OneObject.{in_at, sorted_at}

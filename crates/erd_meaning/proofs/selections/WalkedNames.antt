@@ -1,21 +1,5 @@
 -- What the walk over the selections of a report leaves.
-use Rattle.std.proofs.Common.{◌≡◌, List, [], ◌∷◌, ◌++◌, refl, flat_map, length, sym, ap, ◌∙◌, subst, Option}
-use Rattle.serde_json.specs.Data.{Data}
-use Rattle.erd_tables.specs.Faults.{ListsAll}
-use Rattle.erd_tables.specs.declared.fault.Fault.{Fault}
-use Rattle.erd_check.specs.Faults.{NoneOf, ShapeFault}
-use Rattle.erd_check.proofs.Deciding.{none_from_empty}
-use Rattle.erd_meaning.specs.Keys.{Preference}
-use Rattle.erd_meaning.specs.LaterFaults.{IdentityFault, SelectionFault}
-use Rattle.erd_meaning.specs.NameParts.{NameParts}
-use Rattle.erd_meaning.specs.code.NamesAmong.{name_among}
-use Rattle.erd_meaning.specs.Objects.{numbered_selections}
-use Rattle.erd_meaning.specs.code.ObjectWalk.{Kept, kept_objects}
-use Rattle.erd_meaning.specs.code.RanksAmong.{names_of}
-use Rattle.erd_meaning.specs.code.Resolved.{AreNames}
-use Rattle.erd_meaning.specs.SelectionNames.{name_of}
-use Rattle.erd_meaning.specs.code.SelectionWalk.{NamesMet, NumberedName, is_taken, named_all}
-use Rattle.erd_meaning.specs.code.ShownWalks.{names_met}
+use Rattle.erd_meaning.proofs.Common.{◌≡◌, List, [], ◌∷◌, ◌++◌, length, Option, flat_map, sym, refl, ap, ◌∙◌, subst, Data, ListsAll, Fault, none_from_empty, ShapeFault, NoneOf, Preference, IdentityFault, SelectionFault, NameParts, numbered_selections, name_of, name_among, Kept, kept_objects, names_of, AreNames, NumberedName, is_taken, NamesMet, named_all, names_met}
 use Rattle.erd_meaning.specs.declared.names.selection_walk.SelectionWalk.{SelectionWalk}
 use Rattle.erd_meaning.proofs.selections.AmongNames.{name_same}
 use Rattle.erd_meaning.proofs.selections.NamesTold.{all_faults, all_names, name_list, names_told}

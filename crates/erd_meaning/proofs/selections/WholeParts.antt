@@ -1,14 +1,5 @@
 -- The parts of a value that has no fraction have none.
-use Rattle.std.proofs.Common.{◌≡◌, ℕ, zero, suc, ◌<◌, length, get_or, List, [], ◌∷◌, map, false, Option, Some, None, refl, sym, subst, arith}
-use Rattle.std.specs.List.{AllByRecursion}
-use Rattle.std.specs.Option.{option_map_or}
-use Rattle.std.proofs.lemmas.Bool.{or_parts}
-use Rattle.serde_json.specs.Data.{Data, array, object, Items, no_items, item, Members, no_members, member}
-use Rattle.serde_json.specs.Find.{get, get_member}
-use Rattle.serde_json.specs.View.{view}
-use Rattle.serde_json.specs.Written.{has_float, items_have_float, members_have_float}
-use Rattle.serde_json.specs.declared.value.Value.{Value}
-use Rattle.erd_check.specs.Values.{entries_of, list_of_items, entries_at}
+use Rattle.erd_meaning.proofs.Common.{◌≡◌, ℕ, zero, suc, ◌<◌, false, List, [], ◌∷◌, map, length, get_or, Some, None, Option, sym, refl, subst, arith, or_parts, AllByRecursion, option_map_or, Data, array, object, Items, no_items, item, Members, no_members, member, get_member, get, view, has_float, items_have_float, members_have_float, Value, list_of_items, entries_of, entries_at}
 use Rattle.erd_check.proofs.Members.{found_cases}
 
 -- values that have no fraction

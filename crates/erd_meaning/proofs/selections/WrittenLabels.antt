@@ -1,16 +1,6 @@
 -- A label that is written member by member, with its translations as texts, has its compact text.
-use Rattle.std.proofs.Common.{◌≡◌, ℕ, List, [], ◌∷◌, ◌++◌, map, Bool, true, false, Some, codes, Ordering, Less, Equal, Greater, refl, ap, ◌∙◌, append_assoc}
-use Rattle.std.proofs.lemmas.Map.Lookups.{exact_bytes}
-use Rattle.std.specs.Cmp.Lexicographic.{slice_cmp}
-use Rattle.std.specs.Ordering.{match_ordering, nat_cmp}
+use Rattle.erd_meaning.proofs.Common.{◌≡◌, ℕ, Bool, true, false, List, [], ◌∷◌, ◌++◌, map, Some, codes, nat_cmp, Ordering, Less, Equal, Greater, refl, ap, ◌∙◌, append_assoc, exact_bytes, slice_cmp, match_ordering, Data, array, object, Members, no_members, member, put, as_object, items_of, comma_if, compact_text, items_text, members_text, entries_at, rising_list, compact_cmp, with_rising_text, joined_text, translations_text, rest_text}
 use Rattle.json.specs.Print.{quoted}
-use Rattle.serde_json.specs.Data.{Data, array, object, Members, no_members, member, put}
-use Rattle.serde_json.specs.Find.{as_object}
-use Rattle.serde_json.specs.View.{items_of}
-use Rattle.serde_json.specs.Written.{comma_if, compact_text, items_text, members_text}
-use Rattle.erd_check.specs.Values.{entries_at}
-use Rattle.erd_meaning.specs.SelectionNames.{compact_cmp, rising_list, with_rising_text}
-use Rattle.erd_meaning.specs.code.LabelTexts.{joined_text, rest_text, translations_text}
 
 -- the texts of values, joined, are those of their array
 joined_items : (later : Bool) (ds : List Data) → joined_text later (map compact_text ds) ≡ items_text later (items_of ds)

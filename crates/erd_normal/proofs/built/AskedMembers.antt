@@ -1,31 +1,5 @@
 -- What is asked of a value that stands in an object of a known class, by the kind of its member, and one step inside an object.
-use Rattle.std.proofs.Common.{◌≡◌, ◌⊎◌, inl, inr, ℕ, zero, suc, List, Option, Some, None, Bool, true, false, ◌&&◌, if◌then◌else◌, codes, refl, sym, ap, ◌∙◌, subst}
-use Rattle.std.specs.Bool.{⊤}
-use Rattle.std.specs.List.{AllByRecursion}
-use Rattle.std.specs.Str.{bytes_eq}
-use Rattle.serde_json.specs.Data.{Data, array, object, Items, no_items, item, Members}
-use Rattle.serde_json.specs.Find.{get, get_item, get_member}
-use Rattle.erd_tables.specs.Classes.{role_of_class}
-use Rattle.erd_tables.specs.Table.{is_required, kind_of_member}
-use Rattle.erd_tables.specs.declared.class.Class.{Class}
-use Rattle.erd_tables.specs.declared.class.Class.TheVariants as class
-use Rattle.erd_tables.specs.declared.class.Role.{Role}
-use Rattle.erd_tables.specs.declared.class.Role.TheVariants as role
-use Rattle.erd_tables.specs.declared.member.MemberKind.{MemberKind}
-use Rattle.erd_tables.specs.declared.member.MemberKind.TheVariants as kind
-use Rattle.erd_tables.specs.declared.place.Step.{Step}
-use Rattle.erd_tables.specs.declared.place.Step.TheVariants.{Name, At}
-use Rattle.erd_check.specs.Faults.{NoneOf, ShapeFault}
-use Rattle.erd_check.specs.Values.{list_of_items}
-use Rattle.erd_check.specs.Wants.{Asked, asked, asked_inside, asked_of_member, class_of_object, entry_want, is_compared_set, is_report_class, member_want, want_of_kind}
-use Rattle.erd_check.specs.declared.want.Want.{Want}
-use Rattle.erd_check.specs.declared.want.Want.TheVariants.{ClassText, Member}
-use Rattle.erd_check.proofs.Entries.{array_from}
-use Rattle.erd_check.proofs.Exact.{text_exact}
-use Rattle.erd_check.proofs.ObjectsAt.{ObjectAt}
-use Rattle.erd_check.proofs.Shapes.{AsksObject, Classed, Within, Within-step, classed, lacks_none, member_within, of_label, of_role, wanted_within}
-use Rattle.erd_check.proofs.TableKinds.{want_unless_status}
-use Rattle.erd_meaning.proofs.meanings.SelectionKinds.{kind_of_type}
+use Rattle.erd_normal.proofs.Common.{◌≡◌, ℕ, zero, suc, Bool, true, false, ◌&&◌, ◌⊎◌, List, if◌then◌else◌, Some, None, codes, Option, bytes_eq, sym, refl, ap, ◌∙◌, subst, inl, inr, ⊤, AllByRecursion, Data, array, object, Items, no_items, item, Members, get_member, get_item, get, role_of_class, kind_of_member, is_required, Class, class, Role, role, MemberKind, kind, Step, At, Name, array_from, text_exact, ObjectAt, Within-step, AsksObject, of_role, of_label, wanted_within, lacks_none, classed, member_within, Classed, Within, want_unless_status, ShapeFault, NoneOf, list_of_items, class_of_object, want_of_kind, is_report_class, member_want, entry_want, is_compared_set, Asked, asked, asked_of_member, asked_inside, Want, ClassText, Member, kind_of_type}
 
 -- ---- members
 

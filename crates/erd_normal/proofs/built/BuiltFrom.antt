@@ -1,22 +1,5 @@
 -- The members of an object that is built come from members of the object that it is built of.
-use Rattle.std.proofs.Common.{◌≡◌, ◌⊎◌, inl, inr, ℕ, List, Option, Some, None, option_and_then, Bool, true, false, ◌&&◌, codes, refl, sym, ◌∙◌, subst}
-use Rattle.std.specs.Str.{bytes_eq}
-use Rattle.serde_json.specs.Data.{Data, Members}
-use Rattle.serde_json.specs.Find.{get, get_member}
-use Rattle.erd_tables.specs.Table.{is_required, kind_of_member}
-use Rattle.erd_tables.specs.declared.class.Class.{Class}
-use Rattle.erd_tables.specs.declared.class.Role.{Role}
-use Rattle.erd_tables.specs.declared.member.MemberKind.{MemberKind}
-use Rattle.erd_tables.specs.declared.member.MemberKind.TheVariants as kind
-use Rattle.erd_tables.specs.declared.place.Step.{Step}
-use Rattle.erd_tables.specs.declared.place.Step.TheVariants.{Name}
-use Rattle.erd_check.specs.Faults.{NoneOf, ShapeFault}
-use Rattle.erd_check.specs.Wants.{Asked, asked, asked_inside, class_of_object, is_report_class, member_want, want_of_kind}
-use Rattle.erd_check.specs.declared.want.Want.{Want}
-use Rattle.erd_check.specs.declared.want.Want.TheVariants.{Object, Status}
-use Rattle.erd_check.proofs.ObjectsAt.{ObjectAt}
-use Rattle.erd_check.proofs.Shapes.{Within, member_within, of_role}
-use Rattle.erd_check.proofs.TableKinds.{want_unless_status}
+use Rattle.erd_normal.proofs.Common.{◌≡◌, ℕ, Bool, true, false, ◌&&◌, ◌⊎◌, List, Some, None, codes, Option, option_and_then, bytes_eq, sym, refl, ◌∙◌, subst, inl, inr, Data, Members, get_member, get, kind_of_member, is_required, Class, Role, MemberKind, kind, Step, Name, ObjectAt, of_role, member_within, Within, want_unless_status, ShapeFault, NoneOf, class_of_object, want_of_kind, is_report_class, member_want, Asked, asked, asked_inside, Want, Object, Status}
 use Rattle.erd_normal.proofs.built.AskedMembers.{MemberAsked, TypeAsked, asked_in_object, status_kind}
 
 -- what gives the value of a member, by its name and kind

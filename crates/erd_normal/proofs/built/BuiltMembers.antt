@@ -1,15 +1,5 @@
 -- Members that are put one after another, in the order of their names, stand in that order.
-use Rattle.std.proofs.Common.{◌≡◌, ℕ, List, ◌∷◌, Bool, true, false, ◌||◌, Less, string_bytes, refl, sym, ap, ◌∙◌}
-use Rattle.std.proofs.lemmas.Cmp.{nat_list_cmp_total}
-use Rattle.std.specs.Bool.{⊤}
-use Rattle.std.specs.List.{AllByRecursion}
-use Rattle.std.specs.Ordering.{ordering_reverse}
-use Rattle.serde_json.specs.Data.{Data, Members, no_members, member, put}
-use Rattle.serde_json.specs.View.{members_view, view}
-use Rattle.serde_json.specs.Written.{has_float, members_have_float}
-use Rattle.serde_json.proofs.Views.{Entry}
-use Rattle.erd_tables.specs.Texts.{text_cmp}
-use Rattle.erd_check.specs.Values.{names}
+use Rattle.erd_normal.proofs.Common.{◌≡◌, ℕ, Bool, true, false, ◌||◌, List, ◌∷◌, string_bytes, Less, sym, refl, ap, ◌∙◌, nat_list_cmp_total, ⊤, AllByRecursion, ordering_reverse, Entry, Data, Members, no_members, member, put, view, members_view, has_float, members_have_float, text_cmp, names}
 
 -- ---- whole numbers
 

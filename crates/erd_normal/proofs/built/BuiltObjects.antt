@@ -1,26 +1,5 @@
 -- The objects that are built, each by the members of the one that it is built of.
-use Rattle.std.proofs.Common.{◌≡◌, ℕ, List, Option, Some, None, option_and_then, option_map, Bool, true, false, codes, refl, sym, ap, ◌∙◌, subst}
-use Rattle.std.specs.Str.{bytes_eq}
-use Rattle.serde_json.specs.Data.{Data, string, object, Members}
-use Rattle.serde_json.specs.Find.{as_str, get}
-use Rattle.erd_tables.specs.Classes.{class_in_role}
-use Rattle.erd_tables.specs.Table.{is_envelope_name, kind_of_member}
-use Rattle.erd_tables.specs.declared.class.Class.{Class}
-use Rattle.erd_tables.specs.declared.class.Class.TheVariants as class
-use Rattle.erd_tables.specs.declared.class.Family.{Family}
-use Rattle.erd_tables.specs.declared.class.Role.{Role}
-use Rattle.erd_tables.specs.declared.class.Role.TheVariants as role
-use Rattle.erd_check.specs.Faults.{NoneOf, ShapeFault}
-use Rattle.erd_check.specs.Trees.{IsTree}
-use Rattle.erd_check.specs.Wants.{asked, class_of_object}
-use Rattle.erd_check.specs.declared.want.Want.TheVariants.{Object}
-use Rattle.erd_check.proofs.Exact.{text_exact}
-use Rattle.erd_check.proofs.ObjectsAt.{ObjectAt, ObjectIn}
-use Rattle.erd_check.proofs.Shapes.{within-tree}
-use Rattle.erd_meaning.proofs.accepted.Skeleton.{Skeleton}
-use Rattle.erd_meaning.specs.Keys.{Preference, key_of}
-use Rattle.erd_meaning.specs.SelectionNames.{selection_role}
-use Rattle.erd_normal.specs.code.NormalTree.{id_of_key, id_of_selection, normal_content, normal_election, normal_election_value, normal_node, normal_node_value, normal_object, normal_object_value, normal_report_value, normal_selection, normal_tree, normal_value}
+use Rattle.erd_normal.proofs.Common.{◌≡◌, ℕ, Bool, true, false, List, Some, None, codes, Option, option_map, option_and_then, bytes_eq, sym, refl, ap, ◌∙◌, subst, Data, string, object, Members, get, as_str, class_in_role, is_envelope_name, kind_of_member, Class, class, Family, Role, role, text_exact, ObjectAt, ObjectIn, within-tree, ShapeFault, NoneOf, IsTree, class_of_object, asked, Object, Skeleton, Preference, key_of, selection_role, id_of_key, id_of_selection, normal_value, normal_node_value, normal_content, normal_node, normal_selection, normal_object_value, normal_object, normal_election_value, normal_election, normal_report_value, normal_tree}
 use Rattle.erd_normal.proofs.built.BuiltFrom.{Builder, BuiltObject}
 use Rattle.erd_normal.proofs.built.NormalGets.{class_of_built, class_of_built_node, class_of_built_selection, get_election, get_election-type, get_node, get_object, get_object-id, get_selection, get_selection-id}
 use Rattle.erd_normal.proofs.built.NormalReports.{class_of_built_report, get_report}

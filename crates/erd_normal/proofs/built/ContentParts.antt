@@ -1,13 +1,5 @@
 -- The entries of a list of contests and headers, one by one.
-use Rattle.std.proofs.Common.{◌≡◌, ℕ, zero, suc, ◌<◌, List, [], ◌∷◌, length, get_or, Bool, true, false, ◌||◌, Some, refl, sym, subst, arith}
-use Rattle.serde_json.specs.Data.{Data}
-use Rattle.serde_json.specs.View.{items_view, view}
-use Rattle.serde_json.specs.Written.{has_float, items_have_float}
-use Rattle.serde_json.specs.declared.value.Value.{Value}
-use Rattle.erd_tables.specs.declared.member.MemberKind.{MemberKind}
-use Rattle.erd_tables.specs.declared.member.MemberKind.TheVariants as kind
-use Rattle.erd_normal.specs.code.NormalTree.{normal_node_value, normal_value}
-use Rattle.erd_meaning.specs.Keys.{Preference}
+use Rattle.erd_normal.proofs.Common.{◌≡◌, ℕ, zero, suc, ◌<◌, Bool, true, false, ◌||◌, List, [], ◌∷◌, length, get_or, Some, sym, refl, subst, arith, Data, view, items_view, has_float, items_have_float, Value, MemberKind, kind, Preference, normal_value, normal_node_value}
 
 first_whole : (a b : Bool) → a || b ≡ false → a ≡ false
 first_whole true b e = e

@@ -1,30 +1,5 @@
 -- The names of the members that hold objects: what stands there is the array of the objects of the family.
-use Rattle.std.proofs.Common.{◌≡◌, ℕ, List, Some, flat_map, map, Bool, true, false, codes, refl, sym, ap, ◌∙◌, subst, is_some, ◌&&◌}
-use Rattle.std.specs.List.{list_all}
-use Rattle.std.specs.Str.{bytes_eq}
-use Rattle.std.proofs.lemmas.Bool.{and_parts}
-use Rattle.serde_json.specs.Data.{Data, Members, object}
-use Rattle.serde_json.specs.Find.{get_member}
-use Rattle.erd_tables.specs.Classes.{role_of_class, family_of_class}
-use Rattle.erd_tables.specs.Rows.{rows_of_class}
-use Rattle.erd_tables.specs.Table.{kind_of_identity, kind_of_member}
-use Rattle.erd_tables.specs.declared.class.Class.{Class}
-use Rattle.erd_tables.specs.declared.class.Class.TheVariants as class
-use Rattle.erd_tables.specs.declared.class.Family.{Family}
-use Rattle.erd_tables.specs.declared.class.Family.TheVariants as family
-use Rattle.erd_tables.specs.declared.class.Role.TheVariants as role
-use Rattle.erd_tables.specs.declared.class.Role.{Role}
-use Rattle.erd_tables.specs.declared.member.MemberKind.{MemberKind}
-use Rattle.erd_tables.specs.declared.member.MemberKind.TheVariants as kind
-use Rattle.erd_check.specs.Values.{entries_at, entries_of, list_of_items}
-use Rattle.erd_check.proofs.Entries.{entries_in}
-use Rattle.erd_check.proofs.Exact.{text_exact}
-use Rattle.erd_check.proofs.Rising.{Has}
-use Rattle.erd_check.proofs.TableKinds.{kind_of_id, kind_of_name}
-use Rattle.erd_meaning.proofs.accepted.Skeleton.{Skeleton, values-placed_entries, values_in_elections}
-use Rattle.erd_meaning.specs.Objects.{elections, objects, placed_entries, report_of}
-use Rattle.erd_meaning.specs.Keys.{has_keys}
-use Rattle.erd_meaning.proofs.meanings.SelectionKinds.{kind_of_type}
+use Rattle.erd_normal.proofs.Common.{◌≡◌, ℕ, Bool, true, false, ◌&&◌, List, map, is_some, Some, codes, flat_map, bytes_eq, sym, refl, ap, ◌∙◌, subst, and_parts, list_all, Data, object, Members, get_member, role_of_class, family_of_class, rows_of_class, kind_of_identity, kind_of_member, Class, class, Family, family, Role, role, MemberKind, kind, entries_in, text_exact, Has, kind_of_name, kind_of_id, list_of_items, entries_of, entries_at, values-placed_entries, values_in_elections, Skeleton, kind_of_type, has_keys, placed_entries, report_of, elections, objects}
 use Rattle.erd_normal.proofs.lists.Lists.{IsPart, part_flat, part_self}
 
 -- the name of the member that holds the objects of a family

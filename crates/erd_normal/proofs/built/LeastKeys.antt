@@ -1,30 +1,8 @@
 -- The key that identifiers give does not depend on their order, so that what is built of an object has its key.
-use mathlib.Core.Path.{fun_ext}
-use Rattle.std.proofs.Common.{◌≡◌, List, [], ◌∷◌, map, Bool, true, false, if◌then◌else◌, is_lt, true≢false, Ordering, Less, Equal, Greater, Option, Some, None, codes, refl, sym, ap, ◌∙◌}
-use Rattle.std.proofs.lemmas.Map.Lookups.{CmpEqualImpliesEq}
-use Rattle.std.specs.Cmp.{IsTotalOrder}
-use Rattle.std.specs.Ordering.{ordering_reverse}
-use Rattle.serde_json.specs.Data.{Data}
-use Rattle.erd_tables.specs.Classes.{role_of_class}
-use Rattle.erd_tables.specs.Table.{kind_of_member}
-use Rattle.erd_tables.specs.declared.class.Class.{Class}
-use Rattle.erd_tables.specs.declared.class.Class.TheVariants as class
-use Rattle.erd_tables.specs.declared.class.Family.{Family}
-use Rattle.erd_tables.specs.declared.class.Role.TheVariants as role
-use Rattle.erd_tables.specs.declared.member.MemberKind.TheVariants as kind
-use Rattle.erd_check.specs.Faults.{NoneOf, ShapeFault}
-use Rattle.erd_check.specs.Trees.{IsTree}
-use Rattle.erd_check.specs.Wants.{class_of_object}
-use Rattle.erd_meaning.specs.Keys.{Preference, key_of, key_of_identifiers, triple_of}
-use Rattle.erd_check.specs.Values.{entries_at}
+use Rattle.erd_normal.proofs.Common.{◌≡◌, Bool, true, false, List, [], ◌∷◌, map, if◌then◌else◌, Some, None, codes, Option, is_lt, Ordering, Less, Equal, Greater, sym, refl, ap, ◌∙◌, true≢false, CmpEqualImpliesEq, IsTotalOrder, ordering_reverse, Data, role_of_class, kind_of_member, Class, class, Family, role, kind, ShapeFault, NoneOf, IsTree, entries_at, class_of_object, class_role, reordered_rising, whole-reordered, Reordered, triple_of, Preference, key_of_identifiers, key_of, rising_list, compact_cmp, Key, normal_object, normal_election, fun_ext}
 use Rattle.erd_meaning.specs.code.ChosenKeys.{choice_cmp, choice_of, choice_of_two}
 use Rattle.erd_meaning.proofs.orders.ChoiceOrder.{choice_cmp_exact, choice_cmp_total, key_is_choice}
-use Rattle.erd_meaning.specs.SelectionNames.{compact_cmp, rising_list}
-use Rattle.erd_meaning.specs.declared.keys.key.Key.{Key}
-use Rattle.erd_normal.specs.code.NormalTree.{normal_election, normal_object}
 use Rattle.erd_normal.proofs.built.NormalEntries.{entries_of_identifiers, identifiers_of_election}
-use Rattle.erd_meaning.proofs.orders.Reordered.{Reordered, reordered_rising, whole-reordered}
-use Rattle.erd_meaning.proofs.meanings.SelectionKinds.{class_role}
 
 -- ---- the lesser of two
 

@@ -1,38 +1,10 @@
 -- What is built of a report whose shape has no fault is nested no deeper, part by part.
-use Rattle.std.proofs.Common.{◌≡◌, ◌≤◌, ℕ, List, [], map, Bool, true, false, if◌then◌else◌, Ordering, Option, Some, None, option_map, codes, refl, sym, ap, ◌∙◌, subst, arith, zero, suc}
-use Rattle.std.specs.Bool.{⊤}
-use Rattle.std.specs.List.{AllByRecursion}
-use Rattle.std.specs.Option.{option_map_or}
-use Rattle.serde_json.specs.Data.{Data, string, array, object, Items, no_items, item, Members, no_members, member, depth, items_depth, members_depth}
-use Rattle.serde_json.specs.Find.{get, get_item, get_member}
-use Rattle.erd_tables.specs.Table.{is_envelope_name, kind_of_member}
-use Rattle.erd_tables.specs.declared.class.Class.{Class}
-use Rattle.erd_tables.specs.declared.class.Family.{Family}
-use Rattle.erd_tables.specs.declared.class.Family.TheVariants as family
-use Rattle.erd_tables.specs.declared.class.Role.{Role}
-use Rattle.erd_tables.specs.declared.class.Role.TheVariants as role
-use Rattle.erd_tables.specs.declared.member.MemberKind.{MemberKind}
-use Rattle.erd_tables.specs.declared.member.MemberKind.TheVariants as kind
-use Rattle.erd_check.specs.Faults.{is_array, NoneOf, ShapeFault}
-use Rattle.erd_check.specs.Trees.{IsTree, AreMembers, IsNoDeeper}
-use Rattle.erd_check.specs.Values.{entries_of, list_of_items, entries_at}
-use Rattle.erd_check.specs.Wants.{asked, class_of_object, entry_want, is_compared_set}
-use Rattle.erd_check.specs.declared.want.Want.{Want}
-use Rattle.erd_check.specs.declared.want.Want.TheVariants.{Member, Object}
-use Rattle.erd_check.proofs.Members.{get_member-depth, get_member-first}
-use Rattle.erd_check.proofs.ObjectsAt.{ObjectAt, ObjectIn, object_in}
-use Rattle.erd_check.proofs.Shapes.{Within, Within-root, wanted_within, within-tree}
-use Rattle.erd_meaning.specs.Keys.{Preference, key_of}
-use Rattle.erd_meaning.specs.Records.{class_of_node}
-use Rattle.erd_meaning.specs.SelectionNames.{compact_cmp, rising_list, selection_role, with_rising_text}
-use Rattle.erd_meaning.proofs.orders.RisingOrders.{all_rising}
-use Rattle.erd_normal.specs.code.NormalTree.{array_of, by_key, by_name, id_of_key, id_of_selection, in_envelope, normal_content, normal_election, normal_election_value, normal_members, normal_node, normal_node_members, normal_node_value, normal_nodes, normal_object, normal_object_value, normal_object_with, normal_objects, normal_reference, normal_report_value, normal_selection, normal_selection_reference, normal_tree, normal_value, reference_cmp, unless_no_entry, with_id}
+use Rattle.erd_normal.proofs.Common.{◌≡◌, ℕ, zero, suc, ◌≤◌, Bool, true, false, List, [], map, if◌then◌else◌, Some, None, codes, Option, option_map, Ordering, sym, refl, ap, ◌∙◌, subst, arith, ⊤, AllByRecursion, option_map_or, Data, string, array, object, Items, no_items, item, Members, no_members, member, depth, items_depth, members_depth, get_member, get_item, get, is_envelope_name, kind_of_member, Class, Family, family, Role, role, MemberKind, kind, get_member-first, get_member-depth, object_in, ObjectAt, ObjectIn, Within-root, wanted_within, within-tree, Within, get_member-later, is_array, ShapeFault, NoneOf, IsTree, AreMembers, IsNoDeeper, list_of_items, entries_of, entries_at, class_of_object, entry_want, is_compared_set, asked, Want, Member, Object, all_rising, Preference, key_of, class_of_node, rising_list, compact_cmp, with_rising_text, selection_role, id_of_key, normal_reference, reference_cmp, id_of_selection, normal_selection_reference, unless_no_entry, array_of, normal_value, normal_members, normal_object_with, normal_node_value, normal_content, normal_nodes, normal_node, normal_node_members, with_id, normal_selection, by_key, by_name, normal_object_value, normal_object, normal_objects, normal_election_value, normal_election, normal_report_value, in_envelope, normal_tree}
 use Rattle.erd_normal.proofs.built.AskedMembers.{AskedAs, asked_as, entries_asked, entry_asked, label_texts}
 use Rattle.erd_normal.proofs.lists.BuiltLists.{IfSome, if_some_is, all_map, all_of, items_of-depth, listed_depth, unless_no_entry-holds, all_both}
 use Rattle.erd_normal.proofs.built.NormalReports.{with_envelope-depth}
 use Rattle.erd_normal.proofs.built.NormalMembers.{normal_members-depth}
 use Rattle.erd_normal.proofs.built.NormalGets.{put-depth}
-use Rattle.erd_check.proofs.Whole.{get_member-later}
 
 -- ---- arrays
 

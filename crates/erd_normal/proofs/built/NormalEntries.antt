@@ -1,26 +1,5 @@
 -- The entries of the arrays that are built.
-use Rattle.std.proofs.Common.{◌≡◌, ℕ, ◌+◌, ◌<◌, List, [], ◌∷◌, ◌++◌, map, length, take, get_or, sym, ap, ap₂, ◌∙◌, Bool, true, false, if◌then◌else◌, Option, Some, None, option_and_then, codes, refl}
-use Rattle.std.proofs.lemmas.List.{map-append, take_more, nil_from_length}
-use Rattle.std.proofs.lemmas.Bool.Decides.{Decides-eqb}
-use Rattle.std.specs.Str.{bytes_eq}
-use Rattle.serde_json.specs.Data.{Data, array}
-use Rattle.serde_json.specs.Find.{get}
-use Rattle.erd_tables.specs.Table.{is_envelope_name, kind_of_member}
-use Rattle.erd_tables.specs.declared.class.Class.{Class}
-use Rattle.erd_tables.specs.declared.class.Family.{Family}
-use Rattle.erd_tables.specs.declared.class.Class.TheVariants as class
-use Rattle.erd_tables.specs.declared.class.Family.TheVariants as family
-use Rattle.erd_tables.specs.declared.class.Role.TheVariants as role
-use Rattle.erd_tables.specs.declared.member.MemberKind.TheVariants as kind
-use Rattle.erd_check.specs.Faults.{is_empty_array, NoneOf, ShapeFault}
-use Rattle.erd_check.specs.Trees.{IsTree}
-use Rattle.erd_check.specs.Values.{entries_of, list_of_items, entries_at}
-use Rattle.erd_check.specs.Wants.{class_of_object}
-use Rattle.erd_check.proofs.Entries.{entries_in}
-use Rattle.erd_check.proofs.Lists.{list_of_items-items_of}
-use Rattle.erd_meaning.specs.Keys.{Preference}
-use Rattle.erd_meaning.specs.SelectionNames.{compact_cmp, rising_list}
-use Rattle.erd_normal.specs.code.NormalTree.{array_of, by_key, by_name, normal_election, normal_object, normal_report_value, normal_selection, normal_tree, unless_no_entry}
+use Rattle.erd_normal.proofs.Common.{◌≡◌, ℕ, ◌+◌, ◌<◌, Bool, true, false, List, [], ◌∷◌, ◌++◌, map, length, get_or, take, if◌then◌else◌, Some, None, codes, Option, option_and_then, bytes_eq, sym, refl, ap, ◌∙◌, ap₂, Decides-eqb, map-append, take_more, nil_from_length, Data, array, get, is_envelope_name, kind_of_member, Class, class, Family, family, role, kind, entries_in, list_of_items-items_of, is_empty_array, ShapeFault, NoneOf, IsTree, list_of_items, entries_of, entries_at, class_of_object, Preference, rising_list, compact_cmp, unless_no_entry, array_of, normal_selection, by_key, by_name, normal_object, normal_election, normal_report_value, normal_tree}
 use Rattle.erd_normal.proofs.built.NormalGets.{get_election, get_object}
 use Rattle.erd_normal.proofs.built.NormalReports.{get_report}
 

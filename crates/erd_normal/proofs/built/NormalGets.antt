@@ -1,34 +1,5 @@
 -- What stands under each name of an object that is built from an object of a class.
-use Rattle.std.proofs.Common.{◌≡◌, ◌≤◌, ℕ, List, Ordering, Less, Equal, Greater, true, false, true≢false, refl, sym, ap, ◌∙◌, subst, arith, Option, Some, None, option_and_then, option_map, codes}
-use Rattle.std.proofs.lemmas.Cmp.{nat_list_cmp_total, tied_itself}
-use Rattle.std.specs.Cmp.Lexicographic.{slice_cmp}
-use Rattle.std.specs.Ordering.{match_ordering, nat_cmp}
-use Rattle.std.specs.Str.{bytes_eq}
-use Rattle.serde_json.specs.Data.{Data, Members, no_members, member, put, depth, members_depth, string, object}
-use Rattle.serde_json.specs.Find.{get_member, as_str, get}
-use Rattle.serde_json.proofs.Views.{get_member-put_other, get_member-put}
-use Rattle.erd_tables.specs.Texts.{text_cmp}
-use Rattle.erd_tables.specs.Classes.{class_in_role, role_of_class}
-use Rattle.erd_tables.specs.Table.{kind_of_member}
-use Rattle.erd_tables.specs.declared.class.Class.{Class}
-use Rattle.erd_tables.specs.declared.class.Family.{Family}
-use Rattle.erd_tables.specs.declared.class.Role.{Role}
-use Rattle.erd_tables.specs.declared.member.MemberKind.{MemberKind}
-use Rattle.erd_tables.specs.declared.class.Class.TheVariants as class
-use Rattle.erd_tables.specs.declared.class.Role.TheVariants as role
-use Rattle.erd_tables.specs.declared.member.MemberKind.TheVariants as kind
-use Rattle.erd_check.proofs.Exact.{text_itself}
-use Rattle.erd_check.specs.Faults.{is_object}
-use Rattle.erd_check.specs.Trees.{IsTree}
-use Rattle.erd_check.specs.Wants.{class_of_object}
-use Rattle.erd_check.proofs.TableKinds.{kind_of_id}
-use Rattle.erd_check.specs.Values.{entries_at}
-use Rattle.erd_meaning.specs.Keys.{Preference, key_of}
-use Rattle.erd_meaning.specs.Objects.{id_of}
-use Rattle.erd_meaning.specs.Records.{class_of_node}
-use Rattle.erd_meaning.specs.SelectionNames.{compact_cmp, rising_list, selection_role, with_rising_text}
-use Rattle.erd_meaning.proofs.meanings.SelectionKinds.{kind_of_type, class_role}
-use Rattle.erd_normal.specs.code.NormalTree.{array_of, id_of_key, id_of_selection, normal_content, normal_election, normal_election_value, normal_node, normal_node_value, normal_object, normal_object_value, normal_object_with, normal_selection, normal_value, with_id}
+use Rattle.erd_normal.proofs.Common.{◌≡◌, ℕ, ◌≤◌, true, false, List, Some, None, codes, Option, option_map, option_and_then, bytes_eq, nat_cmp, Ordering, Less, Equal, Greater, sym, refl, ap, ◌∙◌, subst, true≢false, arith, tied_itself, nat_list_cmp_total, slice_cmp, match_ordering, get_member-put, get_member-put_other, Data, string, object, Members, no_members, member, put, depth, members_depth, get_member, get, as_str, role_of_class, class_in_role, kind_of_member, text_cmp, Class, class, Family, Role, role, MemberKind, kind, text_itself, kind_of_id, is_object, IsTree, entries_at, class_of_object, kind_of_type, class_role, Preference, key_of, id_of, class_of_node, rising_list, compact_cmp, with_rising_text, selection_role, id_of_key, id_of_selection, array_of, normal_value, normal_object_with, normal_node_value, normal_content, normal_node, with_id, normal_selection, normal_object_value, normal_object, normal_election_value, normal_election}
 use Rattle.erd_normal.proofs.built.NormalMembers.{get_normal, get_normal_node, node_value}
 
 -- ---- the members of an object with a value put at a name: what stands at the other names, two values put there in turn, and how deep they nest

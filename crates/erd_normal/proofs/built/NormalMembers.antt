@@ -1,20 +1,5 @@
 -- The members that are built from those of an object: under each name what is built of the value there.
-use Rattle.std.proofs.Common.{◌≡◌, ◌≤◌, ℕ, max, List, Ordering, Less, Equal, Greater, Option, Some, None, option_and_then, option_map, refl, sym, ap, ◌∙◌, arith}
-use Rattle.std.proofs.lemmas.Map.Lookups.{exact_bytes}
-use Rattle.std.specs.Option.{option_map_or}
-use Rattle.std.specs.Ordering.{match_ordering}
-use Rattle.serde_json.specs.Data.{Data, Members, no_members, member, depth, members_depth}
-use Rattle.serde_json.specs.Find.{get_member}
-use Rattle.erd_tables.specs.Table.{kind_of_member}
-use Rattle.erd_tables.specs.Texts.{text_cmp}
-use Rattle.erd_tables.specs.declared.class.Class.{Class}
-use Rattle.erd_tables.specs.declared.member.MemberKind.{MemberKind}
-use Rattle.erd_check.specs.Trees.{IsTree, AreMembers, IsBeforeFirst}
-use Rattle.erd_check.proofs.Members.{get_member-before, get_member-first}
-use Rattle.erd_normal.specs.code.NormalTree.{normal_members, normal_node_members, normal_node_value, normal_content}
-use Rattle.erd_check.proofs.Whole.{get_member-later}
-use Rattle.erd_check.proofs.Deciding.{before_later}
-use Rattle.erd_meaning.specs.Keys.{Preference}
+use Rattle.erd_normal.proofs.Common.{◌≡◌, ℕ, ◌≤◌, max, List, Some, None, Option, option_map, option_and_then, Ordering, Less, Equal, Greater, sym, refl, ap, ◌∙◌, arith, exact_bytes, option_map_or, match_ordering, Data, Members, no_members, member, depth, members_depth, get_member, kind_of_member, text_cmp, Class, MemberKind, before_later, get_member-before, get_member-first, get_member-later, IsBeforeFirst, IsTree, AreMembers, Preference, normal_members, normal_node_value, normal_content, normal_node_members}
 
 -- ---- of any value by name
 

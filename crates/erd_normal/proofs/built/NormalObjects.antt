@@ -1,30 +1,7 @@
 -- The objects of each family in the report that is built: those of the report, each built.
-use Rattle.std.proofs.Common.{◌≡◌, ℕ, List, map, flat_map, true, false, Some, codes, refl, sym, ap, ◌∙◌, subst}
-use Rattle.serde_json.specs.Data.{Data}
-use Rattle.erd_tables.specs.Table.{is_envelope_name, kind_of_member}
-use Rattle.erd_tables.specs.declared.class.Class.{Class}
-use Rattle.erd_tables.specs.declared.class.Class.TheVariants as class
-use Rattle.erd_tables.specs.declared.class.Family.{Family}
-use Rattle.erd_tables.specs.declared.class.Family.TheVariants as family
-use Rattle.erd_tables.specs.declared.class.Role.TheVariants as role
-use Rattle.erd_tables.specs.declared.member.MemberKind.TheVariants as kind
-use Rattle.erd_check.specs.Faults.{NoneOf, ShapeFault}
-use Rattle.erd_check.specs.Trees.{IsTree}
-use Rattle.erd_check.specs.Wants.{asked, class_of_object}
-use Rattle.erd_check.specs.declared.want.Want.TheVariants.{Object}
-use Rattle.erd_check.proofs.Shapes.{Within, within-tree}
-use Rattle.erd_check.proofs.Rising.{Has}
-use Rattle.erd_meaning.specs.Keys.{Preference, has_keys}
-use Rattle.erd_check.specs.Values.{entries_at, list_of_items}
-use Rattle.erd_meaning.specs.Objects.{elections, objects, placed_entries, report_of}
-use Rattle.erd_meaning.specs.SelectionNames.{rising_list}
-use Rattle.erd_meaning.proofs.accepted.Skeleton.{Skeleton, election_entries, election_object, election_within, skeleton_of_shape, values-placed_entries, values-placed_flat, values_in_elections}
-use Rattle.erd_meaning.proofs.accepted.Standing.{contest_selections}
-use Rattle.erd_normal.specs.code.NormalTree.{by_key, by_name, normal_election, normal_object, normal_selection, normal_tree}
+use Rattle.erd_normal.proofs.Common.{◌≡◌, ℕ, true, false, List, map, Some, codes, flat_map, sym, refl, ap, ◌∙◌, subst, Data, is_envelope_name, kind_of_member, Class, class, Family, family, role, kind, Has, within-tree, Within, ShapeFault, NoneOf, IsTree, list_of_items, entries_at, class_of_object, asked, Object, skeleton_of_shape, values-placed_entries, values-placed_flat, election_entries, values_in_elections, election_within, election_object, Skeleton, contest_selections, class_role, reordered_map, reordered_rising, has_keys, Preference, placed_entries, report_of, elections, objects, rising_list, normal_selection, by_key, by_name, normal_object, normal_election, normal_tree}
 use Rattle.erd_normal.proofs.built.NormalEntries.{entries_of_election, entries_of_elections, entries_of_report, entries_of_selections}
 use Rattle.erd_normal.proofs.lists.Matched.{Matched, matched_flat, matched_map, matched_then}
-use Rattle.erd_meaning.proofs.orders.Reordered.{reordered_map, reordered_rising}
-use Rattle.erd_meaning.proofs.meanings.SelectionKinds.{class_role}
 
 -- the objects of a family, without their places
 abbrev pub values_of : Family → Data → List Data

@@ -1,25 +1,6 @@
 -- The report that is built: what stands under each name, and its envelope.
-use Rattle.std.proofs.Common.{◌≡◌, ◌≤◌, ℕ, List, [], ◌∷◌, Option, Some, Bool, true, false, if◌then◌else◌, true≢false, refl, sym, ap, ◌∙◌, arith, None, option_and_then, codes, subst}
-use Rattle.std.specs.List.{list_all, AllByRecursion}
-use Rattle.std.specs.Str.{bytes_eq}
-use Rattle.std.proofs.lemmas.Bool.{and_parts}
-use Rattle.serde_json.specs.Data.{Data, Members, put, depth, members_depth, object}
-use Rattle.serde_json.specs.Find.{get_member, as_str, get}
-use Rattle.serde_json.proofs.Views.{get_member-put}
-use Rattle.erd_tables.specs.Table.{is_envelope_name, kind_of_member}
-use Rattle.erd_tables.specs.Classes.{class_in_role}
-use Rattle.erd_tables.specs.declared.class.Class.TheVariants as class
-use Rattle.erd_tables.specs.declared.class.Role.TheVariants as role
-use Rattle.erd_check.proofs.Exact.{text_exact}
-use Rattle.erd_check.specs.Faults.{NoneOf, ShapeFault}
-use Rattle.erd_check.specs.Trees.{IsTree}
-use Rattle.erd_check.specs.Wants.{class_of_object}
-use Rattle.erd_meaning.proofs.accepted.Skeleton.{Skeleton, skeleton_of_shape}
-use Rattle.erd_meaning.specs.Keys.{Preference}
-use Rattle.erd_normal.specs.code.Building.{put_all}
-use Rattle.erd_normal.specs.code.NormalTree.{envelope_values, with_envelope, in_envelope, normal_members, normal_object_with, normal_report_value, normal_tree}
+use Rattle.erd_normal.proofs.Common.{◌≡◌, ℕ, ◌≤◌, Bool, true, false, List, [], ◌∷◌, if◌then◌else◌, Some, None, codes, Option, option_and_then, bytes_eq, sym, refl, ap, ◌∙◌, subst, true≢false, arith, and_parts, AllByRecursion, list_all, get_member-put, Data, object, Members, put, depth, members_depth, get_member, get, as_str, class_in_role, is_envelope_name, kind_of_member, class, role, text_exact, ShapeFault, NoneOf, IsTree, class_of_object, skeleton_of_shape, Skeleton, Preference, HasCanonicalEnvelope, put_all, normal_members, normal_object_with, normal_report_value, envelope_values, with_envelope, in_envelope, normal_tree}
 use Rattle.erd_normal.proofs.built.NormalGets.{put_elsewhere, put-depth, no_value, same_value}
-use Rattle.erd_normal.specs.Canonical.{HasCanonicalEnvelope}
 use Rattle.erd_normal.proofs.built.NormalMembers.{get_normal}
 
 -- ---- the members with the canonical envelope: what stands at each name

@@ -1,29 +1,7 @@
 -- What holds of a report holds of what is built of it, if it is told part by part; so what is built of a tree is a tree.
-use Rattle.std.proofs.Common.{◌≡◌, ℕ, List, [], ◌∷◌, map, Bool, true, false, if◌then◌else◌, Ordering, Option, Some, None, option_map, codes, refl, sym, subst}
-use Rattle.std.specs.List.{AllByRecursion}
-use Rattle.std.specs.Option.{option_map_or}
-use Rattle.serde_json.specs.Data.{Data, string, array, object, Items, no_items, item, Members, no_members, member, number, unsigned, put}
-use Rattle.serde_json.specs.Find.{get_member}
-use Rattle.erd_tables.specs.Table.{is_envelope_name, kind_of_member}
-use Rattle.erd_tables.specs.declared.class.Class.{Class}
-use Rattle.erd_tables.specs.declared.class.Family.{Family}
-use Rattle.erd_tables.specs.declared.class.Family.TheVariants as family
-use Rattle.erd_tables.specs.declared.class.Role.TheVariants as role
-use Rattle.erd_tables.specs.declared.member.MemberKind.{MemberKind}
-use Rattle.erd_tables.specs.declared.member.MemberKind.TheVariants as kind
-use Rattle.erd_check.specs.Trees.{IsTree}
-use Rattle.erd_check.specs.Values.{entries_of, entries_at, list_of_items}
-use Rattle.erd_check.specs.Wants.{class_of_object}
-use Rattle.erd_check.proofs.Members.{get_member-tree, found_cases}
-use Rattle.erd_check.proofs.ReadTrees.{put-trees}
-use Rattle.erd_meaning.specs.Keys.{Preference, key_of}
-use Rattle.erd_meaning.specs.Records.{class_of_node}
-use Rattle.erd_meaning.specs.SelectionNames.{compact_cmp, rising_list, selection_role, with_rising_text}
-use Rattle.erd_meaning.proofs.orders.RisingOrders.{all_rising}
-use Rattle.erd_normal.specs.code.NormalTree.{array_of, by_key, by_name, envelope_values, id_of_key, id_of_selection, in_envelope, normal_content, normal_election, normal_election_value, normal_node, normal_node_value, normal_nodes, normal_object, normal_object_value, normal_object_with, normal_objects, normal_reference, normal_report_value, normal_selection, normal_selection_reference, normal_tree, normal_value, reference_cmp, unless_no_entry, with_id}
+use Rattle.erd_normal.proofs.Common.{◌≡◌, ℕ, Bool, true, false, List, [], ◌∷◌, map, if◌then◌else◌, Some, None, codes, Option, option_map, Ordering, sym, refl, subst, AllByRecursion, option_map_or, unsigned, Data, number, string, array, object, Items, no_items, item, Members, no_members, member, put, get_member, is_envelope_name, kind_of_member, Class, Family, family, role, MemberKind, kind, found_cases, get_member-tree, put-trees, IsTree, list_of_items, entries_of, entries_at, class_of_object, all_rising, Preference, key_of, class_of_node, rising_list, compact_cmp, with_rising_text, selection_role, put_all, id_of_key, normal_reference, reference_cmp, id_of_selection, normal_selection_reference, unless_no_entry, array_of, normal_value, normal_object_with, normal_node_value, normal_content, normal_nodes, normal_node, with_id, normal_selection, by_key, by_name, normal_object_value, normal_object, normal_objects, normal_election_value, normal_election, normal_report_value, envelope_values, in_envelope, normal_tree}
 use Rattle.erd_normal.proofs.lists.BuiltLists.{IfSome, if_some_is, all_map, array_of-tree, items_again, trees_listed, unless_no_entry-holds}
 use Rattle.erd_normal.proofs.built.NormalMembers.{each_member, node_value, normal_members_each, normal_node_members_each, trees_of_each, value_in_class}
-use Rattle.erd_normal.specs.code.Building.{put_all}
 
 -- it holds of an array and of an object by what it says of their parts, and of texts and of the number of the envelope
 pub record IsPartwise (P : Data → Type 0) : Type 0 where

@@ -1,10 +1,5 @@
 -- A report each of whose families has fewer objects than a word counts.
-use Rattle.std.proofs.Common.{◌<◌, ◌≤◌, ◌^◌, List, flat_map, length, arith}
-use Rattle.std.proofs.Math.ListN.{length-append}
-use Rattle.serde_json.specs.Data.{Data}
-use Rattle.erd_tables.specs.declared.class.Family.TheVariants as family
-use Rattle.erd_check.proofs.Rising.{Has, here, later}
-use Rattle.erd_meaning.specs.Objects.{IsBounded, Placed, contests, objects, selections_of_contest}
+use Rattle.erd_normal.proofs.Common.{◌^◌, ◌<◌, ◌≤◌, List, length, flat_map, arith, length-append, Data, family, here, later, Has, Placed, contests, selections_of_contest, objects, IsBounded}
 
 -- one of the lists that are put together is no longer than the whole
 part_short : {A B : Type 0} (f : A → List B) (xs : List A) (x : A) → Has xs x → length (f x) ≤ length (flat_map f xs)

@@ -1,11 +1,5 @@
 -- Canonical `@id` texts tell objects apart, as long as a report has fewer objects than a word counts.
-use Rattle.std.proofs.Common.{◌≡◌, ◌<◌, ◌+◌, ◌^◌, ℕ, List, [], ◌++◌, drop, take, find, Option, Some, None, unwrap_or, codes, decimal, refl, sym, ap, ◌∙◌, subst, arith}
-use Rattle.std.proofs.lemmas.Fmt.{decimal_injective}
-use Rattle.std.specs.Str.{bytes_eq}
-use Rattle.erd_tables.specs.Classes.{families}
-use Rattle.erd_tables.specs.declared.class.Family.{Family}
-use Rattle.erd_tables.specs.declared.class.Family.TheVariants as family
-use Rattle.erd_normal.specs.Canonical.{canonical_id, canonical_selection_id, id_prefix}
+use Rattle.erd_normal.proofs.Common.{◌≡◌, ℕ, ◌+◌, ◌^◌, ◌<◌, List, [], ◌++◌, take, drop, Some, None, codes, decimal, Option, find, bytes_eq, unwrap_or, sym, refl, ap, ◌∙◌, subst, arith, decimal_injective, families, Family, family, id_prefix, canonical_id, canonical_selection_id}
 
 -- the family that the first letters of an `@id` name
 abbrev family_of_id : List ℕ → Option Family

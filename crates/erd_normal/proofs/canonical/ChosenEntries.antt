@@ -1,26 +1,5 @@
 -- Each entry of an object's list in an accepted report is a selection of the contest that the object names.
-use Rattle.std.proofs.Common.{◌≡◌, ℕ, List, [], ◌∷◌, ◌++◌, Option, Some, None, option_and_then, unwrap_or, true, false, codes, refl, ap, ◌∙◌}
-use Rattle.std.specs.List.{AllByRecursion}
-use Rattle.serde_json.specs.Data.{Data, array, object, Items, Members}
-use Rattle.serde_json.specs.Find.{as_str, get_item, get_member}
-use Rattle.erd_tables.specs.declared.class.Class.TheVariants as class
-use Rattle.erd_tables.specs.declared.class.Family.TheVariants as family
-use Rattle.erd_tables.specs.declared.class.Role.TheVariants as role
-use Rattle.erd_tables.specs.declared.member.MemberKind.TheVariants as kind
-use Rattle.erd_tables.specs.declared.place.Step.{Step}
-use Rattle.erd_tables.specs.declared.place.Step.TheVariants.{Name, At}
-use Rattle.erd_check.specs.declared.want.Want.TheVariants.{Member, Object, Reference}
-use Rattle.erd_check.specs.Values.{list_of_items, entries_at, text_at, text_of}
-use Rattle.erd_check.specs.Wants.{Asked, asked, asked_at, asked_inside}
-use Rattle.erd_check.proofs.Entries.{array_from}
-use Rattle.erd_check.proofs.Shapes.{Within, Within-step, asked_at-steps, asked_inside_object, lacks_none, of_role, wanted_within}
-use Rattle.erd_meaning.specs.Keys.{Preference}
-use Rattle.erd_meaning.specs.Accepted.{IsAccepted}
-use Rattle.erd_meaning.specs.LaterFaults.{is_selection_in}
-use Rattle.erd_meaning.specs.Objects.{owner}
-use Rattle.erd_meaning.specs.Records.{class_of_node}
-use Rattle.erd_meaning.proofs.accepted.Phases.{no_shape_fault}
-use Rattle.erd_meaning.proofs.accepted.References.{selected}
+use Rattle.erd_normal.proofs.Common.{◌≡◌, ℕ, true, false, List, [], ◌∷◌, ◌++◌, Some, None, codes, Option, option_and_then, unwrap_or, refl, ap, ◌∙◌, AllByRecursion, Data, array, object, Items, Members, get_member, get_item, as_str, class, family, role, kind, Step, At, Name, array_from, asked_at-steps, Within-step, of_role, asked_inside_object, wanted_within, lacks_none, Within, list_of_items, entries_at, text_of, text_at, Asked, asked, asked_inside, asked_at, Member, Object, Reference, no_shape_fault, selected, IsAccepted, Preference, is_selection_in, owner, class_of_node}
 use Rattle.erd_normal.proofs.built.AskedMembers.{all_items}
 use Rattle.erd_normal.proofs.same.IdsOfObjects.{Refers, reference_refers}
 

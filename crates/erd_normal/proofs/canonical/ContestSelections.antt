@@ -1,20 +1,8 @@
 -- A selection stands in one contest of an accepted report.
-use Rattle.std.proofs.Common.{◌≡◌, ◌+◌, ℕ, zero, suc, List, [], ◌∷◌, ◌++◌, Some, codes, slice_get, Less, Equal, refl, sym, ap, ap₂, ◌∙◌}
-use Rattle.std.proofs.lemmas.Cmp.{tied_itself}
-use Rattle.serde_json.specs.Data.{Data}
+use Rattle.erd_normal.proofs.Common.{◌≡◌, ℕ, zero, suc, ◌+◌, List, [], ◌∷◌, ◌++◌, slice_get, Some, codes, Less, Equal, sym, refl, ap, ◌∙◌, ap₂, tied_itself, Data, family, Step, At, Name, position_of, Has, one_placed, IsAccepted, Preference, IsBefore, Placed, placed_from, selections_of_contest, objects}
 use Rattle.erd_tables.specs.Places.{place_cmp}
-use Rattle.erd_tables.specs.declared.class.Family.TheVariants as family
-use Rattle.erd_tables.specs.declared.place.Step.{Step}
-use Rattle.erd_tables.specs.declared.place.Step.TheVariants.{At, Name}
 use Rattle.erd_tables.proofs.PlaceOrder.{place_cmp_total}
-use Rattle.erd_check.proofs.Rising.{Has}
-use Rattle.erd_meaning.specs.Keys.{Preference}
-use Rattle.erd_meaning.specs.Accepted.{IsAccepted}
-use Rattle.erd_meaning.specs.LaterFaults.{IsBefore}
-use Rattle.erd_meaning.specs.Objects.{Placed, objects, placed_from, selections_of_contest}
-use Rattle.erd_meaning.proofs.accepted.Standing.{one_placed}
 use Rattle.erd_normal.proofs.canonical.SelectionIds.{selection_values}
-use Rattle.erd_check.proofs.Positions.{position_of}
 
 -- ---- places
 

@@ -1,20 +1,5 @@
 -- No two objects of the report that is built have one `@id`.
-use Rattle.std.proofs.Common.{◌≡◌, ℕ, List, true, Some, refl, sym, ap, ◌∙◌, subst, ◌⊎◌, inl, inr}
-use Rattle.serde_json.specs.Data.{Data}
-use Rattle.erd_tables.specs.declared.class.Family.{Family}
-use Rattle.erd_tables.specs.declared.class.Family.TheVariants as family
-use Rattle.erd_check.specs.Trees.{IsTree}
-use Rattle.erd_check.proofs.Positions.{position_of}
-use Rattle.erd_check.proofs.Rising.{Has}
-use Rattle.erd_meaning.specs.Accepted.{IsAccepted}
-use Rattle.erd_meaning.specs.Keys.{Preference, has_keys, key_of}
-use Rattle.erd_meaning.specs.LaterFaults.{IsBefore}
-use Rattle.erd_meaning.specs.Lookups.{rank_of}
-use Rattle.erd_meaning.specs.Objects.{IsBounded, Placed, contests, id_of, objects, selections_of_contest}
-use Rattle.erd_meaning.proofs.accepted.HeldObjects.{has-flat}
-use Rattle.erd_meaning.proofs.accepted.References.{Contains-Has, Has-Contains}
-use Rattle.erd_normal.specs.SameLaws.{HasDistinctIds}
-use Rattle.erd_normal.specs.code.NormalTree.{normal_tree}
+use Rattle.erd_normal.proofs.Common.{◌≡◌, ℕ, true, ◌⊎◌, List, Some, sym, refl, ap, ◌∙◌, subst, inl, inr, Data, Family, family, position_of, Has, IsTree, has-flat, Contains-Has, Has-Contains, IsAccepted, has_keys, Preference, key_of, IsBefore, rank_of, Placed, contests, selections_of_contest, objects, id_of, IsBounded, HasDistinctIds, normal_tree}
 use Rattle.erd_normal.proofs.canonical.CanonicalIds.{canonical_id_exact, selection_id_apart}
 use Rattle.erd_normal.proofs.canonical.ContestSelections.{never_before_itself}
 use Rattle.erd_normal.proofs.canonical.NormalKeys.{ids_by_rank, one_ranked_built, rank_counted, has_canonical_ids}

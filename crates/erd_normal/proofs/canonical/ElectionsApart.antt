@@ -1,23 +1,8 @@
 -- Elections that are matched with those of an accepted report, each with one of its key, have keys where they need them, and no two have one.
-use Rattle.std.proofs.Common.{◌≡◌, List, map, true, true≢false, nat_lt, Some, None, sym, ap, ◌∙◌}
-use Rattle.std.proofs.lemmas.Cmp.{tied_itself}
-use Rattle.std.proofs.lemmas.List.{length-map}
-use Rattle.std.specs.List.{IsDistinct}
-use Rattle.std.proofs.lemmas.Bool.{false_from_ne_true}
-use Rattle.serde_json.specs.Data.{Data}
-use Rattle.erd_check.proofs.Positions.{has_mapped, map_has}
-use Rattle.erd_check.proofs.Rising.{Has}
-use Rattle.erd_meaning.specs.Accepted.{IsAccepted}
-use Rattle.erd_meaning.specs.Keys.{Preference, key_of}
-use Rattle.erd_meaning.specs.Objects.{Placed, elections, has_several}
+use Rattle.erd_normal.proofs.Common.{◌≡◌, true, List, map, nat_lt, Some, None, sym, ap, ◌∙◌, true≢false, false_from_ne_true, tied_itself, length-map, IsDistinct, Data, has_mapped, map_has, Has, election_has_identifier, no_identity_fault, distinct_from_one_place, distinct_map, distinct_one, IsAccepted, Preference, key_of, Placed, elections, has_several, key_cmp_total, Key}
 use Rattle.erd_meaning.specs.code.ObjectWalk.{same_key}
-use Rattle.erd_meaning.specs.code.Orders.{key_cmp_total}
-use Rattle.erd_meaning.specs.declared.keys.key.Key.{Key}
-use Rattle.erd_meaning.proofs.accepted.DistinctKeys.{election_has_identifier}
-use Rattle.erd_meaning.proofs.accepted.Phases.{no_identity_fault}
 use Rattle.erd_meaning.proofs.finding.TwinElections.{one_election_key}
 use Rattle.erd_meaning.proofs.identity.IdentityFaults.{same_key_from}
-use Rattle.erd_meaning.proofs.orders.DistinctEntries.{distinct_from_one_place, distinct_map, distinct_one}
 use Rattle.erd_normal.proofs.lists.Matched.{IsEven, Matched, distinct_matched, matched_back, matched_length}
 
 -- the elections of a report, without their places

@@ -1,23 +1,6 @@
 -- What is built of references names objects with their keys, and what is built of selections has their names, where it stands
 -- in the report that is built.
-use Rattle.std.proofs.Common.{◌≡◌, List, [], ◌∷◌, map, option_and_then, true, false, refl, sym, ap, ap₂, ◌∙◌, subst}
-use Rattle.serde_json.specs.Data.{Data}
-use Rattle.serde_json.specs.Find.{as_str}
-use Rattle.erd_tables.specs.declared.class.Family.{Family}
-use Rattle.erd_tables.specs.declared.class.Family.TheVariants as family
-use Rattle.erd_check.specs.Trees.{IsTree}
-use Rattle.erd_check.specs.Values.{text_of}
-use Rattle.erd_check.specs.declared.want.Want.TheVariants.{Object, Reference}
-use Rattle.erd_check.proofs.Positions.{map_has}
-use Rattle.erd_check.proofs.Rising.{Has, here, later}
-use Rattle.erd_meaning.specs.Accepted.{IsAccepted}
-use Rattle.erd_meaning.specs.Keys.{Preference}
-use Rattle.erd_meaning.specs.Objects.{IsBounded, Placed, contests, objects, selections_of_contest}
-use Rattle.erd_meaning.specs.SelectionNames.{key_named, name_of, selection_role}
-use Rattle.erd_meaning.proofs.accepted.Standing.{flat-has, stands}
-use Rattle.erd_normal.specs.Canonical.{keys_referred}
-use Rattle.erd_normal.specs.SaysTheSame.{Sides}
-use Rattle.erd_normal.specs.code.NormalTree.{normal_reference, normal_selection, normal_tree}
+use Rattle.erd_normal.proofs.Common.{◌≡◌, true, false, List, [], ◌∷◌, map, option_and_then, sym, refl, ap, ◌∙◌, subst, ap₂, Data, as_str, Family, family, map_has, here, later, Has, IsTree, text_of, Object, Reference, stands, flat-has, IsAccepted, Preference, Placed, contests, selections_of_contest, objects, IsBounded, key_named, selection_role, name_of, keys_referred, Sides, normal_reference, normal_selection, normal_tree}
 use Rattle.erd_normal.proofs.built.NormalTrees.{normal_tree-tree}
 use Rattle.erd_normal.proofs.canonical.SelectionIds.{listed, selection_values}
 use Rattle.erd_normal.proofs.same.FromAlike.{Stands}

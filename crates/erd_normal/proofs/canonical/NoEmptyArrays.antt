@@ -1,26 +1,6 @@
 -- No array of the table is empty in the report that is built.
-use Rattle.std.proofs.Common.{◌≡◌, suc, List, map, length, Some, Bool, true, false, ◌==◌, refl, ap, ◌∙◌}
-use Rattle.std.proofs.lemmas.List.{length-map}
-use Rattle.serde_json.specs.Data.{Data, null, boolean, number, string, array, object, Items, no_items, item}
-use Rattle.erd_tables.specs.declared.fault.Reason.TheVariants as reason
-use Rattle.erd_tables.specs.declared.member.MemberKind.{MemberKind}
-use Rattle.erd_tables.specs.declared.member.MemberKind.TheVariants as kind
-use Rattle.erd_check.specs.Faults.{is_array, is_empty_array, NoneOf, ShapeFault}
-use Rattle.erd_check.specs.Trees.{IsTree}
-use Rattle.erd_check.specs.Values.{entries_of, list_of_items}
-use Rattle.erd_check.specs.Wants.{Asked, asked}
-use Rattle.erd_check.specs.declared.want.Want.{Want}
-use Rattle.erd_check.specs.declared.want.Want.TheVariants.{Member}
-use Rattle.erd_check.proofs.Shapes.{Within, faultless, unrepeated, wanted_within}
-use Rattle.erd_check.proofs.Whole.{no_strange, no_unknown}
-use Rattle.erd_meaning.proofs.accepted.Phases.{no_shape_fault}
-use Rattle.erd_meaning.specs.Keys.{Preference}
-use Rattle.erd_meaning.specs.Accepted.{IsAccepted}
-use Rattle.erd_meaning.specs.SelectionNames.{compact_cmp, rising_list, with_rising_text}
-use Rattle.erd_normal.specs.Canonical.{HasNoEmptyArray, kind_wanted}
-use Rattle.erd_normal.specs.code.NormalTree.{array_of, by_key, by_name, normal_content, normal_election, normal_nodes, normal_object, normal_reference, normal_selection, normal_selection_reference, normal_tree, reference_cmp}
+use Rattle.erd_normal.proofs.Common.{◌≡◌, suc, Bool, true, false, List, map, length, ◌==◌, Some, refl, ap, ◌∙◌, length-map, Data, null, boolean, number, string, array, object, Items, no_items, item, reason, MemberKind, kind, faultless, wanted_within, unrepeated, Within, no_strange, no_unknown, is_array, is_empty_array, ShapeFault, NoneOf, IsTree, list_of_items, entries_of, Asked, asked, Want, Member, no_shape_fault, length-rising, IsAccepted, Preference, rising_list, compact_cmp, with_rising_text, kind_wanted, HasNoEmptyArray, normal_reference, reference_cmp, normal_selection_reference, array_of, normal_content, normal_nodes, normal_selection, by_key, by_name, normal_object, normal_election, normal_tree}
 use Rattle.erd_normal.proofs.lists.BuiltLists.{as_empty}
-use Rattle.erd_meaning.proofs.orders.RisingSets.{length-rising}
 use Rattle.erd_normal.proofs.throughout.ThroughoutMembers.{HoldsOfMembers}
 use Rattle.erd_normal.proofs.throughout.ThroughoutObjects.{HoldsOfObjects}
 use Rattle.erd_normal.proofs.throughout.ThroughoutReports.{HoldsOfBuilt, holds_of_built}

@@ -1,20 +1,7 @@
 -- The tree that is built for an accepted report means what the report means, and is its canonical form.
-use Rattle.std.proofs.Common.{◌≡◌, false, sym, ◌∙◌}
-use Rattle.serde_json.specs.Data.{Data}
-use Rattle.serde_json.specs.Written.{has_float}
+use Rattle.erd_normal.proofs.Common.{◌≡◌, false, sym, ◌∙◌, Data, has_float, tree_in_order, HasFittingNumbers, IsTree, Object, no_shape_fault, IsAccepted, Preference, IsBounded, meaning, IsCanonical, IsCanonicalFormOf, normal_tree}
 use Rattle.erd_tables.specs.declared.class.Role.TheVariants.{Report}
-use Rattle.erd_check.specs.Numbers.{HasFittingNumbers}
-use Rattle.erd_check.specs.Trees.{IsTree}
-use Rattle.erd_check.specs.declared.want.Want.TheVariants.{Object}
-use Rattle.erd_check.proofs.Deciding.{tree_in_order}
 use Rattle.erd_check.proofs.ShapedReports.{no_fraction}
-use Rattle.erd_meaning.specs.Keys.{Preference}
-use Rattle.erd_meaning.specs.Accepted.{IsAccepted}
-use Rattle.erd_meaning.specs.Objects.{IsBounded}
-use Rattle.erd_meaning.proofs.accepted.Phases.{no_shape_fault}
-use Rattle.erd_meaning.specs.Records.{meaning}
-use Rattle.erd_normal.specs.Canonical.{IsCanonical, IsCanonicalFormOf}
-use Rattle.erd_normal.specs.code.NormalTree.{normal_tree}
 use Rattle.erd_normal.proofs.canonical.DistinctIds.{distinct_ids_built}
 use Rattle.erd_normal.proofs.canonical.NoEmptyArrays.{no_empty_array_built}
 use Rattle.erd_normal.proofs.built.NormalReports.{has_canonical_envelope}

@@ -1,41 +1,5 @@
 -- The objects of each family in the report that is built have the keys of those of the report, and each has the `@id` of the rank of its key.
-use Rattle.std.proofs.Common.{◌≡◌, ◌<◌, ◌+◌, ◌^◌, length, true, Option, Some, Equal, is_eq, is_lt, sym, ap, ap₂, ◌∙◌, arith, ℕ, List, map, option_map, codes, slice_get, refl, subst}
-use Rattle.std.proofs.lemmas.Cmp.{tied_back}
-use Rattle.std.proofs.lemmas.List.{length-map}
-use Rattle.std.specs.Cmp.Lexicographic.{options_total}
-use Rattle.std.specs.List.{AllByRecursion, IsDistinct}
-use Rattle.std.specs.Option.{option_cmp}
-use Rattle.std.specs.Ordering.{eq_by_cmp}
-use Rattle.std.proofs.lemmas.Option.{slice_get-map}
-use Rattle.serde_json.specs.Data.{Data}
-use Rattle.erd_tables.specs.declared.class.Class.{Class}
-use Rattle.erd_tables.specs.declared.class.Family.{Family}
-use Rattle.erd_tables.specs.declared.class.Role.TheVariants as role
-use Rattle.erd_tables.specs.declared.class.Family.TheVariants as family
-use Rattle.erd_check.specs.Trees.{IsTree}
-use Rattle.erd_check.specs.Wants.{asked, class_of_object}
-use Rattle.erd_check.specs.declared.want.Want.TheVariants.{Object}
-use Rattle.erd_check.proofs.ObjectsAt.{ObjectIn, object_in}
-use Rattle.erd_check.proofs.Rising.{Has, all-Has}
-use Rattle.erd_check.proofs.Shapes.{Within, within-tree}
-use Rattle.erd_check.proofs.Positions.{all_by_entry, has_mapped, map_has, all_at}
-use Rattle.erd_check.specs.Values.{entries_at}
-use Rattle.erd_meaning.specs.Accepted.{IsAccepted}
-use Rattle.erd_meaning.specs.Keys.{Preference, has_keys, key_cmp, key_of}
-use Rattle.erd_meaning.specs.Objects.{Placed, id_of, objects, contests, selections_of_contest}
-use Rattle.erd_meaning.specs.code.Orders.{key_cmp_total}
-use Rattle.erd_meaning.specs.declared.keys.key.Key.{Key}
-use Rattle.erd_meaning.proofs.accepted.Phases.{no_identity_fault, no_shape_fault}
-use Rattle.erd_meaning.proofs.accepted.Standing.{stands, flat-has}
-use Rattle.erd_meaning.specs.Lookups.{rank_of}
-use Rattle.erd_meaning.proofs.orders.DistinctEntries.{distinct_one}
-use Rattle.erd_meaning.proofs.orders.RisingOrders.{rank_map, all_rising}
-use Rattle.erd_meaning.proofs.accepted.DistinctKeys.{values_distinct}
-use Rattle.erd_meaning.specs.SelectionNames.{rising_list}
-use Rattle.erd_meaning.proofs.accepted.References.{Has-Contains, option_map-Some}
-use Rattle.erd_meaning.proofs.accepted.Skeleton.{values-placed_entries}
-use Rattle.erd_normal.specs.Canonical.{canonical_id, HasCanonicalIds, canonical_selection_id}
-use Rattle.erd_normal.specs.code.NormalTree.{by_key, normal_object, normal_tree, by_name, normal_selection}
+use Rattle.erd_normal.proofs.Common.{◌≡◌, ℕ, ◌+◌, ◌^◌, ◌<◌, true, List, map, length, slice_get, Some, codes, Option, option_map, is_eq, is_lt, Equal, sym, refl, ap, ◌∙◌, subst, ap₂, arith, tied_back, length-map, slice_get-map, options_total, AllByRecursion, IsDistinct, option_cmp, eq_by_cmp, Data, Class, Family, family, role, object_in, ObjectIn, has_mapped, map_has, all_at, all_by_entry, all-Has, Has, within-tree, Within, IsTree, entries_at, class_of_object, asked, Object, values_distinct, no_shape_fault, no_identity_fault, Has-Contains, option_map-Some, values-placed_entries, stands, flat-has, distinct_one, all_rising, rank_map, IsAccepted, has_keys, key_cmp, Preference, key_of, rank_of, Placed, contests, selections_of_contest, objects, id_of, rising_list, key_cmp_total, Key, canonical_id, canonical_selection_id, HasCanonicalIds, normal_selection, by_key, by_name, normal_object, normal_tree}
 use Rattle.erd_normal.proofs.lists.BuiltLists.{all_map}
 use Rattle.erd_normal.proofs.lists.KeyedRanks.{rank_exact, rank_low}
 use Rattle.erd_normal.proofs.lists.Matched.{Matched, distinct_matched, even_order, matched_back, matched_count, matched_length, matched_within}

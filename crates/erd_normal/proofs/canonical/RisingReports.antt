@@ -1,42 +1,5 @@
 -- The sets of an accepted report in rising order: they rise strictly, and positions are ranks.
-use Rattle.std.proofs.Common.{◌≡◌, ◌+◌, ◌++◌, ℕ, zero, suc, List, [], ◌∷◌, codes, Some, option_map, is_eq, slice_get, sym, ap, ap₂, ◌∙◌, subst, arith, map, Bool, true, refl}
-use Rattle.std.specs.Cmp.{Equal-is, IsTotalOrder}
-use Rattle.std.specs.List.{IsDistinct}
-use Rattle.std.specs.Option.{option_cmp}
-use Rattle.std.specs.Ordering.{eq_by_cmp}
-use Rattle.std.specs.Cmp.Lexicographic.{options_total}
-use Rattle.std.specs.List.Sorted.{IsStrictlySortedBy}
-use Rattle.std.proofs.lemmas.Cmp.{on_total}
-use Rattle.serde_json.specs.Data.{Data, array, Items}
-use Rattle.erd_tables.specs.declared.place.Step.{Step}
-use Rattle.erd_tables.specs.declared.place.Step.TheVariants.{At}
-use Rattle.erd_tables.specs.declared.class.Family.{Family}
-use Rattle.erd_tables.specs.declared.class.Family.TheVariants as family
-use Rattle.erd_tables.specs.declared.class.Role.TheVariants as role
-use Rattle.erd_tables.specs.declared.member.MemberKind.TheVariants as kind
-use Rattle.erd_check.proofs.Rising.{Has}
-use Rattle.erd_check.specs.Values.{entries_at, list_of_items, text_of}
-use Rattle.erd_check.specs.declared.want.Want.TheVariants.{Member}
-use Rattle.erd_check.specs.Numbers.{ItemsHaveFittingNumbers}
-use Rattle.erd_check.specs.Trees.{AreTrees}
-use Rattle.erd_check.specs.Wants.{asked}
-use Rattle.erd_check.proofs.Order.{sorted_map}
-use Rattle.erd_check.proofs.Shapes.{Within}
-use Rattle.erd_meaning.specs.Accepted.{IsAccepted}
-use Rattle.erd_meaning.specs.Keys.{Preference, has_keys, key_cmp, key_of}
-use Rattle.erd_meaning.specs.NameParts.{NameParts}
-use Rattle.erd_meaning.specs.Objects.{Placed, contests, objects, placed_from, selections_of_contest}
-use Rattle.erd_meaning.specs.code.Orders.{name_cmp_exact, compact_cmp_total, key_cmp_total, name_cmp_total}
-use Rattle.erd_meaning.specs.SelectionNames.{name_cmp, name_of, compact_cmp, key_named, rising_list}
-use Rattle.erd_meaning.proofs.finding.OneObject.{in_at}
-use Rattle.erd_meaning.proofs.accepted.Standing.{flat-has, one_named, stands}
-use Rattle.erd_meaning.proofs.orders.DistinctEntries.{distinct_from_one_place, distinct_map}
-use Rattle.erd_meaning.proofs.orders.RisingSets.{has_from_In}
-use Rattle.erd_meaning.proofs.accepted.Skeleton.{values-placed_from}
-use Rattle.erd_meaning.proofs.accepted.Phases.{no_identity_fault}
-use Rattle.erd_meaning.proofs.accepted.DistinctKeys.{elections_distinct, values_distinct}
-use Rattle.erd_meaning.proofs.orders.RisingOrders.{rising_strictly, rank_by_at}
-use Rattle.erd_normal.specs.code.NormalTree.{by_name, by_key, rank_of_name, reference_cmp}
+use Rattle.erd_normal.proofs.Common.{◌≡◌, ℕ, zero, suc, ◌+◌, Bool, true, List, [], ◌∷◌, ◌++◌, map, slice_get, Some, codes, option_map, is_eq, sym, refl, ap, ◌∙◌, subst, ap₂, arith, on_total, Equal-is, IsTotalOrder, options_total, IsDistinct, IsStrictlySortedBy, option_cmp, eq_by_cmp, Data, array, Items, Family, family, role, kind, Step, At, sorted_map, Has, Within, ItemsHaveFittingNumbers, AreTrees, list_of_items, entries_at, text_of, asked, Member, values_distinct, elections_distinct, no_identity_fault, values-placed_from, stands, flat-has, one_named, in_at, distinct_from_one_place, distinct_map, rising_strictly, rank_by_at, has_from_In, IsAccepted, has_keys, key_cmp, Preference, key_of, NameParts, Placed, placed_from, contests, selections_of_contest, objects, rising_list, compact_cmp, key_named, name_of, name_cmp, key_cmp_total, compact_cmp_total, name_cmp_total, name_cmp_exact, reference_cmp, rank_of_name, by_key, by_name}
 use Rattle.erd_normal.proofs.meaning.AlikeRecords.{has_name}
 use Rattle.erd_normal.proofs.texts.CompactTexts.{compact_exact}
 use Rattle.erd_normal.proofs.canonical.DistinctSets.{json_values_distinct, references_distinct}

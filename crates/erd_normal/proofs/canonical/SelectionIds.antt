@@ -1,27 +1,11 @@
 -- An `@id` names at most one selection of the report that is built, and a reference to a selection is built to the canonical
 -- `@id` of the one that it names.
-use Rattle.std.proofs.Common.{◌≡◌, ◌<◌, ◌+◌, ◌^◌, ℕ, List, [], map, length, Some, codes, slice_get, refl, sym, ap, ◌∙◌, arith}
-use Rattle.std.proofs.lemmas.List.{length-map}
-use Rattle.std.specs.Option.{option_map_or}
-use Rattle.std.proofs.lemmas.Option.{same_Some, slice_get_within}
-use Rattle.serde_json.specs.Data.{Data}
-use Rattle.erd_tables.specs.declared.class.Family.TheVariants as family
-use Rattle.erd_check.specs.Trees.{IsTree}
-use Rattle.erd_check.proofs.Rising.{Has}
-use Rattle.erd_meaning.specs.Accepted.{IsAccepted}
-use Rattle.erd_meaning.specs.Keys.{Preference}
-use Rattle.erd_check.specs.Values.{entries_at, text_of}
-use Rattle.erd_meaning.specs.Objects.{IsBounded, Placed, id_of, objects, owner, selections_of_contest}
-use Rattle.erd_meaning.specs.SelectionNames.{rising_list}
-use Rattle.erd_meaning.proofs.accepted.Skeleton.{values-placed_entries}
-use Rattle.erd_normal.specs.code.NormalTree.{by_name, id_of_selection, normal_object, normal_selection, normal_selection_reference, normal_tree, selection_with}
+use Rattle.erd_normal.proofs.Common.{◌≡◌, ℕ, ◌+◌, ◌^◌, ◌<◌, List, [], map, length, slice_get, Some, codes, sym, refl, ap, ◌∙◌, arith, length-map, same_Some, slice_get_within, option_map_or, Data, family, position_of, Has, IsTree, entries_at, text_of, values-placed_entries, length-rising, IsAccepted, Preference, Placed, selections_of_contest, objects, id_of, owner, IsBounded, rising_list, id_of_selection, selection_with, normal_selection_reference, normal_selection, by_name, normal_object, normal_tree}
 use Rattle.erd_normal.proofs.canonical.Bounds.{few_selections}
 use Rattle.erd_normal.proofs.lists.FoundInParts.{FoundSelection, owner_found}
 use Rattle.erd_normal.proofs.canonical.NormalKeys.{IsClassed, object_classed, object_from, one_ranked_built, rank_counted, selection_ids}
 use Rattle.erd_normal.proofs.built.NormalObjects.{selections_built}
 use Rattle.erd_normal.proofs.canonical.SelectionTexts.{canonical_selection_id_exact}
-use Rattle.erd_check.proofs.Positions.{position_of}
-use Rattle.erd_meaning.proofs.orders.RisingSets.{length-rising}
 
 -- ---- what stands in the report that is built
 

@@ -1,9 +1,7 @@
 -- The `@id` text of a selection that is built tells its contest's rank and its own.
-use Rattle.std.proofs.Common.{◌≡◌, ◌<◌, ◌+◌, ◌^◌, ℕ, List, [], ◌∷◌, ◌++◌, drop, decimal, refl, sym, ap, ap₂, subst, arith}
-use Rattle.std.proofs.lemmas.Fmt.{decimal_injective, decimal_is_IsNumeral}
+use Rattle.erd_normal.proofs.Common.{◌≡◌, ℕ, ◌+◌, ◌^◌, ◌<◌, List, [], ◌∷◌, ◌++◌, drop, decimal, sym, refl, ap, subst, ap₂, arith, decimal_is_IsNumeral, decimal_injective, canonical_selection_id}
 use Rattle.std.specs.Char.{digit_value}
 use Rattle.std.specs.Str.Parse.{AllDigits}
-use Rattle.erd_normal.specs.Canonical.{canonical_selection_id}
 
 -- the dash is no digit
 no_dash : (c : ℕ) → 45 ≡ c → digit_value c < 10 → ⊥

@@ -1,37 +1,5 @@
 -- Each set of the table rises in the report that is built.
-use Rattle.std.proofs.Common.{◌≡◌, List, [], ◌∷◌, map, Some, Bool, true, false, codes, refl, sym, ap, ap₂, ◌∙◌, subst}
-use Rattle.std.specs.List.{AllByRecursion}
-use Rattle.std.specs.List.Sorted.{IsStrictlySortedBy}
-use Rattle.std.specs.Option.{option_cmp, option_map_or}
-use Rattle.serde_json.specs.Data.{Data, array}
-use Rattle.serde_json.specs.Find.{get}
-use Rattle.erd_tables.specs.declared.class.Class.TheVariants as class
-use Rattle.erd_tables.specs.declared.class.Family.{Family}
-use Rattle.erd_tables.specs.declared.class.Family.TheVariants as family
-use Rattle.erd_tables.specs.declared.class.Role.TheVariants as role
-use Rattle.erd_tables.specs.declared.member.MemberKind.{MemberKind}
-use Rattle.erd_tables.specs.declared.member.MemberKind.TheVariants as kind
-use Rattle.erd_check.specs.declared.want.Want.{Want}
-use Rattle.erd_check.specs.declared.want.Want.TheVariants.{Member, Object, Reference}
-use Rattle.erd_check.specs.Faults.{NoneOf, ShapeFault}
-use Rattle.erd_check.specs.Numbers.{HasFittingNumbers}
-use Rattle.erd_check.specs.Trees.{IsTree}
-use Rattle.erd_check.specs.Values.{entries_of, list_of_items, entries_at, text_of}
-use Rattle.erd_check.specs.Wants.{Asked, asked, class_of_object, entry_want}
-use Rattle.erd_check.proofs.Entries.{array_from}
-use Rattle.erd_check.proofs.Rising.{Has, all-Has}
-use Rattle.erd_check.proofs.Shapes.{Within, wanted_within, within-tree}
-use Rattle.erd_check.proofs.Positions.{all_by_entry}
-use Rattle.erd_meaning.specs.Accepted.{IsAccepted}
-use Rattle.erd_meaning.specs.Keys.{Preference, has_keys, key_cmp, key_of}
-use Rattle.erd_meaning.specs.Objects.{IsBounded, Placed, objects}
-use Rattle.erd_meaning.specs.SelectionNames.{compact_cmp, key_named, name_cmp, name_of, rising_list, selection_role}
-use Rattle.erd_meaning.proofs.accepted.Phases.{no_shape_fault}
-use Rattle.erd_meaning.proofs.orders.RisingSets.{has_rising}
-use Rattle.erd_meaning.proofs.orders.RisingOrders.{all_rising}
-use Rattle.erd_meaning.proofs.accepted.Skeleton.{Skeleton, election_entries, skeleton_of_shape}
-use Rattle.erd_normal.specs.Canonical.{AreSetsInOrder, RisesAs, keys_of, keys_referred, kind_wanted}
-use Rattle.erd_normal.specs.code.NormalTree.{array_of, by_key, by_name, normal_election, normal_object, normal_objects, normal_selection, normal_tree, reference_cmp}
+use Rattle.erd_normal.proofs.Common.{◌≡◌, Bool, true, false, List, [], ◌∷◌, map, Some, codes, sym, refl, ap, ◌∙◌, subst, ap₂, AllByRecursion, IsStrictlySortedBy, option_cmp, option_map_or, Data, array, get, class, Family, family, role, MemberKind, kind, array_from, list_of_items-items_of, all_by_entry, all-Has, Has, wanted_within, within-tree, Within, ShapeFault, NoneOf, HasFittingNumbers, IsTree, list_of_items, entries_of, entries_at, text_of, class_of_object, entry_want, Asked, asked, Want, Member, Object, Reference, no_shape_fault, skeleton_of_shape, election_entries, Skeleton, all_rising, has_rising, IsAccepted, has_keys, key_cmp, Preference, key_of, Placed, objects, IsBounded, rising_list, compact_cmp, key_named, selection_role, name_of, name_cmp, kind_wanted, keys_of, keys_referred, RisesAs, AreSetsInOrder, reference_cmp, array_of, normal_selection, by_key, by_name, normal_object, normal_objects, normal_election, normal_tree}
 use Rattle.erd_normal.proofs.texts.FittingNumbers.{within-fitting}
 use Rattle.erd_normal.proofs.built.LeastKeys.{key_of_election, key_of_object}
 use Rattle.erd_normal.proofs.built.NormalObjects.{election_classed}
@@ -47,7 +15,6 @@ use Rattle.erd_normal.proofs.throughout.ThroughoutMembers.{HoldsOfMembers, built
 use Rattle.erd_normal.proofs.throughout.ThroughoutObjects.{HoldsOfObjects}
 use Rattle.erd_normal.proofs.throughout.ThroughoutReports.{HoldsOfBuilt, holds_of_built}
 use Rattle.erd_normal.proofs.throughout.ThroughoutValues.{is_apart}
-use Rattle.erd_check.proofs.Lists.{list_of_items-items_of}
 
 -- ---- what has to hold of a value
 

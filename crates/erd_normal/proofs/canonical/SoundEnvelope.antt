@@ -1,26 +1,5 @@
 -- The envelope of the report that is built has no fault of shape.
-use Rattle.std.proofs.Common.{◌≡◌, ℕ, List, [], ◌∷◌, true, false, true≢false, Option, Some, None, option_and_then, codes, refl, sym, ap₂, ◌∙◌, subst}
-use Rattle.std.specs.List.{AllByRecursion}
-use Rattle.std.specs.Prelude.{IsSomeAnd, IsTrue}
-use Rattle.std.specs.Str.{bytes_eq}
-use Rattle.serde_json.specs.Data.{Data, number, object, string, unsigned}
-use Rattle.serde_json.specs.Find.{get}
-use Rattle.erd_tables.specs.Rows.{envelope_rows}
-use Rattle.erd_tables.specs.declared.class.Class.TheVariants as class
-use Rattle.erd_tables.specs.declared.class.Role.TheVariants as role
-use Rattle.erd_tables.specs.declared.fault.Reason.{Reason}
-use Rattle.erd_tables.specs.declared.fault.Reason.TheVariants as reason
-use Rattle.erd_tables.specs.declared.member.MemberKind.TheVariants as kind
-use Rattle.erd_tables.specs.declared.place.Step.{Step}
-use Rattle.erd_tables.specs.declared.place.Step.TheVariants.{Name}
-use Rattle.erd_check.specs.Faults.{NoneOf, ShapeFault, is_shape_fault}
-use Rattle.erd_check.specs.Trees.{IsTree}
-use Rattle.erd_check.specs.Wants.{Asked, asked, asked_from, asked_inside, asked_of_member, class_of_object, member_want}
-use Rattle.erd_check.specs.declared.want.Want.{Want}
-use Rattle.erd_check.specs.declared.want.Want.TheVariants.{Member, Object}
-use Rattle.erd_meaning.specs.Keys.{Preference}
-use Rattle.erd_normal.specs.SameLaws.{HasSoundEnvelope}
-use Rattle.erd_normal.specs.code.NormalTree.{normal_tree}
+use Rattle.erd_normal.proofs.Common.{◌≡◌, ℕ, true, false, List, [], ◌∷◌, IsSomeAnd, IsTrue, Some, None, codes, Option, option_and_then, bytes_eq, sym, refl, ◌∙◌, subst, ap₂, true≢false, AllByRecursion, unsigned, Data, number, string, object, get, envelope_rows, class, role, Reason, reason, kind, Step, Name, is_shape_fault, ShapeFault, NoneOf, IsTree, class_of_object, member_want, Asked, asked, asked_of_member, asked_inside, asked_from, Want, Member, Object, Preference, HasSoundEnvelope, normal_tree}
 use Rattle.erd_normal.proofs.built.NormalReports.{class_of_built_report, has_canonical_envelope}
 use Rattle.erd_normal.proofs.throughout.ThroughoutReports.{row_named}
 

@@ -1,29 +1,8 @@
 -- The small ballot and its canonical form mean the same.
-use Rattle.std.proofs.Common.{◌≡◌, ℕ, List, [], ◌∷◌, codes, slice_get, Option, Some, None, true, false, map, refl, sym, ap, ◌∙◌, lit<}
-use Rattle.std.proofs.Math.Path.{fun_ext}
-use Rattle.std.specs.Ordering.{is_eq}
-use Rattle.std.specs.Prelude.{option_and_then, option_map, unwrap_or}
-use Rattle.serde_json.specs.Data.{Data, null}
-use Rattle.serde_json.specs.Find.{get}
-use Rattle.serde_json.proofs.OnLiterals.{serde_json_on_literals}
-use Rattle.erd_tables.specs.declared.class.Class.{Class}
-use Rattle.erd_tables.specs.declared.class.Class.TheVariants as class
-use Rattle.erd_tables.specs.declared.class.Family.{Family}
-use Rattle.erd_tables.specs.declared.class.Family.TheVariants as family
-use Rattle.erd_tables.specs.declared.class.Role.TheVariants as role
-use Rattle.erd_check.proofs.Reports.{tree_of, small_ballot, small_ballot_canonical}
-use Rattle.erd_check.specs.Trees.{is_same_json}
-use Rattle.erd_check.specs.Values.{entries_of, entries_at}
+use Rattle.erd_normal.proofs.Common.{◌≡◌, ℕ, true, false, List, [], ◌∷◌, map, slice_get, Some, None, codes, Option, option_map, option_and_then, is_eq, unwrap_or, sym, refl, ap, ◌∙◌, lit<, serde_json_on_literals, Data, null, get, Class, Family, family, role, tree_of, small_ballot, small_ballot_canonical, is_same_json, entries_of, entries_at, local_key, same_members, same_object, absent_carried, absent_beside, AgreeAt, AreAmong, value_with_key, same_at_key, ObjectsAgreeButOne, SameMember, same_at_key_with, HaveKeys, keys_of_family, same_family, selection_with_name, SelectionsAgreeButOne, same_at_name, HaveNames, names_of_selections, same_selections, same_sole_election, same_meaning, has_keys, key_cmp, JsonMap, translated, Content, no_content, first_node, a_contest, a_header, a_label, a_key_set, a_content, a_plain, a_selection_map, NameParts, Placed, report_of, elections, contests, json_set, carried_members, label_beside_text, content_of, meaning, plain_member, selection_map, object_record, records_of, election_records, name_of, name_named, Key, fun_ext}
 use Rattle.erd_check.proofs.ValueSets.{or_exchanged}
-use Rattle.erd_meaning.proofs.examples.RecordExamples.{local_key}
-use Rattle.erd_meaning.proofs.meanings.WholeMeanings.{same_members, same_object, absent_carried, absent_beside, AgreeAt, AreAmong, ObjectsAgree, same_at_key, ObjectsAgreeButOne, SameMember, same_at_key_with, value_with_key, HaveKeys, keys_of_family, same_family, selection_with_name, SelectionsAgreeButOne, same_at_name, HaveNames, names_of_selections, same_selections, same_sole_election, same_meaning}
-use Rattle.erd_meaning.specs.Keys.{has_keys, key_cmp}
-use Rattle.erd_meaning.specs.Meaning.{Content, no_content, first_node, a_contest, a_header, JsonMap, a_label, translated, a_key_set, a_content, a_plain, a_selection_map}
-use Rattle.erd_meaning.specs.NameParts.{NameParts}
-use Rattle.erd_meaning.specs.Objects.{Placed, elections, contests, report_of}
-use Rattle.erd_meaning.specs.Records.{content_of, election_records, label_beside_text, carried_members, json_set, plain_member, object_record, selection_map, records_of, meaning}
-use Rattle.erd_meaning.specs.SelectionNames.{name_named, name_of}
-use Rattle.erd_meaning.specs.declared.keys.key.Key.{Key}
+use Rattle.erd_meaning.proofs.meanings.WholeMeanings.{ObjectsAgree}
+use Rattle.erd_tables.specs.declared.class.Class.TheVariants as class
 
 abbrev given : Data
 given = tree_of small_ballot

@@ -1,26 +1,5 @@
 -- The canonical form of the small ballot, and rearrangements, by computation.
-use Rattle.std.proofs.Common.{◌≡◌, ℕ, List, [], ◌∷◌, ◌++◌, Option, Some, None, map, zero, suc, codes, Bool, true, false, ◌&&◌, is_lt, Ordering, refl, lit<, arith}
-use Rattle.std.specs.Fmt.{digits}
-use Rattle.std.specs.Option.{option_cmp, option_map_or}
-use Rattle.std.specs.Prelude.{option_map, unwrap_or}
-use Rattle.serde_json.specs.Data.{Data}
-use Rattle.serde_json.proofs.OnLiterals.{serde_json_on_literals}
-use Rattle.erd_tables.specs.declared.class.Family.{Family}
-use Rattle.erd_tables.specs.declared.class.Family.TheVariants as family
-use Rattle.erd_tables.specs.declared.place.Step.{Step}
-use Rattle.erd_tables.specs.declared.place.Step.TheVariants.{Name, At}
-use Rattle.erd_check.proofs.Reports.{tree_of, small_ballot, small_ballot_canonical}
-use Rattle.erd_check.specs.Values.{entries_of}
-use Rattle.erd_check.specs.Wants.{asked_at}
-use Rattle.erd_meaning.proofs.examples.RecordExamples.{local_key, members_of}
-use Rattle.erd_meaning.specs.Keys.{key_cmp}
-use Rattle.erd_meaning.specs.Meaning.{a_key, a_plain}
-use Rattle.erd_meaning.specs.NameParts.{NameParts}
-use Rattle.erd_meaning.specs.Objects.{contests}
-use Rattle.erd_meaning.specs.SelectionNames.{compact_cmp, name_cmp}
-use Rattle.erd_normal.specs.Canonical.{HasCanonicalEnvelope, canonical_id, canonical_selection_id, keys_referred}
-use Rattle.erd_normal.specs.Laws.{ids_in, keys_in, names_in}
-use Rattle.erd_normal.specs.Rearranged.{Renaming, renamed, exchanged, HasEntries, a_renaming, an_exchange, changed}
+use Rattle.erd_normal.proofs.Common.{◌≡◌, ℕ, zero, suc, Bool, true, false, ◌&&◌, List, [], ◌∷◌, ◌++◌, map, Some, None, codes, Option, option_map, is_lt, Ordering, unwrap_or, refl, arith, lit<, digits, option_cmp, option_map_or, serde_json_on_literals, Data, Family, family, Step, At, Name, tree_of, small_ballot, small_ballot_canonical, entries_of, asked_at, local_key, members_of, key_cmp, a_key, a_plain, NameParts, contests, compact_cmp, name_cmp, keys_referred, canonical_id, canonical_selection_id, HasCanonicalEnvelope, keys_in, ids_in, names_in, Renaming, renamed, exchanged, HasEntries, a_renaming, an_exchange, changed}
 
 -- ---- `@id` texts
 

@@ -1,23 +1,7 @@
 -- The envelope and the `@id` texts of canonical reports, and of reports that are not canonical.
-use Rattle.std.proofs.Common.{◌≡◌, ℕ, List, codes, slice_get, Option, Some, None, Bool, true, false, true≢false, not, ◌&&◌, ◌||◌, refl, ap, lit<}
-use Rattle.std.proofs.lemmas.Bool.{and_parts}
-use Rattle.std.proofs.lemmas.Slice.Eq.{bytes_eq-Decides}
-use Rattle.std.specs.Fmt.{digits}
-use Rattle.std.specs.List.{list_all}
-use Rattle.std.specs.Prelude.{unwrap_or}
-use Rattle.std.specs.Str.{bytes_eq}
-use Rattle.serde_json.specs.Data.{Data}
-use Rattle.serde_json.proofs.OnLiterals.{serde_json_on_literals}
-use Rattle.erd_tables.specs.Classes.{families}
-use Rattle.erd_tables.specs.declared.class.Family.{Family}
-use Rattle.erd_tables.specs.declared.class.Family.TheVariants as family
-use Rattle.erd_check.proofs.Reports.{tree_of, small_ballot, small_ballot_canonical, one_unit}
-use Rattle.erd_meaning.specs.Keys.{has_keys, key_of}
-use Rattle.erd_meaning.specs.Objects.{IsObject, Placed, objects, selections_of_contest, id_of, report_of}
+use Rattle.erd_normal.proofs.Common.{◌≡◌, ℕ, Bool, true, false, not, ◌&&◌, ◌||◌, List, slice_get, Some, None, codes, Option, bytes_eq, unwrap_or, refl, ap, true≢false, lit<, and_parts, bytes_eq-Decides, digits, list_all, serde_json_on_literals, Data, families, Family, family, tree_of, small_ballot, small_ballot_canonical, one_unit, has_keys, key_of, rank_of, Placed, report_of, selections_of_contest, objects, IsObject, id_of, canonical_id, canonical_selection_id, HasCanonicalEnvelope, HasCanonicalIds}
 use Rattle.erd_normal.proofs.lists.Lists.{passed, is_family, all_from, passed_at}
 use Rattle.erd_normal.proofs.examples.MeaningExamples.{one_unit_canonical}
-use Rattle.erd_normal.specs.Canonical.{HasCanonicalEnvelope, HasCanonicalIds, canonical_id, canonical_selection_id}
-use Rattle.erd_meaning.specs.Lookups.{rank_of}
 
 -- ---- a test of `@id` texts
 

@@ -1,29 +1,8 @@
 -- Whole reports that are canonical, and the canonical forms of two, by tests that compute.
-use Rattle.std.proofs.Common.{◌≡◌, List, [], ◌∷◌, Bool, true, false, not, ◌&&◌, Ordering, Less, is_lt, Option, Some, None, map, refl, subst, arith}
-use Rattle.std.specs.List.{AllByRecursion, list_all}
-use Rattle.std.specs.List.Sorted.{IsStrictlySortedBy}
-use Rattle.std.specs.Option.{option_cmp}
-use Rattle.std.proofs.lemmas.Bool.{and_parts, not-true}
-use Rattle.serde_json.specs.Data.{Data}
-use Rattle.serde_json.proofs.OnLiterals.{serde_json_on_literals}
-use Rattle.erd_tables.specs.declared.class.Family.{Family}
-use Rattle.erd_tables.specs.declared.class.Family.TheVariants as family
-use Rattle.erd_tables.specs.declared.member.MemberKind.{MemberKind}
-use Rattle.erd_tables.specs.declared.member.MemberKind.TheVariants as kind
-use Rattle.erd_tables.specs.declared.place.Step.{Step}
-use Rattle.erd_check.specs.Faults.{is_empty_array}
-use Rattle.erd_check.specs.Trees.{IsNoDeeper}
-use Rattle.erd_check.specs.Values.{entries_of}
-use Rattle.erd_check.specs.Wants.{Asked, asked_at}
+use Rattle.erd_normal.proofs.Common.{◌≡◌, Bool, true, false, not, ◌&&◌, List, [], ◌∷◌, map, Some, None, Option, is_lt, Ordering, Less, refl, subst, arith, not-true, and_parts, AllByRecursion, list_all, IsStrictlySortedBy, option_cmp, serde_json_on_literals, Data, Family, family, MemberKind, kind, Step, less, tree_sound, no_fault_listed, tree_of, small_ballot, small_ballot_canonical, one_unit, is_empty_array, IsNoDeeper, entries_of, Asked, asked_at, IsAccepted, key_cmp, compact_cmp, name_of, name_cmp, kind_wanted, HasNoEmptyArray, keys_of, keys_referred, RisesAs, AreSetsInOrder, IsCanonical, IsCanonicalFormOf}
 use Rattle.erd_check.proofs.AllAsked.{AskedPlace, all_asked, tested_at}
-use Rattle.erd_check.proofs.Deciding.{no_fault_listed, tree_sound, less}
-use Rattle.erd_check.proofs.Reports.{tree_of, one_unit, small_ballot, small_ballot_canonical}
-use Rattle.erd_meaning.specs.Accepted.{IsAccepted}
-use Rattle.erd_meaning.specs.Keys.{key_cmp}
-use Rattle.erd_meaning.specs.SelectionNames.{compact_cmp, name_cmp, name_of}
 use Rattle.erd_meaning.proofs.examples.AcceptedExamples.{small_ballot_canonical_is_accepted}
 use Rattle.erd_meaning.proofs.refused.Refused.{accepted_by_lists}
-use Rattle.erd_normal.specs.Canonical.{AreSetsInOrder, HasNoEmptyArray, IsCanonical, IsCanonicalFormOf, RisesAs, keys_of, keys_referred, kind_wanted}
 use Rattle.erd_normal.proofs.examples.BallotMeaningExamples.{canonical_ballot_means_the_same}
 use Rattle.erd_normal.proofs.examples.CanonicalExamples.{canonical_envelope}
 use Rattle.erd_normal.proofs.examples.CanonicalPartExamples.{envelope_of_one_unit, ids_of_one_unit, ids_of_small_ballot}

@@ -1,9 +1,5 @@
 -- Reports of two elections: they rise by key, and the numbers of contests count both.
-use Rattle.std.proofs.Common.{◌≡◌, ℕ, List, [], ◌++◌, codes, refl, None}
-use Rattle.std.specs.Fmt.{digits}
-use Rattle.serde_json.proofs.OnLiterals.{serde_json_on_literals}
-use Rattle.erd_check.proofs.Reports.{identifier, three_contests, tree_of, two_elections}
-use Rattle.erd_normal.specs.code.NormalTree.{normal_tree}
+use Rattle.erd_normal.proofs.Common.{◌≡◌, ℕ, List, [], ◌++◌, None, codes, refl, digits, serde_json_on_literals, tree_of, identifier, two_elections, three_contests, normal_tree}
 
 -- a contest of the canonical form
 abbrev numbered_contest : List ℕ → List ℕ → List ℕ

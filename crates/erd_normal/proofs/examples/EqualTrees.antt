@@ -1,13 +1,5 @@
 -- A test of equal trees.
-use Rattle.std.proofs.Common.{◌≡◌, Bool, true, false, ◌&&◌, refl, ap}
-use Rattle.std.proofs.lemmas.Bool.{and_parts}
-use Rattle.std.proofs.lemmas.Bool.Decides.{Decides-eqb}
-use Rattle.std.proofs.lemmas.Slice.Eq.{bytes_eq-Decides}
-use Rattle.std.specs.Prelude.{◌==◌}
-use Rattle.std.specs.Str.{bytes_eq}
-use Rattle.serde_json.specs.Data.{Num, unsigned, Data, null, boolean, number, string, array, object, Items, no_items, item, Members, no_members, member}
-use Rattle.erd_check.specs.Trees.{same_flag}
-use Rattle.erd_check.proofs.Exact.{same_flag_exact}
+use Rattle.erd_normal.proofs.Common.{◌≡◌, Bool, true, false, ◌&&◌, ◌==◌, bytes_eq, refl, ap, and_parts, Decides-eqb, bytes_eq-Decides, Num, unsigned, Data, null, boolean, number, string, array, object, Items, no_items, item, Members, no_members, member, same_flag_exact, same_flag}
 
 -- equal numbers that are not negative; a number of another kind is equal to none
 abbrev same_whole_number : Num → Num → Bool

@@ -1,18 +1,5 @@
 -- The report of one unit and its canonical form mean the same.
-use Rattle.std.proofs.Common.{◌≡◌, ℕ, List, [], ◌∷◌, codes, slice_get, refl, Option, None}
-use Rattle.std.specs.Prelude.{option_map, unwrap_or}
-use Rattle.serde_json.specs.Data.{Data, null}
-use Rattle.serde_json.proofs.OnLiterals.{serde_json_on_literals}
-use Rattle.erd_tables.specs.declared.class.Class.TheVariants as class
-use Rattle.erd_tables.specs.declared.class.Family.{Family}
-use Rattle.erd_tables.specs.declared.class.Family.TheVariants as family
-use Rattle.erd_tables.specs.declared.class.Role.TheVariants as role
-use Rattle.erd_check.proofs.Reports.{tree_of, one_unit}
-use Rattle.erd_meaning.proofs.examples.RecordExamples.{local_key}
-use Rattle.erd_meaning.proofs.meanings.WholeMeanings.{same_object, same_at_every_key, no_record, same_sole_election, same_meaning}
-use Rattle.erd_meaning.specs.Objects.{Placed, objects, elections, report_of}
-use Rattle.erd_meaning.specs.Records.{election_records, object_record, records_of, meaning}
-use Rattle.erd_meaning.specs.declared.keys.key.Key.{Key}
+use Rattle.erd_normal.proofs.Common.{◌≡◌, ℕ, List, [], ◌∷◌, slice_get, None, codes, Option, option_map, unwrap_or, refl, serde_json_on_literals, Data, null, class, Family, family, role, tree_of, one_unit, local_key, same_object, same_at_every_key, no_record, same_sole_election, same_meaning, Placed, report_of, elections, objects, meaning, object_record, records_of, election_records, Key}
 
 -- the canonical form of the report of one unit
 abbrev pub one_unit_canonical : List ℕ

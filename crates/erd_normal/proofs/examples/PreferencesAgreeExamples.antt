@@ -1,28 +1,9 @@
 -- Small reports under two preferences: what the law says of them.
-use Rattle.std.proofs.Common.{◌≡◌, ◌↔◌, ℕ, List, [], ◌∷◌, ◌++◌, true, false, true≢false, Option, Some, None, codes, slice_index_or, length, map, refl, sym, ap, ◌∙◌}
-use Rattle.std.specs.List.{slice_get}
-use Rattle.std.specs.Prelude.{is_some, option_map, unwrap_or}
-use Rattle.serde_json.specs.Data.{Data, null}
-use Rattle.serde_json.proofs.OnLiterals.{serde_json_on_literals}
-use Rattle.erd_tables.specs.declared.class.Class.TheVariants as class
-use Rattle.erd_tables.specs.declared.class.Family.{Family}
-use Rattle.erd_tables.specs.declared.class.Family.TheVariants as family
-use Rattle.erd_tables.specs.declared.class.Role.TheVariants as role
-use Rattle.erd_check.specs.Trees.{IsTree}
-use Rattle.erd_check.proofs.Deciding.{faults_found, is_tree, no_fault_listed, tree_sound}
-use Rattle.erd_check.proofs.Reports.{tree_of}
-use Rattle.erd_meaning.specs.Accepted.{IsAccepted}
-use Rattle.erd_meaning.specs.Keys.{Preference}
-use Rattle.erd_meaning.specs.Objects.{Placed, objects, elections, report_of}
-use Rattle.erd_meaning.specs.Records.{election_records, object_record, records_of, meaning}
-use Rattle.erd_meaning.specs.declared.keys.key.Key.{Key}
-use Rattle.erd_meaning.proofs.examples.RecordExamples.{local_key}
+use Rattle.erd_normal.proofs.Common.{◌≡◌, ℕ, true, false, ◌↔◌, List, [], ◌∷◌, ◌++◌, map, length, get_or as slice_index_or, is_some, slice_get, Some, None, codes, Option, option_map, unwrap_or, sym, refl, ap, ◌∙◌, true≢false, serde_json_on_literals, Data, null, class, Family, family, role, is_tree, tree_sound, faults_found, no_fault_listed, tree_of, IsTree, local_key, same_object, same_at_every_key, no_record, same_sole_election, same_meaning, IsAccepted, Preference, Placed, report_of, elections, objects, meaning, object_record, records_of, election_records, Key, keys_in}
 use Rattle.erd_meaning.proofs.identity.IdentityFaults.{identity_told}
-use Rattle.erd_meaning.proofs.meanings.WholeMeanings.{same_object, same_at_every_key, no_record, same_sole_election, same_meaning}
 use Rattle.erd_meaning.proofs.references.SelectionEntries.{reference_faults}
 use Rattle.erd_meaning.proofs.refused.Refused.{accepted_by_lists}
 use Rattle.erd_meaning.proofs.selections.SelectionFaults.{selections_told}
-use Rattle.erd_normal.specs.Laws.{keys_in}
 use Rattle.erd_normal.proofs.same.complete.Complete.{preferences_agree}
 
 -- ---- three reports, and two preferences

@@ -1,23 +1,8 @@
 -- Whole reports that are rearrangements of one another, and changes that are refused.
-use Rattle.std.proofs.Common.{◌≡◌, ℕ, zero, suc, List, [], ◌∷◌, ◌++◌, map, codes, Contains, Option, Some, None, Bool, true, false, true≢false, not, ◌&&◌, refl, sym, ap, arith, lit<}
-use Rattle.std.proofs.lemmas.Bool.{and_parts, or_parts, not-true}
+use Rattle.erd_normal.proofs.Common.{◌≡◌, ℕ, zero, suc, Bool, true, false, not, ◌&&◌, List, [], ◌∷◌, ◌++◌, map, length, if◌then◌else◌, ◌==◌, slice_get, Some, None, codes, Contains, Option, option_map, bytes_eq, unwrap_or, sym, refl, ap, true≢false, arith, lit<, not-true, and_parts, or_parts, bytes_eq-Decides, AllByRecursion, IsDistinct, list_all, list_any, option_map_or, serde_json_on_literals, Data, families, family, Step, At, Name, tree_of, small_ballot, small_ballot_canonical, one_unit, Placed, report_of, objects, id_of, Renaming, Change, a_renaming, an_exchange, IsRearrangement, IsRenaming}
 use Rattle.std.proofs.lemmas.Map.Views.{Contains-from_any}
-use Rattle.std.proofs.lemmas.Slice.Eq.{bytes_eq-Decides}
-use Rattle.std.specs.List.{AllByRecursion, IsDistinct, list_any, list_all}
-use Rattle.std.specs.Option.{option_map_or}
-use Rattle.std.specs.Prelude.{slice_get, length, option_map, unwrap_or, if◌then◌else◌, ◌==◌}
-use Rattle.std.specs.Str.{bytes_eq}
-use Rattle.serde_json.specs.Data.{Data}
-use Rattle.serde_json.proofs.OnLiterals.{serde_json_on_literals}
-use Rattle.erd_tables.specs.Classes.{families}
-use Rattle.erd_tables.specs.declared.class.Family.TheVariants as family
-use Rattle.erd_tables.specs.declared.place.Step.{Step}
-use Rattle.erd_tables.specs.declared.place.Step.TheVariants.{Name, At}
-use Rattle.erd_check.proofs.Reports.{tree_of, small_ballot, small_ballot_canonical, one_unit}
-use Rattle.erd_meaning.specs.Objects.{Placed, objects, id_of, report_of}
 use Rattle.erd_normal.proofs.examples.EqualTrees.{equal_trees}
 use Rattle.erd_normal.proofs.lists.Lists.{passed, is_family}
-use Rattle.erd_normal.specs.Rearranged.{Renaming, IsRenaming, Change, a_renaming, an_exchange, IsRearrangement}
 
 -- ---- texts with a part replaced
 

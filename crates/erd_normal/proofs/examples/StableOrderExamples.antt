@@ -1,12 +1,5 @@
 -- Pairs sorted by their keys with the order of equal keys kept, and lists that are no such sorting.
-use Rattle.std.proofs.Common.{◌≡◌, ℕ, ◌+◌, ◌<◌, ◌≤◌, slice_index_or, zero, suc, List, [], ◌∷◌, map, codes, Bool, true, false, Ordering, Less, Equal, Greater, refl, sym, ap, ◌∙◌, arith}
-use Rattle.std.proofs.lemmas.Cmp.{nat_cmp_total, nat_list_cmp_total, on_total, then_total, tied_itself}
-use Rattle.std.specs.Cmp.{IsTotalOrder}
-use Rattle.std.specs.Ordering.{nat_cmp, is_eq, is_lt, ordering_reverse}
-use Rattle.erd_meaning.specs.Keys.{key_cmp}
-use Rattle.erd_meaning.specs.declared.keys.key.Key.{Key}
-use Rattle.erd_meaning.proofs.examples.RecordExamples.{local_key}
-use Rattle.erd_normal.specs.StableOrder.{IsStablySorted, pairs_of}
+use Rattle.erd_normal.proofs.Common.{◌≡◌, ℕ, zero, suc, ◌+◌, ◌<◌, ◌≤◌, Bool, true, false, List, [], ◌∷◌, map, get_or as slice_index_or, codes, nat_cmp, is_eq, is_lt, Ordering, Less, Equal, Greater, sym, refl, ap, ◌∙◌, arith, tied_itself, nat_cmp_total, on_total, then_total, nat_list_cmp_total, IsTotalOrder, ordering_reverse, local_key, key_cmp, Key, pairs_of, IsStablySorted}
 
 -- no key is equal to two of which one is less
 not_both : {K : Type 0} (cmp : K → K → Ordering) (total : IsTotalOrder cmp) (a b k : K) → cmp a b ≡ Less → (one two : Ordering) → cmp a k ≡ one → cmp b k ≡ two

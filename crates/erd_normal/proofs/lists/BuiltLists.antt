@@ -1,15 +1,5 @@
 -- Lists that are put in order and built entry by entry, and the arrays of them.
-use Rattle.std.proofs.Common.{◌≡◌, ◌≤◌, ℕ, zero, suc, List, [], ◌∷◌, map, length, Bool, true, false, ◌==◌, if◌then◌else◌, Option, Some, None, refl, ap, ◌∙◌, subst, arith}
-use Rattle.std.specs.Bool.{⊤}
-use Rattle.std.specs.List.{AllByRecursion}
-use Rattle.serde_json.specs.Data.{Data, array, Items, no_items, item, items_depth, depth}
-use Rattle.serde_json.specs.Find.{get_item}
-use Rattle.serde_json.specs.View.{items_of}
-use Rattle.erd_check.specs.Trees.{IsTree, AreTrees}
-use Rattle.erd_check.specs.Values.{entries_of, list_of_items}
-use Rattle.erd_check.specs.Faults.{is_array, is_empty_array}
-use Rattle.erd_check.proofs.Lists.{list_of_items-items_of}
-use Rattle.erd_normal.specs.code.NormalTree.{array_of, unless_no_entry}
+use Rattle.erd_normal.proofs.Common.{◌≡◌, ℕ, zero, suc, ◌≤◌, Bool, true, false, List, [], ◌∷◌, map, length, if◌then◌else◌, ◌==◌, Some, None, Option, refl, ap, ◌∙◌, subst, arith, ⊤, AllByRecursion, Data, array, Items, no_items, item, depth, items_depth, get_item, items_of, list_of_items-items_of, is_array, is_empty_array, IsTree, AreTrees, list_of_items, entries_of, unless_no_entry, array_of}
 
 -- ---- any lists
 

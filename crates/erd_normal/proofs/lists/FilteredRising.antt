@@ -1,10 +1,5 @@
 -- What is kept of a list in rising order is the rising list of what is kept.
-use Rattle.std.proofs.Common.{◌≡◌, List, [], ◌∷◌, filter, Bool, true, false, true≢false, cond, Ordering, Less, Equal, Greater, is_gt, is_lt, refl, sym, ap, ◌∙◌}
-use Rattle.std.specs.Cmp.{IsTotalOrder}
-use Rattle.std.specs.List.{AllByRecursion}
-use Rattle.erd_meaning.specs.SelectionNames.{rising_list, with_inserted}
-use Rattle.erd_meaning.proofs.orders.RisingOrders.{NeverFalls, rising_never_falls}
-use Rattle.erd_check.proofs.Positions.{all_weakened}
+use Rattle.erd_normal.proofs.Common.{◌≡◌, Bool, true, false, cond, List, [], ◌∷◌, filter, is_lt, is_gt, Ordering, Less, Equal, Greater, sym, refl, ap, ◌∙◌, true≢false, IsTotalOrder, AllByRecursion, all_weakened, NeverFalls, rising_never_falls, with_inserted, rising_list}
 
 -- what holds of all holds of those that are kept
 pub all_kept : {A : Type 0} (P : A → Type 0) (q : A → Bool) (xs : List A) → AllByRecursion P xs → AllByRecursion P (filter q xs)

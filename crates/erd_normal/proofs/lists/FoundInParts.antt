@@ -1,15 +1,6 @@
 -- What is found in lists that are put together is found in the first of them that has it.
-use Rattle.std.proofs.Common.{◌≡◌, List, [], ◌∷◌, map, find, Bool, true, false, cond, Some, option_map, refl, ℕ, flat_map, Option, None, sym, ◌∙◌}
-use Rattle.std.specs.Bool.{⊤}
-use Rattle.std.specs.List.{AllByRecursion}
+use Rattle.erd_normal.proofs.Common.{◌≡◌, ℕ, Bool, true, false, cond, List, [], ◌∷◌, map, Some, None, Option, option_map, find, flat_map, sym, refl, ◌∙◌, ⊤, AllByRecursion, option_map_or, option_or, Data, family, Has, find-Some, option_map-Some, Placed, contests, selections_of_contest, objects, has_id, owner, contest_with, selection_with}
 use Rattle.std.proofs.lemmas.List.Folds.{find-append}
-use Rattle.std.specs.Option.{option_map_or, option_or}
-use Rattle.serde_json.specs.Data.{Data}
-use Rattle.erd_tables.specs.declared.class.Family.TheVariants as family
-use Rattle.erd_check.proofs.Rising.{Has}
-use Rattle.erd_meaning.specs.Objects.{Placed, contests, has_id, objects, owner, selections_of_contest}
-use Rattle.erd_meaning.proofs.accepted.References.{find-Some, option_map-Some}
-use Rattle.erd_normal.specs.code.NormalTree.{contest_with, selection_with}
 
 -- ---- lists of which no two entries pass a test, and what is found by a value
 

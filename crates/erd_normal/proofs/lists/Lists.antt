@@ -1,13 +1,5 @@
 -- Lists whose elements each pass a test, and the list of families.
-use Rattle.std.proofs.Common.{◌≡◌, List, [], ◌∷◌, ◌++◌, flat_map, Bool, false, append_assoc, append-nil, refl, sym, ap, ◌∙◌, subst, ℕ, zero, suc, ◌+◌, Contains, Some, true, ◌&&◌, arith, slice_get, lit<}
-use Rattle.std.specs.List.{IsDistinct, list_all}
-use Rattle.std.proofs.lemmas.Bool.{and_parts}
-use Rattle.erd_tables.specs.Classes.{families, family_number}
-use Rattle.erd_tables.specs.declared.class.Family.{Family}
-use Rattle.erd_tables.specs.declared.class.Family.TheVariants as family
-use Rattle.erd_check.proofs.Positions.{all_by_entry}
-use Rattle.erd_check.proofs.Rising.{Has, all-Has, here, later}
-use Rattle.erd_meaning.proofs.accepted.Standing.{append-has, has-append_left}
+use Rattle.erd_normal.proofs.Common.{◌≡◌, ℕ, zero, suc, ◌+◌, Bool, true, false, ◌&&◌, List, [], ◌∷◌, ◌++◌, slice_get, Some, Contains, flat_map, sym, refl, ap, ◌∙◌, subst, append_assoc, append-nil, arith, lit<, and_parts, IsDistinct, list_all, families, family_number, Family, family, all_by_entry, here, later, all-Has, Has, append-has, has-append_left}
 
 -- ---- entries of a list that stand one after another
 

@@ -1,13 +1,6 @@
 -- Lists whose entries are related one by one, but for their order.
-use Rattle.std.proofs.Common.{List, [], ◌∷◌, ◌≡◌, ◌≤◌, suc, ◌++◌, map, filter, filter_map, flat_map, find, length, Bool, true, false, true≢false, ◌||◌, cond, Option, Some, None, option_and_then, Ordering, Equal, is_eq, refl, sym, ap, ap₂, ◌∙◌, subst, arith, Less}
-use Rattle.std.specs.Cmp.{IsTotalOrder, on_total}
-use Rattle.std.specs.List.{AllByRecursion, IsDistinct, cons_option, list_any}
-use Rattle.std.specs.Ordering.{eq_by_cmp, ordering_reverse}
-use Rattle.std.proofs.lemmas.Bool.{false_from_ne_true}
-use Rattle.std.specs.List.Sorted.{IsStrictlySortedBy}
-use Rattle.erd_check.proofs.Positions.{all_weakened, all_by_entry, has_mapped}
-use Rattle.erd_check.proofs.Rising.{Has, here, later, all-Has, rising_unique}
-use Rattle.erd_meaning.proofs.orders.Reordered.{Reordered, no_entry, one_kept, two_exchanged, in_turn, any-reordered, count-reordered, length-reordered, reordered_after, reordered_back, reordered_before, reordered_flat, reordered-has, reordered_map, reordered_self, all-reordered}
+use Rattle.erd_normal.proofs.Common.{◌≡◌, suc, ◌≤◌, Bool, true, false, cond, ◌||◌, List, [], ◌∷◌, ◌++◌, map, length, Some, None, filter, Option, find, flat_map, filter_map, option_and_then, is_eq, Ordering, Less, Equal, sym, refl, ap, ◌∙◌, subst, ap₂, true≢false, arith, false_from_ne_true, on_total, IsTotalOrder, AllByRecursion, IsDistinct, cons_option, list_any, IsStrictlySortedBy, eq_by_cmp, ordering_reverse, has_mapped, all_by_entry, all_weakened, here, later, all-Has, rising_unique, Has, one_kept, two_exchanged, in_turn, reordered_self, reordered_back, reordered_map, reordered_after, reordered_before, reordered_flat, any-reordered, length-reordered, count-reordered, all-reordered, reordered-has, Reordered}
+use Rattle.erd_meaning.proofs.orders.Reordered.{no_entry}
 use Rattle.erd_normal.proofs.lists.FoundInParts.{AreApart}
 
 -- ---- lists whose entries are related one by one

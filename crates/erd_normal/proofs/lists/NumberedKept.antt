@@ -1,7 +1,5 @@
 -- What a test keeps of a list, and an entry of a list whose entries are numbered.
-use Rattle.std.proofs.Common.{◌≡◌, ℕ, suc, ◌+◌, inl, inr, List, [], ◌∷◌, map, filter, Bool, true, false, cond, Some, slice_get, refl, sym, ap, ◌∙◌, subst, arith}
-use Rattle.std.specs.List.{enumerate_from}
-use Rattle.erd_check.proofs.Rising.{Has, Has-cases, here, later}
+use Rattle.erd_normal.proofs.Common.{◌≡◌, ℕ, suc, ◌+◌, Bool, true, false, cond, List, [], ◌∷◌, map, slice_get, Some, filter, sym, refl, ap, ◌∙◌, subst, inl, inr, arith, enumerate_from, here, later, Has-cases, Has}
 
 -- through a function
 pub kept_map : {A B : Type 0} (f : A → B) (q : B → Bool) (xs : List A) → filter q (map f xs) ≡ map f (filter (λ x. q (f x)) xs)

@@ -1,8 +1,5 @@
 -- Lists put one after another, beside others of the same lengths whose elements have the numbers of their lists.
-use Rattle.std.proofs.Common.{◌≡◌, ◌<◌, ◌⊎◌, ℕ, suc, ◌+◌, inl, inr, List, [], ◌∷◌, length, map, Option, Some, None, option_map, slice_get, refl, sym, ap, ◌∙◌, subst, arith}
-use Rattle.std.proofs.lemmas.List.{length-map}
-use Rattle.std.proofs.lemmas.Option.{same_Some, slice_get-map}
-use Rattle.std.specs.List.{enumerate_from, flat_map}
+use Rattle.erd_normal.proofs.Common.{◌≡◌, ℕ, suc, ◌+◌, ◌<◌, ◌⊎◌, List, [], ◌∷◌, map, length, slice_get, Some, None, Option, option_map, flat_map, sym, refl, ap, ◌∙◌, subst, inl, inr, arith, length-map, same_Some, slice_get-map, enumerate_from}
 use Rattle.erd_meaning.proofs.selections.ListParts.{get_first, get_later, within_or_after}
 
 -- what is found in a list of numbered elements

@@ -1,21 +1,5 @@
 -- Numbers that never fall along an order: when they are sorted, they are those of the values in that order.
-use Rattle.std.proofs.Common.{◌≡◌, List, filter_map, Option, Some, None, option_and_then, Ordering, refl, ◌<◌, ◌≤◌, ℕ, [], ◌∷◌, map, filter, length, Bool, true, false, cond, Less, Equal, Greater, nat_cmp, is_gt, is_lt, sym, ap, ◌∙◌, subst, arith}
-use Rattle.std.specs.Cmp.{IsTotalOrder}
-use Rattle.std.specs.List.{cons_option, AllByRecursion}
-use Rattle.std.proofs.lemmas.Map.Lookups.{CmpEqualImpliesEq, exact_unsigned}
-use Rattle.std.proofs.lemmas.Cmp.{alike_right, by_ranked, nat_cmp_total, ranked}
-use Rattle.std.specs.List.Sorted.{IsPermutation, IsSorted, SwapsInRange, apply_swaps}
-use Rattle.std.specs.Ordering.{ordering_reverse}
-use Rattle.serde_json.specs.Data.{Data}
-use Rattle.serde_json.specs.Find.{as_str}
-use Rattle.erd_tables.specs.declared.class.Family.{Family}
-use Rattle.erd_check.proofs.Deciding.{less}
-use Rattle.erd_meaning.specs.Keys.{Preference, key_cmp}
-use Rattle.erd_meaning.proofs.orders.RisingOrders.{inserted_exchange, NeverFalls, rising_never_falls}
-use Rattle.erd_meaning.specs.code.Orders.{key_cmp_exact, key_cmp_total}
-use Rattle.erd_meaning.specs.SelectionNames.{key_named, keys_named, rising_list, with_inserted}
-use Rattle.erd_meaning.proofs.orders.Reordered.{Reordered, whole-reordered, in_turn, length-reordered, reordered_back, reordered_map, reordered_rising, reordered_self, reordered_swap}
-use Rattle.erd_meaning.proofs.orders.RisingLists.{rising_from_sort}
+use Rattle.erd_normal.proofs.Common.{◌≡◌, ℕ, ◌<◌, ◌≤◌, Bool, true, false, cond, List, [], ◌∷◌, map, length, Some, None, filter, Option, IsPermutation, IsSorted, filter_map, option_and_then, nat_cmp, is_lt, is_gt, Ordering, Less, Equal, Greater, sym, refl, ap, ◌∙◌, subst, arith, ranked, nat_cmp_total, by_ranked, CmpEqualImpliesEq, exact_unsigned, IsTotalOrder, alike_right, AllByRecursion, cons_option, SwapsInRange, apply_swaps, ordering_reverse, Data, as_str, Family, less, in_turn, reordered_self, reordered_back, reordered_map, reordered_rising, reordered_swap, whole-reordered, length-reordered, Reordered, rising_from_sort, inserted_exchange, NeverFalls, rising_never_falls, key_cmp, Preference, with_inserted, rising_list, key_named, keys_named, key_cmp_total, key_cmp_exact}
 use Rattle.erd_normal.proofs.lists.BuiltLists.{all_map}
 
 -- ---- a list in the order of an exact comparison is the same, in whichever order its entries came

@@ -1,19 +1,8 @@
 -- A stable sorting by keys is the rising list.
+use Rattle.erd_normal.proofs.Common.{◌≡◌, Bool, true, false, not, ◌&&◌, ◌⊎◌, List, [], ◌∷◌, map, filter, IsSortedBy, is_eq, is_lt, Ordering, Less, sym, refl, ap, ◌∙◌, ap₂, inl, inr, Bor, tied_itself, on_total, filter_agree, ranks_by, Equal-is, IsStrictWeakOrder, IsTotalOrder, alike_right, IsStableBy, ties, ordering_reverse, by_first, rising_from_sort, rising_list_map, rising_list, pairs_of, IsStablySorted}
 use denote.Param.Members.{Mut}
-use denote.Ref.{Bor}
-use Rattle.std.proofs.Common.{◌≡◌, List, [], ◌∷◌, Bool, true, false, not, ◌&&◌, Ordering, Less, refl, sym, ap, ◌∙◌, ◌⊎◌, inl, inr, ap₂, map}
 use Rattle.std.proofs.lemmas.Fn.{always_returns_same}
-use Rattle.std.proofs.lemmas.List.Elements.{filter_agree}
-use Rattle.std.proofs.lemmas.List.Sorted.{ranks_by}
-use Rattle.std.specs.Cmp.{IsStrictWeakOrder, IsTotalOrder, Equal-is, alike_right}
 use Rattle.std.specs.Fn.{Called, ComparesAs}
-use Rattle.std.specs.List.{filter}
-use Rattle.std.specs.List.Sorted.{IsSortedBy, IsStableBy, ties}
-use Rattle.std.specs.Ordering.{is_eq, is_lt, ordering_reverse}
-use Rattle.std.proofs.lemmas.Cmp.{on_total, tied_itself}
-use Rattle.erd_meaning.proofs.orders.RisingLists.{by_first, rising_from_sort, rising_list_map}
-use Rattle.erd_meaning.specs.SelectionNames.{rising_list}
-use Rattle.erd_normal.specs.StableOrder.{IsStablySorted, pairs_of}
 
 -- ---- what std's stable sort says of pairs that it compares by their keys
 

@@ -1,32 +1,5 @@
 -- Records that are alike: objects of one class whose members mean the same, and selections of one name.
-use mathlib.Core.Path.{fun_ext}
-use Rattle.std.proofs.Common.{◌≡◌, ℕ, List, Option, Some, None, option_map, option_and_then, refl, ap, ◌∙◌, Bool, true, false, Equal, sym, ap₂}
-use Rattle.std.proofs.lemmas.Cmp.{tied_itself}
-use Rattle.std.specs.Cmp.Lexicographic.{options_total}
-use Rattle.std.specs.Option.{option_cmp}
-use Rattle.std.specs.Ordering.{is_eq}
-use Rattle.serde_json.specs.Data.{Data}
-use Rattle.erd_tables.specs.declared.class.Class.{Class}
-use Rattle.erd_tables.specs.declared.class.Role.{Role}
-use Rattle.erd_tables.specs.declared.member.MemberKind.{MemberKind}
-use Rattle.erd_tables.specs.declared.class.Family.TheVariants as family
-use Rattle.erd_tables.specs.declared.member.MemberKind.TheVariants as kind
-use Rattle.erd_check.specs.Values.{entries_of}
-use Rattle.erd_check.specs.Wants.{asked, class_of_object}
-use Rattle.erd_check.specs.declared.want.Want.TheVariants.{Object}
-use Rattle.erd_check.proofs.ObjectsAt.{ObjectIn, object_in}
-use Rattle.erd_check.proofs.Shapes.{Within}
-use Rattle.erd_meaning.specs.Accepted.{IsAccepted}
-use Rattle.erd_meaning.specs.Keys.{Preference}
-use Rattle.erd_meaning.specs.Meaning.{MemberValue, Record, SelectionRecord, a_selection_map, PlainValue, a_plain}
-use Rattle.erd_meaning.specs.NameParts.{NameParts}
-use Rattle.erd_meaning.specs.Records.{plain_member, record_with, selection_map, selection_record, unless_empty, member_value}
-use Rattle.erd_meaning.specs.SelectionNames.{name_in_class, name_of, selection_role, name_cmp}
-use Rattle.erd_meaning.proofs.accepted.Phases.{no_shape_fault}
-use Rattle.erd_meaning.specs.code.Orders.{name_cmp_total}
-use Rattle.erd_meaning.proofs.orders.EqualNames.{equal_names, options_exact}
-use Rattle.erd_meaning.proofs.meanings.SelectionKinds.{is_selections}
-use Rattle.erd_normal.specs.code.NormalTree.{by_name}
+use Rattle.erd_normal.proofs.Common.{◌≡◌, ℕ, Bool, true, false, List, Some, None, Option, option_map, option_and_then, is_eq, Equal, sym, refl, ap, ◌∙◌, ap₂, tied_itself, options_total, option_cmp, Data, Class, family, Role, MemberKind, kind, object_in, ObjectIn, Within, entries_of, class_of_object, asked, Object, no_shape_fault, is_selections, options_exact, equal_names, IsAccepted, Preference, PlainValue, SelectionRecord, MemberValue, a_plain, a_selection_map, Record, NameParts, unless_empty, plain_member, record_with, selection_record, selection_map, member_value, name_in_class, selection_role, name_of, name_cmp, name_cmp_total, by_name, fun_ext}
 
 -- ---- the records of the objects of accepted reports: each object has one, of its class, and each selection has a name
 

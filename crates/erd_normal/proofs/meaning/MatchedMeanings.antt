@@ -1,35 +1,7 @@
 -- Two reports mean the same, if their elections and their objects are matched, each with one of its key that means the same, and related objects are
 -- held by elections with one key.
-use Rattle.std.proofs.Common.{◌≡◌, ℕ, List, map, flat_map, find, Bool, true, false, is_eq, Equal, Option, Some, None, option_and_then, option_map, codes, refl, sym, ap, ap₂, ◌∙◌, subst}
-use Rattle.std.proofs.lemmas.Cmp.{tied_itself}
-use Rattle.std.specs.Cmp.Lexicographic.{options_total}
-use Rattle.std.specs.Option.{option_cmp}
-use Rattle.std.specs.Ordering.{eq_by_cmp}
-use Rattle.std.specs.Str.{bytes_eq}
-use Rattle.serde_json.specs.Data.{Data}
-use Rattle.erd_tables.specs.Table.{is_envelope_name, kind_of_member}
-use Rattle.erd_tables.specs.declared.class.Class.TheVariants as class
-use Rattle.erd_tables.specs.declared.class.Family.{Family}
-use Rattle.erd_tables.specs.declared.class.Family.TheVariants as family
-use Rattle.erd_tables.specs.declared.class.Role.{Role}
-use Rattle.erd_tables.specs.declared.class.Role.TheVariants as role
-use Rattle.erd_tables.specs.declared.member.MemberKind.TheVariants as kind
-use Rattle.erd_check.proofs.Rising.{Has}
-use Rattle.erd_check.specs.Values.{entries_at}
-use Rattle.erd_meaning.specs.Accepted.{IsAccepted}
-use Rattle.erd_meaning.specs.Keys.{Preference, has_keys, key_cmp, key_of}
-use Rattle.erd_meaning.specs.Objects.{Placed, elections, objects, placed_entries, report_of}
-use Rattle.erd_meaning.specs.Records.{election_records, meaning, object_record, placed_with_key, record_in_election, records_of}
-use Rattle.erd_meaning.specs.code.Orders.{key_cmp_total}
-use Rattle.erd_meaning.specs.declared.keys.key.Key.{Key}
-use Rattle.erd_meaning.proofs.accepted.Skeleton.{values-placed_entries}
+use Rattle.erd_normal.proofs.Common.{◌≡◌, ℕ, Bool, true, false, List, map, Some, None, codes, Option, option_map, find, flat_map, option_and_then, bytes_eq, is_eq, Equal, sym, refl, ap, ◌∙◌, subst, ap₂, tied_itself, options_total, option_cmp, eq_by_cmp, Data, is_envelope_name, kind_of_member, class, Family, family, Role, role, kind, Has, entries_at, objects_distinct, elections_distinct, no_identity_fault, values-placed_entries, same_meaning, distinct_map, options_exact, equal_keys, IsAccepted, has_keys, key_cmp, Preference, key_of, Placed, placed_entries, report_of, elections, objects, meaning, object_record, record_in_election, placed_with_key, records_of, election_records, key_cmp_total, Key, by_key}
 use Rattle.erd_meaning.proofs.meanings.HeldValues.{Held, held_by, held_in_elections, held_in_none, held_of, held_record, held_values, mapped_then}
-use Rattle.erd_meaning.proofs.meanings.WholeMeanings.{same_meaning}
-use Rattle.erd_meaning.proofs.orders.EqualNames.{equal_keys, options_exact}
-use Rattle.erd_normal.specs.code.NormalTree.{by_key}
-use Rattle.erd_meaning.proofs.accepted.Phases.{no_identity_fault}
-use Rattle.erd_meaning.proofs.accepted.DistinctKeys.{elections_distinct, objects_distinct}
-use Rattle.erd_meaning.proofs.orders.DistinctEntries.{distinct_map}
 use Rattle.erd_normal.proofs.lists.FoundInParts.{find_values}
 use Rattle.erd_normal.proofs.lists.Matched.{AtMostOne, Matched, apart_distinct, matched_find, matched_flat, matched_mapped, one_if_apart, said_same}
 

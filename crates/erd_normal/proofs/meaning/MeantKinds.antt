@@ -1,18 +1,5 @@
 -- Which kinds the table gives members of objects: the order of a ballot and the selections of contests stand in few classes.
-use Rattle.std.proofs.Common.{◌≡◌, ℕ, List, Bool, true, false, is_some, if◌then◌else◌, codes, refl, ap, ◌∙◌}
-use Rattle.std.specs.List.{list_all}
-use Rattle.std.specs.Str.{bytes_eq}
-use Rattle.erd_tables.specs.Classes.{family_of_class}
-use Rattle.erd_tables.specs.Rows.{rows_of_class}
-use Rattle.erd_tables.specs.Table.{kind_of_identity, kind_of_member}
-use Rattle.erd_tables.specs.declared.class.Class.{Class}
-use Rattle.erd_tables.specs.declared.class.Class.TheVariants as class
-use Rattle.erd_tables.specs.declared.class.Family.TheVariants as family
-use Rattle.erd_tables.specs.declared.member.MemberKind.{MemberKind}
-use Rattle.erd_tables.specs.declared.member.MemberKind.TheVariants as kind
-use Rattle.erd_check.proofs.Exact.{text_exact}
-use Rattle.erd_check.proofs.TableKinds.{kind_of_class}
-use Rattle.erd_meaning.proofs.meanings.SelectionKinds.{is_selections, kind_of_type}
+use Rattle.erd_normal.proofs.Common.{◌≡◌, ℕ, Bool, true, false, List, is_some, if◌then◌else◌, codes, bytes_eq, refl, ap, ◌∙◌, list_all, family_of_class, rows_of_class, kind_of_identity, kind_of_member, Class, class, family, MemberKind, kind, text_exact, kind_of_class, kind_of_type, is_selections}
 
 -- ---- kinds
 

@@ -1,12 +1,5 @@
 -- Entries of a list in the order of their keys, each with its position.
-use Rattle.std.proofs.Common.{◌≡◌, ℕ, zero, suc, ◌+◌, ◌<◌, List, [], ◌∷◌, filter, map, length, get_or, Bool, true, false, cond, Some, Ordering, drop, slice_get, add-one, refl, sym, ap, ◌∙◌, subst, arith}
-use Rattle.std.proofs.lemmas.Cmp.{on_total}
-use Rattle.std.specs.Cmp.{IsTotalOrder}
-use Rattle.std.specs.List.{enumerate_from}
-use Rattle.erd_check.proofs.Order.{In}
-use Rattle.erd_meaning.proofs.orders.RisingLists.{by_first, rising_list_map}
-use Rattle.erd_meaning.proofs.orders.RisingSets.{In-rising, has_from_In}
-use Rattle.erd_meaning.specs.SelectionNames.{rising_list}
+use Rattle.erd_normal.proofs.Common.{◌≡◌, ℕ, zero, suc, ◌+◌, ◌<◌, Bool, true, false, cond, List, [], ◌∷◌, map, length, get_or, drop, slice_get, Some, filter, Ordering, sym, refl, ap, ◌∙◌, subst, add-one, arith, on_total, IsTotalOrder, enumerate_from, In, by_first, rising_list_map, has_from_In, In-rising, rising_list}
 use Rattle.erd_normal.proofs.lists.FilteredRising.{filter_rising}
 use Rattle.erd_normal.proofs.lists.NumberedKept.{numbered_stands}
 use Rattle.erd_normal.proofs.lists.StableRising.{map_after}

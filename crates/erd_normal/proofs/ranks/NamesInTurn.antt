@@ -1,22 +1,10 @@
 -- The names of the selections of a contest stand one after another among those of the report.
-use Rattle.std.proofs.Common.{◌≡◌, ◌<◌, ◌≤◌, ℕ, zero, suc, ◌+◌, List, [], ◌∷◌, ◌++◌, length, map, take, get_or, codes, Option, Some, None, option_and_then, option_map, slice_get, length-append, refl, sym, ap, ◌∙◌, subst, arith}
+use Rattle.erd_normal.proofs.Common.{◌≡◌, ℕ, zero, suc, ◌+◌, ◌<◌, ◌≤◌, List, [], ◌∷◌, ◌++◌, map, length, get_or, take, slice_get, Some, None, codes, Option, option_map, flat_map, option_and_then, sym, refl, ap, ◌∙◌, subst, append-nil, arith, length-append, take_more, slice_get-map, slice_get_within, Data, family, entries_at, option_map-Some, Preference, NameParts, Placed, objects, name_of, name_in, AreNamedFrom}
 use Rattle.std.proofs.lemmas.Grind.{flat_map-append}
-use Rattle.std.proofs.lemmas.List.{append-nil, take_more}
 use Rattle.std.proofs.lemmas.List.Folds.{length-flat_map-take}
-use Rattle.std.proofs.lemmas.Option.{slice_get-map, slice_get_within}
-use Rattle.std.specs.List.{flat_map}
-use Rattle.serde_json.specs.Data.{Data}
-use Rattle.erd_tables.specs.declared.class.Family.TheVariants as family
-use Rattle.erd_check.specs.Values.{entries_at}
-use Rattle.erd_meaning.proofs.accepted.References.{option_map-Some}
 use Rattle.erd_meaning.proofs.selections.ListParts.{get_first, get_later}
 use Rattle.erd_meaning.proofs.selections.NamesTold.{Numbered}
-use Rattle.erd_meaning.specs.Keys.{Preference}
-use Rattle.erd_meaning.specs.NameParts.{NameParts}
-use Rattle.erd_meaning.specs.Objects.{Placed, objects}
-use Rattle.erd_meaning.specs.SelectionNames.{name_of}
 use Rattle.erd_normal.proofs.ranks.SelectionReferences.{numbered_at}
-use Rattle.erd_normal.specs.code.SelectionOrders.{AreNamedFrom, name_in}
 
 -- what stands in one of several lists, among all of them
 part_at : {A B : Type 0} (f : A → List B) (xs : List A) (k : ℕ) (x : A) → k < length xs → x ≡ get_or xs k x → (j : ℕ) (y : B) → slice_get (f x) j ≡ Some y

@@ -1,34 +1,8 @@
 -- The objects of one election among the sorted objects of a family: they are the objects that it holds, in the order of their keys.
-use Rattle.std.proofs.Common.{◌≡◌, ◌<◌, ◌≤◌, ◌==◌, ℕ, zero, suc, ◌+◌, List, [], ◌∷◌, ◌++◌, map, filter, length, Bool, true, false, cond, if◌then◌else◌, codes, Option, Some, None, option_and_then, option_map, unwrap_or, slice_get, refl, sym, ap, ap₂, ◌∙◌, arith}
-use Rattle.std.proofs.lemmas.Bool.Decides.{Decides-eqb}
-use Rattle.std.proofs.lemmas.List.{append-nil, length-map}
-use Rattle.std.proofs.lemmas.List.Elements.{filter-append}
-use Rattle.std.specs.Cmp.Lexicographic.{options_total}
-use Rattle.std.specs.List.{enumerate_from, flat_map}
-use Rattle.std.specs.Option.{option_cmp, option_map_or}
-use Rattle.std.specs.Str.{bytes_eq}
-use Rattle.std.proofs.lemmas.Option.{slice_get_past}
-use Rattle.serde_json.specs.Data.{Data, Items, no_items, item}
-use Rattle.erd_tables.specs.declared.class.Family.{Family}
-use Rattle.erd_tables.specs.declared.class.Family.TheVariants as family
-use Rattle.erd_tables.specs.declared.place.Step.TheVariants.{At, Name}
-use Rattle.erd_check.specs.Values.{entries_at, list_of_items}
-use Rattle.erd_meaning.proofs.accepted.Skeleton.{Skeleton, election_entries, skeleton, values-placed_entries}
-use Rattle.erd_meaning.specs.Accepted.{IsAccepted}
-use Rattle.erd_meaning.specs.Keys.{Preference, has_keys, key_cmp, key_of}
-use Rattle.erd_meaning.specs.Lookups.{key_in, rising_election_keys, rising_keys}
-use Rattle.erd_meaning.specs.Objects.{Placed, election_of_place, elections, objects, placed_entries, placed_from, report_of}
-use Rattle.erd_meaning.specs.SelectionNames.{rising_list}
-use Rattle.erd_meaning.specs.code.Orders.{key_cmp_total}
-use Rattle.erd_meaning.specs.declared.keys.key.Key.{Key}
-use Rattle.erd_meaning.proofs.orders.RisingLists.{by_first, rising_list_map}
-use Rattle.erd_check.proofs.Positions.{has_at}
-use Rattle.erd_meaning.proofs.orders.RisingSets.{In-from_has}
+use Rattle.erd_normal.proofs.Common.{◌≡◌, ℕ, zero, suc, ◌+◌, ◌<◌, ◌≤◌, Bool, true, false, cond, List, [], ◌∷◌, ◌++◌, map, length, if◌then◌else◌, ◌==◌, slice_get, Some, None, codes, filter, Option, option_map, flat_map, option_and_then, bytes_eq, unwrap_or, sym, refl, ap, ◌∙◌, ap₂, append-nil, arith, Decides-eqb, length-map, filter-append, slice_get_past, options_total, enumerate_from, option_cmp, option_map_or, Data, Items, no_items, item, Family, family, At, Name, has_at, list_of_items, entries_at, skeleton, values-placed_entries, election_entries, Skeleton, by_first, rising_list_map, In-from_has, IsAccepted, has_keys, key_cmp, Preference, key_of, key_in, rising_keys, rising_election_keys, Placed, placed_from, placed_entries, report_of, elections, objects, election_of_place, rising_list, key_cmp_total, Key, in_order_of_keys, rising_objects, rising_elections, part_at, objects_in_part, by_key}
 use Rattle.erd_normal.proofs.lists.NumberedKept.{kept_has}
 use Rattle.erd_normal.proofs.lists.StableRising.{map_after}
 use Rattle.erd_normal.proofs.ranks.InOrder.{positions, stands, values_kept}
-use Rattle.erd_normal.specs.code.ElectionParts.{in_order_of_keys, objects_in_part, part_at, rising_elections, rising_objects}
-use Rattle.erd_normal.specs.code.NormalTree.{by_key}
 
 -- the part that an object stands in
 abbrev pub part_of : Placed → ℕ

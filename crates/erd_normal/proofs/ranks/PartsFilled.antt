@@ -1,11 +1,5 @@
 -- Parts that are filled one entry after another: each has those entries that are put into it, in their order.
-use Rattle.std.proofs.Common.{◌≡◌, ◌+◌, ◌<◌, ◌≤◌, ◌==◌, ℕ, zero, suc, List, [], ◌∷◌, ◌++◌, length, map, filter, take, get_or, Bool, true, false, true≢false, cond, Option, Some, None, Vec, Global, option_map, unwrap_or, slice_get, slice_set, refl, sym, ap, ◌∙◌, subst, arith}
-use Rattle.std.proofs.lemmas.Bool.Decides.{Decides-eqb}
-use Rattle.std.proofs.lemmas.List.{append-nil, take_more}
-use Rattle.std.proofs.lemmas.List.Elements.{filter-append}
-use Rattle.std.specs.List.{slice_index_or}
-use Rattle.std.proofs.lemmas.Option.{slice_get-map}
-use Rattle.std.specs.Option.{option_map_or}
+use Rattle.erd_normal.proofs.Common.{◌≡◌, ℕ, zero, suc, ◌+◌, ◌<◌, ◌≤◌, Bool, true, false, cond, List, [], ◌∷◌, ◌++◌, map, length, get_or, get_or as slice_index_or, take, ◌==◌, slice_get, slice_set, Some, None, filter, Option, Vec, option_map, Global, unwrap_or, sym, refl, ap, ◌∙◌, subst, true≢false, append-nil, arith, Decides-eqb, take_more, filter-append, slice_get-map, option_map_or}
 
 -- the entries of a part, or none if the part is not there
 abbrev pub in_part : {T A : Type 0} → (T → List A) → List T → ℕ → List A

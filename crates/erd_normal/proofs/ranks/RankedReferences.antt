@@ -1,28 +1,8 @@
 -- The rank of the object that a reference names.
-use Rattle.std.proofs.Common.{◌≡◌, ◌==◌, ◌≤◌, ℕ, List, [], ◌∷◌, filter, length, Bool, true, false, true≢false, cond, Option, Some, None, option_and_then, option_map, if◌then◌else◌, is_gt, is_lt, refl, sym, ap, ◌∙◌, subst, arith}
-use Rattle.std.specs.Cmp.Lexicographic.{options_total}
-use Rattle.std.specs.Option.{option_cmp, option_map_or}
-use Rattle.serde_json.specs.Data.{Data}
-use Rattle.erd_tables.specs.Classes.{family_number}
-use Rattle.erd_tables.specs.declared.class.Family.{Family}
-use Rattle.erd_tables.specs.declared.class.Family.TheVariants as family
+use Rattle.erd_normal.proofs.Common.{◌≡◌, ℕ, ◌≤◌, Bool, true, false, cond, List, [], ◌∷◌, length, if◌then◌else◌, ◌==◌, Some, None, filter, Option, option_map, option_and_then, is_lt, is_gt, sym, refl, ap, ◌∙◌, subst, true≢false, arith, options_total, option_cmp, option_map_or, Data, family_number, Family, family, text_of, owner_is, owned_by, in_at, with_part, place_of, In-from_has, has_from_In, IsAccepted, has_keys, key_cmp, Preference, key_of, key_in, rank_of, id_in, FindsId, Placed, objects, id_of, owner, key_named, key_cmp_total, Key, id_of_rank, normal_id, reference_cmp, rank_named}
 use Rattle.erd_meaning.proofs.identity.ObjectFamilies.{family_exact, itself}
-use Rattle.erd_meaning.proofs.finding.OneObject.{in_at, ObjectIn, with_part}
-use Rattle.erd_meaning.proofs.accepted.Standing.{owned_by, owner_is}
-use Rattle.erd_meaning.specs.Accepted.{IsAccepted}
-use Rattle.erd_meaning.specs.Keys.{Preference, has_keys, key_cmp, key_of}
-use Rattle.erd_check.specs.Values.{text_of}
-use Rattle.erd_meaning.specs.Lookups.{FindsId, id_in, key_in, rank_of}
-use Rattle.erd_meaning.specs.Objects.{id_of, objects, owner, Placed}
-use Rattle.erd_meaning.specs.SelectionNames.{key_named}
-use Rattle.erd_meaning.specs.code.Orders.{key_cmp_total}
-use Rattle.erd_meaning.specs.declared.keys.key.Key.{Key}
-use Rattle.erd_meaning.proofs.orders.DistinctEntries.{place_of}
+use Rattle.erd_meaning.proofs.finding.OneObject.{ObjectIn}
 use Rattle.erd_normal.proofs.lists.NumbersInOrder.{ranks_climb}
-use Rattle.erd_meaning.proofs.orders.RisingSets.{has_from_In, In-from_has}
-use Rattle.erd_normal.specs.code.Building.{id_of_rank}
-use Rattle.erd_normal.specs.code.NormalTree.{normal_id, reference_cmp}
-use Rattle.erd_normal.specs.code.Orders.{rank_named}
 
 -- no key is below none
 none_lesser : (π : Preference) (os : List Placed) → length (filter (λ o. is_lt (option_cmp key_cmp (key_of π o.value) None)) os) ≡ 0

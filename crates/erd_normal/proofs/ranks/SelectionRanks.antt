@@ -1,44 +1,16 @@
 -- The selections of a contest in the order of their names, and their ranks.
-use Rattle.std.proofs.Common.{◌≡◌, ◌+◌, ◌++◌, ℕ, List, [], ◌∷◌, length, map, codes, replicate, Option, Some, None, Ordering, option_map, slice_get, drop, take, ◌<◌, ◌≤◌, refl, sym, ap, ◌∙◌, subst, arith}
-use Rattle.std.proofs.lemmas.Cmp.{on_total}
-use Rattle.std.proofs.lemmas.List.{drop_all, length-map, length-take, take_more}
-use Rattle.std.proofs.lemmas.Option.{get_or_from_slice_get, same_Some, slice_get-map, slice_get_within}
-use Rattle.std.specs.Cmp.{IsTotalOrder}
-use Rattle.std.specs.Cmp.Lexicographic.{options_total}
-use Rattle.std.specs.List.{AllByRecursion, enumerate_from, flat_map}
-use Rattle.std.specs.Option.{option_cmp, option_copied}
-use Rattle.std.specs.Ordering.{eq_by_cmp}
-use Rattle.serde_json.specs.Data.{Data}
-use Rattle.erd_tables.specs.declared.class.Family.TheVariants as family
-use Rattle.erd_tables.specs.declared.place.Step.TheVariants.{Name}
-use Rattle.erd_meaning.proofs.finding.OneObject.{in_at}
-use Rattle.erd_check.proofs.Rising.{Has}
-use Rattle.erd_check.specs.Values.{entries_at}
-use Rattle.erd_meaning.specs.Accepted.{IsAccepted}
-use Rattle.erd_meaning.specs.Keys.{Preference}
-use Rattle.erd_meaning.specs.NameParts.{NameParts}
+use Rattle.erd_normal.proofs.Common.{◌≡◌, ℕ, ◌+◌, ◌<◌, ◌≤◌, List, [], ◌∷◌, ◌++◌, map, length, take, drop, replicate, slice_get, Some, None, codes, Option, option_map, flat_map, option_copied, Ordering, sym, refl, ap, ◌∙◌, subst, arith, length-take, Bor, on_total, length-map, drop_all, take_more, same_Some, slice_get-map, slice_get_within, get_or_from_slice_get, IsTotalOrder, options_total, AllByRecursion, enumerate_from, option_cmp, eq_by_cmp, Data, family, Name, Has, entries_at, values-placed_from, in_at, distinct_map, by_first, rising_list_map, rank_map, IsAccepted, Preference, NameParts, Placed, contests, selections_of_contest, objects, rising_list, name_of, name_cmp, positioned, rank_by, positions_by, name_cmp_total, rank_of_name, by_name, lent_name_cmp, rising_selections, AreSelectionRanks}
 use Rattle.erd_meaning.specs.NumberedNames.{numbered_name_cmp, numbered_parts}
-use Rattle.erd_meaning.specs.Objects.{Placed, contests, objects, selections_of_contest}
 use Rattle.erd_meaning.specs.Places.{places_put}
 use Rattle.erd_meaning.specs.RankedNames.{RankedParts, ranked_name}
-use Rattle.erd_meaning.specs.SelectionNames.{name_cmp, name_of, rising_list}
-use Rattle.erd_meaning.specs.code.KeyOrders.{positioned, positions_by, rank_by}
 use Rattle.erd_meaning.specs.code.NumberedOrders.{numbered_name_cmp_total}
-use Rattle.erd_meaning.specs.code.Orders.{name_cmp_total}
-use Rattle.erd_meaning.proofs.accepted.Skeleton.{values-placed_from}
-use Rattle.erd_meaning.proofs.orders.DistinctEntries.{distinct_map}
 use Rattle.erd_meaning.proofs.orders.OrdersMade.{all_low, ranks_are}
-use Rattle.erd_meaning.proofs.orders.RisingLists.{by_first, rising_list_map}
-use Rattle.erd_meaning.proofs.orders.RisingOrders.{rank_map}
 use Rattle.erd_meaning.proofs.selections.PositionedKeys.{positioned-append, positioned_made}
 use Rattle.erd_meaning.proofs.selections.RanksInTurn.{numbered_names_alike}
 use Rattle.erd_normal.proofs.canonical.RisingReports.{selection_values_distinct}
 use Rattle.erd_normal.proofs.lists.NumberedParts.{in_part}
 use Rattle.erd_normal.proofs.lists.StableRising.{map_after}
 use Rattle.erd_normal.proofs.ranks.InOrder.{Next, entries, left_there, next, positions, stands, values}
-use Rattle.erd_normal.specs.code.NormalTree.{by_name, rank_of_name}
-use Rattle.erd_normal.specs.code.SelectionOrders.{AreSelectionRanks, lent_name_cmp, rising_selections}
-use denote.Ref.{Bor}
 
 -- ---- positions by one key and by another
 

@@ -1,33 +1,11 @@
 -- What a reference to a selection becomes, by the ranks of the selection and its contest.
-use Rattle.std.proofs.Common.{◌≡◌, ◌==◌, ℕ, List, [], true, false, true≢false, codes, Option, Some, None, option_and_then, option_map, find, slice_get, refl, sym, ap, ap₂, ◌∙◌, subst}
-use Rattle.std.proofs.lemmas.Option.{slice_get-map}
-use Rattle.std.specs.Option.{option_map_or}
-use Rattle.serde_json.specs.Data.{Data, string}
-use Rattle.erd_tables.specs.Classes.{family_number}
-use Rattle.erd_tables.specs.declared.class.Family.{Family}
-use Rattle.erd_tables.specs.declared.class.Family.TheVariants as family
-use Rattle.erd_check.proofs.Rising.{Has}
+use Rattle.erd_normal.proofs.Common.{◌≡◌, ℕ, true, false, List, [], ◌==◌, slice_get, Some, None, codes, Option, option_map, find, option_and_then, sym, refl, ap, ◌∙◌, subst, ap₂, true≢false, slice_get-map, option_map_or, Data, string, family_number, Family, family, Has, entries_at, find-Some, option_map-Some, stands, flat-has, one_object, has_id-Some, owner_is, in_at, with_part, place_of, In-from_has, has_from_In, IsAccepted, Preference, key_of, key_in, rank_of, id_in, selection_in, FindsId, NameParts, Placed, contests, selections_of_contest, objects, numbered_selections, id_of, has_id, name_of, canonical_selection_id, rank_of_name, id_of_selection, contest_with, selection_with, normal_selection_reference, AreSelectionRanks}
 use Rattle.erd_meaning.proofs.selections.NamesTold.{Numbered}
 use Rattle.erd_meaning.proofs.selections.NumberedSelections.{OfContest, of_its_contest, placed_of_contests}
 use Rattle.erd_meaning.proofs.identity.ObjectFamilies.{family_exact, itself}
-use Rattle.erd_meaning.proofs.finding.OneObject.{in_at, with_part}
-use Rattle.erd_meaning.proofs.accepted.References.{find-Some, option_map-Some}
-use Rattle.erd_meaning.proofs.accepted.Standing.{flat-has, has_id-Some, one_object, owner_is, stands}
-use Rattle.erd_meaning.specs.Accepted.{IsAccepted}
-use Rattle.erd_meaning.specs.Keys.{Preference, key_of}
-use Rattle.erd_check.specs.Values.{entries_at}
-use Rattle.erd_meaning.specs.Lookups.{FindsId, id_in, key_in, rank_of, selection_in}
-use Rattle.erd_meaning.specs.NameParts.{NameParts}
-use Rattle.erd_meaning.specs.Objects.{Placed, contests, has_id, id_of, numbered_selections, objects, selections_of_contest}
-use Rattle.erd_meaning.specs.SelectionNames.{name_of}
 use Rattle.erd_normal.proofs.canonical.ContestSelections.{one_contest}
-use Rattle.erd_meaning.proofs.orders.DistinctEntries.{place_of}
 use Rattle.erd_normal.proofs.lists.FoundInParts.{FoundSelection, owner_found}
-use Rattle.erd_meaning.proofs.orders.RisingSets.{has_from_In, In-from_has}
 use Rattle.erd_normal.proofs.meaning.AlikeRecords.{has_name}
-use Rattle.erd_normal.specs.code.NormalTree.{contest_with, id_of_selection, normal_selection_reference, rank_of_name, selection_with}
-use Rattle.erd_normal.specs.Canonical.{canonical_selection_id}
-use Rattle.erd_normal.specs.code.SelectionOrders.{AreSelectionRanks}
 
 -- ---- the selections of a report, without the numbers of their contests
 

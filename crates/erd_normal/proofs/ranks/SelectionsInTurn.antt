@@ -1,18 +1,6 @@
 -- The selections of the contests of a report, one contest after another.
-use Rattle.std.proofs.Common.{◌≡◌, ◌<◌, ◌^◌, ℕ, zero, suc, ◌+◌, List, [], ◌∷◌, length, map, take, get_or, codes, Option, Some, None, option_map, slice_get, refl, sym, ap, ◌∙◌, subst, arith}
-use Rattle.std.proofs.lemmas.List.{length-map}
-use Rattle.std.specs.List.{flat_map}
-use Rattle.std.specs.Option.{option_map_or}
-use Rattle.serde_json.specs.Data.{Data}
-use Rattle.serde_json.specs.View.{view}
-use Rattle.serde_json.specs.declared.value.Value.{Value}
-use Rattle.erd_tables.specs.declared.class.Family.TheVariants as family
-use Rattle.erd_check.specs.Values.{entries_at}
-use Rattle.erd_meaning.proofs.accepted.Skeleton.{values-placed_flat}
-use Rattle.erd_meaning.specs.Keys.{Preference}
-use Rattle.erd_meaning.specs.Objects.{IsBounded, Placed, contests, objects}
+use Rattle.erd_normal.proofs.Common.{◌≡◌, ℕ, zero, suc, ◌+◌, ◌^◌, ◌<◌, List, [], ◌∷◌, map, length, get_or, take, slice_get, Some, None, codes, Option, option_map, flat_map, sym, refl, ap, ◌∙◌, subst, arith, length-map, option_map_or, Data, view, Value, family, entries_at, values-placed_flat, Preference, Placed, contests, objects, IsBounded, AreNamedFrom}
 use Rattle.erd_normal.proofs.ranks.NamesInTurn.{ends_within, named_from}
-use Rattle.erd_normal.specs.code.SelectionOrders.{AreNamedFrom}
 
 -- the contests, without their places, and the selections of one
 abbrev pub contest_values : Data → List Data

@@ -1,48 +1,12 @@
 -- The tree as it is written is the tree that is built for an accepted report.
-use Rattle.std.proofs.Common.{◌≡◌, ℕ, zero, suc, ◌+◌, List, [], ◌∷◌, filter, flat_map, map, true, Some, codes, slice_get, refl, sym, ap, ap₂, ◌∙◌, subst, arith}
-use Rattle.std.specs.Option.{option_cmp, option_map_or}
-use Rattle.serde_json.specs.Data.{Data, array, object, Members, no_members, member}
-use Rattle.serde_json.specs.Find.{get, get_member}
-use Rattle.erd_tables.specs.Classes.{role_of_class}
-use Rattle.erd_tables.specs.Table.{kind_of_member}
-use Rattle.erd_tables.specs.declared.class.Class.{Class}
-use Rattle.erd_tables.specs.declared.class.Class.TheVariants as class
-use Rattle.erd_tables.specs.declared.class.Family.{Family}
-use Rattle.erd_tables.specs.declared.class.Family.TheVariants as family
-use Rattle.erd_tables.specs.declared.class.Role.TheVariants as role
-use Rattle.erd_tables.specs.declared.member.MemberKind.{MemberKind}
-use Rattle.erd_tables.specs.declared.member.MemberKind.TheVariants as kind
-use Rattle.erd_check.specs.Trees.{AreMembers, IsTree}
-use Rattle.erd_check.specs.Values.{entries_of, entries_at, list_of_items}
-use Rattle.erd_check.specs.Wants.{asked, class_of_object}
-use Rattle.erd_check.specs.declared.want.Want.TheVariants.{Object}
-use Rattle.erd_check.proofs.Entries.{entries_in}
-use Rattle.erd_check.proofs.Members.{get_member-first}
-use Rattle.erd_check.proofs.ObjectsAt.{ObjectIn, object_in}
-use Rattle.erd_check.proofs.Rising.{Has, here, later}
-use Rattle.erd_check.proofs.Shapes.{Within, within-tree}
-use Rattle.erd_meaning.proofs.accepted.Phases.{no_shape_fault}
-use Rattle.erd_meaning.proofs.accepted.Skeleton.{Skeleton, election_entries, election_object, election_stands, skeleton, values-placed_entries}
-use Rattle.erd_meaning.proofs.accepted.Standing.{stands as standing}
-use Rattle.erd_meaning.specs.Accepted.{IsAccepted}
-use Rattle.erd_meaning.specs.Keys.{Preference, has_keys, key_cmp, key_of}
-use Rattle.erd_meaning.specs.Objects.{Placed, elections, objects, placed_entries, report_of}
-use Rattle.erd_meaning.specs.SelectionNames.{rising_list}
+use Rattle.erd_normal.proofs.Common.{◌≡◌, ℕ, zero, suc, ◌+◌, true, List, [], ◌∷◌, map, slice_get, Some, codes, filter, flat_map, sym, refl, ap, ◌∙◌, subst, ap₂, arith, option_cmp, option_map_or, Data, array, object, Members, no_members, member, get_member, get, role_of_class, kind_of_member, Class, class, Family, family, role, MemberKind, kind, entries_in, get_member-first, object_in, ObjectIn, In, has_at, here, later, Has, within-tree, Within, get_member-later, IsTree, AreMembers, list_of_items, entries_of, entries_at, class_of_object, asked, Object, no_shape_fault, skeleton, values-placed_entries, election_entries, election_stands, election_object, Skeleton, stands as standing, rising_list_map, In-from_has, IsAccepted, has_keys, key_cmp, Preference, key_of, Placed, placed_entries, report_of, elections, objects, rising_list, rising_objects, rising_elections, objects_in_part, id_of_key, unless_no_entry, array_of, normal_members, normal_object_with, with_id, normal_selection, by_key, by_name, normal_object_value, normal_object, normal_election_value, normal_election, normal_report_value, in_envelope, normal_tree, map_from, written_selection, written_in_contest, written_object_value, written_object, written_objects, written_election_value, written_election, written_elections, written_report_value}
 use Rattle.erd_normal.proofs.built.BuiltFrom.{Builder}
 use Rattle.erd_normal.proofs.built.FamilyNames.{contest_of_selections, elections_name, family_name, keyed_name, report_objects}
 use Rattle.erd_normal.proofs.canonical.RisingReports.{selection_ranks}
 use Rattle.erd_normal.proofs.lists.NumberedKept.{kept_has}
 use Rattle.erd_normal.proofs.ranks.InOrder.{stands, values}
 use Rattle.erd_normal.proofs.ranks.PartObjects.{in_elections_kept, in_order, in_report_kept, is_in, values_of_part}
-use Rattle.erd_normal.specs.code.ElectionParts.{objects_in_part, rising_elections, rising_objects}
-use Rattle.erd_normal.specs.code.NormalTree.{array_of, by_key, by_name, id_of_key, in_envelope, normal_election, normal_election_value, normal_members, normal_object, normal_object_value, normal_object_with, normal_report_value, normal_selection, normal_tree, unless_no_entry, with_id}
-use Rattle.erd_normal.specs.code.WrittenTree.{map_from, written_election, written_election_value, written_elections, written_in_contest, written_object, written_object_value, written_objects, written_report_value, written_selection}
-use Rattle.erd_check.proofs.Order.{In}
-use Rattle.erd_check.proofs.Positions.{has_at}
-use Rattle.erd_meaning.proofs.orders.RisingLists.{rising_list_map}
-use Rattle.erd_meaning.proofs.orders.RisingSets.{In-from_has}
 use Rattle.erd_normal.proofs.lists.StableRising.{map_after}
-use Rattle.erd_check.proofs.Whole.{get_member-later}
 
 -- the report as it is written
 abbrev pub written_tree : Preference → Data → Data

@@ -1,24 +1,5 @@
 -- A renaming and an exchange of two entries of a set make values that are alike.
-use Rattle.std.proofs.Common.{◌≡◌, ℕ, List, [], ◌∷◌, Bool, true, false, if◌then◌else◌, Option, Some, ◌<◌, zero, suc, cond, ◌&&◌, length, None, option_and_then, option_map, is_eq, Ordering, Equal, nat_cmp, refl, sym, ap, ◌∙◌, subst, arith}
-use Rattle.std.proofs.lemmas.Map.Text.{is_eq-slice_cmp}
-use Rattle.std.specs.Cmp.Lexicographic.{slice_cmp}
-use Rattle.std.specs.List.{swap}
-use Rattle.std.specs.Prelude.{IsSomeAnd, IsTrue}
-use Rattle.serde_json.specs.Data.{Data, string, array, object, Items, no_items, item, Members, no_members, member, null, boolean, number}
-use Rattle.serde_json.specs.Find.{get_item, get_member}
-use Rattle.serde_json.specs.View.{items_of}
-use Rattle.erd_tables.specs.declared.place.Step.{Step}
-use Rattle.erd_tables.specs.declared.place.Step.TheVariants.{Name, At}
-use Rattle.erd_tables.specs.declared.class.Role.TheVariants as role
-use Rattle.erd_check.specs.Values.{list_of_items, entries_of}
-use Rattle.erd_check.specs.Wants.{entry_want, is_table_set, scope_inside, want_of_name, Asked, asked, asked_from, asked_inside, asked_of_member, is_compared_set, is_repeated}
-use Rattle.erd_check.specs.declared.want.Scope.{Scope}
-use Rattle.erd_check.specs.declared.want.Want.{Want}
-use Rattle.erd_check.specs.declared.want.Want.TheVariants.{Object}
-use Rattle.erd_check.proofs.Lists.{list_of_items-items_of}
-use Rattle.erd_check.proofs.Steps.{text_from_equal}
-use Rattle.erd_meaning.proofs.orders.Reordered.{Reordered, reordered_self, reordered_swap}
-use Rattle.erd_normal.specs.Rearranged.{is_id_text, HasEntries, Renaming, changed_at, exchanged, item_changed, member_changed, renamed_items, renamed_members, renamed_value, replaced_text, swapped}
+use Rattle.erd_normal.proofs.Common.{◌≡◌, ℕ, zero, suc, ◌<◌, Bool, true, false, cond, ◌&&◌, List, [], ◌∷◌, length, IsSomeAnd, if◌then◌else◌, IsTrue, Some, None, Option, option_map, swap, option_and_then, nat_cmp, is_eq, Ordering, Equal, sym, refl, ap, ◌∙◌, subst, arith, is_eq-slice_cmp, slice_cmp, Data, null, boolean, number, string, array, object, Items, no_items, item, Members, no_members, member, get_member, get_item, items_of, role, Step, At, Name, list_of_items-items_of, text_from_equal, list_of_items, entries_of, scope_inside, want_of_name, entry_want, is_compared_set, is_table_set, Asked, asked, is_repeated, asked_of_member, asked_inside, asked_from, Scope, Want, Object, reordered_self, reordered_swap, Reordered, Renaming, replaced_text, is_id_text, renamed_value, renamed_items, renamed_members, changed_at, member_changed, item_changed, swapped, exchanged, HasEntries}
 
 -- ---- two values that are alike: spelled otherwise, with the same said. A renaming and an exchange make values that are alike
 

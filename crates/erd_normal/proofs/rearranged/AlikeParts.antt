@@ -1,15 +1,6 @@
 -- What stands in values that are alike, part by part.
-use Rattle.std.proofs.Common.{◌≡◌, ℕ, List, [], ◌∷◌, Bool, true, false, Option, Some, None, sym, subst}
-use Rattle.serde_json.specs.Data.{Data, null, boolean, number, string, array, object, Items, no_items, item, Members, no_members, member}
-use Rattle.serde_json.specs.Find.{get_member}
-use Rattle.erd_check.specs.Trees.{AreMembers, AreTrees, IsBeforeFirst, IsTree}
-use Rattle.erd_check.specs.Values.{list_of_items}
-use Rattle.erd_check.specs.Wants.{entry_want, is_table_set, scope_inside, want_of_name}
-use Rattle.erd_check.specs.declared.want.Scope.{Scope}
-use Rattle.erd_check.specs.declared.want.Want.{Want}
-use Rattle.erd_check.proofs.Rising.{Has, here, later}
+use Rattle.erd_normal.proofs.Common.{◌≡◌, ℕ, Bool, true, false, List, [], ◌∷◌, Some, None, Option, sym, subst, Data, null, boolean, number, string, array, object, Items, no_items, item, Members, no_members, member, get_member, here, later, Has, IsBeforeFirst, IsTree, AreTrees, AreMembers, list_of_items, scope_inside, want_of_name, entry_want, is_table_set, Scope, Want, reordered_self, reordered_back, reordered-has, Reordered}
 use Rattle.erd_normal.proofs.lists.Matched.{Both, both, neither, Matched, Paired, none, more}
-use Rattle.erd_meaning.proofs.orders.Reordered.{Reordered, reordered_back, reordered_self, reordered-has}
 use Rattle.erd_normal.proofs.rearranged.AlikeChanges.{Alike, AlikeMembers, AreAlike, IsArranged}
 use Rattle.erd_normal.proofs.same.Lookups.{get_both}
 

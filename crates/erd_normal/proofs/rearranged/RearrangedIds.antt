@@ -1,25 +1,11 @@
 -- No two objects of a report that is alike to an accepted one have one `@id`, where the function of texts tells `@id`s apart.
-use Rattle.std.proofs.Common.{◌≡◌, ℕ, List, true, true≢false, Some, sym, ap, ◌∙◌, subst}
-use Rattle.std.specs.List.{IsDistinct}
-use Rattle.std.proofs.lemmas.Bool.{false_from_ne_true}
-use Rattle.serde_json.specs.Data.{Data}
-use Rattle.erd_tables.specs.declared.class.Family.{Family}
-use Rattle.erd_tables.specs.declared.class.Role.TheVariants as role
-use Rattle.erd_check.specs.declared.want.Want.TheVariants.{Object}
-use Rattle.erd_check.proofs.Rising.{Has}
-use Rattle.erd_meaning.specs.Accepted.{IsAccepted}
-use Rattle.erd_meaning.specs.Keys.{Preference}
-use Rattle.erd_meaning.specs.Objects.{id_of, objects}
-use Rattle.erd_meaning.proofs.accepted.Phases.{no_shape_fault}
-use Rattle.erd_meaning.proofs.accepted.References.{Has-Contains, option_map-Some}
-use Rattle.erd_meaning.proofs.orders.DistinctEntries.{distinct_one}
+use Rattle.erd_normal.proofs.Common.{◌≡◌, ℕ, true, List, Some, sym, ap, ◌∙◌, subst, true≢false, false_from_ne_true, IsDistinct, Data, Family, role, Has, Object, no_shape_fault, Has-Contains, option_map-Some, distinct_one, IsAccepted, Preference, objects, id_of, HasDistinctIds}
 use Rattle.erd_normal.proofs.lists.Matched.{IsEven, Matched, distinct_matched, matched_back}
 use Rattle.erd_normal.proofs.rearranged.AlikeChanges.{Alike}
 use Rattle.erd_normal.proofs.rearranged.RelatedMembers.{Related}
 use Rattle.erd_normal.proofs.rearranged.RelatedObjects.{family_matched, id_became}
 use Rattle.erd_normal.proofs.same.FamilyValues.{family_values, object_values, not_before_itself, placed_value}
 use Rattle.erd_normal.proofs.same.SharedIds.{IsId, ids_distinct, one_family, by_one_id, id_of_both, have_one_id}
-use Rattle.erd_normal.specs.SameLaws.{HasDistinctIds}
 
 -- no two of the report's `@id`s become one
 abbrev pub TellsIds : (List ℕ → List ℕ) → Data → Type 0

@@ -1,27 +1,5 @@
 -- A rearranged report is a tree, is accepted as it was, says the same and so means the same: by each change, and so by all.
-use Rattle.std.proofs.Common.{◌≡◌, ◌⊎◌, inl, inr, ℕ, List, ◌∷◌, true, false, true≢false, Option, Some, None, option_and_then, refl, sym, ap, ◌∙◌, subst, []}
-use Rattle.std.specs.Prelude.{IsTrue, IsSomeAnd}
-use Rattle.serde_json.specs.Data.{Data, object}
-use Rattle.serde_json.specs.Find.{get_member}
-use Rattle.erd_tables.specs.Table.{is_envelope_name}
-use Rattle.erd_tables.specs.declared.fault.Reason.{Reason}
-use Rattle.erd_tables.specs.declared.place.Step.{Step}
-use Rattle.erd_tables.specs.declared.place.Step.TheVariants.{Name}
-use Rattle.erd_tables.specs.declared.class.Role.TheVariants as role
-use Rattle.erd_check.specs.Faults.{is_shape_fault}
-use Rattle.erd_check.specs.Trees.{IsTree}
-use Rattle.erd_check.specs.Wants.{Asked, asked, asked_from, asked_inside, asked_of_member, scope_inside, want_of_name}
-use Rattle.erd_check.specs.declared.want.Scope.{Scope}
-use Rattle.erd_check.specs.declared.want.Want.{Want}
-use Rattle.erd_check.specs.declared.want.Want.TheVariants.{Object}
-use Rattle.erd_check.proofs.ObjectsAt.{ObjectIn, object_in, report_class}
-use Rattle.erd_check.proofs.Shapes.{Within, Within-root, Within-step, within-tree}
-use Rattle.erd_check.specs.declared.want.Scope.TheVariants as scope
-use Rattle.erd_meaning.specs.Accepted.{IsAccepted}
-use Rattle.erd_meaning.specs.Keys.{Preference}
-use Rattle.erd_meaning.proofs.accepted.Phases.{no_shape_fault}
-use Rattle.erd_normal.specs.SameLaws.{HasSoundEnvelope, RearrangedSaysTheSame}
-use Rattle.erd_normal.specs.SaysTheSame.{Sides, is_envelope, SaysTheSame}
+use Rattle.erd_normal.proofs.Common.{◌≡◌, ℕ, true, false, ◌⊎◌, List, [], ◌∷◌, IsSomeAnd, IsTrue, Some, None, Option, option_and_then, sym, refl, ap, ◌∙◌, subst, inl, inr, true≢false, Data, object, get_member, is_envelope_name, role, Reason, Step, Name, object_in, report_class, ObjectIn, Within-step, Within-root, within-tree, Within, is_shape_fault, IsTree, scope_inside, want_of_name, Asked, asked, asked_of_member, asked_inside, asked_from, Scope, scope, Want, Object, no_shape_fault, IsAccepted, Preference, RearrangedMeansTheSame, Renaming, replaced_text, renamed, exchanged, Change, a_renaming, an_exchange, IsAllowed, changed, IsRearrangement, IsRenaming, RearrangedSaysTheSame, HasSoundEnvelope, Sides, is_envelope, SaysTheSame}
 use Rattle.erd_normal.proofs.lists.Matched.{Both, both}
 use Rattle.erd_normal.proofs.rearranged.AlikeChanges.{Alike, as_it_is, exchanged_alike, renamed_alike}
 use Rattle.erd_normal.proofs.rearranged.AlikeParts.{alike_member, alike_tree}
@@ -32,8 +10,6 @@ use Rattle.erd_normal.proofs.same.Types.{scope_same}
 use Rattle.erd_normal.proofs.same.accepted.AbsentMembers.{IsSound}
 use Rattle.erd_normal.proofs.same.accepted.AcceptedShape.{no_fault_at}
 use Rattle.erd_normal.proofs.same.accepted.AskedAgain.{AskedAgain, HasSoundMembers, again_from, of_report}
-use Rattle.erd_normal.specs.Laws.{RearrangedMeansTheSame}
-use Rattle.erd_normal.specs.Rearranged.{Change, IsAllowed, IsRearrangement, IsRenaming, Renaming, a_renaming, an_exchange, changed, exchanged, renamed, replaced_text}
 use Rattle.erd_normal.proofs.rearranged.RearrangedIds.{alike_ids, TellsIds}
 use Rattle.erd_normal.proofs.same.Basics.{says_itself}
 use Rattle.erd_normal.proofs.same.InTurn.{says_in_turn}

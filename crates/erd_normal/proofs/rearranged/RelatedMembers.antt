@@ -1,28 +1,5 @@
 -- What stands in an object of a report, and what in one that is alike to it: under each name, and in each array.
-use Rattle.std.proofs.Common.{◌≡◌, ℕ, List, [], true, false, if◌then◌else◌, Option, Some, None, option_map, codes, refl, sym, ap, ◌∙◌, subst}
-use Rattle.std.specs.Option.{option_map_or}
-use Rattle.std.specs.Str.{bytes_eq}
-use Rattle.serde_json.specs.Data.{Data, string, array, object, Members}
-use Rattle.serde_json.specs.Find.{as_str, get, get_member}
-use Rattle.erd_tables.specs.Table.{is_required, kind_of_member}
-use Rattle.erd_tables.specs.declared.class.Class.{Class}
-use Rattle.erd_tables.specs.declared.class.Family.{Family}
-use Rattle.erd_tables.specs.declared.class.Role.{Role}
-use Rattle.erd_tables.specs.declared.class.Role.TheVariants as role
-use Rattle.erd_tables.specs.declared.member.MemberKind.TheVariants as kind
-use Rattle.erd_tables.specs.declared.place.Step.TheVariants.{At}
-use Rattle.erd_check.specs.Faults.{NoneOf, ShapeFault}
-use Rattle.erd_check.specs.Values.{entries_at, entries_of}
-use Rattle.erd_check.specs.Wants.{asked, class_of_object, entry_want, is_compared_set, member_want, scope_inside, want_of_name}
-use Rattle.erd_check.specs.declared.want.Scope.TheVariants as scope
-use Rattle.erd_check.specs.declared.want.Want.{Want}
-use Rattle.erd_check.specs.declared.want.Want.TheVariants.{Member, Object}
-use Rattle.erd_check.proofs.Entries.{list_of_items-place}
-use Rattle.erd_check.proofs.ObjectsAt.{ObjectAt, ObjectIn}
-use Rattle.erd_check.proofs.Rising.{Has}
-use Rattle.erd_check.proofs.Shapes.{AsksObject, Within, Within-step, member_within, of_label, of_role}
-use Rattle.erd_check.proofs.TableKinds.{want_by_kind}
-use Rattle.erd_normal.specs.Rearranged.{is_id_text}
+use Rattle.erd_normal.proofs.Common.{◌≡◌, ℕ, true, false, List, [], if◌then◌else◌, Some, None, codes, Option, option_map, bytes_eq, sym, refl, ap, ◌∙◌, subst, option_map_or, Data, string, array, object, Members, get_member, get, as_str, kind_of_member, is_required, Class, Family, Role, role, kind, At, list_of_items-place, ObjectAt, ObjectIn, Has, Within-step, AsksObject, of_role, of_label, member_within, Within, want_by_kind, ShapeFault, NoneOf, entries_of, entries_at, class_of_object, scope_inside, member_want, want_of_name, entry_want, is_compared_set, asked, scope, Want, Member, Object, is_id_text}
 use Rattle.erd_normal.proofs.lists.Matched.{Both, both, neither, Matched, matched_none, matched_within}
 use Rattle.erd_normal.proofs.rearranged.AlikeChanges.{Alike}
 use Rattle.erd_normal.proofs.rearranged.AlikeParts.{alike_array, alike_member}

@@ -1,24 +1,6 @@
 -- The objects of a report and those of one that is alike to it: those of each family are matched, and related objects have `@id`s that are one but for
 -- the function of texts.
-use Rattle.std.proofs.Common.{◌≡◌, ℕ, List, flat_map, Bool, false, Option, Some, None, option_and_then, option_map, codes, refl, ap, ◌∙◌, subst}
-use Rattle.std.specs.Str.{bytes_eq}
-use Rattle.serde_json.specs.Data.{Data}
-use Rattle.serde_json.specs.Find.{as_str, get}
-use Rattle.erd_tables.specs.Table.{is_required, kind_of_member}
-use Rattle.erd_tables.specs.declared.class.Class.TheVariants as class
-use Rattle.erd_tables.specs.declared.class.Family.{Family}
-use Rattle.erd_tables.specs.declared.class.Family.TheVariants as family
-use Rattle.erd_tables.specs.declared.class.Role.{Role}
-use Rattle.erd_tables.specs.declared.class.Role.TheVariants as role
-use Rattle.erd_tables.specs.declared.member.MemberKind.TheVariants as kind
-use Rattle.erd_check.specs.Faults.{NoneOf, ShapeFault}
-use Rattle.erd_check.specs.Values.{entries_at}
-use Rattle.erd_check.specs.declared.want.Want.TheVariants.{Member, Object}
-use Rattle.erd_check.proofs.ObjectsAt.{ObjectIn, election_class, object_in, report_class}
-use Rattle.erd_check.proofs.Shapes.{Within-root}
-use Rattle.erd_check.proofs.TableKinds.{want_by_kind}
-use Rattle.erd_meaning.specs.Objects.{id_of}
-use Rattle.erd_meaning.proofs.accepted.Standing.{contest_selections}
+use Rattle.erd_normal.proofs.Common.{◌≡◌, ℕ, Bool, false, List, Some, None, codes, Option, option_map, flat_map, option_and_then, bytes_eq, refl, ap, ◌∙◌, subst, Data, get, as_str, kind_of_member, is_required, class, Family, family, Role, role, kind, object_in, report_class, election_class, ObjectIn, Within-root, want_by_kind, ShapeFault, NoneOf, entries_at, Member, Object, contest_selections, id_of}
 use Rattle.erd_normal.proofs.built.NormalGets.{kind_of_family_id}
 use Rattle.erd_normal.proofs.lists.Matched.{Both, both, neither, Matched, matched_flat}
 use Rattle.erd_normal.proofs.rearranged.AlikeChanges.{Alike}

@@ -1,22 +1,10 @@
 -- If u says what t says, t says what u says.
-use Rattle.std.proofs.Common.{List, Option, sym, subst}
-use Rattle.std.specs.List.Sorted.{IsPermutation}
-use Rattle.std.proofs.lemmas.List.Sorted.{IsPermutation-sym}
-use Rattle.serde_json.specs.Data.{Data, Items, Members}
-use Rattle.serde_json.specs.View.{items_of}
-use Rattle.erd_check.specs.Values.{list_of_items}
-use Rattle.erd_check.specs.Wants.{entry_want}
-use Rattle.erd_check.specs.declared.want.Scope.{Scope}
-use Rattle.erd_check.specs.declared.want.Want.{Want}
-use Rattle.erd_check.proofs.Lists.{list_of_items-items_of}
+use Rattle.erd_normal.proofs.Common.{List, Option, IsPermutation, sym, subst, IsPermutation-sym, Data, Items, Members, items_of, list_of_items-items_of, list_of_items, entry_want, Scope, Want, IsPermutation-reordered, SaysBack, Sides, not_asked, a_null, a_flag, a_number, a_text, an_id, a_list, a_set, an_object, no_entry, one_entry, no_member, in_both, left_only, right_only, Same, SameEntries, SameMembers}
 use Rattle.erd_normal.proofs.lists.Matched.{Paired, none, more}
 use Rattle.erd_normal.proofs.lists.NumbersInOrder.{permuted_reordered}
 use Rattle.erd_normal.proofs.lists.BuiltLists.{items_again}
-use Rattle.erd_normal.specs.SaysTheSame.{Sides, Same, not_asked, a_null, a_flag, a_number, a_text, an_id, a_list, a_set, an_object, SameEntries, no_entry, one_entry, SameMembers, no_member, in_both, left_only, right_only}
-use Rattle.erd_normal.specs.SameLaws.{SaysBack}
 use Rattle.erd_normal.proofs.same.Lists.{follows}
 use Rattle.erd_normal.proofs.same.Types.{scope_same}
-use Rattle.erd_meaning.proofs.orders.RisingSets.{IsPermutation-reordered}
 
 abbrev pub turned : Sides → Sides
 turned m = record { left = m.right; right = m.left; there = m.back; back = m.there }

@@ -1,16 +1,5 @@
 -- Each report says what it says.
-use Rattle.std.proofs.Common.{◌≡◌, ℕ, List, Bool, true, false, Option, Some, None, refl}
-use Rattle.std.proofs.lemmas.List.Sorted.{IsPermutation-refl}
-use Rattle.serde_json.specs.Data.{Data, null, boolean, number, string, array, object, Items, no_items, item, Members, no_members, member}
-use Rattle.erd_tables.specs.declared.class.Role.TheVariants as role
-use Rattle.erd_check.specs.Values.{list_of_items}
-use Rattle.erd_check.specs.Wants.{entry_want, is_table_set, scope_inside, want_of_name}
-use Rattle.erd_check.specs.declared.want.Scope.{Scope}
-use Rattle.erd_check.specs.declared.want.Want.{Want}
-use Rattle.erd_check.specs.declared.want.Want.TheVariants.{Object}
-use Rattle.erd_normal.specs.Rearranged.{is_id_text}
-use Rattle.erd_normal.specs.SaysTheSame.{Sides, Same, not_asked, a_null, a_flag, a_number, a_text, an_id, a_list, a_set, an_object, SameEntries, no_entry, one_entry, SameMembers, no_member, in_both}
-use Rattle.erd_normal.specs.SameLaws.{SaysItself}
+use Rattle.erd_normal.proofs.Common.{◌≡◌, ℕ, Bool, true, false, List, Some, None, Option, refl, IsPermutation-refl, Data, null, boolean, number, string, array, object, Items, no_items, item, Members, no_members, member, role, list_of_items, scope_inside, want_of_name, entry_want, is_table_set, Scope, Want, Object, is_id_text, SaysItself, Sides, not_asked, a_null, a_flag, a_number, a_text, an_id, a_list, a_set, an_object, no_entry, one_entry, no_member, in_both, Same, SameEntries, SameMembers}
 
 abbrev pub as_it_is : List ℕ → List ℕ
 as_it_is s = s

@@ -1,21 +1,8 @@
 -- The step for each set of the canonical tree: its entries in rising order, each built anew, say the same as the set, if what is built of
 -- each entry says the same as the entry. And for each list.
-use Rattle.std.proofs.Common.{◌≡◌, List, [], ◌∷◌, map, true, false, Ordering, Some, sym, subst}
-use Rattle.std.specs.List.Sorted.{IsPermutation}
-use Rattle.serde_json.specs.Data.{Data, array, Items}
-use Rattle.serde_json.specs.View.{items_of}
-use Rattle.erd_check.specs.Values.{list_of_items}
-use Rattle.erd_check.specs.Wants.{entry_want, is_table_set}
-use Rattle.erd_check.specs.declared.want.Want.{Want}
-use Rattle.erd_check.proofs.Lists.{list_of_items-items_of}
-use Rattle.erd_check.proofs.Rising.{Has, here, later}
-use Rattle.erd_meaning.specs.SelectionNames.{rising_list}
-use Rattle.erd_meaning.proofs.orders.Reordered.{reordered_back, reordered-has, reordered_rising}
-use Rattle.erd_meaning.proofs.orders.RisingSets.{permuted_rising}
-use Rattle.erd_normal.specs.code.NormalTree.{array_of}
+use Rattle.erd_normal.proofs.Common.{◌≡◌, true, false, List, [], ◌∷◌, map, Some, IsPermutation, Ordering, sym, subst, Data, array, Items, items_of, list_of_items-items_of, here, later, Has, list_of_items, entry_want, is_table_set, Want, reordered_back, reordered_rising, reordered-has, permuted_rising, rising_list, Sides, a_list, a_set, Same, SameEntries, array_of}
 use Rattle.erd_normal.proofs.lists.Matched.{Paired, none, more}
 use Rattle.erd_normal.proofs.lists.BuiltLists.{items_again}
-use Rattle.erd_normal.specs.SaysTheSame.{Sides, Same, SameEntries, a_list, a_set}
 use Rattle.erd_normal.proofs.same.Back.{paired_entries}
 
 module _ (m : Sides) (w : Want) (g : Data → Data) where

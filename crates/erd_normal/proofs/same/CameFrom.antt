@@ -1,21 +1,7 @@
 -- Each reference of the right report comes from one of the left report that it stands for.
-use Rattle.std.proofs.Common.{◌≡◌, ◌⊎◌, inl, inr, ℕ, List, [], ◌∷◌, Bool, true, ◌&&◌, Option, Some, None, option_and_then, option_map, refl, sym, ap, ◌∙◌, subst}
-use Rattle.serde_json.specs.Data.{Data, array, object, Items, Members}
-use Rattle.serde_json.specs.Find.{get_item, get_member}
-use Rattle.erd_tables.specs.declared.class.Role.TheVariants as role
-use Rattle.erd_tables.specs.declared.place.Step.{Step}
-use Rattle.erd_tables.specs.declared.place.Step.TheVariants.{Name, At}
-use Rattle.erd_check.specs.Faults.{is_reference}
-use Rattle.erd_check.specs.Trees.{IsTree}
-use Rattle.erd_check.specs.Values.{list_of_items}
-use Rattle.erd_check.specs.Wants.{Asked, asked, asked_at, asked_from, asked_inside, asked_of_member, entry_want, is_compared_set, is_repeated, scope_inside, want_of_name}
-use Rattle.erd_check.specs.declared.want.Want.{Want}
-use Rattle.erd_check.specs.declared.want.Want.TheVariants.{Object}
-use Rattle.erd_check.proofs.Entries.{list_of_items-place}
-use Rattle.erd_check.proofs.Shapes.{Within, Within-root, Within-step, within-tree}
+use Rattle.erd_normal.proofs.Common.{◌≡◌, ℕ, Bool, true, ◌&&◌, ◌⊎◌, List, [], ◌∷◌, Some, None, Option, option_map, option_and_then, sym, refl, ap, ◌∙◌, subst, inl, inr, Data, array, object, Items, Members, get_member, get_item, role, Step, At, Name, list_of_items-place, Within-step, Within-root, within-tree, Within, is_reference, IsTree, list_of_items, scope_inside, want_of_name, entry_want, is_compared_set, Asked, asked, is_repeated, asked_of_member, asked_inside, asked_from, asked_at, Want, Object, Sides, a_list, a_set, an_object, Same, SameMembers}
 use Rattle.erd_normal.proofs.lists.Matched.{Matched, matched_back}
 use Rattle.erd_normal.proofs.same.Lists.{entry_has}
-use Rattle.erd_normal.specs.SaysTheSame.{Sides, Same, an_object, a_list, a_set, SameMembers}
 use Rattle.erd_normal.proofs.same.Lookups.{Aligned, both_there, not_both, lookups}
 use Rattle.erd_normal.proofs.same.Places.{no_reference_absent}
 use Rattle.erd_normal.proofs.same.Related.{entries_matched}

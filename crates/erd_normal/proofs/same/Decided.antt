@@ -1,30 +1,9 @@
 -- A test that two reports say the same, given the two functions of texts. It is for examples: what passes says the same.
-use Rattle.std.proofs.Common.{◌≡◌, ℕ, List, [], ◌∷◌, Bool, true, false, cond, not, ◌&&◌, Option, Some, None, option_map, refl, sym, ap, ◌∙◌, subst}
-use Rattle.std.proofs.lemmas.Bool.{and_parts}
-use Rattle.std.proofs.lemmas.Slice.Eq.{bytes_eq-Decides}
-use Rattle.std.specs.List.{list_all}
-use Rattle.std.specs.List.Sorted.{IsPermutation}
-use Rattle.std.specs.Str.{bytes_eq}
-use Rattle.serde_json.specs.Data.{Data, null, boolean, number, string, array, object, Items, no_items, item, Members, no_members, member}
-use Rattle.serde_json.specs.View.{items_of}
-use Rattle.erd_tables.specs.declared.class.Role.TheVariants as role
-use Rattle.erd_tables.specs.declared.member.MemberKind.TheVariants as kind
-use Rattle.erd_check.specs.Faults.{is_reference}
-use Rattle.erd_check.specs.Values.{list_of_items}
-use Rattle.erd_check.specs.Wants.{Asked, entry_want, is_table_set, scope_inside, want_of_name}
-use Rattle.erd_check.specs.declared.want.Scope.{Scope}
-use Rattle.erd_check.specs.declared.want.Want.{Want}
-use Rattle.erd_check.specs.declared.want.Want.TheVariants.{Member, Object}
+use Rattle.erd_normal.proofs.Common.{◌≡◌, ℕ, Bool, true, false, cond, not, ◌&&◌, List, [], ◌∷◌, Some, None, Option, option_map, IsPermutation, bytes_eq, sym, refl, ap, ◌∙◌, subst, and_parts, bytes_eq-Decides, list_all, Data, null, boolean, number, string, array, object, Items, no_items, item, Members, no_members, member, items_of, role, kind, text_itself, list_of_items-items_of, is_reference, list_of_items, scope_inside, want_of_name, entry_want, is_table_set, Asked, Scope, Want, Member, Object, one_kept, two_exchanged, in_turn, reordered_self, Reordered, IsPermutation-reordered, is_id_text, Sides, IsUnused, is_array_kind, is_envelope, an_empty_array, of_the_envelope, an_unused_id, not_asked, a_null, a_flag, a_number, a_text, an_id, a_list, a_set, an_object, no_entry, one_entry, no_member, in_both, left_only, right_only, MayBeAbsent, Same, SameEntries, SameMembers, SaysTheSame}
 use Rattle.erd_check.proofs.AllAsked.{AskedPlace, all_asked, tested_at}
-use Rattle.erd_check.proofs.Lists.{list_of_items-items_of}
-use Rattle.erd_check.proofs.Exact.{text_itself}
-use Rattle.erd_normal.specs.Rearranged.{is_id_text}
-use Rattle.erd_meaning.proofs.orders.Reordered.{Reordered, one_kept, two_exchanged, in_turn, reordered_self}
-use Rattle.erd_meaning.proofs.orders.RisingSets.{IsPermutation-reordered}
 use Rattle.erd_normal.proofs.examples.EqualTrees.{equal_trees, same_tree}
 use Rattle.erd_normal.proofs.lists.Matched.{Paired, none, more}
 use Rattle.erd_normal.proofs.lists.BuiltLists.{items_again}
-use Rattle.erd_normal.specs.SaysTheSame.{Sides, IsUnused, MayBeAbsent, an_empty_array, of_the_envelope, an_unused_id, is_array_kind, is_envelope, Same, not_asked, a_null, a_flag, a_number, a_text, an_id, a_list, a_set, an_object, SameEntries, no_entry, one_entry, SameMembers, no_member, in_both, left_only, right_only, SaysTheSame}
 use Rattle.erd_normal.proofs.same.Back.{paired_entries, paired_flip}
 use Rattle.erd_normal.proofs.same.Lists.{follows}
 

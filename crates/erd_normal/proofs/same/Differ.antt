@@ -1,28 +1,7 @@
 -- A test that two reports do not say the same, whatever the functions of texts. It is for examples: what passes does not say the
 -- same.
-use Rattle.std.proofs.Common.{◌≡◌, ◌⊎◌, inl, inr, ℕ, List, ◌∷◌, Bool, true, false, cond, not, ◌&&◌, ◌||◌, ◌==◌, Option, Some, None, refl, sym, ap, ◌∙◌, subst}
-use Rattle.std.proofs.lemmas.Bool.{and_parts}
-use Rattle.std.proofs.lemmas.Bool.Decides.{Decides-eqb}
-use Rattle.std.proofs.lemmas.Slice.Eq.{bytes_eq-Decides}
-use Rattle.std.specs.Str.{bytes_eq}
-use Rattle.serde_json.specs.Data.{Num, unsigned, Data, null, boolean, number, string, array, object, Items, no_items, item, Members, no_members, member}
-use Rattle.serde_json.specs.Find.{get_member}
-use Rattle.erd_tables.specs.declared.class.Role.TheVariants as role
-use Rattle.erd_tables.specs.declared.member.MemberKind.{MemberKind}
-use Rattle.erd_tables.specs.declared.member.MemberKind.TheVariants as kind
-use Rattle.erd_check.specs.Trees.{AreMembers, AreTrees, IsTree}
-use Rattle.erd_check.specs.Values.{list_of_items}
-use Rattle.erd_check.specs.Wants.{entry_want, is_table_set, scope_inside, want_of_name}
-use Rattle.erd_check.specs.declared.want.Scope.{Scope}
-use Rattle.erd_check.specs.declared.want.Want.{Want}
-use Rattle.erd_check.specs.declared.want.Want.TheVariants.{Member, Object}
-use Rattle.erd_check.proofs.Entries.{list_of_items-tree}
-use Rattle.erd_check.proofs.Members.{get_member-first, get_member-tree}
-use Rattle.erd_check.proofs.Rising.{Has, here, later}
-use Rattle.erd_check.proofs.Whole.{get_member-later}
-use Rattle.erd_normal.specs.Rearranged.{is_id_text}
+use Rattle.erd_normal.proofs.Common.{◌≡◌, ℕ, Bool, true, false, cond, not, ◌&&◌, ◌||◌, ◌⊎◌, List, ◌∷◌, ◌==◌, Some, None, Option, bytes_eq, sym, refl, ap, ◌∙◌, subst, inl, inr, and_parts, Decides-eqb, bytes_eq-Decides, Num, unsigned, Data, null, boolean, number, string, array, object, Items, no_items, item, Members, no_members, member, get_member, role, MemberKind, kind, list_of_items-tree, get_member-first, get_member-tree, here, later, Has, get_member-later, IsTree, AreTrees, AreMembers, list_of_items, scope_inside, want_of_name, entry_want, is_table_set, Scope, Want, Member, Object, is_id_text, Sides, is_array_kind, is_envelope, an_empty_array, of_the_envelope, an_unused_id, not_asked, a_null, a_flag, a_number, a_text, an_id, a_list, a_set, an_object, no_entry, one_entry, MayBeAbsent, Same, SameEntries, SameMembers, SaysTheSame}
 use Rattle.erd_normal.proofs.lists.Matched.{matched_on}
-use Rattle.erd_normal.specs.SaysTheSame.{Sides, MayBeAbsent, an_empty_array, of_the_envelope, an_unused_id, is_array_kind, is_envelope, Same, not_asked, a_null, a_flag, a_number, a_text, an_id, a_list, a_set, an_object, SameEntries, no_entry, one_entry, SameMembers, SaysTheSame}
 use Rattle.erd_normal.proofs.same.Lookups.{Aligned, both_there, not_both, lookups}
 use Rattle.erd_normal.proofs.same.Related.{entries_matched}
 

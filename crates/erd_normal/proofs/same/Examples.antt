@@ -1,11 +1,7 @@
 -- The small ballot and its canonical form.
-use Rattle.std.proofs.Common.{ℕ, List, [], ◌∷◌, ◌++◌, codes, refl}
-use Rattle.serde_json.proofs.OnLiterals.{serde_json_on_literals}
-use Rattle.erd_check.proofs.Reports.{tree_of, contest_node, header_node, small_ballot, small_ballot_canonical, small_ballot_with}
-use Rattle.erd_check.proofs.ReadTrees.{read_is_tree}
+use Rattle.erd_normal.proofs.Common.{ℕ, List, [], ◌∷◌, ◌++◌, codes, refl, serde_json_on_literals, read_is_tree, tree_of, small_ballot_with, small_ballot, small_ballot_canonical, Renaming, replaced_text, SaysTheSame}
+use Rattle.erd_check.proofs.Reports.{contest_node, header_node}
 use Rattle.erd_check.proofs.WholeExamples.{small_ballot_is_faultless}
-use Rattle.erd_normal.specs.Rearranged.{Renaming, replaced_text}
-use Rattle.erd_normal.specs.SaysTheSame.{SaysTheSame}
 use Rattle.erd_normal.proofs.same.Decided.{tested_says}
 use Rattle.erd_normal.proofs.same.Differ.{differ_unrelated}
 use Rattle.erd_normal.proofs.same.Rearrangements.{turned_back}

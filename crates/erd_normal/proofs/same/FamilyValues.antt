@@ -1,21 +1,7 @@
 -- The values of a report's objects, family by family, without their places.
-use Rattle.std.proofs.Common.{◌≡◌, ℕ, List, map, flat_map, Less, Equal, codes, sym, ap, ◌∙◌, subst, false, refl}
-use Rattle.std.proofs.lemmas.Cmp.{tied_itself}
-use Rattle.std.specs.Str.{bytes_eq}
-use Rattle.serde_json.specs.Data.{Data}
+use Rattle.erd_normal.proofs.Common.{◌≡◌, ℕ, false, List, map, codes, flat_map, bytes_eq, Less, Equal, sym, refl, ap, ◌∙◌, subst, tied_itself, Data, kind_of_member, class, Family, family, kind, has_mapped, map_has, Has, entries_at, values-placed_entries, values-placed_flat, IsBefore, Placed, placed_entries, report_of, elections, contests, objects}
 use Rattle.erd_tables.specs.Places.{place_cmp}
-use Rattle.erd_tables.specs.declared.class.Family.{Family}
-use Rattle.erd_tables.specs.declared.class.Family.TheVariants as family
-use Rattle.erd_tables.specs.declared.class.Class.TheVariants as class
-use Rattle.erd_tables.specs.declared.member.MemberKind.TheVariants as kind
-use Rattle.erd_tables.specs.Table.{kind_of_member}
 use Rattle.erd_tables.proofs.PlaceOrder.{place_cmp_total}
-use Rattle.erd_check.specs.Values.{entries_at}
-use Rattle.erd_check.proofs.Positions.{has_mapped, map_has}
-use Rattle.erd_check.proofs.Rising.{Has}
-use Rattle.erd_meaning.specs.LaterFaults.{IsBefore}
-use Rattle.erd_meaning.specs.Objects.{Placed, contests, elections, objects, placed_entries, report_of}
-use Rattle.erd_meaning.proofs.accepted.Skeleton.{values-placed_entries, values-placed_flat}
 
 -- the values of the objects of a family
 abbrev pub family_values : Family → Data → List Data

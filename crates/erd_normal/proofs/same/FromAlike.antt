@@ -1,32 +1,11 @@
 -- Reports that are alike say the same, if each `@id` text that was replaced comes back.
-use Rattle.std.proofs.Common.{◌≡◌, ℕ, List, [], ◌∷◌, Bool, true, false, cond, ◌&&◌, Option, Some, None, refl, sym, ap, ◌∙◌, subst}
-use Rattle.std.specs.List.Sorted.{IsPermutation}
-use Rattle.serde_json.specs.Data.{Data, null, boolean, number, string, array, object, Items, no_items, item, Members, no_members, member}
-use Rattle.serde_json.specs.Find.{get_member}
-use Rattle.serde_json.specs.View.{items_of}
-use Rattle.erd_tables.specs.declared.class.Role.TheVariants as role
-use Rattle.erd_tables.specs.declared.place.Step.TheVariants.{Name, At}
-use Rattle.erd_check.specs.Trees.{AreMembers, AreTrees, IsTree}
-use Rattle.erd_check.specs.Values.{list_of_items, entries_of}
-use Rattle.erd_check.specs.Wants.{Asked, asked, entry_want, is_compared_set, is_repeated, is_table_set, scope_inside, want_of_name}
-use Rattle.erd_check.specs.declared.want.Scope.{Scope}
-use Rattle.erd_check.specs.declared.want.Want.{Want}
-use Rattle.erd_check.specs.declared.want.Want.TheVariants.{Object}
-use Rattle.erd_check.proofs.Entries.{list_of_items-place}
-use Rattle.erd_check.proofs.Lists.{list_of_items-items_of}
-use Rattle.erd_check.proofs.Members.{get_member-first}
-use Rattle.erd_check.proofs.Rising.{Has, here, later}
-use Rattle.erd_check.proofs.Shapes.{Within, Within-root, Within-step, within-tree}
-use Rattle.erd_check.proofs.Whole.{get_member-later}
-use Rattle.erd_normal.specs.Rearranged.{is_id_text}
+use Rattle.erd_normal.proofs.Common.{◌≡◌, ℕ, Bool, true, false, cond, ◌&&◌, List, [], ◌∷◌, Some, None, Option, IsPermutation, sym, refl, ap, ◌∙◌, subst, Data, null, boolean, number, string, array, object, Items, no_items, item, Members, no_members, member, get_member, items_of, role, At, Name, list_of_items-place, list_of_items-items_of, get_member-first, here, later, Has, Within-step, Within-root, within-tree, Within, get_member-later, IsTree, AreTrees, AreMembers, list_of_items, entries_of, scope_inside, want_of_name, entry_want, is_compared_set, is_table_set, Asked, asked, is_repeated, Scope, Want, Object, IsPermutation-reordered, is_id_text, Sides, not_asked, a_null, a_flag, a_number, a_text, an_id, a_list, a_set, an_object, no_member, in_both, Same, SameEntries, SameMembers, SaysTheSame}
 use Rattle.erd_normal.proofs.lists.Matched.{Paired, none, more}
 use Rattle.erd_normal.proofs.lists.BuiltLists.{items_again}
 use Rattle.erd_normal.proofs.rearranged.AlikeChanges.{Alike, AlikeMembers, AreAlike, IsArranged}
 use Rattle.erd_normal.proofs.rearranged.AlikeParts.{alike_unasked}
-use Rattle.erd_normal.specs.SaysTheSame.{Sides, Same, not_asked, a_null, a_flag, a_number, a_text, an_id, a_list, a_set, an_object, SameEntries, SameMembers, no_member, in_both, SaysTheSame}
 use Rattle.erd_normal.proofs.same.Back.{paired_entries, paired_flip}
 use Rattle.erd_normal.proofs.same.Lists.{follows}
-use Rattle.erd_meaning.proofs.orders.RisingSets.{IsPermutation-reordered}
 
 -- each text of an `@id` or a reference of the report comes back
 pub record ComesBack (ρ σ : List ℕ → List ℕ) (t : Data) : Type 0 where

@@ -1,38 +1,5 @@
 -- What a value is, by what the table asks of it: so an `@id` that it asks for is that of an object of a family.
-use Rattle.std.proofs.Common.{◌≡◌, ℕ, List, Bool, Some, refl, subst, [], ◌∷◌, flat_map, true, false, cond, is_some, ◌&&◌, Option, None, option_and_then, option_map, codes, sym, ap, ◌∙◌}
-use Rattle.std.specs.List.{AllByRecursion}
-use Rattle.std.specs.Option.{option_map_or}
-use Rattle.std.specs.Str.{bytes_eq}
-use Rattle.std.proofs.lemmas.Bool.{and_parts}
-use Rattle.serde_json.specs.Data.{Data, string, array, Items, object, Members}
-use Rattle.serde_json.specs.Find.{as_str, get_item, get_member}
-use Rattle.erd_tables.specs.declared.class.Family.{Family}
-use Rattle.erd_tables.specs.declared.place.Step.TheVariants.{At, Name}
-use Rattle.erd_tables.specs.Classes.{family_of_class, family_of_role, role_of_class}
-use Rattle.erd_tables.specs.Table.{is_required, kind_of_member}
-use Rattle.erd_tables.specs.declared.class.Class.{Class}
-use Rattle.erd_tables.specs.declared.class.Role.{Role}
-use Rattle.erd_tables.specs.declared.member.MemberKind.{MemberKind}
-use Rattle.erd_tables.specs.declared.place.Step.{Step}
-use Rattle.erd_tables.specs.declared.member.MemberKind.TheVariants as kind
-use Rattle.erd_tables.specs.declared.class.Family.TheVariants as family
-use Rattle.erd_tables.specs.declared.class.Role.TheVariants as role
-use Rattle.erd_check.specs.declared.want.Want.TheVariants.{Member, Reference, Carried, ClassText, Object, Status}
-use Rattle.erd_check.specs.Values.{list_of_items, entries_at, entries_of}
-use Rattle.erd_check.specs.Wants.{asked, is_repeated, Asked, asked_at, asked_from, asked_inside, carried_want, class_of_object, entry_want, is_compared_set, is_report_class, member_want, scope_inside, want_of_kind, want_of_name}
-use Rattle.erd_check.proofs.Entries.{string_from_text}
-use Rattle.erd_check.proofs.Shapes.{Within, Within-step, wanted_within}
-use Rattle.erd_check.specs.declared.want.Want.{Want}
-use Rattle.erd_check.proofs.Exact.{text_exact}
-use Rattle.erd_check.proofs.Rising.{Has}
-use Rattle.erd_check.specs.declared.want.Scope.TheVariants as scope
-use Rattle.erd_meaning.specs.Accepted.{IsAccepted}
-use Rattle.erd_meaning.specs.Keys.{Preference, has_keys}
-use Rattle.erd_meaning.specs.Objects.{owner}
-use Rattle.erd_meaning.proofs.accepted.Phases.{no_shape_fault}
-use Rattle.erd_meaning.proofs.accepted.References.{owned, unrepeated_reference}
-use Rattle.erd_meaning.proofs.accepted.Standing.{flat-has}
-use Rattle.erd_meaning.proofs.meanings.SelectionKinds.{class_role}
+use Rattle.erd_normal.proofs.Common.{◌≡◌, ℕ, Bool, true, false, cond, ◌&&◌, List, [], ◌∷◌, is_some, Some, None, codes, Option, option_map, flat_map, option_and_then, bytes_eq, sym, refl, ap, ◌∙◌, subst, and_parts, AllByRecursion, option_map_or, Data, string, array, object, Items, Members, get_member, get_item, as_str, role_of_class, family_of_role, family_of_class, kind_of_member, is_required, Class, Family, family, Role, role, MemberKind, kind, Step, At, Name, string_from_text, text_exact, Has, Within-step, wanted_within, Within, list_of_items, entries_of, entries_at, class_of_object, scope_inside, want_of_kind, is_report_class, member_want, carried_want, want_of_name, entry_want, is_compared_set, Asked, asked, is_repeated, asked_inside, asked_from, asked_at, scope, Want, Carried, ClassText, Member, Object, Reference, Status, no_shape_fault, owned, unrepeated_reference, flat-has, class_role, IsAccepted, has_keys, Preference, owner}
 use Rattle.erd_normal.proofs.built.AskedMembers.{all_items}
 use Rattle.erd_normal.proofs.built.FamilyNames.{family_name, holds, home, is_home, is_report_role}
 use Rattle.erd_normal.proofs.same.FamilyValues.{family_values}

@@ -1,20 +1,5 @@
 -- If v says what t says, and u what v says, then u says what t says.
-use Rattle.std.proofs.Common.{◌≡◌, ℕ, List, [], Bool, true, false, Option, Some, None, refl, sym, ap, ◌∙◌, subst}
-use Rattle.std.proofs.lemmas.List.Sorted.{IsPermutation-sym, IsPermutation-trans}
-use Rattle.std.specs.List.Sorted.{IsPermutation}
-use Rattle.serde_json.specs.Data.{Num, Data, null, boolean, number, string, array, object, Items, no_items, item, Members, no_members, member}
-use Rattle.erd_tables.specs.declared.class.Role.TheVariants as role
-use Rattle.erd_check.specs.Faults.{is_reference}
-use Rattle.erd_check.specs.Trees.{IsTree}
-use Rattle.erd_check.specs.Values.{list_of_items}
-use Rattle.erd_check.specs.Wants.{entry_want, is_table_set, scope_inside, want_of_name}
-use Rattle.erd_check.specs.declared.want.Scope.{Scope}
-use Rattle.erd_check.specs.declared.want.Want.{Want}
-use Rattle.erd_check.specs.declared.want.Want.TheVariants.{Object, Reference}
-use Rattle.erd_meaning.proofs.orders.Reordered.{Reordered, length-reordered}
-use Rattle.erd_normal.specs.Rearranged.{is_id_text}
-use Rattle.erd_normal.specs.SaysTheSame.{Sides, StandsFor, IsUnused, MayBeAbsent, an_empty_array, of_the_envelope, an_unused_id, Same, not_asked, a_null, a_flag, a_number, a_text, an_id, a_list, a_set, an_object, SameEntries, no_entry, one_entry, SameMembers, no_member, in_both, left_only, right_only}
-use Rattle.erd_normal.specs.SameLaws.{SaysInTurn}
+use Rattle.erd_normal.proofs.Common.{◌≡◌, ℕ, Bool, true, false, List, [], Some, None, Option, IsPermutation, sym, refl, ap, ◌∙◌, subst, IsPermutation-sym, IsPermutation-trans, Num, Data, null, boolean, number, string, array, object, Items, no_items, item, Members, no_members, member, role, is_reference, IsTree, list_of_items, scope_inside, want_of_name, entry_want, is_table_set, Scope, Want, Object, Reference, length-reordered, Reordered, is_id_text, SaysInTurn, Sides, StandsFor, IsUnused, an_empty_array, of_the_envelope, an_unused_id, not_asked, a_null, a_flag, a_number, a_text, an_id, a_list, a_set, an_object, no_entry, one_entry, no_member, in_both, left_only, right_only, MayBeAbsent, Same, SameEntries, SameMembers}
 use Rattle.erd_normal.proofs.same.Back.{same_back, set_swapped, turned}
 use Rattle.erd_normal.proofs.same.CameFrom.{CameFrom, reference_came_from}
 use Rattle.erd_normal.proofs.same.Types.{scope_same}

@@ -1,39 +1,10 @@
 -- The worst case of the names of selections: a label with translations. Labels that say the same have one text, with their translations
 -- in rising order.
-use Rattle.std.proofs.Common.{◌≡◌, ℕ, List, [], ◌∷◌, ◌++◌, map, Bool, true, false, cond, Option, Some, None, Ordering, Greater, codes, refl, sym, ap, ap₂, ◌∙◌, subst}
-use Rattle.std.proofs.lemmas.Cmp.{nat_list_cmp_total}
-use Rattle.std.proofs.lemmas.Map.Lookups.{exact_bytes}
-use Rattle.std.specs.Option.{option_map_or}
-use Rattle.std.specs.Ordering.{match_ordering}
-use Rattle.std.specs.Str.{bytes_eq}
-use Rattle.serde_json.specs.Data.{Data, null, array, object, put, Members, no_members, member}
-use Rattle.serde_json.specs.Find.{get_member}
-use Rattle.serde_json.specs.View.{items_of}
-use Rattle.serde_json.specs.Written.{comma_if, compact_text, items_text, members_text}
-use Rattle.serde_json.proofs.Views.{get_member-put}
-use Rattle.erd_tables.specs.Table.{is_required, kind_of_member}
-use Rattle.erd_tables.specs.Texts.{text_cmp}
-use Rattle.erd_tables.specs.declared.class.Class.TheVariants as class
-use Rattle.erd_tables.specs.declared.class.Role.TheVariants as role
-use Rattle.erd_tables.specs.declared.member.MemberKind.TheVariants as kind
-use Rattle.erd_check.specs.Trees.{AreMembers, IsTree}
-use Rattle.erd_check.specs.Values.{entries_at, entries_of}
-use Rattle.erd_check.specs.Wants.{class_of_object, member_want, want_of_name}
-use Rattle.erd_check.specs.declared.want.Scope.{Scope}
-use Rattle.erd_check.specs.declared.want.Scope.TheVariants as scope
-use Rattle.erd_check.specs.declared.want.Want.{Want}
-use Rattle.erd_check.specs.declared.want.Want.TheVariants.{ClassText, Member, Object}
-use Rattle.erd_check.proofs.Exact.{text_exact}
-use Rattle.erd_check.proofs.Members.{members_unique}
-use Rattle.erd_check.proofs.ReadTrees.{put-trees}
-use Rattle.erd_check.proofs.TableKinds.{kind_of_unlisted_has}
-use Rattle.erd_meaning.specs.SelectionNames.{compact_cmp, rising_list, with_rising_text}
-use Rattle.erd_meaning.proofs.orders.RisingLists.{rising_list_map}
-use Rattle.erd_meaning.proofs.orders.Reordered.{Reordered, no_entry, reordered_map}
+use Rattle.erd_normal.proofs.Common.{◌≡◌, ℕ, Bool, true, false, cond, List, [], ◌∷◌, ◌++◌, map, Some, None, codes, Option, bytes_eq, Ordering, Greater, sym, refl, ap, ◌∙◌, subst, ap₂, nat_list_cmp_total, exact_bytes, option_map_or, match_ordering, get_member-put, Data, null, array, object, Members, no_members, member, put, get_member, items_of, comma_if, compact_text, items_text, members_text, kind_of_member, is_required, text_cmp, class, role, kind, text_exact, members_unique, put-trees, kind_of_unlisted_has, IsTree, AreMembers, entries_of, entries_at, class_of_object, member_want, want_of_name, Scope, scope, Want, ClassText, Member, Object, reordered_map, Reordered, rising_list_map, rising_list, compact_cmp, with_rising_text, Sides, MayBeAbsent, Same, SameMembers}
+use Rattle.erd_meaning.proofs.orders.Reordered.{no_entry}
 use Rattle.erd_normal.proofs.built.NormalGets.{put_elsewhere, put_twice}
 use Rattle.erd_normal.proofs.lists.Matched.{matched_equal}
 use Rattle.erd_normal.proofs.lists.NumbersInOrder.{rising-reordered}
-use Rattle.erd_normal.specs.SaysTheSame.{Sides, MayBeAbsent, Same, SameMembers}
 use Rattle.erd_normal.proofs.same.Lookups.{Aligned, both_there, not_both, MayLack, lookups, of_object}
 use Rattle.erd_normal.proofs.same.Related.{entries_matched, lacking_empty}
 use Rattle.erd_normal.proofs.same.Steady.{is_steady, is_steady_kind, stays_one, steady_of_kind, steady_same, is_plain, is_plain_kind, plain_of_kind}

@@ -1,24 +1,5 @@
 -- Completeness for the worst case: labels of one class that mean the same say the same.
-use Rattle.std.proofs.Common.{◌≡◌, ℕ, List, Bool, true, false, Option, Some, None, codes, refl, sym, ap, ◌∙◌, subst}
-use Rattle.std.specs.Str.{bytes_eq}
-use Rattle.serde_json.specs.Data.{Data, null, boolean, number, string, array, object, Items, no_items, item, Members, no_members, member}
-use Rattle.serde_json.specs.Find.{get_member}
-use Rattle.erd_tables.specs.Table.{is_required, kind_of_member}
-use Rattle.erd_tables.specs.declared.class.Class.TheVariants as class
-use Rattle.erd_tables.specs.declared.class.Role.TheVariants as role
-use Rattle.erd_tables.specs.declared.member.MemberKind.TheVariants as kind
-use Rattle.erd_check.specs.Trees.{AreMembers}
-use Rattle.erd_check.specs.Values.{list_of_items}
-use Rattle.erd_check.specs.Wants.{entry_want, scope_inside, want_of_name}
-use Rattle.erd_check.specs.declared.want.Scope.{Scope}
-use Rattle.erd_check.specs.declared.want.Want.{Want}
-use Rattle.erd_check.specs.declared.want.Want.TheVariants.{Member, Object}
-use Rattle.erd_check.proofs.Exact.{text_exact}
-use Rattle.erd_meaning.specs.Meaning.{Label, JsonMap, JsonSet, translated, untranslated}
-use Rattle.erd_meaning.specs.Records.{json_set, label_beside_text, label_of}
-use Rattle.erd_meaning.proofs.orders.Reordered.{Reordered}
-use Rattle.erd_meaning.proofs.orders.RisingSets.{IsPermutation-reordered}
-use Rattle.erd_normal.specs.SaysTheSame.{Sides, Same, not_asked, a_null, a_flag, a_number, a_text, a_list, a_set, an_object, SameEntries, no_entry, one_entry, SameMembers, no_member, in_both}
+use Rattle.erd_normal.proofs.Common.{◌≡◌, ℕ, Bool, true, false, List, Some, None, codes, Option, bytes_eq, sym, refl, ap, ◌∙◌, subst, Data, null, boolean, number, string, array, object, Items, no_items, item, Members, no_members, member, get_member, kind_of_member, is_required, class, role, kind, text_exact, AreMembers, list_of_items, scope_inside, want_of_name, entry_want, Scope, Want, Member, Object, Reordered, IsPermutation-reordered, JsonMap, JsonSet, Label, untranslated, translated, json_set, label_beside_text, label_of, Sides, not_asked, a_null, a_flag, a_number, a_text, a_list, a_set, an_object, no_entry, one_entry, no_member, in_both, Same, SameEntries, SameMembers}
 use Rattle.erd_normal.proofs.same.Lists.{ApartBy, AreSound, itself, json_sets_reordered}
 use Rattle.erd_normal.proofs.same.Labels.{asked_beside, in_label, plain_beside}
 use Rattle.erd_normal.proofs.same.Lookups.{Aligned, both_there, not_both, lacks_none}

@@ -1,16 +1,5 @@
 -- What stands under a name in objects that say the same: in both, or it may be absent.
-use Rattle.std.proofs.Common.{◌≡◌, ℕ, List, Option, Some, None, Ordering, Equal, nat_cmp, refl, sym, ap, ◌∙◌, subst}
-use Rattle.std.specs.Cmp.Lexicographic.{slice_cmp}
-use Rattle.std.specs.Ordering.{match_ordering}
-use Rattle.serde_json.specs.Data.{Data, object, Members, member}
-use Rattle.serde_json.specs.Find.{get_member}
-use Rattle.erd_check.specs.Trees.{AreMembers}
-use Rattle.erd_check.specs.Wants.{scope_inside, want_of_name}
-use Rattle.erd_check.specs.declared.want.Scope.{Scope}
-use Rattle.erd_check.specs.declared.want.Want.{Want}
-use Rattle.erd_check.proofs.Members.{get_member-before}
-use Rattle.erd_check.proofs.Steps.{text_from_equal}
-use Rattle.erd_normal.specs.SaysTheSame.{Sides, MayBeAbsent, Same, an_object, SameMembers, no_member, in_both, left_only, right_only}
+use Rattle.erd_normal.proofs.Common.{◌≡◌, ℕ, List, Some, None, Option, nat_cmp, Ordering, Equal, sym, refl, ap, ◌∙◌, subst, slice_cmp, match_ordering, Data, object, Members, member, get_member, get_member-before, text_from_equal, AreMembers, scope_inside, want_of_name, Scope, Want, Sides, an_object, no_member, in_both, left_only, right_only, MayBeAbsent, Same, SameMembers}
 
 -- what stands under a name among members is the first value, or what stands under it among the others
 pub get_one : (Q : Option Data → Type 0) (n k : List ℕ) (d : Data) (ms : Members) → (n ≡ k → Q (Some d)) → Q (get_member n ms) → Q (get_member n (member k d ms))

@@ -1,18 +1,6 @@
 -- From names to members: where under each name stand values that say the same, or what may be absent, the members say the same.
 -- It is the step from equal records to objects that say the same, and that from what is built member by member.
-use Rattle.std.proofs.Common.{◌≡◌, ℕ, List, Option, Some, None, Ordering, Less, Equal, Greater, nat_cmp, refl, sym, ap, ◌∙◌, subst}
-use Rattle.std.proofs.lemmas.Cmp.{nat_list_cmp_total}
-use Rattle.std.specs.Cmp.Lexicographic.{slice_cmp}
-use Rattle.std.specs.Ordering.{match_ordering, ordering_reverse}
-use Rattle.serde_json.specs.Data.{Data, Members, no_members, member}
-use Rattle.serde_json.specs.Find.{get_member}
-use Rattle.erd_tables.specs.Texts.{text_cmp}
-use Rattle.erd_check.specs.Trees.{AreMembers, IsBeforeFirst}
-use Rattle.erd_check.specs.Wants.{want_of_name}
-use Rattle.erd_check.specs.declared.want.Scope.{Scope}
-use Rattle.erd_check.proofs.Members.{get_member-before, get_member-first}
-use Rattle.erd_check.proofs.Steps.{text_from_equal}
-use Rattle.erd_normal.specs.SaysTheSame.{Sides, Same, SameMembers, no_member, in_both, left_only, right_only}
+use Rattle.erd_normal.proofs.Common.{◌≡◌, ℕ, List, Some, None, Option, nat_cmp, Ordering, Less, Equal, Greater, sym, refl, ap, ◌∙◌, subst, nat_list_cmp_total, slice_cmp, match_ordering, ordering_reverse, Data, Members, no_members, member, get_member, text_cmp, get_member-before, get_member-first, text_from_equal, IsBeforeFirst, AreMembers, want_of_name, Scope, Sides, no_member, in_both, left_only, right_only, Same, SameMembers}
 use Rattle.erd_normal.proofs.same.Lookups.{Aligned, both_there, not_both, lacks_none}
 
 module _ (m : Sides) (s : Scope) where

@@ -1,27 +1,6 @@
 -- Each reference of the right report comes from one of the left report that it stands for: no reference stands in a member that may be
 -- absent.
-use Rattle.std.proofs.Common.{◌≡◌, ℕ, List, [], ◌∷◌, Bool, true, false, cond, ◌&&◌, Option, Some, None, option_and_then, option_map, is_some, codes, refl, sym, ap, ◌∙◌, subst}
-use Rattle.std.specs.List.{list_all}
-use Rattle.std.specs.Str.{bytes_eq}
-use Rattle.std.proofs.lemmas.Bool.{and_parts}
-use Rattle.serde_json.specs.Data.{Data, array, object, no_items, Members}
-use Rattle.serde_json.specs.Find.{get_item, get_member}
-use Rattle.erd_tables.specs.Rows.{Row, envelope_rows}
-use Rattle.erd_tables.specs.Table.{kind_in_rows}
-use Rattle.erd_tables.specs.declared.class.Class.TheVariants as class
-use Rattle.erd_tables.specs.declared.class.Role.TheVariants as role
-use Rattle.erd_tables.specs.declared.member.MemberKind.{MemberKind}
-use Rattle.erd_tables.specs.declared.member.MemberKind.TheVariants as kind
-use Rattle.erd_tables.specs.declared.place.Step.{Step}
-use Rattle.erd_tables.specs.declared.place.Step.TheVariants.{Name, At}
-use Rattle.erd_check.specs.Faults.{is_reference}
-use Rattle.erd_check.specs.Wants.{Asked, asked, asked_from, asked_inside, asked_of_entry, entry_want, is_compared_set, is_repeated, member_want, scope_inside, want_of_name}
-use Rattle.erd_check.specs.declared.want.Scope.{Scope}
-use Rattle.erd_check.specs.declared.want.Scope.TheVariants as scope
-use Rattle.erd_check.specs.declared.want.Want.{Want}
-use Rattle.erd_check.specs.declared.want.Want.TheVariants.{ClassText, Member, Object, Reference}
-use Rattle.erd_check.proofs.Exact.{text_exact}
-use Rattle.erd_normal.specs.SaysTheSame.{MayBeAbsent, an_empty_array, of_the_envelope, an_unused_id, is_envelope}
+use Rattle.erd_normal.proofs.Common.{◌≡◌, ℕ, Bool, true, false, cond, ◌&&◌, List, [], ◌∷◌, is_some, Some, None, codes, Option, option_map, option_and_then, bytes_eq, sym, refl, ap, ◌∙◌, subst, and_parts, list_all, Data, array, object, no_items, Members, get_member, get_item, Row, envelope_rows, kind_in_rows, class, role, MemberKind, kind, Step, At, Name, text_exact, is_reference, scope_inside, member_want, want_of_name, entry_want, is_compared_set, Asked, asked, is_repeated, asked_of_entry, asked_inside, asked_from, Scope, scope, Want, ClassText, Member, Object, Reference, is_envelope, an_empty_array, of_the_envelope, an_unused_id, MayBeAbsent}
 use Rattle.erd_normal.proofs.same.Steady.{plain_entry, plain_scope, is_plain}
 
 -- ---- no reference is asked for in what is plain, nor in identifiers

@@ -1,30 +1,6 @@
 -- An exchange is an instance, and so is a renaming.
-use Rattle.std.proofs.Common.{◌≡◌, ℕ, List, map, true, Some, option_map, unwrap_or, Contains, refl, sym, ap, ◌∙◌, subst}
-use Rattle.std.specs.Prelude.{IsTrue}
-use Rattle.std.specs.Str.{bytes_eq}
-use Rattle.serde_json.specs.Data.{Data, string}
-use Rattle.erd_tables.specs.declared.place.Step.{Step}
-use Rattle.erd_tables.specs.declared.class.Family.{Family}
-use Rattle.erd_tables.specs.declared.class.Role.TheVariants as role
-use Rattle.erd_tables.specs.declared.member.MemberKind.TheVariants as kind
-use Rattle.erd_check.specs.Trees.{IsTree}
-use Rattle.erd_check.specs.Wants.{Asked, asked_at}
-use Rattle.erd_check.specs.declared.want.Want.TheVariants.{Object, Member, Reference}
-use Rattle.erd_check.proofs.Exact.{text_exact, text_itself}
-use Rattle.erd_check.proofs.Positions.{has_mapped, map_has}
-use Rattle.erd_check.proofs.Rising.{Has}
-use Rattle.erd_check.specs.declared.want.Want.{Want}
-use Rattle.erd_check.proofs.Shapes.{Within}
-use Rattle.erd_meaning.proofs.accepted.References.{Has-Contains, find-any, Contains-Has, unrepeated_reference}
-use Rattle.erd_meaning.proofs.orders.DistinctEntries.{distinct_one}
-use Rattle.erd_meaning.proofs.orders.Sets.{any-has}
-use Rattle.erd_meaning.specs.Accepted.{IsAccepted}
-use Rattle.erd_meaning.specs.Keys.{Preference}
-use Rattle.erd_meaning.specs.Objects.{id_of, objects}
-use Rattle.erd_normal.specs.Rearranged.{Renaming, IsRenaming, exchanged, is_id_text, renamed, replaced_text}
+use Rattle.erd_normal.proofs.Common.{◌≡◌, ℕ, true, List, map, IsTrue, Some, Contains, option_map, bytes_eq, unwrap_or, sym, refl, ap, ◌∙◌, subst, Data, string, Family, role, kind, Step, text_exact, text_itself, has_mapped, map_has, Has, Within, IsTree, Asked, asked_at, Want, Member, Object, Reference, unrepeated_reference, find-any, Contains-Has, Has-Contains, distinct_one, any-has, IsAccepted, Preference, objects, id_of, Renaming, replaced_text, is_id_text, renamed, exchanged, IsRenaming, ExchangedSaysTheSame, RenamedSaysTheSame, SaysTheSame}
 use Rattle.erd_normal.proofs.rearranged.AlikeChanges.{as_it_is, exchanged_alike, renamed_alike}
-use Rattle.erd_normal.specs.SameLaws.{ExchangedSaysTheSame, RenamedSaysTheSame}
-use Rattle.erd_normal.specs.SaysTheSame.{SaysTheSame}
 use Rattle.erd_normal.proofs.same.FromAlike.{ComesBack, alike_says}
 use Rattle.erd_normal.proofs.same.FamilyValues.{value_placed}
 use Rattle.erd_normal.proofs.same.IdsOfObjects.{reference_refers, asked_id}

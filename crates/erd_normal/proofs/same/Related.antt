@@ -1,39 +1,9 @@
 -- The objects of two reports that say the same: those of each family are matched, and matched ones have one key.
-use Rattle.std.proofs.Common.{◌≡◌, ℕ, List, [], flat_map, true, false, Option, Some, None, codes, refl, sym, ap, ◌∙◌, subst}
-use Rattle.std.specs.Option.{option_map_or}
-use Rattle.std.specs.Str.{bytes_eq}
-use Rattle.serde_json.specs.Data.{Data, object, Members}
-use Rattle.serde_json.specs.Find.{get_member}
-use Rattle.erd_tables.specs.Classes.{role_of_class}
-use Rattle.erd_tables.specs.Table.{is_required, is_envelope_name, kind_of_member}
-use Rattle.erd_tables.specs.declared.class.Class.{Class}
-use Rattle.erd_tables.specs.declared.class.Class.TheVariants as class
-use Rattle.erd_tables.specs.declared.class.Family.{Family}
-use Rattle.erd_tables.specs.declared.class.Family.TheVariants as family
-use Rattle.erd_tables.specs.declared.class.Role.{Role}
-use Rattle.erd_tables.specs.declared.class.Role.TheVariants as role
-use Rattle.erd_tables.specs.declared.member.MemberKind.{MemberKind}
-use Rattle.erd_tables.specs.declared.member.MemberKind.TheVariants as kind
-use Rattle.erd_check.specs.Faults.{NoneOf, ShapeFault}
-use Rattle.erd_check.specs.Trees.{IsTree}
-use Rattle.erd_check.specs.Values.{entries_at, entries_of, list_of_items}
-use Rattle.erd_check.specs.Wants.{class_of_object, entry_want, member_want, scope_inside, want_of_name}
-use Rattle.erd_check.specs.declared.want.Scope.{Scope}
-use Rattle.erd_check.specs.declared.want.Scope.TheVariants as scope
-use Rattle.erd_check.specs.declared.want.Want.{Want}
-use Rattle.erd_check.specs.declared.want.Want.TheVariants.{Member, Object}
-use Rattle.erd_check.proofs.ObjectsAt.{ObjectIn, election_class, object_in, report_class}
-use Rattle.erd_check.proofs.Rising.{Has, here, later}
-use Rattle.erd_check.proofs.Shapes.{unrepeated}
-use Rattle.erd_check.proofs.TableKinds.{want_by_kind}
-use Rattle.erd_meaning.specs.Keys.{Preference, key_of}
-use Rattle.erd_meaning.proofs.accepted.Standing.{contest_selections}
-use Rattle.erd_meaning.proofs.orders.Reordered.{Reordered, reordered_back, reordered-has, reordered_self}
+use Rattle.erd_normal.proofs.Common.{◌≡◌, ℕ, true, false, List, [], Some, None, codes, Option, flat_map, bytes_eq, sym, refl, ap, ◌∙◌, subst, option_map_or, Data, object, Members, get_member, role_of_class, is_envelope_name, kind_of_member, is_required, Class, class, Family, family, Role, role, MemberKind, kind, object_in, report_class, election_class, ObjectIn, here, later, Has, unrepeated, want_by_kind, ShapeFault, NoneOf, IsTree, list_of_items, entries_of, entries_at, class_of_object, scope_inside, member_want, want_of_name, entry_want, Scope, scope, Want, Member, Object, contest_selections, reordered_self, reordered_back, reordered-has, Reordered, Preference, key_of, Sides, is_envelope, an_empty_array, of_the_envelope, an_unused_id, a_null, a_flag, a_number, a_text, an_id, a_list, a_set, an_object, MayBeAbsent, Same}
 use Rattle.erd_normal.proofs.built.LeastKeys.{key_of_identifiers-reordered, kind_of_identifiers}
 use Rattle.erd_normal.proofs.lists.Matched.{Matched, matched_equal, matched_flat, matched_none, Paired, none, more}
 use Rattle.erd_normal.proofs.lists.NumbersInOrder.{permuted_reordered}
 use Rattle.erd_normal.proofs.same.FamilyValues.{family_values}
-use Rattle.erd_normal.specs.SaysTheSame.{Sides, MayBeAbsent, an_empty_array, of_the_envelope, an_unused_id, is_envelope, Same, a_null, a_flag, a_number, a_text, an_id, a_list, a_set, an_object}
 use Rattle.erd_normal.proofs.same.Back.{entries_paired}
 use Rattle.erd_normal.proofs.same.FromAlike.{Stands, entry_stands, member_stands, stands_tree}
 use Rattle.erd_normal.proofs.same.Lists.{follows}

@@ -1,21 +1,5 @@
 -- The `@id`s of a report: what shares one, and what a text names.
-use Rattle.std.proofs.Common.{◌≡◌, ℕ, List, Bool, true, false, Option, Some, None, option_and_then, find, refl, sym, ap, ◌∙◌, subst}
-use Rattle.std.specs.List.{IsDistinct}
-use Rattle.std.specs.Option.{option_map_or}
-use Rattle.std.specs.Prelude.{slice_get}
-use Rattle.serde_json.specs.Data.{Data}
-use Rattle.erd_tables.specs.declared.class.Family.{Family}
-use Rattle.erd_check.proofs.Positions.{position_of}
-use Rattle.erd_check.proofs.Rising.{Has}
-use Rattle.erd_meaning.specs.Keys.{Preference}
-use Rattle.erd_meaning.specs.Accepted.{IsAccepted}
-use Rattle.erd_meaning.specs.Lookups.{id_in}
-use Rattle.erd_meaning.specs.Objects.{Placed, has_id, id_of, objects, owner}
-use Rattle.erd_meaning.proofs.accepted.Phases.{no_identity_fault}
-use Rattle.erd_meaning.proofs.accepted.References.{find-Some}
-use Rattle.erd_meaning.proofs.accepted.Standing.{has_id-Some, has_id-from}
-use Rattle.erd_meaning.proofs.finding.OneObject.{one_id}
-use Rattle.erd_meaning.proofs.orders.DistinctEntries.{distinct_from_one_place, distinct_map}
+use Rattle.erd_normal.proofs.Common.{◌≡◌, ℕ, Bool, true, false, List, slice_get, Some, None, Option, find, option_and_then, sym, refl, ap, ◌∙◌, subst, IsDistinct, option_map_or, Data, Family, position_of, Has, no_identity_fault, find-Some, has_id-Some, has_id-from, one_id, distinct_from_one_place, distinct_map, IsAccepted, Preference, id_in, Placed, objects, id_of, has_id, owner}
 use Rattle.erd_normal.proofs.lists.FoundInParts.{find_values}
 use Rattle.erd_normal.proofs.same.FamilyValues.{family_values, object_values, value_placed}
 

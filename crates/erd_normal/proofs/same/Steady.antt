@@ -1,25 +1,5 @@
 -- Identifiers, translations and carried values that say the same are equal: nothing may be absent in them.
-use Rattle.std.proofs.Common.{◌≡◌, ℕ, List, Bool, true, false, cond, not, Option, Some, None, codes, refl, sym, ap, ap₂, ◌∙◌, subst, true≢false}
-use Rattle.std.specs.Str.{bytes_eq}
-use Rattle.std.proofs.lemmas.Bool.{not-true}
-use Rattle.serde_json.specs.Data.{Data, array, object, Items, item, Members, member}
-use Rattle.erd_tables.specs.Classes.{role_of_class}
-use Rattle.erd_tables.specs.Table.{is_required, kind_of_member}
-use Rattle.erd_tables.specs.declared.class.Class.{Class}
-use Rattle.erd_tables.specs.declared.class.Class.TheVariants as class
-use Rattle.erd_tables.specs.declared.class.Role.{Role}
-use Rattle.erd_tables.specs.declared.class.Role.TheVariants as role
-use Rattle.erd_tables.specs.declared.member.MemberKind.{MemberKind}
-use Rattle.erd_tables.specs.declared.member.MemberKind.TheVariants as kind
-use Rattle.erd_check.specs.Wants.{carried_want, class_of_object, entry_want, is_table_set, member_want, scope_inside, want_of_kind, want_of_name}
-use Rattle.erd_check.specs.declared.want.Scope.{Scope}
-use Rattle.erd_check.specs.declared.want.Scope.TheVariants as scope
-use Rattle.erd_check.specs.declared.want.Want.{Want}
-use Rattle.erd_check.specs.declared.want.Want.TheVariants.{Carried, ClassText, Member, Object, Reference}
-use Rattle.erd_check.proofs.TableKinds.{kind_of_class}
-use Rattle.erd_normal.specs.Rearranged.{is_id_text}
-use Rattle.erd_normal.specs.SaysTheSame.{Sides, MayBeAbsent, an_empty_array, of_the_envelope, an_unused_id, is_array_kind, is_envelope, Same, not_asked, a_null, a_flag, a_number, a_text, an_id, a_list, a_set, an_object, SameEntries, no_entry, one_entry, SameMembers, no_member, in_both, left_only, right_only}
-use Rattle.erd_meaning.proofs.meanings.SelectionKinds.{class_role}
+use Rattle.erd_normal.proofs.Common.{◌≡◌, ℕ, Bool, true, false, cond, not, List, Some, None, codes, Option, bytes_eq, sym, refl, ap, ◌∙◌, subst, ap₂, true≢false, not-true, Data, array, object, Items, item, Members, member, role_of_class, kind_of_member, is_required, Class, class, Role, role, MemberKind, kind, kind_of_class, class_of_object, scope_inside, want_of_kind, member_want, carried_want, want_of_name, entry_want, is_table_set, Scope, scope, Want, Carried, ClassText, Member, Object, Reference, class_role, is_id_text, Sides, is_array_kind, is_envelope, an_empty_array, of_the_envelope, an_unused_id, not_asked, a_null, a_flag, a_number, a_text, an_id, a_list, a_set, an_object, no_entry, one_entry, no_member, in_both, left_only, right_only, MayBeAbsent, Same, SameEntries, SameMembers}
 
 -- ---- what is plain
 

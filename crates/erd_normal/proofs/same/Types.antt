@@ -1,21 +1,5 @@
 -- Objects that say the same have the same class, and so the same is asked of their members.
-use Rattle.std.proofs.Common.{◌≡◌, ℕ, List, true, false, Option, Some, option_and_then, codes, refl, sym, ap, ◌∙◌, subst}
-use Rattle.std.specs.Str.{bytes_eq}
-use Rattle.serde_json.specs.Data.{Data, object, Members}
-use Rattle.serde_json.specs.Find.{as_str, get_member}
-use Rattle.erd_tables.specs.Classes.{class_in_role}
-use Rattle.erd_tables.specs.declared.class.Class.TheVariants as class
-use Rattle.erd_tables.specs.declared.class.Class.{Class}
-use Rattle.erd_tables.specs.declared.class.Role.{Role}
-use Rattle.erd_tables.specs.declared.class.Role.TheVariants as role
-use Rattle.erd_tables.specs.declared.member.MemberKind.TheVariants as kind
-use Rattle.erd_check.specs.Wants.{class_of_object, scope_of_object, want_of_name, member_want}
-use Rattle.erd_check.specs.declared.want.Scope.{Scope}
-use Rattle.erd_check.specs.declared.want.Scope.TheVariants as scope
-use Rattle.erd_check.specs.declared.want.Want.{Want}
-use Rattle.erd_check.specs.declared.want.Want.TheVariants.{Carried, ClassText, Member, Object}
-use Rattle.erd_normal.specs.Rearranged.{is_id_text}
-use Rattle.erd_normal.specs.SaysTheSame.{Sides, MayBeAbsent, an_empty_array, of_the_envelope, an_unused_id, is_envelope, Same, not_asked, a_null, a_flag, a_number, a_text, an_id, a_list, a_set, an_object, SameMembers, no_member, in_both, left_only, right_only}
+use Rattle.erd_normal.proofs.Common.{◌≡◌, ℕ, true, false, List, Some, codes, Option, option_and_then, bytes_eq, sym, refl, ap, ◌∙◌, subst, Data, object, Members, get_member, as_str, class_in_role, Class, class, Role, role, kind, class_of_object, scope_of_object, member_want, want_of_name, Scope, scope, Want, Carried, ClassText, Member, Object, is_id_text, Sides, is_envelope, an_empty_array, of_the_envelope, an_unused_id, not_asked, a_null, a_flag, a_number, a_text, an_id, a_list, a_set, an_object, no_member, in_both, left_only, right_only, MayBeAbsent, Same, SameMembers}
 use Rattle.erd_normal.proofs.same.Lookups.{get_one, get_both}
 
 -- ---- `@type` is never left out

@@ -1,14 +1,7 @@
 -- Compact texts tell values apart that hold whole numbers alone, of the size that `serde_json` reads.
-use Rattle.std.proofs.Common.{◌≡◌, ◌<◌, ◌≤◌, ◌^◌, ◌++◌, ◌==◌, ◌&&◌, ℕ, suc, pos, negsuc, length, get_or, List, [], ◌∷◌, Bool, true, false, true≢false, not, cond, nat_lt, decimal, Some, refl, sym, ap, ap₂, ◌∙◌, arith, append_assoc, lt-ltb}
-use Rattle.std.specs.List.{AllByRecursion}
-use Rattle.std.proofs.lemmas.Bool.{and_from, eqb-false}
-use Rattle.std.proofs.lemmas.Fmt.{decimal_is_IsNumeral, decimal_nonempty}
+use Rattle.erd_normal.proofs.Common.{◌≡◌, ℕ, suc, ◌^◌, ◌<◌, ◌≤◌, Bool, true, false, cond, not, ◌&&◌, List, [], ◌∷◌, ◌++◌, length, get_or, pos, negsuc, nat_lt, ◌==◌, Some, decimal, sym, refl, ap, ◌∙◌, ap₂, true≢false, append_assoc, arith, lt-ltb, eqb-false, and_from, decimal_is_IsNumeral, decimal_nonempty, AllByRecursion, Num, unsigned, negative, float, Data, null, boolean, number, string, array, object, Items, no_items, item, Members, no_members, member, number_of, number_text, comma_if, compact_text, items_text, members_text, IsFittingNumber, HasFittingNumbers, ItemsHaveFittingNumbers, MembersHaveFittingNumbers}
 use Rattle.std.proofs.lemmas.Str.Parse.{digit_at}
-use Rattle.serde_json.specs.Data.{Num, unsigned, negative, float, Data, null, boolean, number, string, array, object, Items, no_items, item, Members, no_members, member}
-use Rattle.serde_json.specs.Read.{number_of}
-use Rattle.serde_json.specs.Written.{comma_if, compact_text, items_text, members_text, number_text}
 use Rattle.serde_json.proofs.Numbers.{number_of-decimal, number_of-negative}
-use Rattle.erd_check.specs.Numbers.{IsFittingNumber, HasFittingNumbers, ItemsHaveFittingNumbers, MembersHaveFittingNumbers}
 use Rattle.erd_normal.proofs.texts.WrittenStrings.{string_exact}
 
 -- ---- the texts of numbers

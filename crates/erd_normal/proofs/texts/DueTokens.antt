@@ -1,25 +1,5 @@
 -- Members that are put into an object, written in the order of their names.
-use Rattle.std.proofs.Common.{◌≡◌, ◌+◌, ◌<◌, ℕ, List, [], ◌∷◌, ◌++◌, length, get_or, drop, Option, Bool, true, false, if◌then◌else◌, Some, None, string_bytes, refl, sym, ap, ◌∙◌, append_assoc, append-nil, zero, suc, Less, Equal, Greater, subst}
-use Rattle.std.proofs.lemmas.List.{drop_more}
-use Rattle.std.specs.Option.{is_some, option_map_or}
-use Rattle.std.proofs.lemmas.Cmp.{nat_list_cmp_total}
-use Rattle.std.proofs.lemmas.Map.Lookups.{exact_bytes}
-use Rattle.std.specs.Ordering.{ordering_reverse}
-use Rattle.std.proofs.lemmas.Option.{slice_get_read}
-use Rattle.serde_json.specs.Data.{Data, Members, item, member, no_members, put}
-use Rattle.serde_json.specs.View.{items_of, items_view, members_view, view}
-use Rattle.serde_json.specs.declared.value.Value.{Value}
-use Rattle.serde_json.proofs.Views.{Entry}
-use Rattle.json.specs.Token.{Token, begin_array, end_array, key}
-use Rattle.erd_tables.specs.Texts.{text_cmp}
-use Rattle.erd_check.specs.Faults.{is_empty_array}
-use Rattle.erd_check.specs.Trees.{IsBeforeFirst}
-use Rattle.erd_check.proofs.Positions.{all_at}
-use Rattle.erd_check.proofs.ReadTrees.{before_put}
-use Rattle.erd_normal.specs.code.NormalTree.{array_of, unless_no_entry}
-use Rattle.erd_normal.specs.code.Tokens.{items_tokens, member_tokens, members_tokens, value_tokens}
-use Rattle.erd_normal.specs.code.Building.{put_all}
-use Rattle.erd_normal.specs.code.DueMembers.{AreWholeDue, IsBeforeAll, IsWholeDue, NamesRise, WritesThrough, due_list, due_value}
+use Rattle.erd_normal.proofs.Common.{◌≡◌, ℕ, zero, suc, ◌+◌, ◌<◌, Bool, true, false, List, [], ◌∷◌, ◌++◌, length, get_or, drop, is_some, if◌then◌else◌, Some, None, string_bytes, Option, Less, Equal, Greater, sym, refl, ap, ◌∙◌, subst, append_assoc, append-nil, nat_list_cmp_total, drop_more, exact_bytes, slice_get_read, option_map_or, ordering_reverse, Token, begin_array, end_array, key, Entry, Data, item, Members, no_members, member, put, items_of, view, items_view, members_view, Value, text_cmp, all_at, before_put, is_empty_array, IsBeforeFirst, put_all, due_value, IsWholeDue, due_list, IsBeforeAll, NamesRise, AreWholeDue, WritesThrough, unless_no_entry, array_of, value_tokens, items_tokens, members_tokens, member_tokens}
 use Rattle.erd_normal.specs.declared.text.due_members.DueMember.{DueMember}
 
 -- ---- tokens that are written one value after another

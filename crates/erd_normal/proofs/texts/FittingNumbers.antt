@@ -1,25 +1,5 @@
 -- What stands in a value whose numbers fit has numbers that fit.
-use Rattle.std.proofs.Common.{◌≡◌, false, ℕ, zero, suc, List, Some, inl, inr, refl, subst, ◌<◌, ◌^◌, [], ◌∷◌, Ordering, Less, Equal, Greater, Option, None, arith}
-use Rattle.std.proofs.lemmas.Bool.{or_from}
-use Rattle.std.specs.List.{AllByRecursion}
-use Rattle.std.specs.Option.{option_map_or}
-use Rattle.std.specs.Ordering.{match_ordering}
-use Rattle.serde_json.specs.Data.{Num, float, Data, number, array, object, Items, no_items, item, Members, no_members, member, put}
-use Rattle.serde_json.specs.Find.{get_item, get_member, is_float}
-use Rattle.serde_json.specs.Written.{has_float, items_have_float, members_have_float}
-use Rattle.erd_tables.specs.Texts.{text_cmp}
-use Rattle.erd_check.specs.Numbers.{IsFittingNumber, HasFittingNumbers, ItemsHaveFittingNumbers, MembersHaveFittingNumbers}
-use Rattle.erd_check.specs.Values.{list_of_items}
-use Rattle.erd_check.specs.Wants.{Asked}
-use Rattle.erd_check.proofs.Order.{In}
-use Rattle.erd_check.proofs.Shapes.{Within, within-holds}
-use Rattle.erd_check.proofs.Members.{found_cases, get_member-first, get_member-tree}
-use Rattle.erd_check.specs.Trees.{IsTree, AreMembers}
-use Rattle.erd_check.proofs.Whole.{get_member-later}
-use Rattle.erd_check.proofs.ReadTrees.{put-trees}
-use Rattle.erd_check.proofs.Positions.{all_weakened}
-use Rattle.erd_meaning.specs.Keys.{Preference}
-use Rattle.erd_normal.specs.code.NormalTree.{array_of, normal_tree}
+use Rattle.erd_normal.proofs.Common.{◌≡◌, ℕ, zero, suc, ◌^◌, ◌<◌, false, List, [], ◌∷◌, Some, None, Option, Ordering, Less, Equal, Greater, refl, subst, inl, inr, arith, or_from, AllByRecursion, option_map_or, match_ordering, Num, float, Data, number, array, object, Items, no_items, item, Members, no_members, member, put, get_member, get_item, is_float, has_float, items_have_float, members_have_float, text_cmp, get_member-first, found_cases, get_member-tree, In, all_weakened, put-trees, within-holds, Within, get_member-later, IsFittingNumber, HasFittingNumbers, ItemsHaveFittingNumbers, MembersHaveFittingNumbers, IsTree, AreMembers, list_of_items, Asked, Preference, array_of, normal_tree}
 use Rattle.erd_normal.proofs.lists.BuiltLists.{array_of-tree, trees_listed, all_both}
 use Rattle.erd_normal.proofs.built.NormalMembers.{each_member, trees_of_each}
 use Rattle.erd_normal.proofs.built.NormalTrees.{IsPartwise, normal_tree-holds}

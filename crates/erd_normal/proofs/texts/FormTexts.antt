@@ -1,35 +1,18 @@
 -- The text that is written for a report is the text of its canonical form.
-use Rattle.std.proofs.Common.{◌≡◌, ◌≤◌, ℕ, suc, max, List, [], Less, Option, Some, option_and_then, option_map, refl, sym, ap, ap₂, ◌∙◌, subst, append-nil, arith}
-use Rattle.std.specs.List.{AllByRecursion}
-use Rattle.std.specs.Str.{IsUtf8}
-use Rattle.serde_json.specs.Data.{Data, number, array, object, Items, no_items, item, Members, no_members, member, put, depth, items_depth, members_depth}
-use Rattle.serde_json.specs.Read.{max_depth, of_items, of_json, of_members, read}
-use Rattle.serde_json.specs.Written.{items_outline, members_outline, outline}
+use Rattle.erd_normal.proofs.Common.{◌≡◌, ℕ, suc, ◌≤◌, max, List, [], Some, IsUtf8, Option, option_map, option_and_then, Less, sym, refl, ap, ◌∙◌, subst, ap₂, append-nil, arith, AllByRecursion, Token, Data, number, array, object, Items, no_items, item, Members, no_members, member, put, depth, items_depth, members_depth, of_json, of_items, of_members, read, max_depth, outline, items_outline, members_outline, text_cmp, before_all, HasFittingNumbers, ItemsHaveFittingNumbers, MembersHaveFittingNumbers, IsTree, AreTrees, AreMembers, IsShallow, names, no_shape_fault, IsAccepted, Preference, IsBounded, normal_tree, value_tokens}
 use Rattle.serde_json.proofs.Texts.{print-outline}
 use Rattle.json.specs.Lex.{tokens}
-use Rattle.json.specs.Token.{Token}
 use Rattle.json.proofs.Printed.Trees.{value-json_tokens}
 use Rattle.json.specs.Print.{print}
-use Rattle.json.specs.Json as json
-use Rattle.json.specs.Tree as tree
-use Rattle.erd_tables.specs.Texts.{text_cmp}
-use Rattle.erd_check.specs.Numbers.{HasFittingNumbers, ItemsHaveFittingNumbers, MembersHaveFittingNumbers}
-use Rattle.erd_check.specs.Trees.{AreMembers, AreTrees, IsTree, IsShallow}
-use Rattle.erd_check.specs.Values.{names}
-use Rattle.erd_check.proofs.Deciding.{before_all}
-use Rattle.erd_meaning.specs.Accepted.{IsAccepted}
-use Rattle.erd_meaning.specs.Keys.{Preference}
-use Rattle.erd_meaning.specs.Objects.{IsBounded}
-use Rattle.erd_meaning.proofs.accepted.Phases.{no_shape_fault}
 use Rattle.erd_normal.proofs.built.BuiltMembers.{AreBelow, are_below_one, joined, joined_none, joined_one, none_below, put_above}
-use Rattle.erd_normal.specs.code.Tokens.{value_tokens}
 use Rattle.erd_normal.proofs.texts.CompactTexts.{number_read}
 use Rattle.erd_normal.specs.CanonicalText.{IsCanonicalText}
-use Rattle.erd_normal.specs.code.NormalTree.{normal_tree}
 use Rattle.erd_normal.proofs.built.NormalDepths.{normal_tree-depth}
 use Rattle.erd_normal.proofs.built.NormalTrees.{normal_tree-tree}
 use Rattle.erd_normal.proofs.canonical.NormalForms.{form_built, only_form_built, whole_built}
 use Rattle.erd_normal.proofs.texts.FittingNumbers.{normal_tree-fits}
+use Rattle.json.specs.Json as json
+use Rattle.json.specs.Tree as tree
 
 -- ---- what is written for a value is read back as it
 

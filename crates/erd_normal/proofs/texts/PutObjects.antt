@@ -1,20 +1,5 @@
 -- Objects with members put in.
-use Rattle.std.proofs.Common.{◌≡◌, ℕ, List, [], ◌∷◌, Bool, true, false, not, if◌then◌else◌, Some, None, codes, refl, ap}
-use Rattle.serde_json.specs.Data.{Data, null, string, Members, no_members, member}
-use Rattle.erd_tables.specs.declared.class.Class.{Class}
-use Rattle.erd_tables.specs.Table.{is_envelope_name}
-use Rattle.erd_tables.specs.declared.class.Family.{Family}
-use Rattle.erd_tables.specs.declared.class.Family.TheVariants as family
-use Rattle.erd_tables.specs.declared.member.MemberKind.{MemberKind}
-use Rattle.erd_tables.specs.declared.member.MemberKind.TheVariants as kind
-use Rattle.erd_meaning.specs.Keys.{Preference}
-use Rattle.erd_meaning.specs.SelectionNames.{compact_cmp, rising_list, with_rising_text}
-use Rattle.std.specs.Option.{is_some}
-use Rattle.erd_check.specs.Faults.{is_empty_array}
-use Rattle.erd_check.specs.Values.{entries_at}
-use Rattle.erd_normal.specs.code.Building.{put_in}
-use Rattle.erd_normal.specs.code.NormalTree.{array_of, envelope_values, in_envelope, normal_members, normal_value, unless_no_entry, with_id}
-use Rattle.erd_normal.specs.code.WrittenTree.{holds_parts, written_election_value, written_object_value, written_report_value}
+use Rattle.erd_normal.proofs.Common.{◌≡◌, ℕ, Bool, true, false, not, List, [], ◌∷◌, is_some, if◌then◌else◌, Some, None, codes, refl, ap, Data, null, string, Members, no_members, member, is_envelope_name, Class, Family, family, MemberKind, kind, is_empty_array, entries_at, Preference, rising_list, compact_cmp, with_rising_text, put_in, unless_no_entry, array_of, normal_value, normal_members, with_id, envelope_values, in_envelope, holds_parts, written_object_value, written_election_value, written_report_value}
 
 -- members that are kept as they are
 pub copied : (c : Class) (ms : Members) → normal_members (λ name k d. Some d) c ms ≡ ms

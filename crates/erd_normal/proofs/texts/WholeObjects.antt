@@ -1,23 +1,6 @@
 -- The objects of a report that has no fraction have none.
-use Rattle.std.proofs.Common.{◌≡◌, ℕ, Ordering, List, [], ◌∷◌, false, map, Option, Some, None, refl, ap, ◌∙◌, ◌+◌, codes, slice_get, option_map}
-use Rattle.std.specs.List.{AllByRecursion, flat_map}
-use Rattle.std.specs.Option.{option_map_or}
-use Rattle.std.proofs.lemmas.Bool.{or_parts}
-use Rattle.serde_json.specs.Data.{Data, array}
-use Rattle.serde_json.specs.Find.{get}
-use Rattle.serde_json.specs.View.{items_of, items_view, view}
-use Rattle.serde_json.specs.Written.{has_float, items_have_float}
-use Rattle.serde_json.specs.declared.value.Value.{Value}
-use Rattle.erd_tables.specs.declared.class.Family.{Family}
-use Rattle.erd_tables.specs.declared.place.Step.{Step}
-use Rattle.erd_tables.specs.declared.class.Family.TheVariants as family
-use Rattle.erd_check.specs.Values.{entries_of, entries_at}
-use Rattle.erd_check.proofs.Order.{In-all}
-use Rattle.erd_meaning.specs.SelectionNames.{rising_list}
+use Rattle.erd_normal.proofs.Common.{◌≡◌, ℕ, ◌+◌, false, List, [], ◌∷◌, map, slice_get, Some, None, codes, Option, option_map, flat_map, Ordering, refl, ap, ◌∙◌, or_parts, AllByRecursion, option_map_or, Data, array, get, items_of, view, items_view, has_float, items_have_float, Value, Family, family, Step, In-all, entries_of, entries_at, in_at, all_rising, Placed, placed_from, placed_entries, elections, contests, objects, rising_list}
 use Rattle.erd_meaning.proofs.selections.WholeParts.{whole_get}
-use Rattle.erd_meaning.proofs.orders.RisingOrders.{all_rising}
-use Rattle.erd_meaning.proofs.finding.OneObject.{in_at}
-use Rattle.erd_meaning.specs.Objects.{Placed, contests, elections, objects, placed_entries, placed_from}
 use Rattle.erd_meaning.proofs.selections.ContestSelections.{all_both}
 use Rattle.erd_normal.proofs.lists.BuiltLists.{items_again}
 

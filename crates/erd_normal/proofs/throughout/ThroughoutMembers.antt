@@ -1,34 +1,5 @@
 -- What holds of all that is asked inside what is built of a member without objects.
-use Rattle.std.proofs.Common.{◌≡◌, inl, inr, ℕ, List, [], ◌∷◌, map, Some, option_and_then, is_some, Bool, true, false, codes, refl, sym, ap, ◌∙◌, subst}
-use Rattle.std.specs.List.{AllByRecursion}
-use Rattle.std.specs.Str.{bytes_eq}
-use Rattle.serde_json.specs.Data.{Data, string, array, object, Items, Members}
-use Rattle.serde_json.specs.Find.{as_str, get, get_item}
-use Rattle.serde_json.specs.View.{items_of}
-use Rattle.erd_tables.specs.Classes.{class_in_role}
-use Rattle.erd_tables.specs.Table.{kind_of_member}
-use Rattle.erd_tables.specs.declared.class.Class.{Class}
-use Rattle.erd_tables.specs.declared.class.Class.TheVariants as class
-use Rattle.erd_tables.specs.declared.class.Family.{Family}
-use Rattle.erd_tables.specs.declared.class.Family.TheVariants as family
-use Rattle.erd_tables.specs.declared.class.Role.{Role}
-use Rattle.erd_tables.specs.declared.class.Role.TheVariants as role
-use Rattle.erd_tables.specs.declared.fault.Reason.TheVariants as reason
-use Rattle.erd_tables.specs.declared.member.MemberKind.{MemberKind}
-use Rattle.erd_tables.specs.declared.member.MemberKind.TheVariants as kind
-use Rattle.erd_check.specs.Faults.{is_empty_array, NoneOf, ShapeFault}
-use Rattle.erd_check.specs.Trees.{IsTree}
-use Rattle.erd_check.specs.Values.{entries_of, list_of_items, text_of}
-use Rattle.erd_check.specs.Wants.{Asked, asked, class_of_object, is_repeated, member_want, want_of_kind}
-use Rattle.erd_check.specs.declared.want.Want.TheVariants.{Object, ClassText, Reference, Member}
-use Rattle.erd_check.proofs.Entries.{array_from}
-use Rattle.erd_check.proofs.Exact.{text_exact}
-use Rattle.erd_check.proofs.Shapes.{Classed, Within, classed, faultless, member_within, of_label, wanted_within}
-use Rattle.erd_check.proofs.TableKinds.{kind_of_unlisted_has}
-use Rattle.erd_meaning.specs.Keys.{Preference}
-use Rattle.erd_meaning.specs.SelectionNames.{compact_cmp, rising_list, with_rising_text}
-use Rattle.erd_normal.specs.Canonical.{id_prefix}
-use Rattle.erd_normal.specs.code.NormalTree.{array_of, normal_id, normal_reference, normal_selection_reference, normal_value, reference_cmp}
+use Rattle.erd_normal.proofs.Common.{◌≡◌, ℕ, Bool, true, false, List, [], ◌∷◌, map, is_some, Some, codes, option_and_then, bytes_eq, sym, refl, ap, ◌∙◌, subst, inl, inr, AllByRecursion, Data, string, array, object, Items, Members, get_item, get, as_str, items_of, class_in_role, kind_of_member, Class, class, Family, family, Role, role, reason, MemberKind, kind, array_from, text_exact, of_label, faultless, wanted_within, classed, member_within, Classed, Within, kind_of_unlisted_has, is_empty_array, ShapeFault, NoneOf, IsTree, list_of_items, entries_of, text_of, class_of_object, want_of_kind, member_want, Asked, asked, is_repeated, ClassText, Member, Object, Reference, Preference, rising_list, compact_cmp, with_rising_text, id_prefix, normal_id, normal_reference, reference_cmp, normal_selection_reference, array_of, normal_value}
 use Rattle.erd_normal.proofs.built.AskedMembers.{asked_in_object, entries_asked, label_class, label_texts}
 use Rattle.erd_normal.proofs.lists.BuiltLists.{all_map, entry_holds, given_unless}
 use Rattle.erd_normal.proofs.throughout.UnrepeatedEntries.{rising_entry}

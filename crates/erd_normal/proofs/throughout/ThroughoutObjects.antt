@@ -1,36 +1,5 @@
 -- What holds of all that is asked inside the order of a ballot, a selection and an object of a family that are built.
-use Rattle.std.proofs.Common.{◌≡◌, inl, inr, ℕ, zero, suc, List, map, Some, Bool, true, false, codes, refl, sym, ap, ◌∙◌, subst}
-use Rattle.std.specs.List.{AllByRecursion, list_all}
-use Rattle.std.specs.Str.{bytes_eq}
-use Rattle.serde_json.specs.Data.{Data, string, array, object, Items, no_items, item, Members, no_members, member}
-use Rattle.serde_json.specs.Find.{get, get_item, get_member}
-use Rattle.erd_tables.specs.Classes.{role_of_class}
-use Rattle.erd_tables.specs.Rows.{rows_of_class}
-use Rattle.erd_tables.specs.Table.{is_required, kind_of_identity, kind_of_member}
-use Rattle.erd_tables.specs.declared.class.Class.{Class}
-use Rattle.erd_tables.specs.declared.class.Class.TheVariants as class
-use Rattle.erd_tables.specs.declared.class.Family.{Family}
-use Rattle.erd_tables.specs.declared.class.Family.TheVariants as family
-use Rattle.erd_tables.specs.declared.class.Role.{Role}
-use Rattle.erd_tables.specs.declared.class.Role.TheVariants as role
-use Rattle.erd_tables.specs.declared.member.MemberKind.{MemberKind}
-use Rattle.erd_tables.specs.declared.member.MemberKind.TheVariants as kind
-use Rattle.erd_check.specs.Faults.{is_array, is_empty_array, NoneOf, ShapeFault}
-use Rattle.erd_check.specs.Trees.{IsTree}
-use Rattle.erd_check.specs.Values.{entries_of, list_of_items}
-use Rattle.erd_check.specs.Wants.{Asked, asked, entry_want, is_compared_set, member_want, want_of_kind}
-use Rattle.erd_check.specs.declared.want.Want.{Want}
-use Rattle.erd_check.specs.declared.want.Want.TheVariants.{Member, Object, Status}
-use Rattle.erd_check.proofs.Exact.{text_exact}
-use Rattle.erd_check.proofs.ObjectsAt.{ObjectAt, ObjectIn, object_in}
-use Rattle.erd_check.proofs.Rising.{Has, all-Has}
-use Rattle.erd_check.proofs.Shapes.{Within, wanted_within}
-use Rattle.erd_check.proofs.TableKinds.{kind_of_class, want_by_kind}
-use Rattle.erd_meaning.specs.Keys.{Preference}
-use Rattle.erd_meaning.specs.Objects.{Placed, objects}
-use Rattle.erd_meaning.specs.SelectionNames.{rising_list, selection_role}
-use Rattle.erd_meaning.proofs.orders.RisingOrders.{all_rising}
-use Rattle.erd_normal.specs.code.NormalTree.{array_of, by_key, by_name, id_of_selection, normal_content, normal_node, normal_node_value, normal_nodes, normal_object, normal_object_value, normal_objects, normal_selection, normal_value}
+use Rattle.erd_normal.proofs.Common.{◌≡◌, ℕ, zero, suc, Bool, true, false, List, map, Some, codes, bytes_eq, sym, refl, ap, ◌∙◌, subst, inl, inr, AllByRecursion, list_all, Data, string, array, object, Items, no_items, item, Members, no_members, member, get_member, get_item, get, role_of_class, rows_of_class, kind_of_identity, kind_of_member, is_required, Class, class, Family, family, Role, role, MemberKind, kind, text_exact, found_cases, object_in, ObjectAt, ObjectIn, map_has, all_by_entry, all-Has, Has, wanted_within, Within, kind_of_class, want_by_kind, is_array, is_empty_array, ShapeFault, NoneOf, IsTree, list_of_items, entries_of, want_of_kind, member_want, entry_want, is_compared_set, Asked, asked, Want, Member, Object, Status, all_rising, Preference, Placed, objects, rising_list, selection_role, id_of_selection, array_of, normal_value, normal_node_value, normal_content, normal_nodes, normal_node, normal_selection, by_key, by_name, normal_object_value, normal_object, normal_objects}
 use Rattle.erd_normal.proofs.built.AskedMembers.{entries_asked, entry_asked}
 use Rattle.erd_normal.proofs.built.BuiltFrom.{Builder, BuiltFrom, BuiltObject, inside_built, member_holds}
 use Rattle.erd_normal.proofs.lists.BuiltLists.{all_map, given_unless}
@@ -40,8 +9,6 @@ use Rattle.erd_normal.proofs.built.FamilyNames.{contest_of_selections, family_na
 use Rattle.erd_normal.proofs.built.NormalGets.{kind_of_family_id}
 use Rattle.erd_normal.proofs.throughout.ThroughoutMembers.{HoldsOfMembers, is_plain_kind, throughout_type, throughout_value}
 use Rattle.erd_normal.proofs.throughout.ThroughoutValues.{Throughout, throughout_array, throughout_by_steps, throughout_kept, throughout_list, throughout_text}
-use Rattle.erd_check.proofs.Positions.{map_has, all_by_entry}
-use Rattle.erd_check.proofs.Members.{found_cases}
 
 -- what has to hold for what is built of objects below the election and the report, each by the value that it is built of
 pub record HoldsOfObjects (π : Preference) (t : Data) (P : Asked → Type 0) : Type 0 where

@@ -1,34 +1,5 @@
 -- What holds of all that is asked in the report that is built: it is enough that it holds of each part that is built, by the value that it is built of.
-use Rattle.std.proofs.Common.{◌≡◌, ℕ, List, [], ◌∷◌, map, Some, None, is_some, Bool, true, false, if◌then◌else◌, codes, refl, sym, ap, ◌∙◌, subst}
-use Rattle.std.specs.List.{AllByRecursion}
-use Rattle.std.specs.Str.{bytes_eq}
-use Rattle.serde_json.specs.Data.{Data, string, number, unsigned, array, object, Members}
-use Rattle.serde_json.specs.Find.{get, get_member}
-use Rattle.erd_tables.specs.Rows.{Row, envelope_rows}
-use Rattle.erd_tables.specs.Table.{is_envelope_name, kind_in_rows, kind_of_member}
-use Rattle.erd_tables.specs.declared.class.Class.TheVariants as class
-use Rattle.erd_tables.specs.declared.class.Family.{Family}
-use Rattle.erd_tables.specs.declared.class.Role.TheVariants as role
-use Rattle.erd_tables.specs.declared.member.MemberKind.{MemberKind}
-use Rattle.erd_tables.specs.declared.member.MemberKind.TheVariants as kind
-use Rattle.erd_tables.specs.declared.place.Step.{Step}
-use Rattle.erd_check.specs.Faults.{is_empty_array, NoneOf, ShapeFault}
-use Rattle.erd_check.specs.Trees.{IsTree}
-use Rattle.erd_check.specs.Values.{entries_at, entries_of, list_of_items}
-use Rattle.erd_check.specs.Wants.{Asked, asked, asked_at, asked_inside, member_want, want_of_kind}
-use Rattle.erd_check.specs.declared.want.Want.TheVariants.{Member, Object}
-use Rattle.erd_check.proofs.Exact.{text_exact}
-use Rattle.erd_check.proofs.ObjectsAt.{ObjectAt}
-use Rattle.erd_check.proofs.Positions.{all_by_entry}
-use Rattle.erd_check.proofs.Rising.{Has}
-use Rattle.erd_check.proofs.Shapes.{Within}
-use Rattle.erd_check.proofs.TableKinds.{kind_of_class}
-use Rattle.erd_meaning.proofs.accepted.Skeleton.{Skeleton, election_entries, election_object, election_within, skeleton_of_shape}
-use Rattle.erd_meaning.proofs.orders.RisingOrders.{all_rising}
-use Rattle.erd_meaning.specs.Keys.{Preference, has_keys}
-use Rattle.erd_meaning.specs.Objects.{objects}
-use Rattle.erd_meaning.specs.SelectionNames.{rising_list}
-use Rattle.erd_normal.specs.code.NormalTree.{array_of, by_key, normal_election, normal_election_value, normal_objects, normal_report_value, normal_tree, normal_value}
+use Rattle.erd_normal.proofs.Common.{◌≡◌, ℕ, Bool, true, false, List, [], ◌∷◌, map, is_some, if◌then◌else◌, Some, None, codes, bytes_eq, sym, refl, ap, ◌∙◌, subst, AllByRecursion, unsigned, Data, number, string, array, object, Members, get_member, get, Row, envelope_rows, kind_in_rows, is_envelope_name, kind_of_member, class, Family, role, MemberKind, kind, Step, text_exact, ObjectAt, all_by_entry, Has, Within, kind_of_class, is_empty_array, ShapeFault, NoneOf, IsTree, list_of_items, entries_of, entries_at, want_of_kind, member_want, Asked, asked, asked_inside, asked_at, Member, Object, skeleton_of_shape, election_entries, election_within, election_object, Skeleton, all_rising, has_keys, Preference, objects, rising_list, array_of, normal_value, by_key, normal_objects, normal_election_value, normal_election, normal_report_value, normal_tree}
 use Rattle.erd_normal.proofs.built.BuiltFrom.{BuiltFrom, member_holds}
 use Rattle.erd_normal.proofs.built.BuiltObjects.{built_election, built_report, election_builder, no_name}
 use Rattle.erd_normal.proofs.lists.BuiltLists.{all_map, given_unless}

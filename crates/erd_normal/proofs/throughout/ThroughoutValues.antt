@@ -1,27 +1,6 @@
 -- What holds of all that is asked inside a value, and of all that is asked inside what is built of a value without objects.
-use Rattle.std.proofs.Common.{◌≡◌, ◌⊎◌, inl, inr, ℕ, List, [], ◌∷◌, Option, Some, None, option_and_then, option_map, Bool, true, false, ◌&&◌, ◌||◌, if◌then◌else◌, codes, refl, sym, ap, ◌∙◌, subst}
-use Rattle.std.specs.List.{AllByRecursion}
-use Rattle.std.specs.Str.{bytes_eq}
-use Rattle.serde_json.specs.Data.{Data, string, array, object, Items, Members, no_members}
-use Rattle.serde_json.specs.Find.{get_item, get_member}
-use Rattle.serde_json.specs.View.{items_of}
-use Rattle.erd_tables.specs.Classes.{role_of_class}
-use Rattle.erd_tables.specs.Table.{is_reference_name, kind_of_member}
-use Rattle.erd_tables.specs.declared.class.Class.{Class}
-use Rattle.erd_tables.specs.declared.class.Class.TheVariants as class
-use Rattle.erd_tables.specs.declared.class.Role.{Role}
-use Rattle.erd_tables.specs.declared.class.Role.TheVariants as role
-use Rattle.erd_tables.specs.declared.member.MemberKind.{MemberKind}
-use Rattle.erd_tables.specs.declared.member.MemberKind.TheVariants as kind
-use Rattle.erd_tables.specs.declared.place.Step.{Step}
-use Rattle.erd_tables.specs.declared.place.Step.TheVariants.{Name, At}
-use Rattle.erd_check.specs.Wants.{Asked, asked, asked_from, asked_inside, asked_of_entry, asked_of_member, class_of_object, entry_want, is_compared_set, is_repeated, member_want, scope_inside, want_of_kind, want_of_name}
-use Rattle.erd_check.specs.declared.want.Want.{Want}
-use Rattle.erd_check.specs.declared.want.Want.TheVariants.{Object, ClassText, Reference, Status, Member, Carried}
-use Rattle.erd_check.proofs.Shapes.{Within, Within-step}
-use Rattle.erd_check.proofs.TableKinds.{kind_of_class}
+use Rattle.erd_normal.proofs.Common.{◌≡◌, ℕ, Bool, true, false, ◌&&◌, ◌||◌, ◌⊎◌, List, [], ◌∷◌, if◌then◌else◌, Some, None, codes, Option, option_map, option_and_then, bytes_eq, sym, refl, ap, ◌∙◌, subst, inl, inr, AllByRecursion, Data, string, array, object, Items, Members, no_members, get_member, get_item, items_of, role_of_class, is_reference_name, kind_of_member, Class, class, Role, role, MemberKind, kind, Step, At, Name, Within-step, Within, kind_of_class, class_of_object, scope_inside, want_of_kind, member_want, want_of_name, entry_want, is_compared_set, Asked, asked, is_repeated, asked_of_member, asked_of_entry, asked_inside, asked_from, Want, Carried, ClassText, Member, Object, Reference, Status, class_role}
 use Rattle.erd_normal.proofs.lists.BuiltLists.{entry_holds}
-use Rattle.erd_meaning.proofs.meanings.SelectionKinds.{class_role}
 
 -- it holds of a value, and of all that is asked inside it
 pub record Throughout (P : Asked → Type 0) (a : Asked) : Type 0 where

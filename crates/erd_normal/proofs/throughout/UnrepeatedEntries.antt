@@ -1,27 +1,7 @@
 -- A set that is put in order repeats no entry, where the set itself repeats none.
-use Rattle.std.proofs.Common.{◌≡◌, inl, inr, ℕ, zero, suc, List, [], ◌∷◌, take, Ordering, Some, Bool, true, false, not, ◌&&◌, cond, is_lt, refl, sym, ap, ◌∙◌, subst, true≢false}
-use Rattle.std.specs.List.{AllByRecursion, IsDistinct, list_any}
-use Rattle.std.proofs.lemmas.Bool.{false_from_ne_true}
-use Rattle.serde_json.specs.Data.{Data, array, Items}
-use Rattle.serde_json.specs.Find.{get_item}
-use Rattle.serde_json.specs.View.{items_of}
-use Rattle.erd_tables.specs.declared.fault.Reason.TheVariants as reason
-use Rattle.erd_tables.specs.declared.place.Step.TheVariants.{At}
-use Rattle.erd_check.specs.Faults.{is_reference, NoneOf, ShapeFault}
-use Rattle.erd_check.specs.Trees.{IsTree, is_same_json}
-use Rattle.erd_check.specs.Values.{list_of_items}
-use Rattle.erd_check.specs.Wants.{Asked, asked, entry_want, is_compared_set, is_repeated}
-use Rattle.erd_check.specs.declared.want.Want.{Want}
-use Rattle.erd_check.proofs.Exact.{is_same_exact}
-use Rattle.erd_check.proofs.Order.{In, In-all, all_from_In}
-use Rattle.erd_check.proofs.Shapes.{Within, Within-step, faultless, within-tree}
-use Rattle.erd_check.proofs.Lists.{list_of_items-items_of}
-use Rattle.erd_meaning.specs.SelectionNames.{rising_list, with_inserted}
+use Rattle.erd_normal.proofs.Common.{◌≡◌, ℕ, zero, suc, Bool, true, false, cond, not, ◌&&◌, List, [], ◌∷◌, take, Some, is_lt, Ordering, sym, refl, ap, ◌∙◌, subst, inl, inr, true≢false, false_from_ne_true, AllByRecursion, IsDistinct, list_any, Data, array, Items, get_item, items_of, reason, At, is_same_exact, list_of_items-items_of, In, all_from_In, In-all, Within-step, faultless, within-tree, Within, is_reference, ShapeFault, NoneOf, IsTree, is_same_json, list_of_items, entry_want, is_compared_set, Asked, asked, is_repeated, Want, unrepeated_distinct, all_rising, In-inserted, In-rising, with_inserted, rising_list}
 use Rattle.erd_normal.proofs.built.AskedMembers.{all_items}
 use Rattle.erd_normal.proofs.lists.BuiltLists.{entry_holds, trees_listed}
-use Rattle.erd_meaning.proofs.orders.DistinctEntries.{unrepeated_distinct}
-use Rattle.erd_meaning.proofs.orders.RisingSets.{In-inserted, In-rising}
-use Rattle.erd_meaning.proofs.orders.RisingOrders.{all_rising}
 
 -- ---- lists no two entries of which pass a test
 

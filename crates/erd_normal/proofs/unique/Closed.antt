@@ -1,28 +1,5 @@
 -- What canonical form closes: texts that stand for one another are equal, and no `@id` may be absent.
-use Rattle.std.proofs.Common.{◌≡◌, ℕ, List, [], Some, None, flat_map, map, Bool, true, false, codes, refl, sym, ap, ◌∙◌, subst, ◌∷◌}
-use Rattle.std.specs.Option.{option_map_or}
-use Rattle.std.specs.Str.{bytes_eq}
-use Rattle.std.proofs.lemmas.Option.{same_Some}
-use Rattle.serde_json.specs.Data.{Data, null, string, array, object, Items, no_items, item, no_members, member}
-use Rattle.serde_json.specs.View.{items_of}
-use Rattle.erd_tables.specs.Classes.{families, text_of_class}
-use Rattle.erd_tables.specs.declared.class.Class.TheVariants as class
-use Rattle.erd_tables.specs.declared.class.Family.TheVariants as family
-use Rattle.erd_tables.specs.declared.place.Step.TheVariants.{Name, At}
-use Rattle.erd_check.specs.Wants.{is_repeated}
-use Rattle.erd_check.specs.declared.want.Want.TheVariants.{Reference}
-use Rattle.erd_check.specs.Values.{list_of_items}
-use Rattle.erd_check.proofs.Entries.{list_of_items-place}
-use Rattle.erd_check.proofs.Exact.{text_exact, text_itself}
-use Rattle.erd_check.proofs.Lists.{list_of_items-items_of}
-use Rattle.erd_check.proofs.Positions.{has_mapped}
-use Rattle.erd_check.proofs.Rising.{Has}
-use Rattle.erd_meaning.specs.Keys.{Preference}
-use Rattle.erd_meaning.specs.Objects.{id_of}
-use Rattle.erd_meaning.proofs.accepted.References.{Has-Contains}
-use Rattle.erd_meaning.proofs.accepted.Standing.{flat-has}
-use Rattle.erd_normal.specs.Canonical.{IsCanonical}
-use Rattle.erd_normal.specs.SaysTheSame.{Sides, IsUnused, StandsFor}
+use Rattle.erd_normal.proofs.Common.{◌≡◌, ℕ, Bool, true, false, List, [], ◌∷◌, map, Some, None, codes, flat_map, bytes_eq, sym, refl, ap, ◌∙◌, subst, same_Some, option_map_or, Data, null, string, array, object, Items, no_items, item, no_members, member, items_of, text_of_class, families, class, At, Name, list_of_items-place, text_exact, text_itself, list_of_items-items_of, has_mapped, Has, list_of_items, is_repeated, Reference, Has-Contains, flat-has, Preference, id_of, IsCanonical, Sides, StandsFor, IsUnused}
 use Rattle.erd_normal.proofs.lists.Lists.{is_family}
 use Rattle.erd_normal.proofs.same.FamilyValues.{family_values}
 use Rattle.erd_normal.proofs.same.SharedIds.{IsId}
@@ -30,6 +7,7 @@ use Rattle.erd_normal.proofs.same.complete.Objects.{AloneUnused}
 use Rattle.erd_normal.proofs.same.complete.Texts.{Couple, couple_back, couple_there, sides}
 use Rattle.erd_normal.proofs.same.complete.Sets.{MeanOne}
 use Rattle.erd_normal.proofs.unique.Ids.{ids_alike}
+use Rattle.erd_tables.specs.declared.class.Family.TheVariants as family
 
 -- ---- a report that refers to each object of another
 

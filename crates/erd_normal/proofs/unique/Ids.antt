@@ -1,39 +1,6 @@
 -- Counterparts in canonical reports that mean the same have one `@id`, and so a text names one key in both.
-use Rattle.std.proofs.Common.{◌≡◌, ℕ, zero, suc, List, [], Ordering, Option, Some, None, option_and_then, option_map, map, true, false, codes, find, is_lt, slice_get, refl, sym, ap, ◌∙◌, subst}
+use Rattle.erd_normal.proofs.Common.{◌≡◌, ℕ, zero, suc, true, false, List, [], map, slice_get, Some, None, codes, Option, option_map, find, filter_map, option_and_then, bytes_eq, is_lt, Ordering, sym, refl, ap, ◌∙◌, subst, options_total, IsStrictlySortedBy, option_cmp, option_map_or, Data, get_member, as_str, is_required, Class, class, Family, family, role, kind, object_in, ObjectIn, position_of, has_at, Has, member_within, Within, want_by_kind, entries_of, entries_at, class_of_object, asked, Member, Object, no_shape_fault, Contains-Has, values-placed_entries, stands, contest_selections, one_named, has_id-Some, has_keys, key_cmp, Preference, key_of, rank_of, Placed, selections_of_contest, objects, id_of, has_id, rising_list, key_named, keys_named, keys_of_selection, is_write_in, order_of_selection, label_of_selection, selection_role, name_of, name_cmp, name_cmp_total, Key, canonical_id, canonical_selection_id, IsCanonical}
 use Rattle.std.proofs.lemmas.Simd.{map-map}
-use Rattle.std.specs.Cmp.Lexicographic.{options_total}
-use Rattle.std.specs.List.{filter_map}
-use Rattle.std.specs.List.Sorted.{IsStrictlySortedBy}
-use Rattle.std.specs.Option.{option_cmp, option_map_or}
-use Rattle.std.specs.Str.{bytes_eq}
-use Rattle.serde_json.specs.Data.{Data}
-use Rattle.serde_json.specs.Find.{as_str, get_member}
-use Rattle.erd_tables.specs.declared.class.Class.{Class}
-use Rattle.erd_tables.specs.declared.class.Class.TheVariants as class
-use Rattle.erd_tables.specs.declared.class.Family.{Family}
-use Rattle.erd_tables.specs.declared.class.Family.TheVariants as family
-use Rattle.erd_tables.specs.declared.class.Role.TheVariants as role
-use Rattle.erd_tables.specs.declared.member.MemberKind.TheVariants as kind
-use Rattle.erd_tables.specs.Table.{is_required}
-use Rattle.erd_check.proofs.ObjectsAt.{ObjectIn, object_in}
-use Rattle.erd_check.proofs.Positions.{has_at, position_of}
-use Rattle.erd_check.proofs.Rising.{Has}
-use Rattle.erd_check.proofs.Shapes.{Within, member_within}
-use Rattle.erd_check.proofs.TableKinds.{want_by_kind}
-use Rattle.erd_check.specs.Values.{entries_at, entries_of}
-use Rattle.erd_check.specs.Wants.{asked, class_of_object}
-use Rattle.erd_check.specs.declared.want.Want.TheVariants.{Member, Object}
-use Rattle.erd_meaning.specs.Keys.{Preference, has_keys, key_cmp, key_of}
-use Rattle.erd_meaning.specs.Lookups.{rank_of}
-use Rattle.erd_meaning.specs.Objects.{Placed, has_id, id_of, objects, selections_of_contest}
-use Rattle.erd_meaning.specs.SelectionNames.{is_write_in, key_named, keys_named, keys_of_selection, label_of_selection, name_cmp, name_of, order_of_selection, rising_list, selection_role}
-use Rattle.erd_meaning.specs.code.Orders.{name_cmp_total}
-use Rattle.erd_meaning.specs.declared.keys.key.Key.{Key}
-use Rattle.erd_meaning.proofs.accepted.Phases.{no_shape_fault}
-use Rattle.erd_meaning.proofs.accepted.References.{Contains-Has}
-use Rattle.erd_meaning.proofs.accepted.Skeleton.{values-placed_entries}
-use Rattle.erd_meaning.proofs.accepted.Standing.{contest_selections, one_named, stands, has_id-Some}
-use Rattle.erd_normal.specs.Canonical.{IsCanonical, canonical_id, canonical_selection_id}
 use Rattle.erd_normal.proofs.lists.Matched.{AtMostOne, Matched, apart_distinct, matched_count, matched_find, matched_mapped, one_if_apart, said_same, matched_rising, Paired, none, more}
 use Rattle.erd_normal.proofs.same.FamilyValues.{family_values, object_values}
 use Rattle.erd_normal.proofs.same.Related.{matched_within_both}

@@ -1,6 +1,5 @@
 -- Two canonical reports that mean the same have the same keys, names and `@id` texts, in the same order: they are equal.
-use Rattle.std.proofs.Common.{refl, subst}
-use Rattle.erd_normal.specs.Laws.{HaveSameNames, NamesAgree}
+use Rattle.erd_normal.proofs.Common.{refl, subst, NamesAgree, HaveSameNames}
 use Rattle.erd_normal.proofs.unique.Unique.{unique}
 
 pub names_agree : NamesAgree

@@ -1,35 +1,5 @@
 -- Canonical reports that say the same are equal.
-use Rattle.std.proofs.Common.{◌≡◌, ℕ, List, [], ◌∷◌, is_some, Bool, true, false, refl, sym, ◌∙◌, subst, ◌≤◌, zero, suc, Option, Some, None, map, Ordering, arith, ap, option_and_then}
-use Rattle.std.specs.Str.{bytes_eq}
-use Rattle.std.specs.Cmp.{IsTotalOrder}
-use Rattle.std.specs.Cmp.Lexicographic.{options_total}
-use Rattle.std.specs.List.Sorted.{IsStrictlySortedBy}
-use Rattle.std.specs.Option.{option_cmp}
-use Rattle.serde_json.specs.Data.{Data, array, object, Items, Members, depth, items_depth, members_depth, string}
-use Rattle.serde_json.specs.Find.{get, get_member, as_str}
-use Rattle.erd_tables.specs.Rows.{Row, envelope_rows}
-use Rattle.erd_tables.specs.Table.{is_envelope_name, kind_in_rows}
-use Rattle.erd_tables.specs.declared.class.Family.{Family}
-use Rattle.erd_tables.specs.declared.member.MemberKind.{MemberKind}
-use Rattle.erd_tables.specs.declared.class.Family.TheVariants as family
-use Rattle.erd_tables.specs.declared.class.Role.TheVariants as role
-use Rattle.erd_tables.specs.declared.member.MemberKind.TheVariants as kind
-use Rattle.erd_check.proofs.Exact.{text_exact}
-use Rattle.erd_check.proofs.Rising.{Has, here, later, all-Has, rising_unique}
-use Rattle.erd_check.specs.Faults.{is_empty_array}
-use Rattle.erd_check.specs.Trees.{AreMembers}
-use Rattle.erd_check.specs.Values.{list_of_items}
-use Rattle.erd_check.specs.Wants.{entry_want, is_table_set, scope_inside, want_of_name}
-use Rattle.erd_check.specs.declared.want.Want.{Want}
-use Rattle.erd_check.specs.declared.want.Want.TheVariants.{Member, Object}
-use Rattle.erd_check.proofs.Entries.{list_of_items_exact}
-use Rattle.erd_check.proofs.Members.{get_member-depth, members_unique}
-use Rattle.erd_meaning.specs.Keys.{Preference, has_keys, key_cmp, key_of}
-use Rattle.erd_meaning.specs.SelectionNames.{compact_cmp, name_cmp, name_of}
-use Rattle.erd_meaning.specs.code.Orders.{compact_cmp_total, key_cmp_total, name_cmp_total}
-use Rattle.erd_meaning.proofs.orders.Reordered.{reordered-has, reordered_back}
-use Rattle.erd_normal.specs.Canonical.{HasCanonicalEnvelope, IsCanonical, RisesAs, kind_wanted}
-use Rattle.erd_normal.specs.SaysTheSame.{Sides, IsUnused, MayBeAbsent, an_empty_array, of_the_envelope, an_unused_id, is_envelope, Same, a_null, a_flag, a_number, a_text, an_id, a_list, a_set, an_object, SameMembers}
+use Rattle.erd_normal.proofs.Common.{◌≡◌, ℕ, zero, suc, ◌≤◌, Bool, true, false, List, [], ◌∷◌, map, is_some, Some, None, Option, option_and_then, bytes_eq, Ordering, sym, refl, ap, ◌∙◌, subst, arith, IsTotalOrder, options_total, IsStrictlySortedBy, option_cmp, Data, string, array, object, Items, Members, depth, items_depth, members_depth, get_member, get, as_str, Row, envelope_rows, kind_in_rows, is_envelope_name, Family, family, role, MemberKind, kind, list_of_items_exact, text_exact, members_unique, get_member-depth, here, later, all-Has, rising_unique, Has, is_empty_array, AreMembers, list_of_items, scope_inside, want_of_name, entry_want, is_table_set, Want, Member, Object, reordered_back, reordered-has, has_keys, key_cmp, Preference, key_of, compact_cmp, name_of, name_cmp, key_cmp_total, compact_cmp_total, name_cmp_total, kind_wanted, RisesAs, HasCanonicalEnvelope, IsCanonical, Sides, IsUnused, is_envelope, an_empty_array, of_the_envelope, an_unused_id, a_null, a_flag, a_number, a_text, an_id, a_list, a_set, an_object, MayBeAbsent, Same, SameMembers}
 use Rattle.erd_normal.proofs.lists.BuiltLists.{listed_depth}
 use Rattle.erd_normal.proofs.lists.Matched.{Matched, matched_equal, paired_equal, matched_rising}
 use Rattle.erd_normal.proofs.same.Back.{entries_paired}

@@ -1,38 +1,11 @@
 -- Canonical reports that mean the same are equal, since they say the same.
-use Rattle.std.proofs.Common.{[], false, ◌≡◌, ℕ, List, Some, None, true, sym, ap, ◌∙◌, subst, refl, Bool}
-use Rattle.serde_json.specs.Data.{Data, array}
-use Rattle.erd_tables.specs.declared.class.Family.{Family}
-use Rattle.erd_tables.specs.declared.class.Role.{Role}
-use Rattle.erd_tables.specs.declared.member.MemberKind.{MemberKind}
-use Rattle.erd_tables.specs.declared.place.Step.{Step}
-use Rattle.erd_tables.specs.declared.class.Role.TheVariants as role
-use Rattle.erd_tables.specs.declared.class.Family.TheVariants as family
-use Rattle.erd_tables.specs.declared.member.MemberKind.TheVariants as kind
-use Rattle.erd_check.specs.declared.want.Want.TheVariants.{Object, Member, Reference}
-use Rattle.erd_check.proofs.Shapes.{Within-root, Within, unrepeated, wanted_within, within-tree}
-use Rattle.erd_check.proofs.Positions.{position_of}
-use Rattle.erd_check.specs.declared.want.Want.{Want}
-use Rattle.erd_check.specs.Faults.{NoneOf, ShapeFault}
-use Rattle.erd_check.specs.Values.{entries_of}
-use Rattle.erd_check.specs.Wants.{Asked, asked, asked_at}
-use Rattle.erd_check.proofs.Entries.{array_from, list_of_items_exact}
-use Rattle.erd_meaning.specs.Keys.{Preference, has_keys}
-use Rattle.erd_meaning.specs.Objects.{Placed, IsObject, contests, id_of, objects, selections_of_contest}
-use Rattle.erd_meaning.specs.Records.{object_record, content_of, key_set}
-use Rattle.erd_meaning.proofs.accepted.HeldObjects.{has-flat}
-use Rattle.erd_meaning.proofs.accepted.References.{Contains-Has, Has-Contains}
-use Rattle.erd_meaning.proofs.accepted.Standing.{one_object, flat-has}
-use Rattle.erd_meaning.specs.SelectionNames.{keys_named}
-use Rattle.erd_meaning.proofs.accepted.Phases.{no_shape_fault}
-use Rattle.erd_normal.specs.Laws.{CanonicalIsUnique, MeanAlike, ObjectsAgree, ReferencesAgree}
+use Rattle.erd_normal.proofs.Common.{◌≡◌, ℕ, Bool, true, false, List, [], Some, None, sym, refl, ap, ◌∙◌, subst, Data, array, Family, family, Role, role, MemberKind, kind, Step, array_from, list_of_items_exact, position_of, Within-root, wanted_within, unrepeated, within-tree, Within, ShapeFault, NoneOf, entries_of, Asked, asked, asked_at, Want, Member, Object, Reference, has-flat, no_shape_fault, Contains-Has, Has-Contains, flat-has, one_object, has_keys, Preference, Placed, contests, selections_of_contest, objects, IsObject, id_of, key_set, content_of, object_record, keys_named, kind_wanted, IsCanonical, ReferencesAgree, ObjectsAgree, CanonicalIsUnique, MeanAlike, Sides}
 use Rattle.erd_normal.proofs.same.FromAlike.{Stands}
 use Rattle.erd_normal.proofs.same.complete.Objects.{all_says, classes_same, members_value, none_aligned, two_say, within_t, within_u}
 use Rattle.erd_normal.proofs.same.complete.Sets.{MeanOne, references_matched, TextsTied}
 use Rattle.erd_normal.proofs.unique.Closed.{none_alone, referring_to_all, closed_sides, one_text}
 use Rattle.erd_normal.proofs.unique.SameTrees.{same_equal, entries_equal, sets_equal}
-use Rattle.erd_normal.specs.Canonical.{IsCanonical, kind_wanted}
 use Rattle.erd_normal.proofs.same.complete.Members.{leaves}
-use Rattle.erd_normal.specs.SaysTheSame.{Sides}
 use Rattle.erd_normal.proofs.lists.Matched.{paired_equal}
 use Rattle.erd_normal.proofs.same.Back.{entries_paired}
 use Rattle.erd_normal.proofs.same.Related.{matched_within_both, paired_within_both}

@@ -113,7 +113,10 @@ fn in_rising_order(
 }
 
 /// Compares two names of one report. A missing name comes before every other.
-fn compare_names(one: Option<&RankedName<SelectionName>>, other: Option<&RankedName<SelectionName>>) -> Ordering
+fn compare_names(
+    one: Option<&RankedName<SelectionName>>,
+    other: Option<&RankedName<SelectionName>>,
+) -> Ordering
     ensures { result ≡ lent_name_cmp one.entry other.entry }
 {
     match (one, other) {

@@ -1,6 +1,4 @@
-use Rattle.std.proofs.Common.{◌≡◌, true, length, map, take}
-use Rattle.serde_json.specs.View.{view}
-use Rattle.erd_check.specs.ValueSets.{StandsFor}
+use Rattle.erd_check.proofs.Common.{◌≡◌, true, map, length, take, view, StandsFor}
 use Rattle.erd_check.specs.code.EarlierEntries.{TellsEarlier}
 use Rattle.erd_check.proofs.earlier.equal_before.Given as goal
 

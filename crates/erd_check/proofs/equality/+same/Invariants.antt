@@ -1,7 +1,5 @@
-use Rattle.std.proofs.Common.{◌≡◌, drop}
+use Rattle.erd_check.proofs.Common.{◌≡◌, drop, items_view, members_view, are_same_items, are_same_members}
 use Rattle.std.specs.Slice.Iter.{iter_rest}
-use Rattle.serde_json.specs.View.{items_view, members_view}
-use Rattle.erd_check.specs.Trees.{are_same_items, are_same_members}
 use Rattle.erd_check.proofs.equality.+same.Given as goal
 
 abbrev pub invariant-same_items-loop-item : goal.invariant-same_items-loop-item

@@ -1,7 +1,4 @@
-use Rattle.std.proofs.Common.{◌≡◌, map, drop}
-use Rattle.std.specs.List.{list_any}
-use Rattle.serde_json.specs.View.{view}
-use Rattle.erd_check.specs.Trees.{is_same_json}
+use Rattle.erd_check.proofs.Common.{◌≡◌, map, drop, list_any, view, is_same_json}
 use Rattle.erd_check.proofs.equality.is_among.Given as goal
 
 abbrev pub invariant-loop-other : goal.invariant-loop-other

@@ -1,9 +1,6 @@
-use Rattle.std.proofs.Common.{◌≡◌, [], ap, length, refl, sym, ◌∙◌}
+use Rattle.erd_check.proofs.Common.{◌≡◌, [], length, sym, refl, ap, ◌∙◌, view, Telling, both_tell, told_of_report, reasons}
 use Rattle.std.proofs.lemmas.List.{nil_from_length}
-use Rattle.serde_json.specs.View.{view}
-use Rattle.erd_check.specs.Visits.{Telling, both_tell, told_of_report}
-use Rattle.erd_check.specs.code.Walk.{reasons}
-use Rattle.erd_check.proofs.ShapeWalks.{shape_walk_lists}
+use Rattle.erd_check.proofs.Walks.{shape_walk_lists}
 use Rattle.erd_check.proofs.ShapedReports.{shaped_by}
 use Rattle.erd_check.proofs.TwoWalks.{report_apart}
 use Rattle.erd_check.proofs.joined_walk.shape_with.Goals as goal

@@ -1,7 +1,5 @@
-use Rattle.std.proofs.Common.{◌≡◌, drop}
+use Rattle.erd_check.proofs.Common.{◌≡◌, drop, items_view, members_view, items_cmp, members_cmp}
 use Rattle.std.specs.Slice.Iter.{iter_rest}
-use Rattle.serde_json.specs.View.{items_view, members_view}
-use Rattle.erd_check.specs.code.JsonOrder.{items_cmp, members_cmp}
 use Rattle.erd_check.proofs.json_order.+order.Given as goal
 
 abbrev pub invariant-order_of_items-loop-item : goal.invariant-order_of_items-loop-item

@@ -1,7 +1,4 @@
-use Rattle.std.proofs.Common.{◌≡◌, drop, map}
-use Rattle.std.specs.List.{list_all}
-use Rattle.serde_json.specs.View.{view}
-use Rattle.erd_check.specs.Faults.{is_text}
+use Rattle.erd_check.proofs.Common.{◌≡◌, map, drop, list_all, view, is_text}
 use Rattle.erd_check.proofs.judge.are_texts.Given as goal
 
 abbrev pub invariant-loop-item : goal.invariant-loop-item

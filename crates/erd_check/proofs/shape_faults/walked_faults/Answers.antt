@@ -1,7 +1,4 @@
-use Rattle.std.proofs.Common.{◌∙◌, refl, subst, sym}
-use Rattle.serde_json.specs.View.{view}
-use Rattle.erd_tables.specs.Faults.{ListsAll}
-use Rattle.erd_check.specs.Faults.{ShapeFault}
+use Rattle.erd_check.proofs.Common.{sym, refl, ◌∙◌, subst, view, ListsAll, ShapeFault}
 use Rattle.erd_check.proofs.Walks.{shape_walk_lists}
 use Rattle.erd_check.proofs.shape_faults.walked_faults.Goals as goal
 

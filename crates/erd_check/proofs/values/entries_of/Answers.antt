@@ -1,7 +1,5 @@
-use Rattle.std.proofs.Common.{sym, ap, ◌∙◌, map}
-use Rattle.serde_json.specs.View.{view}
+use Rattle.erd_check.proofs.Common.{map, sym, ap, ◌∙◌, view, entries_of}
 use Rattle.serde_json.proofs.Views.{view-Array}
-use Rattle.erd_check.specs.Values.{entries_of}
 use Rattle.erd_check.proofs.Lists.{list_of_items-items_of}
 use Rattle.erd_check.proofs.values.entries_of.Goals as goal
 

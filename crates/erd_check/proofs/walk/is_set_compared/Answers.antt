@@ -1,8 +1,4 @@
-use Rattle.std.proofs.Common.{◌≡◌, List, [], Bool, true, false, refl, sym, ap, ◌∙◌}
-use Rattle.serde_json.specs.Data.{Data, Items}
-use Rattle.erd_tables.specs.declared.place.Step.{Step}
-use Rattle.erd_check.specs.Wants.{is_compared_set}
-use Rattle.erd_check.specs.Visits.{Telling, told_of_items}
+use Rattle.erd_check.proofs.Common.{◌≡◌, Bool, true, false, List, [], sym, refl, ap, ◌∙◌, Data, Items, Step, Telling, told_of_items, is_compared_set}
 use Rattle.erd_check.proofs.TextEntries.{items_alone}
 use Rattle.erd_check.proofs.walk.is_set_compared.Goals as goal
 

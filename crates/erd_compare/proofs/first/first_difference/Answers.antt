@@ -1,10 +1,4 @@
-use Rattle.std.proofs.Common.{◌≡◌, Option, arith, subst}
-use Rattle.serde_json.specs.View.{view}
-use Rattle.erd_meaning.specs.Judged.{Judged}
-use Rattle.erd_meaning.specs.Records.{meaning}
-use Rattle.erd_compare.specs.code.Comparing.{TellsPart}
-use Rattle.erd_compare.specs.declared.difference.Difference.{Difference}
-use Rattle.erd_compare.specs.declared.difference.Part.{Part}
+use Rattle.erd_compare.proofs.Common.{◌≡◌, Option, subst, arith, view, Judged, meaning, TellsPart, Difference, Part}
 use Rattle.erd_compare.proofs.least_difference.PartsInOrder.{equal_meanings, equal_more, first_told, part_at}
 use Rattle.erd_compare.proofs.first.first_difference.Goals as goal
 

@@ -1,9 +1,4 @@
-use Rattle.std.proofs.Common.{◌≡◌, ◌<◌, Option}
-use Rattle.serde_json.specs.View.{view}
-use Rattle.erd_meaning.specs.Records.{meaning}
-use Rattle.erd_meaning.specs.declared.keys.key.Key.{Key}
-use Rattle.erd_compare.specs.Differences.{part_number, record_at}
-use Rattle.erd_compare.specs.declared.difference.Part.{Part}
+use Rattle.erd_compare.proofs.Common.{◌≡◌, ◌<◌, Option, view, meaning, Key, part_number, record_at, Part}
 use Rattle.erd_compare.proofs.first.first_difference.Given as goal
 
 abbrev pub invariant-loop-part : goal.invariant-loop-part

@@ -1,5 +1,4 @@
-use Rattle.erd_meaning.proofs.accepted.Phases.{no_shape_fault}
-use Rattle.erd_normal.specs.code.NormalTree.{normal_tree}
+use Rattle.erd_normal.proofs.Common.{no_shape_fault, normal_tree}
 use Rattle.erd_normal.proofs.built.NormalDepths.{normal_tree-depth}
 use Rattle.erd_normal.proofs.built.NormalTrees.{normal_tree-tree}
 use Rattle.erd_normal.proofs.canonical.NormalForms.{form_built}

@@ -1,23 +1,5 @@
 -- What stands in the right report alone has no fault of shape, and nothing in it is a reference or part of a ballot.
-use Rattle.std.proofs.Common.{◌≡◌, ℕ, List, [], ◌∷◌, Bool, true, false, cond, Some, None, codes, refl, sym, ap, ◌∙◌, subst}
-use Rattle.std.specs.List.{list_any}
-use Rattle.std.specs.Str.{bytes_eq}
-use Rattle.serde_json.specs.Data.{Data, string, array, object, no_items, Members}
-use Rattle.serde_json.specs.Find.{get_member}
-use Rattle.erd_tables.specs.declared.class.Role.TheVariants as role
-use Rattle.erd_tables.specs.declared.fault.Reason.{Reason}
-use Rattle.erd_tables.specs.declared.fault.Reason.TheVariants as reason
-use Rattle.erd_tables.specs.declared.member.MemberKind.{MemberKind}
-use Rattle.erd_tables.specs.declared.member.MemberKind.TheVariants as kind
-use Rattle.erd_tables.specs.declared.place.Step.{Step}
-use Rattle.erd_check.specs.Faults.{NoneOf, ShapeFault, is_shape_fault, names_wanted}
-use Rattle.erd_check.specs.Wants.{Asked, asked, asked_from, carried_want, scope_inside, want_of_name}
-use Rattle.erd_check.specs.declared.want.Scope.{Scope}
-use Rattle.erd_check.specs.declared.want.Scope.TheVariants as scope
-use Rattle.erd_check.specs.declared.want.Want.{Want}
-use Rattle.erd_check.specs.declared.want.Want.TheVariants.{Carried, ClassText, Member, Object, Reference}
-use Rattle.erd_check.proofs.Shapes.{Within}
-use Rattle.erd_normal.specs.SaysTheSame.{MayBeAbsent, an_empty_array, of_the_envelope, an_unused_id, is_array_kind, is_envelope}
+use Rattle.erd_normal.proofs.Common.{◌≡◌, ℕ, Bool, true, false, cond, List, [], ◌∷◌, Some, None, codes, bytes_eq, sym, refl, ap, ◌∙◌, subst, list_any, Data, string, array, object, no_items, Members, get_member, role, Reason, reason, MemberKind, kind, Step, Within, names_wanted, is_shape_fault, ShapeFault, NoneOf, scope_inside, carried_want, want_of_name, Asked, asked, asked_from, Scope, scope, Want, Carried, ClassText, Member, Object, Reference, is_array_kind, is_envelope, an_empty_array, of_the_envelope, an_unused_id, MayBeAbsent}
 use Rattle.erd_normal.proofs.same.Lookups.{MayLack}
 use Rattle.erd_normal.proofs.same.Places.{is_quiet, nothing_after, nothing_empty}
 use Rattle.erd_normal.proofs.same.accepted.RequiredMembers.{elections_required, member_of, named_if_required, required_stays}

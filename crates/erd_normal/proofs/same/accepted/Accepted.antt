@@ -1,7 +1,5 @@
 -- A tree that says the same as an accepted report is accepted, where its envelope has no fault of shape and no two of its objects have one `@id`.
-use Rattle.erd_meaning.proofs.accepted.Phases.{accepted_by_phases}
-use Rattle.erd_normal.specs.SameLaws.{SameIsAccepted}
-use Rattle.erd_normal.specs.SaysTheSame.{Sides}
+use Rattle.erd_normal.proofs.Common.{accepted_by_phases, SameIsAccepted, Sides}
 use Rattle.erd_normal.proofs.same.accepted.AcceptedIdentity.{same_identity}
 use Rattle.erd_normal.proofs.same.accepted.AcceptedReferences.{same_references}
 use Rattle.erd_normal.proofs.same.accepted.AcceptedShape.{same_shape}

@@ -1,37 +1,8 @@
 -- A report that says the same as an accepted one has no fault of identity, where no two of its objects have one `@id`.
-use Rattle.std.proofs.Common.{◌≡◌, List, true, is_eq, Some, None, codes, refl, sym, ap, ap₂, ◌∙◌, subst}
-use Rattle.std.proofs.lemmas.Cmp.{on_total, tied_itself}
-use Rattle.std.specs.Cmp.Lexicographic.{options_total}
-use Rattle.std.specs.List.{IsDistinct}
-use Rattle.std.specs.Option.{option_cmp}
-use Rattle.std.specs.Ordering.{eq_by_cmp}
-use Rattle.serde_json.specs.Data.{Data}
-use Rattle.erd_tables.specs.declared.class.Family.{Family}
-use Rattle.erd_tables.specs.declared.class.Role.{Role}
-use Rattle.erd_tables.specs.declared.class.Role.TheVariants as role
-use Rattle.erd_tables.specs.declared.fault.Reason.TheVariants as reason
-use Rattle.erd_tables.specs.declared.place.Step.{Step}
-use Rattle.erd_check.specs.Faults.{NoneOf}
-use Rattle.erd_check.specs.Trees.{IsTree}
-use Rattle.erd_check.specs.Values.{entries_at}
-use Rattle.erd_check.specs.declared.want.Want.TheVariants.{Object}
-use Rattle.erd_check.proofs.Rising.{Has}
-use Rattle.erd_meaning.specs.Accepted.{IsAccepted}
-use Rattle.erd_meaning.specs.Keys.{Preference, has_keys, is_keyed_role, key_cmp, key_of}
-use Rattle.erd_meaning.specs.LaterFaults.{IdentityFault, LacksIdentifier, RepeatsKey}
-use Rattle.erd_meaning.specs.Objects.{Placed, needs_key, objects, objects_with_role}
-use Rattle.erd_meaning.specs.code.Orders.{key_cmp_total}
-use Rattle.erd_meaning.specs.declared.keys.key.Key.{Key}
-use Rattle.erd_meaning.proofs.accepted.Phases.{no_identity_fault, no_shape_fault}
-use Rattle.erd_meaning.proofs.accepted.References.{Contains-Has, Has-Contains}
-use Rattle.erd_meaning.proofs.orders.DistinctEntries.{distinct_one}
-use Rattle.erd_normal.specs.code.NormalTree.{by_key}
-use Rattle.erd_meaning.proofs.accepted.DistinctKeys.{values_distinct}
+use Rattle.erd_normal.proofs.Common.{◌≡◌, true, List, Some, None, codes, is_eq, sym, refl, ap, ◌∙◌, subst, ap₂, tied_itself, on_total, options_total, IsDistinct, option_cmp, eq_by_cmp, Data, Family, Role, role, reason, Step, Has, NoneOf, IsTree, entries_at, Object, values_distinct, no_shape_fault, no_identity_fault, Contains-Has, Has-Contains, distinct_one, IsAccepted, has_keys, is_keyed_role, key_cmp, Preference, key_of, IdentityFault, LacksIdentifier, RepeatsKey, Placed, objects, objects_with_role, needs_key, key_cmp_total, Key, HasDistinctIds, Sides, by_key}
 use Rattle.erd_normal.proofs.canonical.ElectionsApart.{election_values, none_keyless, one_election}
 use Rattle.erd_normal.proofs.lists.Matched.{IsEven, Matched, distinct_matched, even_order, matched_back, matched_within}
 use Rattle.erd_normal.proofs.same.FamilyValues.{not_before_itself, election_values_are, family_values, object_values, placed_value, value_placed}
-use Rattle.erd_normal.specs.SameLaws.{HasDistinctIds}
-use Rattle.erd_normal.specs.SaysTheSame.{Sides}
 use Rattle.erd_normal.proofs.same.Related.{Related, elections_matched, family_matched, related_election_key, related_key}
 
 same_key_even : (π : Preference) → IsEven (eq_by_cmp (by_key π))

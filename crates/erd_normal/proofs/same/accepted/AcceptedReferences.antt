@@ -1,45 +1,10 @@
 -- A report that says the same as an accepted one has no fault of references, where its envelope has no fault of shape.
-use Rattle.std.proofs.Common.{◌≡◌, ◌⊎◌, inl, inr, ℕ, List, [], Bool, true, false, true≢false, not, ◌&&◌, is_some, Option, Some, None, option_and_then, unwrap_or, codes, refl, sym, ap, ◌∙◌, subst}
-use Rattle.std.specs.List.{list_any}
-use Rattle.std.specs.Option.{option_map_or}
-use Rattle.std.specs.Prelude.{IsSomeAnd, IsTrue}
-use Rattle.std.specs.Str.{bytes_eq}
-use Rattle.serde_json.specs.Data.{Data, string, object}
-use Rattle.serde_json.specs.Find.{as_str, get_member}
-use Rattle.erd_tables.specs.Table.{kind_of_member}
-use Rattle.erd_tables.specs.declared.class.Class.TheVariants as class
-use Rattle.erd_tables.specs.declared.class.Family.{Family}
-use Rattle.erd_tables.specs.declared.class.Family.TheVariants as family
-use Rattle.erd_tables.specs.declared.class.Role.TheVariants as role
-use Rattle.erd_tables.specs.declared.fault.Reason.{Reason}
-use Rattle.erd_tables.specs.declared.fault.Reason.TheVariants as reason
-use Rattle.erd_tables.specs.declared.member.MemberKind.TheVariants as kind
-use Rattle.erd_tables.specs.declared.place.Step.{Step}
-use Rattle.erd_check.specs.Faults.{NoneOf, is_reference, names_wanted}
-use Rattle.erd_check.specs.Trees.{IsTree}
-use Rattle.erd_check.specs.Values.{entries_at, text_at, text_of}
-use Rattle.erd_check.specs.Wants.{Asked, asked, asked_at, member_want, scope_inside, want_of_name}
-use Rattle.erd_check.specs.declared.want.Scope.{Scope}
-use Rattle.erd_check.specs.declared.want.Scope.TheVariants as scope
-use Rattle.erd_check.specs.declared.want.Want.{Want}
-use Rattle.erd_check.specs.declared.want.Want.TheVariants.{Member, Object, Reference}
-use Rattle.erd_check.proofs.ObjectsAt.{ObjectIn}
-use Rattle.erd_check.proofs.Positions.{all_by_entry}
-use Rattle.erd_check.proofs.Rising.{Has, all-Has}
-use Rattle.erd_check.proofs.Shapes.{Within}
-use Rattle.erd_meaning.specs.Accepted.{IsAccepted}
-use Rattle.erd_meaning.specs.Keys.{Preference}
-use Rattle.erd_meaning.specs.LaterFaults.{ReferenceFault, is_of_other_family, is_other_selection, is_reference_fault, is_selection_in, is_unresolved}
-use Rattle.erd_meaning.specs.Objects.{has_id, owner}
-use Rattle.erd_meaning.specs.Records.{class_of_node}
-use Rattle.erd_meaning.proofs.accepted.Phases.{no_shape_fault}
+use Rattle.erd_normal.proofs.Common.{◌≡◌, ℕ, Bool, true, false, not, ◌&&◌, ◌⊎◌, List, [], is_some, IsSomeAnd, IsTrue, Some, None, codes, Option, option_and_then, bytes_eq, unwrap_or, sym, refl, ap, ◌∙◌, subst, inl, inr, true≢false, list_any, option_map_or, Data, string, object, get_member, as_str, kind_of_member, class, Family, family, role, Reason, reason, kind, Step, ObjectIn, all_by_entry, all-Has, Has, Within, names_wanted, is_reference, NoneOf, IsTree, entries_at, text_of, text_at, scope_inside, member_want, want_of_name, Asked, asked, asked_at, Scope, scope, Want, Member, Object, Reference, no_shape_fault, IsAccepted, Preference, is_unresolved, is_of_other_family, is_reference_fault, is_selection_in, is_other_selection, ReferenceFault, has_id, owner, class_of_node, HasSoundEnvelope, IsUsed, Sides, StandsFor, Same}
 use Rattle.erd_normal.proofs.canonical.ChosenEntries.{IsChosen, contest_named, entries_chosen, list_name}
 use Rattle.erd_normal.proofs.same.IdsOfObjects.{Refers, reference_refers}
 use Rattle.erd_normal.proofs.same.accepted.ListedSelections.{IsListSound, IsListed, none_elsewhere}
 use Rattle.erd_normal.proofs.same.accepted.SoundReferences.{and_no, names_sound}
 use Rattle.erd_normal.proofs.lists.Matched.{Both, both, Matched, matched_any, matched_back}
-use Rattle.erd_normal.specs.SameLaws.{HasSoundEnvelope, IsUsed}
-use Rattle.erd_normal.specs.SaysTheSame.{Sides, StandsFor, Same}
 use Rattle.erd_normal.proofs.same.FromAlike.{Stands, member_stands}
 use Rattle.erd_normal.proofs.same.InTurn.{OtherText, id_text}
 use Rattle.erd_normal.proofs.same.Lookups.{Aligned, both_there, not_both, MayLack}

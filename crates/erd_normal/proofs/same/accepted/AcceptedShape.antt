@@ -1,31 +1,6 @@
 -- A report that says the same as an accepted one has no fault of shape, where its envelope has none.
-use Rattle.std.proofs.Common.{◌≡◌, ◌⊎◌, inl, inr, ℕ, List, length, Bool, true, false, true≢false, not, ◌&&◌, ◌||◌, Option, Some, None, codes, is_none, is_some, refl, sym, ap, ap₂, ◌∙◌, subst}
-use Rattle.std.specs.List.{list_any}
-use Rattle.std.specs.Option.{option_map_or}
-use Rattle.std.specs.Prelude.{IsTrue, IsSomeAnd, ◌==◌}
-use Rattle.std.specs.Str.{bytes_eq}
-use Rattle.serde_json.specs.Data.{Data, string, array, object, Members}
-use Rattle.serde_json.specs.Find.{as_bool, as_number, get_member, is_float}
-use Rattle.erd_tables.specs.Classes.{class_in_role}
-use Rattle.erd_tables.specs.declared.class.Role.TheVariants as role
-use Rattle.erd_tables.specs.declared.fault.Reason.{Reason}
-use Rattle.erd_tables.specs.declared.fault.Reason.TheVariants as reason
-use Rattle.erd_tables.specs.declared.member.MemberKind.{MemberKind}
-use Rattle.erd_tables.specs.declared.member.MemberKind.TheVariants as kind
-use Rattle.erd_check.specs.Faults.{NoneOf, ShapeFault, has_kind, has_wanted_kind, is_array, is_empty_array, is_object, is_other_status, is_outside, is_reference, is_shape_fault, is_text, is_wrong_class, lacks, names_wanted, wants_entry, wants_whole}
-use Rattle.erd_check.specs.Trees.{IsTree}
-use Rattle.erd_check.specs.Values.{list_of_items}
-use Rattle.erd_check.specs.Wants.{Asked, asked_at, is_elections, scope_inside}
-use Rattle.erd_check.specs.declared.want.Want.{Want}
-use Rattle.erd_check.specs.declared.want.Want.TheVariants.{Carried, ClassText, Member, Object, Reference, Status}
-use Rattle.erd_check.proofs.Shapes.{Within, faultless, within-tree}
-use Rattle.erd_meaning.specs.Accepted.{IsAccepted}
-use Rattle.erd_meaning.specs.Keys.{Preference}
-use Rattle.erd_meaning.proofs.accepted.Phases.{no_shape_fault}
-use Rattle.erd_normal.specs.Rearranged.{is_id_text}
+use Rattle.erd_normal.proofs.Common.{◌≡◌, ℕ, Bool, true, false, not, ◌&&◌, ◌||◌, ◌⊎◌, List, length, is_some, is_none, IsSomeAnd, IsTrue, ◌==◌, Some, None, codes, Option, bytes_eq, sym, refl, ap, ◌∙◌, subst, ap₂, inl, inr, true≢false, list_any, option_map_or, Data, string, array, object, Members, get_member, as_bool, as_number, is_float, class_in_role, role, Reason, reason, MemberKind, kind, faultless, within-tree, Within, is_text, is_array, is_object, is_empty_array, lacks, has_kind, has_wanted_kind, names_wanted, is_wrong_class, wants_whole, is_outside, is_other_status, wants_entry, is_reference, is_shape_fault, ShapeFault, NoneOf, IsTree, list_of_items, scope_inside, is_elections, Asked, asked_at, Want, Carried, ClassText, Member, Object, Reference, Status, no_shape_fault, IsAccepted, Preference, is_id_text, HasSoundEnvelope, Sides, a_null, a_flag, a_number, a_text, an_id, a_list, a_set, an_object, Same, SameMembers}
 use Rattle.erd_normal.proofs.lists.Matched.{matched_length}
-use Rattle.erd_normal.specs.SameLaws.{HasSoundEnvelope}
-use Rattle.erd_normal.specs.SaysTheSame.{Sides, Same, a_null, a_flag, a_number, a_text, an_id, a_list, a_set, an_object, SameMembers}
 use Rattle.erd_normal.proofs.same.Lookups.{Aligned, both_there, not_both, MayLack, lookups}
 use Rattle.erd_normal.proofs.same.Related.{entries_matched}
 use Rattle.erd_normal.proofs.same.Types.{scope_same, text_same}

@@ -1,40 +1,5 @@
 -- All that is asked in the right report is asked in the left one of a value that says the same and repeats no other, or has no fault of shape.
-use Rattle.std.proofs.Common.{◌≡◌, ℕ, List, [], ◌∷◌, true, Option, Some, None, option_and_then, refl, sym, ap, ap₂, ◌∙◌, subst, ◌⊎◌, inl, inr, Bool, false, not, ◌&&◌, option_map}
-use Rattle.std.specs.Prelude.{IsTrue, IsSomeAnd}
-use Rattle.std.proofs.lemmas.Bool.{false_from_ne_true}
-use Rattle.std.specs.Str.{bytes_eq}
-use Rattle.serde_json.specs.Data.{Data, object, Members, string, array, Items}
-use Rattle.serde_json.specs.Find.{get_member, get_item}
-use Rattle.erd_tables.specs.Table.{is_envelope_name}
-use Rattle.erd_tables.specs.declared.class.Class.{Class}
-use Rattle.erd_tables.specs.declared.class.Role.{Role}
-use Rattle.erd_tables.specs.declared.place.Step.{Step}
-use Rattle.erd_tables.specs.declared.place.Step.TheVariants.{Name, At}
-use Rattle.erd_tables.specs.declared.class.Family.{Family}
-use Rattle.erd_tables.specs.declared.class.Class.TheVariants as class
-use Rattle.erd_tables.specs.declared.class.Role.TheVariants as role
-use Rattle.erd_tables.specs.declared.member.MemberKind.TheVariants as kind
-use Rattle.erd_tables.specs.declared.fault.Reason.TheVariants as reason
-use Rattle.erd_check.specs.Faults.{is_shape_fault, is_reference}
-use Rattle.erd_check.specs.Wants.{Asked, asked, asked_at, asked_from, asked_inside, class_of_object, scope_inside, want_of_name, asked_of_member, entry_want, is_compared_set, is_repeated}
-use Rattle.erd_check.specs.declared.want.Want.{Want}
-use Rattle.erd_check.specs.declared.want.Want.TheVariants.{Carried, Member, Object, Reference}
-use Rattle.erd_check.proofs.Shapes.{Within, Within-root, Within-step, faultless, not_within, wanted_within, within-tree}
-use Rattle.erd_check.specs.Trees.{IsTree, is_same_json}
-use Rattle.erd_check.specs.Values.{list_of_items}
-use Rattle.erd_check.proofs.Entries.{list_of_items-place, list_of_items-tree, string_from_text}
-use Rattle.erd_check.proofs.Exact.{is_same_exact, text_itself}
-use Rattle.erd_check.proofs.Rising.{Has}
-use Rattle.erd_check.specs.declared.want.Scope.TheVariants as scope
-use Rattle.erd_meaning.proofs.meanings.SelectionKinds.{class_role}
-use Rattle.erd_meaning.specs.Accepted.{IsAccepted}
-use Rattle.erd_meaning.specs.Keys.{Preference}
-use Rattle.erd_meaning.specs.LaterFaults.{is_reference_fault}
-use Rattle.erd_meaning.proofs.accepted.Phases.{no_reference_fault, no_shape_fault}
-use Rattle.erd_meaning.proofs.orders.DistinctEntries.{unrepeated_distinct}
-use Rattle.erd_meaning.proofs.orders.Reordered.{reordered-has}
-use Rattle.erd_normal.specs.SameLaws.{HasSoundEnvelope}
-use Rattle.erd_normal.specs.SaysTheSame.{is_envelope, Sides, Same}
+use Rattle.erd_normal.proofs.Common.{◌≡◌, ℕ, Bool, true, false, not, ◌&&◌, ◌⊎◌, List, [], ◌∷◌, IsSomeAnd, IsTrue, Some, None, Option, option_map, option_and_then, bytes_eq, sym, refl, ap, ◌∙◌, subst, ap₂, inl, inr, false_from_ne_true, Data, string, array, object, Items, Members, get_member, get_item, is_envelope_name, Class, class, Family, Role, role, reason, kind, Step, At, Name, string_from_text, list_of_items-place, list_of_items-tree, text_itself, is_same_exact, Has, Within-step, Within-root, not_within, faultless, wanted_within, within-tree, Within, is_reference, is_shape_fault, IsTree, is_same_json, list_of_items, class_of_object, scope_inside, want_of_name, entry_want, is_compared_set, Asked, asked, is_repeated, asked_of_member, asked_inside, asked_from, asked_at, scope, Want, Carried, Member, Object, Reference, no_shape_fault, no_reference_fault, class_role, unrepeated_distinct, reordered-has, IsAccepted, Preference, is_reference_fault, HasSoundEnvelope, Sides, is_envelope, Same}
 use Rattle.erd_normal.proofs.same.IdsOfObjects.{IsPart, part_at}
 use Rattle.erd_normal.proofs.same.Places.{envelope_quiet, quiet_from}
 use Rattle.erd_normal.proofs.same.accepted.AbsentMembers.{IsSoundInside, quiet_lone, IsSound, absent_sound}

@@ -1,29 +1,7 @@
 -- Where each list of references to selections holds selections of the contest that its object names, none is of another contest.
-use Rattle.std.proofs.Common.{◌≡◌, ℕ, zero, suc, List, [], ◌∷◌, ◌++◌, Option, Some, None, option_and_then, option_map, Bool, true, false, ◌&&◌, true≢false, refl, sym, ap, ◌∙◌, subst}
-use Rattle.std.specs.List.{AllByRecursion}
-use Rattle.std.specs.Option.{option_map_or}
-use Rattle.std.proofs.lemmas.Option.{same_Some}
-use Rattle.serde_json.specs.Data.{Data, array, object, Items, no_items, item, Members}
-use Rattle.serde_json.specs.Find.{get_item, get_member}
-use Rattle.erd_tables.specs.Classes.{role_of_class}
-use Rattle.erd_tables.specs.declared.class.Class.{Class}
-use Rattle.erd_tables.specs.declared.class.Class.TheVariants as class
-use Rattle.erd_tables.specs.declared.class.Family.TheVariants as family
-use Rattle.erd_tables.specs.declared.class.Role.{Role}
-use Rattle.erd_tables.specs.declared.class.Role.TheVariants as role
-use Rattle.erd_tables.specs.declared.member.MemberKind.TheVariants as kind
-use Rattle.erd_tables.specs.declared.place.Step.{Step}
-use Rattle.erd_tables.specs.declared.place.Step.TheVariants.{Name, At}
-use Rattle.erd_check.specs.declared.want.Want.{Want}
-use Rattle.erd_check.specs.declared.want.Want.TheVariants.{Object, Reference, Member, Carried}
-use Rattle.erd_check.specs.Values.{entries_of, list_of_items, entries_at}
-use Rattle.erd_check.specs.Wants.{Asked, asked, asked_at, asked_from, asked_inside, asked_of_member, class_of_object, entry_want, is_compared_set, is_repeated, member_want, scope_inside, want_of_name}
-use Rattle.erd_meaning.specs.LaterFaults.{NamesOtherContest, is_other_selection}
-use Rattle.erd_meaning.specs.Records.{class_of_node}
-use Rattle.erd_meaning.proofs.meanings.SelectionKinds.{class_role}
+use Rattle.erd_normal.proofs.Common.{◌≡◌, ℕ, zero, suc, Bool, true, false, ◌&&◌, List, [], ◌∷◌, ◌++◌, Some, None, Option, option_map, option_and_then, sym, refl, ap, ◌∙◌, subst, true≢false, same_Some, AllByRecursion, option_map_or, Data, array, object, Items, no_items, item, Members, get_member, get_item, role_of_class, Class, class, family, Role, role, kind, Step, At, Name, and_then-Some, list_of_items, entries_of, entries_at, class_of_object, scope_inside, member_want, want_of_name, entry_want, is_compared_set, Asked, asked, is_repeated, asked_of_member, asked_inside, asked_from, asked_at, Want, Carried, Member, Object, Reference, class_role, is_other_selection, NamesOtherContest, class_of_node}
 use Rattle.erd_meaning.proofs.references.SelectionEntries.{asked_from-append}
 use Rattle.erd_normal.proofs.canonical.ChosenEntries.{list_name}
-use Rattle.erd_check.proofs.Options.{and_then-Some}
 
 -- ---- the lists of a report
 

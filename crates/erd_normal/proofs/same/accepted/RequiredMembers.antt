@@ -1,31 +1,5 @@
 -- A member that an object must have is none that may be absent, in a report without a fault of shape.
-use Rattle.std.proofs.Common.{◌≡◌, ℕ, List, Bool, true, false, true≢false, cond, not, ◌&&◌, ◌||◌, Option, Some, None, codes, refl, sym, ap, ◌∙◌, subst}
-use Rattle.std.specs.List.{list_all, list_any}
-use Rattle.std.specs.Str.{bytes_eq}
-use Rattle.std.proofs.lemmas.Bool.{and_parts}
-use Rattle.serde_json.specs.Data.{Data, array, object, no_items, Members}
-use Rattle.serde_json.specs.Find.{get, get_member}
-use Rattle.erd_tables.specs.Rows.{Row, rows_of_class}
-use Rattle.erd_tables.specs.Table.{is_envelope_name, is_required, kind_of_identity, kind_of_member, required_names}
-use Rattle.erd_tables.specs.declared.class.Class.{Class}
-use Rattle.erd_tables.specs.declared.class.Class.TheVariants as class
-use Rattle.erd_tables.specs.declared.class.Role.{Role}
-use Rattle.erd_tables.specs.declared.fault.Reason.TheVariants as reason
-use Rattle.erd_tables.specs.declared.member.MemberKind.{MemberKind}
-use Rattle.erd_tables.specs.declared.member.MemberKind.TheVariants as kind
-use Rattle.erd_tables.specs.declared.place.Step.TheVariants.{Name}
-use Rattle.erd_check.specs.Faults.{NoneOf, ShapeFault, names_wanted}
-use Rattle.erd_check.specs.Wants.{Asked, asked, is_report_class, member_want, scope_inside, want_of_kind, want_of_name}
-use Rattle.erd_check.specs.declared.want.Scope.{Scope}
-use Rattle.erd_check.specs.declared.want.Scope.TheVariants as scope
-use Rattle.erd_check.specs.declared.want.Want.{Want}
-use Rattle.erd_check.specs.declared.want.Want.TheVariants.{ClassText, Member, Status}
-use Rattle.erd_check.proofs.Exact.{text_exact, text_itself}
-use Rattle.erd_check.proofs.Rising.{Has, here, later}
-use Rattle.erd_check.proofs.Shapes.{Within, Within-step, faultless, lacks_none}
-use Rattle.erd_check.proofs.TableKinds.{kind_of_id, kind_of_name, want_unless_status}
-use Rattle.erd_meaning.proofs.orders.Sets.{any-has, has-any}
-use Rattle.erd_normal.specs.SaysTheSame.{MayBeAbsent, an_empty_array, of_the_envelope, an_unused_id, is_array_kind, is_envelope}
+use Rattle.erd_normal.proofs.Common.{◌≡◌, ℕ, Bool, true, false, cond, not, ◌&&◌, ◌||◌, List, Some, None, codes, Option, bytes_eq, sym, refl, ap, ◌∙◌, subst, true≢false, and_parts, list_all, list_any, Data, array, object, no_items, Members, get_member, get, Row, rows_of_class, is_envelope_name, kind_of_identity, kind_of_member, required_names, is_required, Class, class, Role, reason, MemberKind, kind, Name, text_exact, text_itself, here, later, Has, Within-step, faultless, lacks_none, Within, kind_of_name, kind_of_id, want_unless_status, names_wanted, ShapeFault, NoneOf, scope_inside, want_of_kind, is_report_class, member_want, want_of_name, Asked, asked, Scope, scope, Want, ClassText, Member, Status, any-has, has-any, is_array_kind, is_envelope, an_empty_array, of_the_envelope, an_unused_id, MayBeAbsent}
 use Rattle.erd_normal.proofs.same.Lookups.{MayLack}
 use Rattle.erd_normal.proofs.same.Types.{type_stays}
 

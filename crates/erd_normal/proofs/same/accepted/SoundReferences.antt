@@ -1,17 +1,5 @@
 -- A reference that names an object of its family, and repeats none of its set, has no fault by itself.
-use Rattle.std.proofs.Common.{◌≡◌, ℕ, List, Some, is_some, is_none, Bool, true, false, not, ◌&&◌, refl, ap}
-use Rattle.serde_json.specs.Data.{Data, string}
-use Rattle.erd_tables.specs.Classes.{families}
-use Rattle.erd_tables.specs.declared.class.Family.{Family}
-use Rattle.erd_tables.specs.declared.class.Family.TheVariants as family
-use Rattle.erd_tables.specs.declared.fault.Reason.{Reason}
-use Rattle.erd_tables.specs.declared.fault.Reason.TheVariants as reason
-use Rattle.erd_check.specs.declared.want.Want.TheVariants.{Reference}
-use Rattle.erd_check.specs.Wants.{Asked}
-use Rattle.erd_check.proofs.Rising.{Has, here, later}
-use Rattle.erd_meaning.specs.LaterFaults.{is_reference_fault}
-use Rattle.erd_meaning.specs.Objects.{is_owned, owner}
-use Rattle.erd_meaning.proofs.orders.Sets.{any-has}
+use Rattle.erd_normal.proofs.Common.{◌≡◌, ℕ, Bool, true, false, not, ◌&&◌, List, is_some, is_none, Some, refl, ap, Data, string, families, Family, family, Reason, reason, here, later, Has, Asked, Reference, any-has, is_reference_fault, owner, is_owned}
 
 -- it has no fault of references by itself
 pub record IsSoundIn (u : Data) (a : Asked) : Type 0 where

@@ -1,26 +1,12 @@
 -- Accepted reports that mean the same say the same, and so two preferences agree on which mean the same.
-use Rattle.std.proofs.Common.{◌≡◌, ℕ, zero, suc, List, [], ◌∷◌, Some, None, option_and_then, true, false, length, arith, refl, sym, ap, ◌∙◌, subst}
-use Rattle.serde_json.specs.Data.{Data, null}
-use Rattle.erd_tables.specs.declared.class.Family.{Family}
-use Rattle.erd_tables.specs.declared.place.Step.{Step}
-use Rattle.erd_tables.specs.declared.place.Step.TheVariants.{Name, At}
-use Rattle.erd_tables.specs.declared.class.Role.TheVariants as role
-use Rattle.erd_check.specs.Faults.{is_reference}
-use Rattle.erd_check.specs.Wants.{Asked, asked, asked_at, asked_from, asked_inside}
-use Rattle.erd_check.specs.declared.want.Want.TheVariants.{Object}
-use Rattle.erd_check.proofs.Rising.{Has}
-use Rattle.erd_meaning.specs.Keys.{Preference}
-use Rattle.erd_meaning.specs.Objects.{Placed, id_of, objects}
-use Rattle.erd_meaning.proofs.accepted.Standing.{one_object}
+use Rattle.erd_normal.proofs.Common.{◌≡◌, ℕ, zero, suc, true, false, List, [], ◌∷◌, length, Some, None, option_and_then, sym, refl, ap, ◌∙◌, subst, arith, Data, null, Family, role, Step, At, Name, Has, is_reference, Asked, asked, asked_inside, asked_from, asked_at, Object, one_object, Preference, Placed, objects, id_of, PreferencesAgree, Sides, IsUnused, Same}
 use Rattle.erd_normal.proofs.same.Back.{same_back, turned}
 use Rattle.erd_normal.proofs.same.CameFrom.{CameFrom, reference_came_from}
 use Rattle.erd_normal.proofs.same.InTurn.{OtherText, id_text, reference_is_id}
 use Rattle.erd_normal.proofs.same.complete.Objects.{AloneUnused, all_says}
 use Rattle.erd_normal.proofs.same.complete.Texts.{Counterpart, Couple, counterpart_back, couple_back, couple_there, one_counterpart, one_family, sides, back, there}
 use Rattle.erd_normal.proofs.same.complete.Sets.{MeanOne}
-use Rattle.erd_normal.specs.SaysTheSame.{Sides, IsUnused, Same}
 use Rattle.erd_normal.proofs.same.means.Meanings.{saying_the_same_means_the_same}
-use Rattle.erd_normal.specs.Laws.{PreferencesAgree}
 use Rattle.erd_normal.specs.SameForms.{MeaningTheSameSaysTheSame, SayingAndMeaningAgree}
 
 -- ---- to an `@id` whose object's counterpart has none nothing refers: each reference comes from one of the other report

@@ -1,32 +1,5 @@
 -- The contests and headers of the ballots of an accepted report: what they refer to, and the arrays inside them.
-use Rattle.std.proofs.Common.{◌≡◌, ℕ, List, Option, Some, None, true, false, ◌⊎◌, inl, inr, codes, refl, sym, ap, ◌∙◌, subst, Ordering, Equal, is_eq}
-use Rattle.std.proofs.lemmas.Map.Text.{is_eq-slice_cmp}
-use Rattle.std.specs.Str.{bytes_eq}
-use Rattle.serde_json.specs.Data.{Data, string, array, object, Items, Members, no_members, member}
-use Rattle.serde_json.specs.Find.{get_member}
-use Rattle.erd_tables.specs.Classes.{role_of_class}
-use Rattle.erd_tables.specs.declared.class.Class.{Class}
-use Rattle.erd_tables.specs.declared.class.Class.TheVariants as class
-use Rattle.erd_tables.specs.declared.class.Family.TheVariants as family
-use Rattle.erd_tables.specs.declared.class.Role.TheVariants as role
-use Rattle.erd_tables.specs.declared.member.MemberKind.TheVariants as kind
-use Rattle.erd_tables.specs.Texts.{text_cmp}
-use Rattle.erd_check.specs.Faults.{has_wanted_kind}
-use Rattle.erd_check.specs.Values.{entries_at, text_of}
-use Rattle.erd_check.specs.Wants.{asked, member_want}
-use Rattle.erd_check.specs.declared.want.Want.{Want}
-use Rattle.erd_check.specs.declared.want.Want.TheVariants.{Member, Object, Reference}
-use Rattle.erd_check.proofs.Entries.{array_from, string_from_text}
-use Rattle.erd_check.proofs.ObjectsAt.{MayBeArray, ObjectAt, ObjectIn, is_absent, is_filled_array, object_in}
-use Rattle.erd_check.proofs.Rising.{Has, all-Has}
-use Rattle.erd_check.proofs.Shapes.{Within, lacks_none, member_within, of_role, wanted_within}
-use Rattle.erd_meaning.specs.Accepted.{IsAccepted}
-use Rattle.erd_meaning.specs.Keys.{Preference}
-use Rattle.erd_meaning.specs.LaterFaults.{is_selection_in}
-use Rattle.erd_meaning.specs.Objects.{owner}
-use Rattle.erd_meaning.specs.Meaning.{Content, no_content}
-use Rattle.erd_meaning.specs.Records.{content_inside, content_of}
-use Rattle.erd_meaning.proofs.accepted.Phases.{no_shape_fault}
+use Rattle.erd_normal.proofs.Common.{◌≡◌, ℕ, true, false, ◌⊎◌, List, Some, None, codes, Option, bytes_eq, is_eq, Ordering, Equal, sym, refl, ap, ◌∙◌, subst, inl, inr, is_eq-slice_cmp, Data, string, array, object, Items, Members, no_members, member, get_member, role_of_class, text_cmp, Class, class, family, role, kind, string_from_text, array_from, object_in, is_absent, is_filled_array, MayBeArray, ObjectAt, ObjectIn, all-Has, Has, of_role, wanted_within, lacks_none, member_within, Within, has_wanted_kind, entries_at, text_of, member_want, asked, Want, Member, Object, Reference, no_shape_fault, IsAccepted, Preference, is_selection_in, Content, no_content, owner, content_of, content_inside}
 use Rattle.erd_normal.proofs.canonical.ChosenEntries.{IsChosen, contest_named, entries_chosen, list_name}
 
 abbrev pub inner_name : List ℕ

@@ -1,51 +1,10 @@
 -- Contents of ballots that mean the same say the same, headers inside headers included.
-use Rattle.std.proofs.Common.{◌≡◌, ℕ, List, Bool, true, false, Option, Some, None, refl, sym, subst, ◌≤◌, max, zero, suc, [], ◌∷◌, cond, option_and_then, map, codes, arith, ap, ◌∙◌}
-use Rattle.std.specs.List.Sorted.{IsPermutation}
-use Rattle.std.specs.Str.{bytes_eq}
-use Rattle.serde_json.specs.Data.{Data, array, Items, no_items, item, string, object, Members, depth, items_depth, members_depth}
-use Rattle.serde_json.specs.View.{items_of}
-use Rattle.serde_json.specs.Find.{as_str, get_item, get_member}
-use Rattle.erd_tables.specs.declared.member.MemberKind.{MemberKind}
-use Rattle.erd_tables.specs.Table.{is_required, kind_of_member}
-use Rattle.erd_tables.specs.declared.class.Class.{Class}
-use Rattle.erd_tables.specs.declared.class.Family.{Family}
-use Rattle.erd_tables.specs.declared.place.Step.TheVariants.{At}
-use Rattle.erd_tables.specs.declared.class.Class.TheVariants as class
-use Rattle.erd_tables.specs.declared.class.Family.TheVariants as family
-use Rattle.erd_tables.specs.declared.class.Role.TheVariants as role
-use Rattle.erd_tables.specs.declared.member.MemberKind.TheVariants as kind
-use Rattle.erd_check.specs.Values.{list_of_items}
-use Rattle.erd_check.specs.Wants.{entry_want, is_table_set, want_of_name, asked, member_want, want_of_kind}
-use Rattle.erd_check.specs.declared.want.Scope.{Scope}
-use Rattle.erd_check.specs.declared.want.Want.{Want}
-use Rattle.erd_check.specs.declared.want.Want.TheVariants.{Member, ClassText, Object, Reference}
-use Rattle.erd_check.proofs.Entries.{entries_in}
-use Rattle.erd_check.proofs.Lists.{list_of_items-items_of}
-use Rattle.erd_check.proofs.ObjectsAt.{MayBeArray, is_absent, is_filled_array}
-use Rattle.erd_check.proofs.Rising.{here, Has, later}
-use Rattle.erd_check.proofs.Exact.{text_exact}
-use Rattle.erd_check.proofs.Members.{get_member-depth, get_member-tree}
-use Rattle.erd_check.proofs.Shapes.{Within, Within-step, member_within, of_role}
-use Rattle.erd_check.proofs.TableKinds.{kind_of_unlisted_has}
-use Rattle.erd_check.proofs.Whole.{no_strange, no_unknown}
-use Rattle.erd_check.specs.Trees.{AreMembers, AreTrees, IsTree}
-use Rattle.erd_check.specs.declared.want.Scope.TheVariants as scope
-use Rattle.erd_meaning.specs.Accepted.{IsAccepted}
-use Rattle.erd_meaning.specs.Keys.{Preference, has_keys, key_of}
-use Rattle.erd_meaning.specs.Meaning.{Node, Content, JsonMap, a_contest, a_header, no_content}
-use Rattle.erd_meaning.specs.NameParts.{NameParts}
-use Rattle.erd_meaning.specs.Records.{carried_members, contest_node, content_inside, header_node, node_of, nodes_of, if_carried}
-use Rattle.erd_meaning.specs.SelectionNames.{key_named, name_named}
-use Rattle.erd_meaning.specs.declared.keys.key.Key.{Key}
-use Rattle.erd_meaning.proofs.accepted.Phases.{no_shape_fault}
-use Rattle.erd_meaning.proofs.accepted.References.{resolves}
-use Rattle.erd_meaning.proofs.orders.RisingSets.{IsPermutation-reordered}
+use Rattle.erd_normal.proofs.Common.{◌≡◌, ℕ, zero, suc, ◌≤◌, max, Bool, true, false, cond, List, [], ◌∷◌, map, Some, None, codes, Option, IsPermutation, option_and_then, bytes_eq, sym, refl, ap, ◌∙◌, subst, arith, Data, string, array, object, Items, no_items, item, Members, depth, items_depth, members_depth, get_member, get_item, as_str, items_of, kind_of_member, is_required, Class, class, Family, family, role, MemberKind, kind, At, entries_in, text_exact, list_of_items-items_of, get_member-tree, get_member-depth, is_absent, is_filled_array, MayBeArray, here, later, Has, Within-step, of_role, member_within, Within, kind_of_unlisted_has, no_strange, no_unknown, IsTree, AreTrees, AreMembers, list_of_items, want_of_kind, member_want, want_of_name, entry_want, is_table_set, asked, Scope, scope, Want, ClassText, Member, Object, Reference, no_shape_fault, resolves, IsPermutation-reordered, IsAccepted, has_keys, Preference, key_of, JsonMap, Content, no_content, Node, a_contest, a_header, NameParts, if_carried, carried_members, contest_node, header_node, nodes_of, node_of, content_inside, key_named, name_named, Key, Sides, StandsFor, is_array_kind, an_empty_array, a_text, an_id, a_list, a_set, an_object, no_entry, one_entry, Same, SameEntries, SameMembers}
 use Rattle.erd_normal.proofs.lists.Matched.{Matched, matched_back, matched_on, Paired, none, more}
 use Rattle.erd_normal.proofs.lists.BuiltLists.{items_again}
 use Rattle.erd_normal.proofs.same.Back.{paired_entries, paired_flip, entries_paired}
 use Rattle.erd_normal.proofs.same.Lists.{follows}
 use Rattle.erd_normal.proofs.same.Lookups.{Aligned, both_there, not_both, lacks_none, lacks_one}
-use Rattle.erd_normal.specs.SaysTheSame.{Sides, Same, SameEntries, a_list, a_set, an_empty_array, is_array_kind, a_text, an_id, an_object, SameMembers, StandsFor, no_entry, one_entry}
 use Rattle.erd_normal.proofs.canonical.ChosenEntries.{list_name}
 use Rattle.erd_normal.proofs.same.LabelsBack.{equal_aligned}
 use Rattle.erd_normal.proofs.same.Merged.{merged}

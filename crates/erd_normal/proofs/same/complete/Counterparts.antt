@@ -1,42 +1,6 @@
 -- The objects of two accepted reports that mean the same are matched: elections by their keys, the objects of each family in each
-use Rattle.std.proofs.Common.{◌≡◌, List, [], ◌∷◌, map, find, Bool, true, Option, Some, option_and_then, sym, ap, ◌∙◌, ◌⊎◌, inl, inr, None, option_map, codes, refl, ℕ, is_eq, subst}
-use Rattle.std.proofs.lemmas.Option.{same_Some}
-use Rattle.std.proofs.lemmas.Cmp.{tied_itself}
-use Rattle.std.specs.Cmp.Lexicographic.{options_total}
-use Rattle.std.specs.Option.{option_cmp}
-use Rattle.serde_json.specs.Data.{Data, null, boolean, number, string, array, object, no_items, item}
-use Rattle.serde_json.specs.Find.{get}
-use Rattle.erd_tables.specs.declared.class.Family.{Family}
-use Rattle.erd_tables.specs.declared.class.Family.TheVariants as family
-use Rattle.erd_tables.specs.declared.class.Role.TheVariants as role
-use Rattle.erd_check.proofs.Options.{and_then-Some}
-use Rattle.erd_check.proofs.Positions.{has_mapped}
-use Rattle.erd_check.proofs.Rising.{Has, Has-cases}
-use Rattle.erd_check.proofs.Entries.{entries_in}
-use Rattle.erd_check.proofs.ObjectsAt.{ObjectIn, object_in}
-use Rattle.erd_check.proofs.Shapes.{Within}
-use Rattle.erd_check.specs.Values.{entries_at}
-use Rattle.erd_check.specs.Wants.{asked, class_of_object}
-use Rattle.erd_check.specs.declared.want.Want.TheVariants.{Object}
-use Rattle.erd_meaning.proofs.accepted.References.{find-Some, find-any, has_identifier}
-use Rattle.erd_meaning.proofs.orders.Sets.{any-has}
-use Rattle.erd_meaning.specs.Accepted.{IsAccepted}
-use Rattle.erd_meaning.specs.Keys.{Preference, has_keys, key_cmp, key_of}
-use Rattle.erd_meaning.specs.Lookups.{election_key_of}
-use Rattle.erd_meaning.specs.Meaning.{ObjectRecord, SelectionRecord}
-use Rattle.erd_meaning.specs.Objects.{Placed, objects, contests, elections, placed_entries, report_of, selections_of_contest}
-use Rattle.erd_meaning.specs.Records.{member_of_class, object_record, placed_record, placed_with_key, record_in_election, records_of, member_value, plain_member, selection_map, selection_record}
-use Rattle.erd_meaning.specs.declared.keys.key.Key.{Key}
-use Rattle.erd_meaning.proofs.accepted.Standing.{stands, contest_selections, flat-has}
+use Rattle.erd_normal.proofs.Common.{◌≡◌, ℕ, Bool, true, ◌⊎◌, List, [], ◌∷◌, map, Some, None, codes, Option, option_map, find, option_and_then, is_eq, sym, refl, ap, ◌∙◌, subst, inl, inr, tied_itself, same_Some, options_total, option_cmp, Data, null, boolean, number, string, array, object, no_items, item, get, Family, family, role, entries_in, object_in, ObjectIn, and_then-Some, has_mapped, Has-cases, Has, Within, entries_at, class_of_object, asked, Object, objects_distinct, elections_distinct, has-flat, held_key_in, no_shape_fault, no_identity_fault, find-Some, find-any, has_identifier, skeleton, values-placed_entries, election_stands, stands, flat-has, contest_selections, options_exact, equal_keys, equal_names, any-has, IsAccepted, has_keys, key_cmp, Preference, key_of, election_key_of, SelectionRecord, ObjectRecord, NameParts, Placed, placed_entries, report_of, elections, contests, selections_of_contest, objects, plain_member, selection_record, selection_map, member_value, member_of_class, object_record, record_in_election, placed_record, placed_with_key, records_of, name_of, name_cmp, key_cmp_total, name_cmp_total, Key}
 use Rattle.erd_meaning.proofs.meanings.WholeRecords.{apart_from_election, no_election_id}
-use Rattle.erd_meaning.specs.NameParts.{NameParts}
-use Rattle.erd_meaning.specs.SelectionNames.{name_cmp, name_of}
-use Rattle.erd_meaning.specs.code.Orders.{key_cmp_total, name_cmp_total}
-use Rattle.erd_meaning.proofs.accepted.DistinctKeys.{elections_distinct, objects_distinct}
-use Rattle.erd_meaning.proofs.accepted.HeldObjects.{has-flat, held_key_in}
-use Rattle.erd_meaning.proofs.accepted.Phases.{no_identity_fault, no_shape_fault}
-use Rattle.erd_meaning.proofs.accepted.Skeleton.{election_stands, skeleton, values-placed_entries}
-use Rattle.erd_meaning.proofs.orders.EqualNames.{equal_keys, equal_names, options_exact}
 use Rattle.erd_normal.proofs.lists.Matched.{Matched, matched_back, matched_on, matched_within}
 use Rattle.erd_normal.proofs.same.Lists.{ApartBy, matched_by_keys}
 use Rattle.erd_normal.proofs.same.Related.{matched_within_both}

@@ -1,37 +1,5 @@
 -- Objects of one class say the same if their `@id`s do, what their records leave out does, and the rest means the same.
-use Rattle.std.proofs.Common.{◌≡◌, ℕ, List, [], ◌∷◌, Option, Some, None, option_map, option_and_then, is_some, Bool, true, false, not, ◌||◌, ◌&&◌, codes, refl, sym, ap, ◌∙◌, subst, ◌⊎◌, inl, inr, ⊎_elim}
-use Rattle.std.specs.List.{list_all, list_any}
-use Rattle.std.specs.Str.{bytes_eq}
-use Rattle.std.proofs.lemmas.Bool.{and_parts, not-true}
-use Rattle.serde_json.specs.Data.{Data, null, object, Members}
-use Rattle.serde_json.specs.Find.{get_member}
-use Rattle.erd_tables.specs.Classes.{family_of_class, family_of_role, role_of_class}
-use Rattle.erd_tables.specs.Rows.{rows_of_class}
-use Rattle.erd_tables.specs.Table.{is_required, kind_of_member}
-use Rattle.erd_tables.specs.declared.class.Class.{Class}
-use Rattle.erd_tables.specs.declared.class.Class.TheVariants as class
-use Rattle.erd_tables.specs.declared.class.Family.{Family}
-use Rattle.erd_tables.specs.declared.class.Family.TheVariants as family
-use Rattle.erd_tables.specs.declared.class.Role.{Role}
-use Rattle.erd_tables.specs.declared.class.Role.TheVariants as role
-use Rattle.erd_tables.specs.declared.member.MemberKind.{MemberKind}
-use Rattle.erd_tables.specs.declared.member.MemberKind.TheVariants as kind
-use Rattle.erd_check.specs.Trees.{AreMembers}
-use Rattle.erd_check.specs.Wants.{asked, is_report_class, member_want}
-use Rattle.erd_check.specs.declared.want.Scope.TheVariants as scope
-use Rattle.erd_check.specs.declared.want.Want.TheVariants.{ClassText, Object, Status}
-use Rattle.erd_check.proofs.Exact.{text_exact}
-use Rattle.erd_check.proofs.Members.{get_member-tree}
-use Rattle.erd_check.proofs.ObjectsAt.{ObjectAt}
-use Rattle.erd_check.proofs.Rising.{Has}
-use Rattle.erd_check.proofs.Shapes.{Within, member_within}
-use Rattle.erd_check.proofs.TableKinds.{kind_of_name, want_unless_status}
-use Rattle.erd_meaning.specs.Accepted.{IsAccepted}
-use Rattle.erd_meaning.specs.Keys.{Preference}
-use Rattle.erd_meaning.specs.Meaning.{MemberValue, PlainValue, a_json, a_plain}
-use Rattle.erd_meaning.specs.Records.{is_in_envelope, member_value, plain_member, plain_value}
-use Rattle.erd_meaning.proofs.accepted.Phases.{no_shape_fault}
-use Rattle.erd_meaning.proofs.orders.Sets.{has-any}
+use Rattle.erd_normal.proofs.Common.{◌≡◌, ℕ, Bool, true, false, not, ◌&&◌, ◌||◌, ◌⊎◌, List, [], ◌∷◌, is_some, Some, None, codes, Option, option_map, option_and_then, bytes_eq, sym, refl, ap, ◌∙◌, subst, inl, inr, ⊎_elim, not-true, and_parts, list_all, list_any, Data, null, object, Members, get_member, role_of_class, family_of_role, family_of_class, rows_of_class, kind_of_member, is_required, Class, class, Family, family, Role, role, MemberKind, kind, text_exact, get_member-tree, ObjectAt, Has, member_within, Within, kind_of_name, want_unless_status, AreMembers, is_report_class, member_want, asked, scope, ClassText, Object, Status, no_shape_fault, has-any, IsAccepted, Preference, PlainValue, a_json, MemberValue, a_plain, plain_value, is_in_envelope, plain_member, member_value, Sides, an_object, Same, SameMembers}
 use Rattle.erd_normal.proofs.same.LabelsBack.{equal_aligned}
 use Rattle.erd_normal.proofs.same.Lookups.{Aligned}
 use Rattle.erd_normal.proofs.same.Merged.{merged}
@@ -39,7 +7,6 @@ use Rattle.erd_normal.proofs.same.complete.Sets.{TextsTied}
 use Rattle.erd_normal.proofs.same.complete.Values.{all_plain, means_itself, plain_aligned}
 use Rattle.erd_normal.proofs.same.Types.{asked_of_name}
 use Rattle.erd_normal.proofs.built.AskedMembers.{status_kind}
-use Rattle.erd_normal.specs.SaysTheSame.{Sides, Same, SameMembers, an_object}
 
 -- ---- what records leave out
 

@@ -1,38 +1,5 @@
 -- Objects of families, elections and reports that mean the same say the same.
-use Rattle.std.proofs.Common.{◌≡◌, ℕ, List, [], ◌∷◌, map, Option, Some, None, option_map, is_some, true, false, codes, refl, sym, ap, ◌∙◌, subst, ⊎_elim, option_and_then, Bool, if◌then◌else◌}
-use Rattle.std.specs.Str.{bytes_eq}
-use Rattle.serde_json.specs.Data.{Data, string, array, object, Members}
-use Rattle.serde_json.specs.Find.{get_member, as_str}
-use Rattle.erd_tables.specs.Classes.{family_of_class, role_of_class}
-use Rattle.erd_tables.specs.Table.{is_required, kind_of_member, kind_of_identity}
-use Rattle.erd_tables.specs.declared.class.Class.{Class}
-use Rattle.erd_tables.specs.declared.class.Class.TheVariants as class
-use Rattle.erd_tables.specs.declared.class.Family.{Family}
-use Rattle.erd_tables.specs.declared.class.Family.TheVariants as family
-use Rattle.erd_tables.specs.declared.class.Role.{Role}
-use Rattle.erd_tables.specs.declared.class.Role.TheVariants as role
-use Rattle.erd_tables.specs.declared.member.MemberKind.TheVariants as kind
-use Rattle.erd_check.specs.Values.{entries_at}
-use Rattle.erd_check.specs.Wants.{asked, class_of_object, want_of_name, want_of_kind}
-use Rattle.erd_check.specs.declared.want.Scope.{Scope}
-use Rattle.erd_check.specs.declared.want.Scope.TheVariants as scope
-use Rattle.erd_check.specs.declared.want.Want.TheVariants.{Member, Object}
-use Rattle.erd_check.specs.declared.want.Want.{Want}
-use Rattle.erd_check.proofs.Entries.{entries_in, string_from_text}
-use Rattle.erd_check.proofs.ObjectsAt.{MayBeArray, ObjectAt, ObjectIn, is_filled_array, keyed_list, object_in}
-use Rattle.erd_check.proofs.Rising.{Has, Has-cases}
-use Rattle.erd_check.proofs.Shapes.{Within, within-tree, member_within, wanted_within}
-use Rattle.erd_check.proofs.TableKinds.{want_by_kind, is_word, kind_of_id}
-use Rattle.erd_check.proofs.Whole.{no_strange}
-use Rattle.erd_meaning.specs.Accepted.{IsAccepted}
-use Rattle.erd_meaning.specs.Keys.{Preference, has_keys}
-use Rattle.erd_meaning.specs.Meaning.{ObjectRecord, SelectionRecord}
-use Rattle.erd_meaning.specs.Objects.{Placed, contests, elections, id_of, objects, placed_entries, report_of, selections_of_contest}
-use Rattle.erd_meaning.specs.Records.{is_in_envelope, member_of_class, object_record, plain_member, selection_record}
-use Rattle.erd_meaning.specs.SelectionNames.{selection_role}
-use Rattle.erd_meaning.proofs.accepted.Phases.{no_shape_fault}
-use Rattle.erd_meaning.proofs.accepted.Skeleton.{Skeleton, election_object, election_stands, skeleton, values-placed_entries}
-use Rattle.erd_meaning.proofs.accepted.Standing.{contest_selections, flat-has, stands}
+use Rattle.erd_normal.proofs.Common.{◌≡◌, ℕ, Bool, true, false, List, [], ◌∷◌, map, is_some, if◌then◌else◌, Some, None, codes, Option, option_map, option_and_then, bytes_eq, sym, refl, ap, ◌∙◌, subst, ⊎_elim, Data, string, array, object, Members, get_member, as_str, role_of_class, family_of_class, kind_of_identity, kind_of_member, is_required, Class, class, Family, family, Role, role, kind, entries_in, string_from_text, object_in, is_filled_array, keyed_list, MayBeArray, ObjectAt, ObjectIn, Has-cases, Has, wanted_within, member_within, within-tree, Within, kind_of_id, is_word, want_by_kind, no_strange, entries_at, class_of_object, want_of_kind, want_of_name, asked, Scope, scope, Want, Member, Object, no_shape_fault, skeleton, values-placed_entries, election_stands, election_object, Skeleton, stands, flat-has, contest_selections, IsAccepted, has_keys, Preference, SelectionRecord, ObjectRecord, Placed, placed_entries, report_of, elections, contests, selections_of_contest, objects, id_of, is_in_envelope, plain_member, selection_record, member_of_class, object_record, selection_role, Sides, IsUnused, of_the_envelope, an_unused_id, an_id, Same}
 use Rattle.erd_normal.proofs.built.NormalGets.{kind_of_family_id}
 use Rattle.erd_normal.proofs.lists.Matched.{Matched, matched_mapped}
 use Rattle.erd_normal.proofs.same.Lookups.{Aligned, both_there, lacks_none, lacks_one, not_both}
@@ -45,7 +12,6 @@ use Rattle.erd_normal.proofs.same.complete.Sets.{MeanOne}
 use Rattle.erd_normal.proofs.meaning.AlikeRecords.{class_of_record, members_in}
 use Rattle.erd_normal.proofs.same.FamilyValues.{InElections, InReport, candidates, contests_home, headers, offices, parties, persons, styles, units}
 use Rattle.erd_normal.proofs.same.Types.{asked_of_name}
-use Rattle.erd_normal.specs.SaysTheSame.{Sides, IsUnused, Same, an_id, an_unused_id, of_the_envelope}
 
 id_text : (π : Preference) (t : Data) → IsAccepted π t → (b : Bool) (r : Bool) (v : Data) → Within t (asked (want_of_kind (if b then kind.Identity else kind.StrangeIdentity) r) v) → Some v ≡ option_map string (as_str v)
 id_text π t accepted true r v w = let s = string_from_text v (wanted_within t (no_shape_fault π t accepted) (asked (Member kind.Identity r) v) w) in rw s.1

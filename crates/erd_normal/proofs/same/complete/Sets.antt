@@ -1,40 +1,5 @@
 -- Sets that mean the same say the same: references that name one set of keys, and JSON values.
-use Rattle.std.proofs.Common.{◌≡◌, ℕ, List, Some, true, [], ◌∷◌, Bool, false, ◌&&◌, Option, None, option_and_then, refl, sym, ap, ap₂, ◌∙◌, subst, true≢false, is_eq, ◌⊎◌, inl, inr}
-use Rattle.std.proofs.lemmas.Cmp.{tied_itself}
-use Rattle.std.specs.Cmp.{Equal-is}
-use Rattle.std.specs.List.{IsDistinct, cons_option, filter_map, list_any}
-use Rattle.serde_json.specs.Data.{Data, string, array, Items}
-use Rattle.serde_json.specs.Find.{get_item, as_str}
-use Rattle.erd_tables.specs.declared.class.Family.{Family}
-use Rattle.erd_tables.specs.Classes.{role_of_class}
-use Rattle.erd_tables.specs.declared.class.Class.{Class}
-use Rattle.erd_tables.specs.declared.class.Role.{Role}
-use Rattle.erd_tables.specs.declared.member.MemberKind.{MemberKind}
-use Rattle.erd_tables.specs.declared.place.Step.TheVariants.{At}
-use Rattle.erd_tables.specs.declared.class.Family.TheVariants as family
-use Rattle.erd_tables.specs.declared.member.MemberKind.TheVariants as kind
-use Rattle.erd_check.specs.Trees.{IsTree, AreTrees, is_same_json}
-use Rattle.erd_check.specs.Values.{list_of_items}
-use Rattle.erd_check.specs.Wants.{asked, entry_want, is_compared_set, is_repeated}
-use Rattle.erd_check.specs.declared.want.Want.TheVariants.{Member, Object, Reference}
-use Rattle.erd_check.proofs.Entries.{list_of_items-place, list_of_items-tree, string_from_text}
-use Rattle.erd_check.proofs.Exact.{text_itself}
-use Rattle.erd_check.proofs.Rising.{Has, Has-cases, all-Has, here, later}
-use Rattle.erd_check.proofs.Shapes.{Within, Within-step, unrepeated, wanted_within}
-use Rattle.erd_check.proofs.Whole.{entry_itself, is_simple_class}
-use Rattle.erd_meaning.specs.Accepted.{IsAccepted}
-use Rattle.erd_meaning.specs.Keys.{Preference, has_keys, key_of, key_cmp}
-use Rattle.erd_meaning.specs.LaterFaults.{is_selection_in}
-use Rattle.erd_meaning.specs.Objects.{owner}
-use Rattle.erd_meaning.specs.Records.{meaning, key_set}
-use Rattle.erd_meaning.specs.SelectionNames.{key_named, name_named, keys_named}
-use Rattle.erd_meaning.specs.declared.keys.key.Key.{Key}
-use Rattle.erd_meaning.specs.code.Orders.{key_cmp_exact, key_cmp_total}
-use Rattle.erd_meaning.proofs.accepted.Phases.{no_shape_fault}
-use Rattle.erd_meaning.proofs.accepted.References.{resolves, unrepeated_reference}
-use Rattle.erd_meaning.proofs.orders.DistinctEntries.{unrepeated_distinct}
-use Rattle.erd_meaning.proofs.orders.Sets.{any-has, has-any}
-use Rattle.erd_normal.specs.SaysTheSame.{Sides, StandsFor, Same, an_id}
+use Rattle.erd_normal.proofs.Common.{◌≡◌, ℕ, Bool, true, false, ◌&&◌, ◌⊎◌, List, [], ◌∷◌, Some, None, Option, filter_map, option_and_then, is_eq, sym, refl, ap, ◌∙◌, subst, ap₂, inl, inr, true≢false, tied_itself, Equal-is, IsDistinct, cons_option, list_any, Data, string, array, Items, get_item, as_str, role_of_class, Class, Family, family, Role, MemberKind, kind, At, string_from_text, list_of_items-place, list_of_items-tree, text_itself, here, later, Has-cases, all-Has, Has, Within-step, wanted_within, unrepeated, Within, is_simple_class, entry_itself, IsTree, AreTrees, is_same_json, list_of_items, entry_want, is_compared_set, asked, is_repeated, Member, Object, Reference, no_shape_fault, unrepeated_reference, resolves, unrepeated_distinct, any-has, has-any, IsAccepted, has_keys, key_cmp, Preference, key_of, is_selection_in, owner, key_set, meaning, key_named, keys_named, name_named, key_cmp_total, key_cmp_exact, Key, Sides, StandsFor, an_id, Same}
 use Rattle.erd_normal.proofs.canonical.DistinctSets.{first_reference, first_value, names_accepted}
 use Rattle.erd_normal.proofs.lists.Matched.{Matched, Paired, none, more}
 use Rattle.erd_normal.proofs.same.Lists.{ApartBy, matched_by_keys, AreSound, itself}

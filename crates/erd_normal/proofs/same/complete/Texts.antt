@@ -1,36 +1,12 @@
 -- The two functions of texts: an `@id` of the one report goes to that of the object with the same key, or of the selection with the
 -- same name of the contest with the same key.
-use Rattle.std.proofs.Common.{◌≡◌, ℕ, List, [], ◌∷◌, flat_map, Option, Some, None, option_and_then, map, find, true, codes, refl, sym, ap, ◌∙◌, subst, ◌⊎◌, inl, inr, ⊎_elim}
-use Rattle.std.specs.List.{list_any}
-use Rattle.std.specs.Option.{option_map_or}
-use Rattle.std.specs.Str.{bytes_eq}
-use Rattle.serde_json.specs.Data.{Data}
-use Rattle.erd_tables.specs.Classes.{families}
-use Rattle.erd_tables.specs.declared.class.Family.{Family}
-use Rattle.erd_tables.specs.declared.class.Family.TheVariants as family
-use Rattle.erd_tables.specs.declared.class.Role.TheVariants as role
-use Rattle.erd_check.specs.Wants.{Asked, asked}
-use Rattle.erd_check.specs.declared.want.Want.TheVariants.{Object}
-use Rattle.erd_check.proofs.Exact.{text_exact, text_itself}
-use Rattle.erd_check.proofs.Options.{and_then-Some}
-use Rattle.erd_check.proofs.Rising.{Has, Has-cases, here, later}
-use Rattle.erd_meaning.specs.Accepted.{IsAccepted}
-use Rattle.erd_meaning.specs.Keys.{Preference, has_keys, key_of}
-use Rattle.erd_meaning.specs.LaterFaults.{is_selection_in}
-use Rattle.erd_meaning.specs.Objects.{Placed, contests, has_id, id_of, objects, owner, selections_of_contest}
-use Rattle.erd_meaning.specs.SelectionNames.{name_named, name_of}
-use Rattle.erd_meaning.proofs.accepted.Phases.{no_identity_fault}
-use Rattle.erd_meaning.proofs.accepted.References.{Has-Contains, find-Some, find-any, has_identifier}
-use Rattle.erd_meaning.proofs.accepted.Skeleton.{values-placed_entries}
-use Rattle.erd_meaning.proofs.accepted.Standing.{flat-has, has_id-Some, one_keyed, one_named, one_object, owned_by, owner_is, stands}
-use Rattle.erd_meaning.proofs.orders.Sets.{any-has, has-any}
+use Rattle.erd_normal.proofs.Common.{◌≡◌, ℕ, true, ◌⊎◌, List, [], ◌∷◌, map, Some, None, codes, Option, find, flat_map, option_and_then, bytes_eq, sym, refl, ap, ◌∙◌, subst, inl, inr, ⊎_elim, list_any, option_map_or, Data, families, Family, family, role, text_exact, text_itself, and_then-Some, here, later, Has-cases, Has, Asked, asked, Object, no_identity_fault, find-Some, find-any, Has-Contains, has_identifier, values-placed_entries, stands, flat-has, one_object, one_keyed, one_named, has_id-Some, owner_is, owned_by, any-has, has-any, IsAccepted, has_keys, Preference, key_of, is_selection_in, Placed, contests, selections_of_contest, objects, id_of, has_id, owner, name_of, name_named, Sides, StandsFor}
 use Rattle.erd_normal.proofs.canonical.ContestSelections.{one_contest}
 use Rattle.erd_normal.proofs.lists.Lists.{is_family}
 use Rattle.erd_normal.proofs.lists.Matched.{Matched, matched_flat, Paired, none, more}
 use Rattle.erd_normal.proofs.same.Related.{matched_within_both}
 use Rattle.erd_normal.proofs.same.complete.Counterparts.{ObjectsAlike, family_matched, selection_name, selections_matched}
 use Rattle.erd_normal.proofs.same.complete.Sets.{MeanOne, TextsTied}
-use Rattle.erd_normal.specs.SaysTheSame.{Sides, StandsFor}
 
 -- an object of each report, of one family, with one key; or two selections with one name, of contests with one key
 pub data Counterpart (π : Preference) (t u : Data) (f : Family) (o p : Placed) : Type 0 where

@@ -1,34 +1,5 @@
 -- Members that mean the same by themselves say the same.
-use Rattle.std.proofs.Common.{◌≡◌, ◌==◌, ℕ, suc, length, arith, List, [], Bool, true, false, not, ◌||◌, Option, Some, None, option_and_then, codes, refl, sym, ap, ◌∙◌, subst}
-use Rattle.serde_json.specs.Data.{Data, null, boolean, number, string, array, object, Items, no_items, item, Members}
-use Rattle.serde_json.specs.Find.{get_member}
-use Rattle.erd_tables.specs.Classes.{role_of_class, text_of_class}
-use Rattle.erd_tables.specs.declared.class.Class.{Class}
-use Rattle.erd_tables.specs.declared.class.Class.TheVariants as class
-use Rattle.erd_tables.specs.declared.class.Family.{Family}
-use Rattle.erd_tables.specs.declared.class.Role.TheVariants as role
-use Rattle.erd_tables.specs.declared.fault.Reason.TheVariants as reason
-use Rattle.erd_tables.specs.declared.member.MemberKind.{MemberKind}
-use Rattle.erd_tables.specs.declared.member.MemberKind.TheVariants as kind
-use Rattle.erd_check.specs.Faults.{is_array, is_empty_array, is_object, is_text}
-use Rattle.erd_check.specs.Trees.{AreMembers, AreTrees, IsTree}
-use Rattle.erd_check.specs.Values.{list_of_items}
-use Rattle.erd_check.specs.Wants.{asked, class_of_object, want_of_kind, want_of_name}
-use Rattle.erd_check.specs.declared.want.Scope.{Scope}
-use Rattle.erd_check.specs.declared.want.Scope.TheVariants as scope
-use Rattle.erd_check.specs.declared.want.Want.{Want}
-use Rattle.erd_check.specs.declared.want.Want.TheVariants.{Carried, Member, Object, Reference}
-use Rattle.erd_check.proofs.Entries.{array_from}
-use Rattle.erd_check.proofs.Members.{get_member-tree}
-use Rattle.erd_check.proofs.Shapes.{Classed, Within, classed, faultless, lacks_none, member_within, of_label, wanted_within}
-use Rattle.erd_check.proofs.Whole.{is_simple_class, no_strange, no_unknown}
-use Rattle.erd_meaning.specs.Accepted.{IsAccepted}
-use Rattle.erd_meaning.specs.Keys.{Preference, has_keys}
-use Rattle.erd_meaning.specs.Meaning.{Content, Label, PlainValue, a_content, a_json, a_json_set, a_key, a_key_set, a_label, no_content, untranslated}
-use Rattle.erd_meaning.specs.Records.{label_of, plain_value, unless_empty}
-use Rattle.erd_meaning.specs.declared.keys.key.Key.{Key}
-use Rattle.erd_meaning.proofs.accepted.Phases.{no_shape_fault}
-use Rattle.erd_meaning.proofs.orders.Reordered.{Reordered}
+use Rattle.erd_normal.proofs.Common.{◌≡◌, ℕ, suc, Bool, true, false, not, ◌||◌, List, [], length, ◌==◌, Some, None, codes, Option, option_and_then, sym, refl, ap, ◌∙◌, subst, arith, Data, null, boolean, number, string, array, object, Items, no_items, item, Members, get_member, text_of_class, role_of_class, Class, class, Family, role, reason, MemberKind, kind, array_from, get_member-tree, of_label, faultless, wanted_within, lacks_none, classed, member_within, Classed, Within, is_simple_class, no_strange, no_unknown, is_text, is_array, is_object, is_empty_array, IsTree, AreTrees, AreMembers, list_of_items, class_of_object, want_of_kind, want_of_name, asked, Scope, scope, Want, Carried, Member, Object, Reference, no_shape_fault, Reordered, IsAccepted, has_keys, Preference, Label, untranslated, Content, no_content, PlainValue, a_json, a_label, a_json_set, a_key, a_key_set, a_content, label_of, unless_empty, plain_value, Key, Sides, is_array_kind, a_text, an_object, no_entry, Same, SameEntries, SameMembers}
 use Rattle.erd_normal.proofs.lists.Matched.{Matched, matched_none}
 use Rattle.erd_normal.proofs.same.Back.{entries_paired}
 use Rattle.erd_normal.proofs.same.LabelsBack.{Translations, labels_say, plain_self}
@@ -38,7 +9,6 @@ use Rattle.erd_normal.proofs.same.Steady.{AllPlain, is_plain}
 use Rattle.erd_normal.proofs.same.complete.Contents.{left_empty, list_says, right_empty, set_says, content_says}
 use Rattle.erd_normal.proofs.same.complete.Sets.{entry_key, named_by, paired_self, reference_says, references_matched, values_apart, values_sound, TextsTied}
 use Rattle.erd_normal.proofs.built.AskedMembers.{label_class}
-use Rattle.erd_normal.specs.SaysTheSame.{Sides, Same, SameEntries, SameMembers, a_text, an_object, is_array_kind, no_entry}
 
 -- the kinds of members that mean something by themselves, or never stand in an accepted report but as an empty array
 abbrev pub means_itself : MemberKind → Bool

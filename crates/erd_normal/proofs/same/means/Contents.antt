@@ -1,51 +1,14 @@
 -- The order of a ballot means the same in two reports that say the same, headers inside headers included.
-use mathlib.Core.Path.{fun_ext}
-use Rattle.std.proofs.Common.{◌≡◌, ◌⊎◌, inl, inr, ℕ, List, [], map, Bool, true, false, cond, Option, Some, None, option_and_then, unwrap_or, codes, Ordering, Equal, nat_cmp, is_eq, refl, sym, ap, ap₂, ◌∙◌, subst}
-use Rattle.std.proofs.lemmas.Map.Text.{is_eq-slice_cmp}
-use Rattle.std.specs.Cmp.Lexicographic.{slice_cmp}
-use Rattle.std.specs.List.{list_any}
-use Rattle.std.specs.Option.{option_map_or}
-use Rattle.std.specs.Ordering.{match_ordering}
-use Rattle.std.specs.Str.{bytes_eq}
-use Rattle.serde_json.specs.Data.{Data, null, boolean, number, string, array, object, Items, no_items, Members, member}
-use Rattle.serde_json.specs.Find.{as_str, get, get_member}
-use Rattle.erd_tables.specs.Table.{kind_of_member, required_names}
-use Rattle.erd_tables.specs.declared.class.Class.{Class}
-use Rattle.erd_tables.specs.declared.class.Class.TheVariants as class
-use Rattle.erd_tables.specs.declared.class.Family.{Family}
-use Rattle.erd_tables.specs.declared.class.Family.TheVariants as family
-use Rattle.erd_tables.specs.declared.class.Role.TheVariants as role
-use Rattle.erd_tables.specs.declared.member.MemberKind.{MemberKind}
-use Rattle.erd_tables.specs.declared.member.MemberKind.TheVariants as kind
-use Rattle.erd_check.specs.Faults.{is_object, names_wanted}
-use Rattle.erd_check.specs.Trees.{AreMembers}
-use Rattle.erd_check.specs.Values.{entries_at, entries_of, list_of_items, text_at}
-use Rattle.erd_check.specs.Wants.{entry_want, is_table_set, member_want, scope_inside, want_of_name}
-use Rattle.erd_check.specs.declared.want.Scope.{Scope}
-use Rattle.erd_check.specs.declared.want.Scope.TheVariants as scope
-use Rattle.erd_check.specs.declared.want.Want.{Want}
-use Rattle.erd_check.specs.declared.want.Want.TheVariants.{Carried, Member, Object, Reference}
-use Rattle.erd_check.proofs.Exact.{text_exact}
-use Rattle.erd_check.proofs.Members.{get_member-before}
-use Rattle.erd_check.proofs.Rising.{Has, here, later}
-use Rattle.erd_check.proofs.Shapes.{lacks_none, of_role, wanted_within}
-use Rattle.erd_check.proofs.Steps.{text_from_equal}
-use Rattle.erd_check.proofs.TableKinds.{want_by_kind}
-use Rattle.erd_meaning.specs.Keys.{Preference}
-use Rattle.erd_meaning.specs.Meaning.{Content, no_content, first_node, a_contest, a_header}
-use Rattle.erd_meaning.specs.Records.{carried_members, class_of_node, contest_node, content_inside, content_of, header_node, if_carried, is_header_class, is_in_envelope, node_of, nodes_of}
-use Rattle.erd_meaning.specs.SelectionNames.{key_named, name_named}
-use Rattle.erd_meaning.proofs.accepted.Phases.{no_shape_fault}
-use Rattle.erd_meaning.proofs.meanings.SelectionKinds.{kind_of_type}
+use Rattle.erd_normal.proofs.Common.{◌≡◌, ℕ, Bool, true, false, cond, ◌⊎◌, List, [], map, Some, None, codes, Option, option_and_then, bytes_eq, nat_cmp, is_eq, Ordering, Equal, unwrap_or, sym, refl, ap, ◌∙◌, subst, ap₂, inl, inr, is_eq-slice_cmp, slice_cmp, list_any, option_map_or, match_ordering, Data, null, boolean, number, string, array, object, Items, no_items, Members, member, get_member, get, as_str, kind_of_member, required_names, Class, class, Family, family, MemberKind, kind, text_exact, get_member-before, here, later, Has, of_role, wanted_within, lacks_none, text_from_equal, want_by_kind, is_object, names_wanted, AreMembers, list_of_items, entries_of, entries_at, text_at, scope_inside, member_want, want_of_name, entry_want, is_table_set, Scope, scope, Want, Carried, Member, Object, Reference, no_shape_fault, kind_of_type, Preference, Content, no_content, first_node, a_contest, a_header, if_carried, carried_members, class_of_node, is_header_class, contest_node, header_node, content_of, nodes_of, node_of, content_inside, is_in_envelope, key_named, name_named, Sides, not_asked, a_null, a_flag, a_number, a_text, an_id, a_list, a_set, an_object, no_entry, one_entry, no_member, in_both, left_only, right_only, MayBeAbsent, Same, SameEntries, SameMembers, fun_ext}
 use Rattle.erd_normal.proofs.canonical.ChosenEntries.{list_name}
 use Rattle.erd_normal.proofs.same.complete.ContentNodes.{content_at, content_class, content_inside-get, inner_name}
-use Rattle.erd_normal.specs.SaysTheSame.{Sides, MayBeAbsent, Same, not_asked, a_null, a_flag, a_number, a_text, an_id, a_list, a_set, an_object, SameEntries, no_entry, one_entry, SameMembers, no_member, in_both, left_only, right_only}
 use Rattle.erd_normal.proofs.same.FromAlike.{Stands, entry_stands, stands_tree}
 use Rattle.erd_normal.proofs.same.Related.{Related}
 use Rattle.erd_normal.proofs.same.Steady.{is_steady_kind, is_plain}
 use Rattle.erd_normal.proofs.same.means.Members.{BothObjects, HaveMembers, MeansNothing, is_absent, is_empty, is_identity, is_outside, TwoReports, Told, both_told, none_told, absent_nothing, both_objects, member_there, nothing_empty, steady_nothing, told_plain}
 use Rattle.erd_normal.proofs.same.means.Names.{name_named_alike}
 use Rattle.erd_normal.proofs.same.means.References.{key_alike_text, said_in_turn}
+use Rattle.erd_tables.specs.declared.class.Role.TheVariants as role
 
 -- ---- carried members
 

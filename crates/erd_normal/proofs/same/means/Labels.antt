@@ -1,28 +1,7 @@
 -- Labels that say the same mean the same, and have one text with their translations in rising order.
-use mathlib.Core.Path.{fun_ext}
-use Rattle.std.proofs.Common.{◌≡◌, ℕ, List, Bool, true, false, ◌||◌, cond, Some, None, codes, refl, sym, ap, ap₂, ◌∙◌}
-use Rattle.std.specs.Str.{bytes_eq}
-use Rattle.serde_json.specs.Data.{Data, array, object, Members}
-use Rattle.serde_json.specs.Find.{get}
-use Rattle.serde_json.specs.Written.{compact_text}
-use Rattle.erd_tables.specs.Table.{is_required, kind_of_member}
-use Rattle.erd_tables.specs.declared.class.Class.TheVariants as class
-use Rattle.erd_tables.specs.declared.class.Role.TheVariants as role
-use Rattle.erd_tables.specs.declared.member.MemberKind.TheVariants as kind
-use Rattle.erd_check.specs.Values.{entries_at}
-use Rattle.erd_check.specs.Wants.{class_of_object, scope_inside}
-use Rattle.erd_check.specs.declared.want.Want.{Want}
-use Rattle.erd_check.specs.declared.want.Want.TheVariants.{Member, Object}
-use Rattle.erd_check.proofs.Shapes.{Classed, classed, of_label, unrepeated, wanted_within}
-use Rattle.erd_meaning.specs.Keys.{Preference}
-use Rattle.erd_meaning.specs.Meaning.{translated}
-use Rattle.erd_meaning.specs.Records.{label_of}
-use Rattle.erd_meaning.specs.SelectionNames.{with_rising_text}
-use Rattle.erd_meaning.proofs.accepted.Phases.{no_shape_fault}
-use Rattle.erd_meaning.proofs.orders.Reordered.{Reordered}
+use Rattle.erd_normal.proofs.Common.{◌≡◌, ℕ, Bool, true, false, cond, ◌||◌, List, Some, None, codes, bytes_eq, sym, refl, ap, ◌∙◌, ap₂, Data, array, object, Members, get, compact_text, kind_of_member, is_required, class, role, kind, of_label, wanted_within, unrepeated, classed, Classed, entries_at, class_of_object, scope_inside, Want, Member, Object, no_shape_fault, Reordered, Preference, translated, label_of, with_rising_text, Sides, a_null, a_flag, a_number, a_text, an_id, a_list, a_set, an_object, Same, SameMembers, fun_ext}
 use Rattle.erd_normal.proofs.lists.Matched.{matched_equal}
 use Rattle.erd_normal.proofs.meaning.RisingMeanings.{json_set-reordered}
-use Rattle.erd_normal.specs.SaysTheSame.{Sides, Same, a_null, a_flag, a_number, a_text, an_id, a_list, a_set, an_object, SameMembers}
 use Rattle.erd_normal.proofs.same.FromAlike.{Stands, stands_tree}
 use Rattle.erd_normal.proofs.same.Labels.{label_text, plain_beside, steady_beside}
 use Rattle.erd_normal.proofs.same.Related.{Related}

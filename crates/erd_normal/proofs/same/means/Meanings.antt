@@ -1,48 +1,12 @@
 -- A report that says the same as an accepted one means the same.
-use mathlib.Core.Path.{fun_ext}
-use Rattle.std.proofs.Common.{◌≡◌, ℕ, List, Bool, true, false, is_eq, Option, Some, None, option_and_then, find, codes, refl, sym, ap, ◌∙◌, subst}
-use Rattle.std.specs.Option.{option_cmp}
-use Rattle.std.specs.Ordering.{eq_by_cmp}
-use Rattle.std.specs.Str.{bytes_eq}
-use Rattle.serde_json.specs.Data.{Data}
-use Rattle.serde_json.specs.Find.{get}
-use Rattle.erd_tables.specs.Classes.{role_of_class}
-use Rattle.erd_tables.specs.Table.{is_required, kind_of_member}
-use Rattle.erd_tables.specs.declared.class.Class.{Class}
-use Rattle.erd_tables.specs.declared.class.Class.TheVariants as class
-use Rattle.erd_tables.specs.declared.class.Family.{Family}
-use Rattle.erd_tables.specs.declared.class.Family.TheVariants as family
-use Rattle.erd_tables.specs.declared.class.Role.{Role}
-use Rattle.erd_tables.specs.declared.class.Role.TheVariants as role
-use Rattle.erd_tables.specs.declared.member.MemberKind.TheVariants as kind
-use Rattle.erd_check.specs.Faults.{NoneOf, ShapeFault}
-use Rattle.erd_check.specs.Trees.{IsTree}
-use Rattle.erd_check.specs.Values.{entries_at, entries_of}
-use Rattle.erd_check.specs.declared.want.Want.TheVariants.{Member, Object}
-use Rattle.erd_check.proofs.Entries.{entries_in}
-use Rattle.erd_check.proofs.ObjectsAt.{election_class, report_class}
-use Rattle.erd_check.proofs.Positions.{map_has}
-use Rattle.erd_check.proofs.Rising.{Has}
-use Rattle.erd_check.proofs.Shapes.{Within-root}
-use Rattle.erd_check.proofs.TableKinds.{want_by_kind}
-use Rattle.erd_meaning.specs.Accepted.{IsAccepted}
-use Rattle.erd_meaning.specs.Keys.{Preference, has_keys}
-use Rattle.erd_meaning.specs.Meaning.{a_selection_map}
-use Rattle.erd_meaning.specs.NameParts.{NameParts}
-use Rattle.erd_meaning.specs.Objects.{objects}
-use Rattle.erd_meaning.specs.Records.{is_in_envelope, meaning, member_of_class, member_value, object_record, plain_member, selection_map, selection_record, unless_empty}
-use Rattle.erd_meaning.specs.SelectionNames.{name_cmp}
-use Rattle.erd_meaning.proofs.accepted.Phases.{no_shape_fault}
+use Rattle.erd_normal.proofs.Common.{◌≡◌, ℕ, Bool, true, false, List, Some, None, codes, Option, find, option_and_then, bytes_eq, is_eq, sym, refl, ap, ◌∙◌, subst, option_cmp, eq_by_cmp, Data, get, role_of_class, kind_of_member, is_required, Class, class, Family, family, Role, role, kind, entries_in, report_class, election_class, map_has, Has, Within-root, want_by_kind, ShapeFault, NoneOf, IsTree, entries_of, entries_at, Member, Object, no_shape_fault, is_selections, selections_kind, selections_name, selections_family, IsAccepted, has_keys, Preference, a_selection_map, NameParts, objects, meaning, unless_empty, is_in_envelope, plain_member, selection_record, selection_map, member_value, member_of_class, object_record, name_cmp, Sides, is_array_kind, SaysTheSame, by_name, fun_ext}
 use Rattle.erd_meaning.proofs.meanings.HeldValues.{Held, held_of, held_values}
-use Rattle.erd_meaning.proofs.meanings.SelectionKinds.{is_selections, selections_family, selections_kind, selections_name}
 use Rattle.erd_normal.specs.MeansTheSame.{SayingTheSameMeansTheSame}
-use Rattle.erd_normal.specs.code.NormalTree.{by_name}
 use Rattle.erd_normal.proofs.lists.Matched.{AtMostOne, Matched, apart_distinct, matched_find, matched_within, one_if_apart, said_same}
 use Rattle.erd_normal.proofs.meaning.MatchedMeanings.{HeldAlike, MeanOne, held_matched, matched_meaning}
 use Rattle.erd_normal.proofs.meaning.MeantKinds.{flat_no_selections, is_flat_class, kind_is_flat}
 use Rattle.erd_normal.proofs.meaning.AlikeRecords.{is_named, named_tied, plain_members, record_alike}
 use Rattle.erd_normal.proofs.same.FamilyValues.{family_values, placed_value}
-use Rattle.erd_normal.specs.SaysTheSame.{Sides, SaysTheSame, is_array_kind}
 use Rattle.erd_normal.proofs.same.Related.{Related, elections_matched, no_report, related_election_key, related_key}
 use Rattle.erd_normal.proofs.same.means.Members.{BothObjects, MeansNothing, is_absent, is_empty, is_identity, is_outside, TwoReports, Told, both_told, none_told, both_objects, envelope_is, told_entries, unless_empty_same}
 use Rattle.erd_normal.proofs.same.means.Names.{name_alike}

@@ -1,33 +1,6 @@
 -- What stands under a name in two related objects: values that are related, or nothing that means anything.
-use Rattle.std.proofs.Common.{◌≡◌, ℕ, List, [], length, Bool, true, false, ◌&&◌, Option, Some, None, codes, refl, sym, ap, ◌∙◌, subst, arith}
-use Rattle.std.specs.Option.{option_map_or}
-use Rattle.std.specs.Str.{bytes_eq}
-use Rattle.serde_json.specs.Data.{Data, array, object, Items, no_items, item, Members}
-use Rattle.serde_json.specs.Find.{get, get_member}
-use Rattle.erd_tables.specs.Classes.{role_of_class}
-use Rattle.erd_tables.specs.Table.{is_required, kind_of_member}
-use Rattle.erd_tables.specs.declared.class.Class.{Class}
-use Rattle.erd_tables.specs.declared.class.Class.TheVariants as class
-use Rattle.erd_tables.specs.declared.class.Role.{Role}
-use Rattle.erd_tables.specs.declared.class.Role.TheVariants as role
-use Rattle.erd_tables.specs.declared.member.MemberKind.{MemberKind}
-use Rattle.erd_tables.specs.declared.member.MemberKind.TheVariants as kind
-use Rattle.erd_tables.specs.declared.place.Step.TheVariants.{Name}
-use Rattle.erd_check.specs.Faults.{NoneOf, ShapeFault}
-use Rattle.erd_check.specs.Trees.{IsTree}
-use Rattle.erd_check.specs.Values.{entries_of, list_of_items}
-use Rattle.erd_check.specs.Wants.{asked, class_of_object, entry_want, is_report_class, member_want, scope_inside, want_of_kind, want_of_name}
-use Rattle.erd_check.specs.declared.want.Scope.TheVariants as scope
-use Rattle.erd_check.specs.declared.want.Want.{Want}
-use Rattle.erd_check.specs.declared.want.Want.TheVariants.{Member, Object, Status}
-use Rattle.erd_check.proofs.ObjectsAt.{ObjectIn, object_in}
-use Rattle.erd_check.proofs.Shapes.{AsksObject, Within-step, asked_inside_object, of_label, of_role, unrepeated}
-use Rattle.erd_check.proofs.TableKinds.{want_unless_status}
-use Rattle.erd_meaning.specs.Accepted.{IsAccepted}
-use Rattle.erd_meaning.specs.Keys.{Preference}
-use Rattle.erd_meaning.specs.Records.{is_in_envelope, unless_empty}
+use Rattle.erd_normal.proofs.Common.{◌≡◌, ℕ, Bool, true, false, ◌&&◌, List, [], length, Some, None, codes, Option, bytes_eq, sym, refl, ap, ◌∙◌, subst, arith, option_map_or, Data, array, object, Items, no_items, item, Members, get_member, get, role_of_class, kind_of_member, is_required, Class, class, Role, role, MemberKind, kind, Name, object_in, ObjectIn, Within-step, AsksObject, of_role, of_label, asked_inside_object, unrepeated, want_unless_status, ShapeFault, NoneOf, IsTree, list_of_items, entries_of, class_of_object, scope_inside, want_of_kind, is_report_class, member_want, want_of_name, entry_want, asked, scope, Want, Member, Object, Status, IsAccepted, Preference, unless_empty, is_in_envelope, Sides, is_array_kind, is_envelope, an_empty_array, of_the_envelope, an_unused_id, a_null, a_flag, a_number, a_text, an_id, a_list, a_set, an_object, MayBeAbsent, Same, SameMembers}
 use Rattle.erd_normal.proofs.lists.Matched.{Matched, matched_length, matched_none}
-use Rattle.erd_normal.specs.SaysTheSame.{Sides, MayBeAbsent, an_empty_array, of_the_envelope, an_unused_id, is_array_kind, is_envelope, Same, a_null, a_flag, a_number, a_text, an_id, a_list, a_set, an_object, SameMembers}
 use Rattle.erd_normal.proofs.same.FromAlike.{Stands, entry_stands, stands_tree}
 use Rattle.erd_normal.proofs.same.Lookups.{Aligned, both_there, not_both, MayLack, lookups, of_object}
 use Rattle.erd_normal.proofs.same.Related.{Related, entries_matched, matched_within_both}

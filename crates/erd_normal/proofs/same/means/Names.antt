@@ -1,25 +1,6 @@
 -- Selections that say the same have one name.
-use Rattle.std.proofs.Common.{◌≡◌, ℕ, List, true, false, Option, Some, option_and_then, option_map, unwrap_or, codes, refl, sym, ap, ◌∙◌}
-use Rattle.serde_json.specs.Data.{Data}
-use Rattle.serde_json.specs.Find.{as_bool, as_integer, as_number, get}
-use Rattle.serde_json.specs.Written.{compact_text}
-use Rattle.erd_tables.specs.Table.{kind_of_member}
-use Rattle.erd_tables.specs.declared.class.Class.{Class}
-use Rattle.erd_tables.specs.declared.class.Class.TheVariants as class
-use Rattle.erd_tables.specs.declared.class.Family.TheVariants as family
-use Rattle.erd_tables.specs.declared.class.Role.TheVariants as role
-use Rattle.erd_tables.specs.declared.member.MemberKind.TheVariants as kind
-use Rattle.erd_check.specs.Values.{entries_at}
-use Rattle.erd_check.specs.Wants.{member_want}
-use Rattle.erd_check.specs.declared.want.Want.TheVariants.{Member, Object, Reference}
-use Rattle.erd_meaning.specs.Keys.{Preference, key_cmp}
-use Rattle.erd_meaning.specs.Records.{is_in_envelope}
-use Rattle.erd_meaning.specs.SelectionNames.{is_write_in, keys_of_selection, label_of_selection, name_in_class, name_named, name_of, order_of_selection, rising_list, selection_role, with_rising_text}
-use Rattle.erd_meaning.specs.Objects.{owner}
-use Rattle.erd_meaning.proofs.accepted.Phases.{no_shape_fault}
+use Rattle.erd_normal.proofs.Common.{◌≡◌, ℕ, true, false, List, Some, codes, Option, option_map, option_and_then, unwrap_or, sym, refl, ap, ◌∙◌, Data, get, as_bool, as_number, as_integer, compact_text, kind_of_member, Class, class, family, role, kind, entries_at, member_want, Member, Object, Reference, no_shape_fault, key_cmp, Preference, owner, is_in_envelope, rising_list, keys_of_selection, is_write_in, order_of_selection, with_rising_text, label_of_selection, name_in_class, selection_role, name_of, name_named, IsUsed, Sides, StandsFor}
 use Rattle.erd_normal.proofs.lists.Matched.{said_same}
-use Rattle.erd_normal.specs.SaysTheSame.{Sides, StandsFor}
-use Rattle.erd_normal.specs.SameLaws.{IsUsed}
 use Rattle.erd_normal.proofs.same.Owners.{owners_related}
 use Rattle.erd_normal.proofs.same.Related.{Related, related_key}
 use Rattle.erd_normal.proofs.same.Steady.{is_steady_kind, is_plain}

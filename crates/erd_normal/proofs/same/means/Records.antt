@@ -1,30 +1,8 @@
 -- Objects that say the same have one record.
-use Rattle.std.proofs.Common.{◌≡◌, ℕ, List, Bool, true, false, ◌&&◌, cond, Option, Some, None, option_and_then, codes, refl, sym, ap, ◌∙◌, subst}
-use Rattle.std.specs.Str.{bytes_eq}
-use Rattle.serde_json.specs.Data.{Data, array, no_items}
-use Rattle.serde_json.specs.Find.{get}
-use Rattle.erd_tables.specs.Table.{is_required, kind_of_member}
-use Rattle.erd_tables.specs.declared.class.Class.{Class}
-use Rattle.erd_tables.specs.declared.class.Family.TheVariants as family
-use Rattle.erd_tables.specs.declared.class.Role.TheVariants as role
-use Rattle.erd_tables.specs.declared.member.MemberKind.{MemberKind}
-use Rattle.erd_tables.specs.declared.member.MemberKind.TheVariants as kind
-use Rattle.erd_check.specs.Values.{entries_of}
-use Rattle.erd_check.specs.Wants.{is_report_class, member_want, want_of_kind}
-use Rattle.erd_check.specs.declared.want.Want.{Want}
-use Rattle.erd_check.specs.declared.want.Want.TheVariants.{Carried, Member, Object, Reference, Status}
-use Rattle.erd_check.proofs.Exact.{text_exact}
-use Rattle.erd_check.proofs.TableKinds.{want_unless_status}
-use Rattle.erd_meaning.specs.Keys.{Preference}
-use Rattle.erd_meaning.specs.Meaning.{a_content, a_json, a_json_set, a_key, a_key_set, a_label}
-use Rattle.erd_meaning.specs.Records.{is_in_envelope, plain_member, plain_value, selection_record}
-use Rattle.erd_meaning.specs.SelectionNames.{selection_role}
-use Rattle.erd_meaning.proofs.accepted.Phases.{no_shape_fault}
-use Rattle.erd_meaning.proofs.meanings.SelectionKinds.{kind_of_type}
+use Rattle.erd_normal.proofs.Common.{◌≡◌, ℕ, Bool, true, false, cond, ◌&&◌, List, Some, None, codes, Option, option_and_then, bytes_eq, sym, refl, ap, ◌∙◌, subst, Data, array, no_items, get, kind_of_member, is_required, Class, family, role, MemberKind, kind, text_exact, want_unless_status, entries_of, want_of_kind, is_report_class, member_want, Want, Carried, Member, Object, Reference, Status, no_shape_fault, kind_of_type, Preference, a_json, a_label, a_json_set, a_key, a_key_set, a_content, plain_value, is_in_envelope, plain_member, selection_record, selection_role, Sides, is_array_kind, Same}
 use Rattle.erd_normal.proofs.lists.Matched.{matched_equal}
 use Rattle.erd_normal.proofs.meaning.AlikeRecords.{nothing_of, record_alike}
 use Rattle.erd_normal.proofs.meaning.RisingMeanings.{json_set-reordered}
-use Rattle.erd_normal.specs.SaysTheSame.{Sides, Same, is_array_kind}
 use Rattle.erd_normal.proofs.same.Related.{Related}
 use Rattle.erd_normal.proofs.same.Steady.{steady_same, is_plain}
 use Rattle.erd_normal.proofs.same.means.Contents.{content_alike}

@@ -1,22 +1,8 @@
 -- References of two reports that say the same name objects with one key.
-use Rattle.std.proofs.Common.{◌≡◌, ℕ, List, [], ◌∷◌, map, Option, Some, option_and_then, unwrap_or, refl, ap, ap₂, ◌∙◌, subst}
-use Rattle.serde_json.specs.Data.{Data, null, boolean, number, string, array, object, Items}
-use Rattle.serde_json.specs.Find.{as_str}
-use Rattle.erd_tables.specs.declared.class.Family.{Family}
-use Rattle.erd_check.specs.Values.{list_of_items}
-use Rattle.erd_check.specs.declared.want.Want.{Want}
-use Rattle.erd_check.specs.declared.want.Want.TheVariants.{Reference}
-use Rattle.erd_check.proofs.Rising.{Has, here, later}
-use Rattle.erd_check.proofs.Shapes.{wanted_within}
-use Rattle.erd_meaning.specs.Keys.{Preference, key_cmp}
-use Rattle.erd_meaning.specs.Records.{key_set}
-use Rattle.erd_meaning.specs.SelectionNames.{key_named, keys_named, rising_list}
-use Rattle.erd_meaning.proofs.accepted.Phases.{no_shape_fault}
+use Rattle.erd_normal.proofs.Common.{◌≡◌, ℕ, List, [], ◌∷◌, map, Some, Option, option_and_then, unwrap_or, refl, ap, ◌∙◌, subst, ap₂, Data, null, boolean, number, string, array, object, Items, as_str, Family, here, later, Has, wanted_within, list_of_items, Want, Reference, no_shape_fault, key_cmp, Preference, key_set, rising_list, key_named, keys_named, IsUsed, Sides, StandsFor, a_null, a_flag, a_number, a_text, an_id, a_list, a_set, an_object, no_entry, one_entry, Same, SameEntries}
 use Rattle.erd_normal.proofs.lists.Matched.{Matched, paired_kept}
 use Rattle.erd_normal.proofs.lists.NumbersInOrder.{rising_keys_named-reordered}
 use Rattle.erd_normal.proofs.meaning.RisingMeanings.{keys_named-reordered}
-use Rattle.erd_normal.specs.SaysTheSame.{Sides, StandsFor, Same, a_null, a_flag, a_number, a_text, an_id, a_list, a_set, an_object, SameEntries, no_entry, one_entry}
-use Rattle.erd_normal.specs.SameLaws.{IsUsed}
 use Rattle.erd_normal.proofs.same.FromAlike.{Stands}
 use Rattle.erd_normal.proofs.same.Owners.{keys_named_same}
 use Rattle.erd_normal.proofs.same.Related.{Related}

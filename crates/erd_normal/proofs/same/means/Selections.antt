@@ -1,35 +1,8 @@
 -- No contest of a report that says the same as an accepted one has two selections of one name.
-use Rattle.std.proofs.Common.{◌≡◌, List, true, is_eq, Some, codes, sym, ap, ap₂, ◌∙◌, subst}
-use Rattle.std.proofs.lemmas.Cmp.{on_total, tied_itself}
-use Rattle.std.specs.Cmp.Lexicographic.{options_total}
-use Rattle.std.specs.List.{IsDistinct}
-use Rattle.std.specs.Option.{option_cmp}
-use Rattle.std.specs.Ordering.{eq_by_cmp}
-use Rattle.serde_json.specs.Data.{Data}
-use Rattle.erd_tables.specs.declared.class.Family.{Family}
-use Rattle.erd_tables.specs.declared.class.Family.TheVariants as family
-use Rattle.erd_tables.specs.declared.class.Role.TheVariants as role
-use Rattle.erd_tables.specs.declared.fault.Reason.TheVariants as reason
-use Rattle.erd_tables.specs.declared.place.Step.{Step}
-use Rattle.erd_check.specs.Faults.{NoneOf}
-use Rattle.erd_check.specs.Values.{entries_at}
-use Rattle.erd_check.specs.declared.want.Want.TheVariants.{Object}
-use Rattle.erd_check.proofs.Rising.{Has}
-use Rattle.erd_meaning.specs.Keys.{Preference}
-use Rattle.erd_meaning.specs.LaterFaults.{RepeatsName, SelectionFault}
-use Rattle.erd_meaning.specs.NameParts.{NameParts}
-use Rattle.erd_meaning.specs.Objects.{contests, selections_of_contest}
-use Rattle.erd_meaning.specs.SelectionNames.{name_cmp, name_of}
-use Rattle.erd_meaning.specs.code.Orders.{name_cmp_total}
-use Rattle.erd_meaning.proofs.accepted.Phases.{no_shape_fault}
-use Rattle.erd_meaning.proofs.accepted.References.{Has-Contains}
-use Rattle.erd_meaning.proofs.accepted.Skeleton.{values-placed_entries}
-use Rattle.erd_meaning.proofs.orders.DistinctEntries.{distinct_one}
-use Rattle.erd_normal.specs.code.NormalTree.{by_name}
+use Rattle.erd_normal.proofs.Common.{◌≡◌, true, List, Some, codes, is_eq, sym, ap, ◌∙◌, subst, ap₂, tied_itself, on_total, options_total, IsDistinct, option_cmp, eq_by_cmp, Data, Family, family, role, reason, Step, Has, NoneOf, entries_at, Object, no_shape_fault, Has-Contains, values-placed_entries, distinct_one, Preference, SelectionFault, RepeatsName, NameParts, contests, selections_of_contest, name_of, name_cmp, name_cmp_total, Sides, by_name}
 use Rattle.erd_normal.proofs.canonical.RisingReports.{selection_values_distinct}
 use Rattle.erd_normal.proofs.lists.Matched.{Matched, distinct_matched, even_order, matched_back, matched_within}
 use Rattle.erd_normal.proofs.same.FamilyValues.{not_before_itself, family_values, placed_value, value_placed}
-use Rattle.erd_normal.specs.SaysTheSame.{Sides}
 use Rattle.erd_normal.proofs.same.Related.{Related, family_matched, selections_matched}
 use Rattle.erd_normal.proofs.same.means.Members.{TwoReports}
 use Rattle.erd_normal.proofs.same.means.Names.{name_alike}

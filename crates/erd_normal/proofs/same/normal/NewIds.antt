@@ -1,45 +1,15 @@
 -- The canonical `@id` of each object of a report. It tells objects apart, and two functions lead from the `@id` texts of the report
 -- to the canonical ones and back.
-use Rattle.std.proofs.Common.{◌≡◌, ⊎_elim, decimal, ◌<◌, ◌+◌, ◌^◌, ℕ, List, [], ◌∷◌, ◌++◌, map, flat_map, find, length, unwrap_or, true, Option, Some, None, option_map, Equal, is_eq, is_some, refl, sym, ap, ◌∙◌, subst, arith}
-use Rattle.std.proofs.lemmas.Cmp.{tied_back}
-use Rattle.std.proofs.lemmas.List.{length-map}
-use Rattle.std.specs.Cmp.Lexicographic.{options_total}
-use Rattle.std.specs.List.{IsDistinct}
-use Rattle.std.specs.Option.{option_map_or}
-use Rattle.std.specs.Ordering.{eq_by_cmp}
-use Rattle.std.specs.Str.{bytes_eq}
-use Rattle.std.proofs.lemmas.Option.{same_Some}
-use Rattle.serde_json.specs.Data.{Data}
-use Rattle.erd_tables.specs.declared.class.Family.{Family}
-use Rattle.erd_tables.specs.declared.class.Family.TheVariants as family
-use Rattle.erd_check.proofs.Exact.{text_exact, text_itself}
-use Rattle.erd_check.proofs.Positions.{has_mapped, map_has}
-use Rattle.erd_check.proofs.Rising.{Has, all-Has, here, later}
-use Rattle.erd_meaning.specs.Accepted.{IsAccepted}
-use Rattle.erd_meaning.specs.Keys.{Preference, has_keys, key_of}
-use Rattle.erd_meaning.specs.Lookups.{rank_of}
-use Rattle.erd_meaning.specs.Objects.{IsBounded, Placed, contests, has_id, id_of, objects, selections_of_contest}
-use Rattle.erd_meaning.specs.SelectionNames.{name_of}
-use Rattle.erd_meaning.specs.code.Orders.{key_cmp_total, name_cmp_total}
-use Rattle.erd_meaning.proofs.accepted.HeldObjects.{has-append, has-flat}
-use Rattle.erd_meaning.proofs.accepted.References.{find-any}
-use Rattle.erd_meaning.proofs.accepted.Standing.{append-has, flat-has, has-append_left, has_id-Some, has_id-from, one_object}
-use Rattle.erd_meaning.proofs.orders.DistinctEntries.{distinct_one}
-use Rattle.erd_meaning.proofs.orders.Sets.{any-has}
-use Rattle.erd_normal.specs.Canonical.{canonical_id, id_prefix}
-use Rattle.erd_normal.specs.code.NormalTree.{by_key, by_name, id_of_key, id_of_selection, normal_tree, rank_of_name}
+use Rattle.erd_normal.proofs.Common.{◌≡◌, ℕ, ◌+◌, ◌^◌, ◌<◌, true, List, [], ◌∷◌, ◌++◌, map, length, is_some, Some, None, decimal, Option, option_map, find, flat_map, bytes_eq, is_eq, Equal, unwrap_or, sym, refl, ap, ◌∙◌, subst, ⊎_elim, arith, tied_back, length-map, same_Some, options_total, IsDistinct, option_map_or, eq_by_cmp, Data, Family, family, text_exact, text_itself, has_mapped, map_has, here, later, all-Has, Has, values_distinct, has-append, has-flat, no_identity_fault, find-any, append-has, has-append_left, flat-has, one_object, has_id-Some, has_id-from, distinct_one, any-has, IsAccepted, has_keys, Preference, key_of, rank_of, Placed, contests, selections_of_contest, objects, id_of, has_id, IsBounded, name_of, key_cmp_total, name_cmp_total, id_prefix, canonical_id, Sides, StandsFor, id_of_key, rank_of_name, id_of_selection, by_key, by_name, normal_tree}
 use Rattle.erd_normal.proofs.canonical.Bounds.{few_selections}
 use Rattle.erd_normal.proofs.canonical.CanonicalIds.{canonical_id_exact, selection_id_apart}
 use Rattle.erd_normal.proofs.canonical.ContestSelections.{one_contest}
-use Rattle.erd_meaning.proofs.accepted.DistinctKeys.{values_distinct}
-use Rattle.erd_meaning.proofs.accepted.Phases.{no_identity_fault}
 use Rattle.erd_normal.proofs.canonical.RisingReports.{selection_values_distinct, by_key_total, by_name_total}
 use Rattle.erd_normal.proofs.canonical.SelectionIds.{listed, selection_values}
 use Rattle.erd_normal.proofs.canonical.SelectionTexts.{canonical_selection_id_exact}
 use Rattle.erd_normal.proofs.lists.KeyedRanks.{rank_exact, rank_low}
 use Rattle.erd_normal.proofs.throughout.ThroughoutMembers.{is_prefixed}
 use Rattle.erd_normal.proofs.same.complete.Texts.{no_keys, one_family}
-use Rattle.erd_normal.specs.SaysTheSame.{Sides, StandsFor}
 
 -- ---- the canonical `@id` of an object
 

@@ -1,43 +1,6 @@
 -- Each reference of the report that is built has the canonical `@id` of an object that the report refers to. So nothing there refers to an
 -- object without `@id`, and nothing in the report refers to a style.
-use Rattle.std.proofs.Common.{◌≡◌, ℕ, List, [], ◌∷◌, Bool, true, false, ◌&&◌, if◌then◌else◌, Option, Some, None, option_and_then, option_map, unwrap_or, codes, refl, sym, ap, ◌∙◌, subst}
-use Rattle.std.specs.List.{AllByRecursion, list_all}
-use Rattle.std.specs.Str.{bytes_eq}
-use Rattle.std.proofs.lemmas.Option.{same_Some}
-use Rattle.serde_json.specs.Data.{Data, string, array, object}
-use Rattle.serde_json.specs.Find.{get_item, get_member}
-use Rattle.erd_tables.specs.Rows.{rows_of_class}
-use Rattle.erd_tables.specs.Table.{is_required, kind_of_identity, kind_of_member}
-use Rattle.erd_tables.specs.declared.class.Class.{Class}
-use Rattle.erd_tables.specs.declared.class.Class.TheVariants as class
-use Rattle.erd_tables.specs.declared.class.Family.{Family}
-use Rattle.erd_tables.specs.declared.class.Family.TheVariants as family
-use Rattle.erd_tables.specs.declared.class.Role.TheVariants as role
-use Rattle.erd_tables.specs.declared.member.MemberKind.{MemberKind}
-use Rattle.erd_tables.specs.declared.member.MemberKind.TheVariants as kind
-use Rattle.erd_tables.specs.declared.place.Step.{Step}
-use Rattle.erd_tables.specs.declared.place.Step.TheVariants.{At, Name}
-use Rattle.erd_check.specs.Faults.{is_reference}
-use Rattle.erd_check.specs.Trees.{IsTree}
-use Rattle.erd_check.specs.Values.{list_of_items, text_of}
-use Rattle.erd_check.specs.Wants.{Asked, asked, asked_from, asked_inside, carried_want, entry_want, is_compared_set, is_report_class, is_repeated, member_want, scope_inside, want_of_kind, want_of_name}
-use Rattle.erd_check.specs.declared.want.Scope.{Scope}
-use Rattle.erd_check.specs.declared.want.Scope.TheVariants as scope
-use Rattle.erd_check.specs.declared.want.Want.{Want}
-use Rattle.erd_check.specs.declared.want.Want.TheVariants.{Carried, ClassText, Member, Object, Reference}
-use Rattle.erd_check.proofs.Entries.{array_from}
-use Rattle.erd_check.proofs.Shapes.{Within, wanted_within}
-use Rattle.erd_check.proofs.TableKinds.{kind_of_class, want_unless_status}
-use Rattle.erd_check.proofs.Rising.{Has}
-use Rattle.erd_meaning.specs.Accepted.{IsAccepted}
-use Rattle.erd_meaning.specs.Keys.{Preference, key_of}
-use Rattle.erd_meaning.specs.Objects.{IsBounded, Placed, id_of, objects, owner}
-use Rattle.erd_meaning.specs.SelectionNames.{key_named, rising_list}
-use Rattle.erd_meaning.proofs.accepted.Phases.{no_shape_fault}
-use Rattle.erd_meaning.proofs.accepted.References.{owned, unrepeated_reference}
-use Rattle.erd_meaning.proofs.accepted.Standing.{one_object, owned_by}
-use Rattle.erd_meaning.proofs.orders.RisingOrders.{all_rising}
-use Rattle.erd_normal.specs.code.NormalTree.{id_of_key, normal_id, normal_reference, normal_selection_reference, normal_tree, reference_cmp}
+use Rattle.erd_normal.proofs.Common.{◌≡◌, ℕ, Bool, true, false, ◌&&◌, List, [], ◌∷◌, if◌then◌else◌, Some, None, codes, Option, option_map, option_and_then, bytes_eq, unwrap_or, sym, refl, ap, ◌∙◌, subst, same_Some, AllByRecursion, list_all, Data, string, array, object, get_member, get_item, rows_of_class, kind_of_identity, kind_of_member, is_required, Class, class, Family, role, MemberKind, kind, Step, At, Name, array_from, Has, wanted_within, Within, kind_of_class, want_unless_status, is_reference, IsTree, list_of_items, text_of, scope_inside, want_of_kind, is_report_class, member_want, carried_want, want_of_name, entry_want, is_compared_set, Asked, asked, is_repeated, asked_inside, asked_from, Scope, scope, Want, Carried, ClassText, Member, Object, Reference, no_shape_fault, owned, unrepeated_reference, one_object, owned_by, all_rising, IsAccepted, Preference, key_of, Placed, objects, id_of, owner, IsBounded, rising_list, key_named, StandsFor, IsUnused, id_of_key, normal_id, normal_reference, reference_cmp, normal_selection_reference, normal_tree}
 use Rattle.erd_normal.proofs.same.IdsOfObjects.{Refers, reference_refers, references_refer}
 use Rattle.erd_normal.proofs.canonical.SelectionIds.{text_built}
 use Rattle.erd_normal.proofs.lists.BuiltLists.{all_map, entry_holds}
@@ -46,9 +9,9 @@ use Rattle.erd_normal.proofs.throughout.ThroughoutMembers.{HoldsOfMembers, built
 use Rattle.erd_normal.proofs.throughout.ThroughoutObjects.{HoldsOfObjects}
 use Rattle.erd_normal.proofs.throughout.ThroughoutReports.{HoldsOfBuilt, holds_of_built}
 use Rattle.erd_normal.proofs.throughout.ThroughoutValues.{is_apart}
-use Rattle.erd_normal.specs.SaysTheSame.{IsUnused, StandsFor}
 use Rattle.erd_normal.proofs.same.normal.NewIds.{NewId, has_canonical, new_exact, of_contest, of_family, prefixed_keys, sides, some_again, stands_for}
 use Rattle.erd_normal.proofs.same.complete.Texts.{one_family}
+use Rattle.erd_tables.specs.declared.class.Family.TheVariants as family
 
 -- ---- references of the report
 

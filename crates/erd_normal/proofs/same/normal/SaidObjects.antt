@@ -1,44 +1,5 @@
 -- What is built of the order of a ballot, a selection and an object of a family says what they say.
-use Rattle.std.proofs.Common.{◌≡◌, ℕ, zero, suc, List, map, Bool, true, false, Option, Some, None, option_and_then, option_map, codes, refl, sym, ap, ◌∙◌, subst}
-use Rattle.std.specs.List.{list_all}
-use Rattle.std.specs.Str.{bytes_eq}
-use Rattle.serde_json.specs.Data.{Data, string, array, object, Items, no_items, item, Members, no_members, member}
-use Rattle.serde_json.specs.Find.{as_str, get, get_item, get_member}
-use Rattle.erd_tables.specs.Classes.{role_of_class, text_of_class}
-use Rattle.erd_tables.specs.Rows.{rows_of_class}
-use Rattle.erd_tables.specs.Table.{is_required, kind_of_member}
-use Rattle.erd_tables.specs.declared.class.Class.{Class}
-use Rattle.erd_tables.specs.declared.class.Class.TheVariants as class
-use Rattle.erd_tables.specs.declared.class.Family.{Family}
-use Rattle.erd_tables.specs.declared.class.Family.TheVariants as family
-use Rattle.erd_tables.specs.declared.class.Role.{Role}
-use Rattle.erd_tables.specs.declared.class.Role.TheVariants as role
-use Rattle.erd_tables.specs.declared.member.MemberKind.{MemberKind}
-use Rattle.erd_tables.specs.declared.member.MemberKind.TheVariants as kind
-use Rattle.erd_check.specs.Faults.{NoneOf, ShapeFault, is_array}
-use Rattle.erd_check.specs.Trees.{IsTree}
-use Rattle.erd_check.specs.Values.{entries_of, list_of_items}
-use Rattle.erd_check.specs.Wants.{asked, class_of_object, member_want, want_of_kind, want_of_name}
-use Rattle.erd_check.specs.declared.want.Scope.{Scope}
-use Rattle.erd_check.specs.declared.want.Scope.TheVariants as scope
-use Rattle.erd_check.specs.declared.want.Want.TheVariants.{Member, Object}
-use Rattle.erd_check.proofs.Entries.{array_from, entries_in, object_from, string_from_text}
-use Rattle.erd_check.proofs.Exact.{text_exact}
-use Rattle.erd_check.proofs.ObjectsAt.{ObjectAt, ObjectIn, object_in}
-use Rattle.erd_check.proofs.Positions.{map_has}
-use Rattle.erd_check.proofs.Rising.{Has}
-use Rattle.erd_check.proofs.Shapes.{Within, member_within, of_role, wanted_within, within-tree}
-use Rattle.erd_check.proofs.TableKinds.{kind_of_class, kind_of_name, want_by_kind}
-use Rattle.erd_check.proofs.Members.{found_cases}
-use Rattle.erd_meaning.specs.Accepted.{IsAccepted}
-use Rattle.erd_meaning.specs.Keys.{Preference, has_keys, key_of}
-use Rattle.erd_meaning.specs.Objects.{IsBounded, Placed, contests, id_of, objects, selections_of_contest}
-use Rattle.erd_meaning.specs.SelectionNames.{rising_list, selection_role}
-use Rattle.erd_meaning.proofs.accepted.Phases.{no_shape_fault}
-use Rattle.erd_meaning.proofs.accepted.Standing.{flat-has, stands}
-use Rattle.erd_meaning.proofs.meanings.SelectionKinds.{kind_of_type}
-use Rattle.erd_normal.specs.Canonical.{canonical_id}
-use Rattle.erd_normal.specs.code.NormalTree.{array_of, by_key, by_name, id_of_key, id_of_selection, normal_content, normal_node, normal_node_value, normal_nodes, normal_object, normal_object_value, normal_objects, normal_selection, normal_tree}
+use Rattle.erd_normal.proofs.Common.{◌≡◌, ℕ, zero, suc, Bool, true, false, List, map, Some, None, codes, Option, option_map, option_and_then, bytes_eq, sym, refl, ap, ◌∙◌, subst, list_all, Data, string, array, object, Items, no_items, item, Members, no_members, member, get_member, get_item, get, as_str, text_of_class, role_of_class, rows_of_class, kind_of_member, is_required, Class, class, Family, family, Role, role, MemberKind, kind, entries_in, object_from, string_from_text, array_from, text_exact, found_cases, object_in, ObjectAt, ObjectIn, map_has, Has, of_role, wanted_within, member_within, within-tree, Within, kind_of_class, kind_of_name, want_by_kind, is_array, ShapeFault, NoneOf, IsTree, list_of_items, entries_of, class_of_object, want_of_kind, member_want, want_of_name, asked, Scope, scope, Member, Object, no_shape_fault, stands, flat-has, kind_of_type, IsAccepted, has_keys, Preference, key_of, Placed, contests, selections_of_contest, objects, id_of, IsBounded, rising_list, selection_role, canonical_id, Sides, an_unused_id, a_text, an_id, a_list, an_object, no_entry, one_entry, Same, SameEntries, SameMembers, id_of_key, id_of_selection, array_of, normal_node_value, normal_content, normal_nodes, normal_node, normal_selection, by_key, by_name, normal_object_value, normal_object, normal_objects, normal_tree}
 use Rattle.erd_normal.proofs.built.AskedMembers.{entry_asked}
 use Rattle.erd_normal.proofs.built.BuiltFrom.{Builder, BuiltObject}
 use Rattle.erd_normal.proofs.built.BuiltObjects.{built_node, built_object, built_selection, is_id, no_name, node_builder, object_builder, plain_builder}
@@ -47,7 +8,6 @@ use Rattle.erd_normal.proofs.built.NormalGets.{class_of_object-object, get_objec
 use Rattle.erd_normal.proofs.built.NormalTrees.{normal_node-tree, normal_object-tree, normal_selection-tree}
 use Rattle.erd_normal.proofs.canonical.SelectionIds.{listed}
 use Rattle.erd_normal.proofs.lists.Lists.{IsPart, part_has}
-use Rattle.erd_normal.specs.SaysTheSame.{Sides, Same, a_list, a_text, an_id, an_object, an_unused_id, SameEntries, no_entry, one_entry, SameMembers}
 use Rattle.erd_normal.proofs.same.Built.{set_built}
 use Rattle.erd_normal.proofs.same.Lookups.{Aligned, both_there, not_both, lacks_none, lacks_one}
 use Rattle.erd_normal.proofs.same.Merged.{merged}

@@ -1,34 +1,9 @@
 -- The canonical tree says what the report says.
-use Rattle.std.proofs.Common.{◌≡◌, ℕ, List, map, Bool, true, false, if◌then◌else◌, Option, Some, None, refl, sym, ap, ◌∙◌, subst}
-use Rattle.serde_json.specs.Data.{Data, array, object, Members}
-use Rattle.serde_json.specs.Find.{get, get_member}
-use Rattle.erd_tables.specs.Table.{is_envelope_name, kind_of_member}
-use Rattle.erd_tables.specs.declared.class.Class.TheVariants as class
-use Rattle.erd_tables.specs.declared.class.Family.{Family}
-use Rattle.erd_tables.specs.declared.class.Role.TheVariants as role
-use Rattle.erd_tables.specs.declared.member.MemberKind.{MemberKind}
-use Rattle.erd_tables.specs.declared.member.MemberKind.TheVariants as kind
-use Rattle.erd_check.specs.Faults.{NoneOf, ShapeFault}
-use Rattle.erd_check.specs.Trees.{IsTree}
-use Rattle.erd_check.specs.Values.{entries_of, list_of_items}
-use Rattle.erd_check.specs.Wants.{asked, want_of_kind}
-use Rattle.erd_check.specs.declared.want.Want.TheVariants.{Member, Object}
-use Rattle.erd_check.proofs.ObjectsAt.{ObjectAt}
-use Rattle.erd_check.proofs.Rising.{Has}
-use Rattle.erd_check.proofs.Shapes.{Within, within-tree}
-use Rattle.erd_check.proofs.TableKinds.{kind_of_class}
-use Rattle.erd_meaning.specs.Accepted.{IsAccepted}
-use Rattle.erd_meaning.specs.Keys.{Preference, has_keys}
-use Rattle.erd_meaning.specs.Objects.{IsBounded, objects}
-use Rattle.erd_meaning.specs.SelectionNames.{rising_list}
-use Rattle.erd_meaning.proofs.accepted.Phases.{no_shape_fault}
-use Rattle.erd_meaning.proofs.accepted.Skeleton.{Skeleton, election_object, election_within, skeleton_of_shape}
-use Rattle.erd_normal.specs.code.NormalTree.{array_of, by_key, normal_election, normal_election_value, normal_report_value, normal_tree, normal_value}
+use Rattle.erd_normal.proofs.Common.{◌≡◌, ℕ, Bool, true, false, List, map, if◌then◌else◌, Some, None, Option, sym, refl, ap, ◌∙◌, subst, Data, array, object, Members, get_member, get, is_envelope_name, kind_of_member, class, Family, role, MemberKind, kind, ObjectAt, Has, within-tree, Within, kind_of_class, ShapeFault, NoneOf, IsTree, list_of_items, entries_of, want_of_kind, asked, Member, Object, no_shape_fault, skeleton_of_shape, election_within, election_object, Skeleton, IsAccepted, has_keys, Preference, objects, IsBounded, rising_list, Sides, of_the_envelope, Same, SaysTheSame, array_of, normal_value, by_key, normal_election_value, normal_election, normal_report_value, normal_tree}
 use Rattle.erd_normal.proofs.built.BuiltObjects.{built_election, built_report, election_builder, no_name}
 use Rattle.erd_normal.proofs.built.FamilyNames.{election_part, elections_name, family_name, keyed_name, report_part}
 use Rattle.erd_normal.proofs.built.NormalTrees.{normal_election-tree, normal_tree-tree}
 use Rattle.erd_normal.proofs.lists.Lists.{IsPart}
-use Rattle.erd_normal.specs.SaysTheSame.{Sides, Same, SaysTheSame, of_the_envelope}
 use Rattle.erd_normal.proofs.same.Built.{set_built}
 use Rattle.erd_normal.proofs.same.Lookups.{MayLack, not_both}
 use Rattle.erd_normal.proofs.same.normal.NewIds.{new_text, old_text, sides}

@@ -1,39 +1,5 @@
 -- What is built of the value of a member without objects says what the value says, and where nothing is built of it, it is an empty array.
-use Rattle.std.proofs.Common.{◌≡◌, ℕ, List, [], ◌∷◌, map, Bool, true, false, ◌&&◌, if◌then◌else◌, Option, Some, None, Ordering, codes, refl, sym, ap, ◌∙◌, subst}
-use Rattle.std.proofs.lemmas.List.{map-id}
-use Rattle.std.specs.Option.{option_map_or}
-use Rattle.std.specs.Str.{bytes_eq}
-use Rattle.std.proofs.lemmas.Bool.{not-false}
-use Rattle.serde_json.specs.Data.{Data, string, array, object, Items, no_items, item, Members, put}
-use Rattle.serde_json.specs.Find.{get, get_member}
-use Rattle.erd_tables.specs.Table.{is_required, kind_of_member}
-use Rattle.erd_tables.specs.declared.class.Class.{Class}
-use Rattle.erd_tables.specs.declared.class.Class.TheVariants as class
-use Rattle.erd_tables.specs.declared.class.Family.{Family}
-use Rattle.erd_tables.specs.declared.class.Family.TheVariants as family
-use Rattle.erd_tables.specs.declared.class.Role.TheVariants as role
-use Rattle.erd_tables.specs.declared.fault.Reason.TheVariants as reason
-use Rattle.erd_tables.specs.declared.member.MemberKind.{MemberKind}
-use Rattle.erd_tables.specs.declared.member.MemberKind.TheVariants as kind
-use Rattle.erd_check.specs.Faults.{is_empty_array}
-use Rattle.erd_check.specs.Trees.{IsTree}
-use Rattle.erd_check.specs.Values.{entries_at, entries_of, list_of_items, text_of}
-use Rattle.erd_check.specs.Wants.{asked, entry_want, is_report_class, is_table_set, member_want, want_of_kind, want_of_name}
-use Rattle.erd_check.specs.declared.want.Scope.{Scope}
-use Rattle.erd_check.specs.declared.want.Scope.TheVariants as scope
-use Rattle.erd_check.specs.declared.want.Want.{Want}
-use Rattle.erd_check.specs.declared.want.Want.TheVariants.{Carried, Member, Object, Reference, Status}
-use Rattle.erd_check.proofs.Entries.{array_from}
-use Rattle.erd_check.proofs.Exact.{text_exact}
-use Rattle.erd_check.proofs.Rising.{all-Has}
-use Rattle.erd_check.proofs.Shapes.{Within, faultless, wanted_within, within-tree}
-use Rattle.erd_check.proofs.TableKinds.{want_unless_status}
-use Rattle.erd_meaning.specs.Accepted.{IsAccepted}
-use Rattle.erd_meaning.specs.Keys.{Preference}
-use Rattle.erd_meaning.specs.Objects.{IsBounded}
-use Rattle.erd_meaning.specs.SelectionNames.{compact_cmp, rising_list, with_rising_text}
-use Rattle.erd_meaning.proofs.accepted.Phases.{no_shape_fault}
-use Rattle.erd_normal.specs.code.NormalTree.{array_of, normal_id, normal_reference, normal_selection_reference, normal_value, reference_cmp, unless_no_entry}
+use Rattle.erd_normal.proofs.Common.{◌≡◌, ℕ, Bool, true, false, ◌&&◌, List, [], ◌∷◌, map, if◌then◌else◌, Some, None, codes, Option, bytes_eq, Ordering, sym, refl, ap, ◌∙◌, subst, map-id, not-false, option_map_or, Data, string, array, object, Items, no_items, item, Members, put, get_member, get, kind_of_member, is_required, Class, class, Family, family, role, reason, MemberKind, kind, array_from, text_exact, all-Has, faultless, wanted_within, within-tree, Within, want_unless_status, is_empty_array, IsTree, list_of_items, entries_of, entries_at, text_of, want_of_kind, is_report_class, member_want, want_of_name, entry_want, is_table_set, asked, Scope, scope, Want, Carried, Member, Object, Reference, Status, no_shape_fault, IsAccepted, Preference, IsBounded, rising_list, compact_cmp, with_rising_text, Sides, is_array_kind, an_empty_array, a_text, an_id, an_object, Same, SameMembers, normal_id, normal_reference, reference_cmp, normal_selection_reference, unless_no_entry, array_of, normal_value}
 use Rattle.erd_normal.proofs.built.AskedMembers.{entries_asked, label_texts, status_kind}
 use Rattle.erd_normal.proofs.built.BuiltFrom.{Builder}
 use Rattle.erd_normal.proofs.built.NormalEntries.{no_entry}
@@ -42,7 +8,6 @@ use Rattle.erd_normal.proofs.built.NormalTrees.{with_rising_text-tree}
 use Rattle.erd_normal.proofs.same.IdsOfObjects.{Refers, reference_refers, references_refer}
 use Rattle.erd_normal.proofs.same.Steady.{is_plain, plain_of_kind}
 use Rattle.erd_normal.proofs.throughout.ThroughoutMembers.{BuiltLabel, built_label, is_prefixed, is_plain_kind}
-use Rattle.erd_normal.specs.SaysTheSame.{Sides, Same, a_text, an_id, an_object, an_empty_array, is_array_kind, SameMembers}
 use Rattle.erd_normal.proofs.same.Built.{list_built, set_built}
 use Rattle.erd_normal.proofs.same.Labels.{asked_beside, in_label, plain_beside}
 use Rattle.erd_normal.proofs.same.LabelsBack.{plain_self}

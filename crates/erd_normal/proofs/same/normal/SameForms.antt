@@ -1,7 +1,6 @@
 -- Canonical forms say what their reports say.
-use Rattle.std.proofs.Common.{sym, subst}
+use Rattle.erd_normal.proofs.Common.{sym, subst, SaysTheSame}
 use Rattle.erd_normal.proofs.canonical.NormalForms.{only_form_built}
-use Rattle.erd_normal.specs.SaysTheSame.{SaysTheSame}
 use Rattle.erd_normal.specs.SameForms.{CanonicalSaysTheSame}
 use Rattle.erd_normal.proofs.same.normal.SaidReports.{normal_tree_says}
 

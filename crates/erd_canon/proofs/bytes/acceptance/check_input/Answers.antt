@@ -1,8 +1,6 @@
-use Rattle.std.specs.Option.{option_copied}
-use Rattle.std.proofs.lemmas.Result.{err_from_is_err_and}
-use Rattle.serde_json.specs.View.{view}
-use Rattle.erd_canon.proofs.bytes.acceptance.check_input.Goals as goal
+use Rattle.erd_canon.proofs.Common.{option_copied, err_from_is_err_and, view}
 use Rattle.erd_canon.proofs.forms.Refusing.{refused_tree}
+use Rattle.erd_canon.proofs.bytes.acceptance.check_input.Goals as goal
 
 pub returns-in_err-tree-clause-refused : goal.returns-in_err-tree-clause-refused
 returns-in_err-tree-clause-refused g c =

@@ -1,13 +1,9 @@
-use Rattle.std.specs.Option.{option_copied}
-use Rattle.std.proofs.Common.{ap, subst}
-use Rattle.std.proofs.lemmas.Result.{err_from_is_err_and}
-use Rattle.serde_json.specs.View.{view}
-use Rattle.erd_meaning.specs.Keys.{Preference}
+use Rattle.erd_canon.proofs.Common.{option_copied, ap, subst, err_from_is_err_and, view, Preference}
 use Rattle.erd_normal.specs.CanonicalText.{IsCanonicalText}
 use Rattle.erd_canon.proofs.forms.CanonicalTexts.{canonical_text}
 use Rattle.erd_canon.proofs.forms.FormLaws.{headline}
-use Rattle.erd_canon.proofs.bytes.canonical.canonical_of_input.Goals as goal
 use Rattle.erd_canon.proofs.forms.Refusing.{refused_tree}
+use Rattle.erd_canon.proofs.bytes.canonical.canonical_of_input.Goals as goal
 
 pub returns-in_err-tree-clause-refused : goal.returns-in_err-tree-clause-refused
 returns-in_err-tree-clause-refused g c =

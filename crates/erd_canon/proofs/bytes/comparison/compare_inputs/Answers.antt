@@ -1,16 +1,8 @@
-use Rattle.std.specs.Option.{option_copied}
-use Rattle.std.proofs.Common.{◌≡◌, sym, subst, ap}
-use Rattle.std.proofs.lemmas.Result.{err_from_is_err_and}
-use Rattle.serde_json.specs.View.{view}
-use Rattle.erd_meaning.specs.Keys.{Preference}
-use Rattle.erd_meaning.specs.Records.{meaning}
-use Rattle.erd_compare.specs.Differences.{IsDifference}
+use Rattle.erd_canon.proofs.Common.{◌≡◌, option_copied, sym, ap, subst, err_from_is_err_and, view, Preference, meaning, IsDifference, IsTreeOf, RefusedAs, refusal_for}
 use Rattle.erd_canon.proofs.runs.Agreement.{agrees, tells_what_is_said}
 use Rattle.erd_canon.proofs.runs.Comparisons.{compared}
-use Rattle.erd_canon.specs.Bytes.{IsTreeOf}
-use Rattle.erd_canon.specs.Refused.{RefusedAs, refusal_for}
-use Rattle.erd_canon.proofs.bytes.comparison.compare_inputs.Goals as goal
 use Rattle.erd_canon.proofs.forms.Refusing.{refused_tree}
+use Rattle.erd_canon.proofs.bytes.comparison.compare_inputs.Goals as goal
 
 pub returns-in-Err-clause-refused : goal.returns-in-Err-clause-refused
 returns-in-Err-clause-refused g c =

@@ -1,7 +1,4 @@
-use Rattle.std.proofs.Common.{◌≡◌, ◌∙◌, ap, ap₂, codes}
-use Rattle.std.proofs.lemmas.Result.{IfOk-weaker}
-use Rattle.clap.specs.Simple.{app_of_fields}
-use Rattle.clap.specs.Words.{App, app_of, new_app, with_subcommand}
+use Rattle.erd_canon.proofs.Common.{◌≡◌, codes, ap, ◌∙◌, ap₂, IfOk-weaker, app_of_fields, App, app_of, new_app, with_subcommand}
 use Rattle.erd_canon.proofs.commands.builder.program_command.Goals as goal
 
 pub returns : goal.returns

@@ -1,9 +1,4 @@
-use Rattle.std.proofs.Common.{◌≡◌, ◌⊎◌, ◌∙◌, ◌∷◌, [], true, ap, map, string_bytes, subst, sym}
-use Rattle.clap.specs.Words.{App, IsAmong, fault_of, is_simple, is_simple_and_free, kind_of, subcommand_of, subcommand_rows_of, takes}
-use Rattle.clap.specs.declared.error.kind.ErrorKind.TheVariants.{OutOfMemory}
-use Rattle.erd_canon.specs.ExactLines.{words_of}
-use Rattle.erd_canon.specs.ReadLines.{request_in}
-use Rattle.erd_canon.specs.Subcommands.{program}
+use Rattle.erd_canon.proofs.Common.{◌≡◌, true, ◌⊎◌, [], ◌∷◌, map, string_bytes, sym, ap, ◌∙◌, subst, kind_of, App, is_simple, subcommand_of, subcommand_rows_of, takes, IsAmong, fault_of, is_simple_and_free, OutOfMemory, words_of, request_in, program}
 use Rattle.erd_canon.proofs.lines.LineReadings.{line_found, program_free, program_simple, takes-line, asked_is, exact_of, fault_read, read_of}
 use Rattle.erd_canon.proofs.commands.words.command_line.Goals as goal
 

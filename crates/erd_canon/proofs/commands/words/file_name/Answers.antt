@@ -1,6 +1,4 @@
-use Rattle.std.proofs.Common.{◌≡◌, ◌∙◌, ap, Option, List, ℕ, [], None, Some, option_map, unwrap_or, refl}
-use Rattle.std.specs.Borrow.{Bor}
-use Rattle.clap.specs.Words.{found_of}
+use Rattle.erd_canon.proofs.Common.{◌≡◌, ℕ, List, [], Some, None, Option, option_map, unwrap_or, refl, ap, ◌∙◌, Bor, found_of}
 use Rattle.clap.proofs.WalkLemmas.{first_value-rows}
 use Rattle.erd_canon.proofs.commands.words.file_name.Goals as goal
 

@@ -1,6 +1,4 @@
-use Rattle.std.proofs.Common.{◌≡◌, ◌∙◌, ap, sym, Option, List, ℕ, Some, option_map, codes}
-use Rattle.std.specs.Borrow.{Bor}
-use Rattle.clap.specs.Words.{first_of, found_of, rows_of}
+use Rattle.erd_canon.proofs.Common.{◌≡◌, ℕ, List, Some, codes, Option, option_map, sym, ap, ◌∙◌, Bor, found_of, first_of, rows_of}
 use Rattle.clap.proofs.WalkLemmas.{first_value-rows}
 use Rattle.erd_canon.proofs.commands.words.preference.Goals as goal
 

@@ -1,6 +1,4 @@
-use Rattle.std.proofs.Common.{string_bytes}
-use Rattle.std.proofs.lemmas.Result.{IfOk-weaker}
-use Rattle.std.specs.Option.{option_copied}
+use Rattle.erd_canon.proofs.Common.{string_bytes, option_copied, IfOk-weaker}
 use Rattle.erd_canon.proofs.data_values.DataTexts.{refused_check}
 use Rattle.erd_canon.proofs.data.check.check_data_with.Goals as goal
 

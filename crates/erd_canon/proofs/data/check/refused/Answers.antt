@@ -1,5 +1,4 @@
-use Rattle.std.proofs.Common.{string_bytes}
-use Rattle.std.proofs.lemmas.Str.{IsUtf8-string_bytes}
+use Rattle.erd_canon.proofs.Common.{string_bytes, IsUtf8-string_bytes}
 use Rattle.erd_canon.proofs.data_values.DataTexts.{refusal_answer}
 use Rattle.erd_canon.proofs.data.check.refused.Goals as goal
 

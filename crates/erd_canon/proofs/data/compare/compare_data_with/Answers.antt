@@ -1,11 +1,5 @@
-use Rattle.std.proofs.Common.{string_bytes, subst}
-use Rattle.std.proofs.lemmas.Result.{IfOk-weaker}
-use Rattle.std.proofs.lemmas.Str.{IsUtf8-string_bytes}
-use Rattle.std.specs.Option.{option_copied}
-use Rattle.serde_json.specs.View.{view}
+use Rattle.erd_canon.proofs.Common.{string_bytes, option_copied, subst, IfOk-weaker, IsUtf8-string_bytes, view, IsComparison, RefusedSide}
 use Rattle.erd_canon.proofs.data_values.DataTexts.{differ, left_refused, right_refused}
-use Rattle.erd_canon.specs.EngineTexts.{IsComparison}
-use Rattle.erd_canon.specs.Refused.{RefusedSide}
 use Rattle.erd_canon.proofs.data.compare.compare_data_with.Goals as goal
 
 pub returns-in_ok-to_string-in-Ok-Some : goal.returns-in_ok-to_string-in-Ok-Some

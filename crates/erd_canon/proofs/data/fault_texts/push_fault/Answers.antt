@@ -1,6 +1,4 @@
-use Rattle.std.proofs.Common.{◌≡◌, ◌∙◌, ◌++◌, ap, string_bytes}
-use Rattle.serde_json.specs.Written.{comma_if, compact_text, has_float}
-use Rattle.erd_canon.specs.DataValues.{fault_data}
+use Rattle.erd_canon.proofs.Common.{◌≡◌, ◌++◌, string_bytes, ap, ◌∙◌, has_float, comma_if, compact_text, fault_data}
 use Rattle.erd_canon.proofs.data_values.DataTrees.{fault_whole}
 use Rattle.erd_canon.proofs.data_values.DataTexts.{two_pieces}
 use Rattle.erd_canon.proofs.data.fault_texts.push_fault.Goals as goal

@@ -1,9 +1,4 @@
-use Rattle.std.proofs.Common.{◌≡◌, ◌++◌, map, string_bytes}
-use Rattle.std.specs.Slice.Iter.{iter_rest}
-use Rattle.serde_json.specs.View.{items_of}
-use Rattle.serde_json.specs.Written.{compact_text, items_text}
-use Rattle.erd_check.specs.Numbers.{ItemsHaveFittingNumbers}
-use Rattle.erd_canon.specs.DataValues.{fault_data, faults_data}
+use Rattle.erd_canon.proofs.Common.{◌≡◌, ◌++◌, map, string_bytes, iter_rest, items_of, compact_text, items_text, ItemsHaveFittingNumbers, fault_data, faults_data}
 use Rattle.erd_canon.proofs.data.fault_texts.push_faults.Given as goal
 
 abbrev pub invariant-loop-fault : goal.invariant-loop-fault

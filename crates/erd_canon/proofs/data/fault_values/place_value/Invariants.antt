@@ -1,8 +1,4 @@
-use Rattle.std.proofs.Common.{◌≡◌, ◌++◌, map}
-use Rattle.std.specs.Slice.Iter.{iter_rest}
-use Rattle.serde_json.specs.View.{items_of, view}
-use Rattle.erd_check.specs.Numbers.{ItemsHaveFittingNumbers}
-use Rattle.erd_canon.specs.DataValues.{step_data}
+use Rattle.erd_canon.proofs.Common.{◌≡◌, ◌++◌, map, iter_rest, items_of, view, ItemsHaveFittingNumbers, step_data}
 use Rattle.erd_canon.proofs.data.fault_values.place_value.Given as goal
 
 abbrev pub invariant-loop-step : goal.invariant-loop-step

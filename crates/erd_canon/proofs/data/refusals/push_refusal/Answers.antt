@@ -1,8 +1,4 @@
-use Rattle.std.proofs.Common.{codes, refl, string_bytes, subst, sym}
-use Rattle.serde_json.specs.Data.{string}
-use Rattle.erd_canon.specs.DataValues.{faults_data}
-use Rattle.erd_canon.specs.code.RefusalData.{AppendsRefusal}
-use Rattle.erd_canon.specs.declared.engines.outcome.Outcome.TheVariants.{Bad, NotJson}
+use Rattle.erd_canon.proofs.Common.{string_bytes, codes, sym, refl, subst, string, faults_data, AppendsRefusal, Bad, NotJson}
 use Rattle.erd_canon.proofs.data.refusals.push_refusal.Goals as goal
 
 pub returns-in_ok-push_faults-in-Faults : goal.returns-in_ok-push_faults-in-Faults

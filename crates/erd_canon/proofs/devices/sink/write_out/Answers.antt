@@ -1,4 +1,4 @@
-use Rattle.std.proofs.Common.{◌≡◌, ◌-◌, length, take, drop, ◌∙◌, arith}
+use Rattle.erd_canon.proofs.Common.{◌≡◌, ◌-◌, length, take, drop, ◌∙◌, arith}
 use Rattle.std.proofs.lemmas.Grind.{common_steps}
 use Rattle.erd_canon.proofs.runs.KnownBytes.{Appends-more}
 use Rattle.erd_canon.proofs.devices.sink.write_out.Goals as goal

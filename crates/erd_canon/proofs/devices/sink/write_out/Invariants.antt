@@ -1,5 +1,4 @@
-use Rattle.std.proofs.Common.{length, ◌-◌, ◌≡◌, take, ◌≤◌, false}
-use Rattle.std.specs.Io.KnownBytes.{Appends}
+use Rattle.erd_canon.proofs.Common.{◌≡◌, ◌-◌, ◌≤◌, false, length, take, Appends}
 use Rattle.erd_canon.proofs.devices.sink.write_out.Given as goal
 
 abbrev pub invariant-loop-at : goal.invariant-loop-at

@@ -1,4 +1,4 @@
-use Rattle.std.proofs.Common.{◌≡◌, ap, Err}
+use Rattle.erd_canon.proofs.Common.{◌≡◌, Err, ap}
 use Rattle.erd_canon.specs.declared.engines.outcome.RunFault.TheVariants.{TooLong}
 use Rattle.erd_canon.proofs.runs.KnownBytes.{Exceeds-more}
 use Rattle.erd_canon.proofs.devices.source.fill.Goals as goal

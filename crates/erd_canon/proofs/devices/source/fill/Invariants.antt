@@ -1,4 +1,4 @@
-use Rattle.std.proofs.Common.{◌-◌, length, vec_len}
+use Rattle.erd_canon.proofs.Common.{◌-◌, length, vec_len}
 use Rattle.erd_canon.specs.declared.devices.source.TheConstants.{MOST_BYTES}
 use Rattle.erd_canon.proofs.runs.KnownBytes.{IsFilled}
 use Rattle.erd_canon.proofs.devices.source.fill.Given as goal

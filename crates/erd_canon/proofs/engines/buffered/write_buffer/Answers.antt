@@ -1,5 +1,4 @@
-use Rattle.std.proofs.Common.{subst}
-use Rattle.erd_canon.specs.Writing.{IsPartWritten}
+use Rattle.erd_canon.proofs.Common.{subst, IsPartWritten}
 use Rattle.erd_canon.proofs.runs.Moving.{IsFrontMoved-part, on_err}
 use Rattle.erd_canon.proofs.engines.buffered.write_buffer.Goals as goal
 

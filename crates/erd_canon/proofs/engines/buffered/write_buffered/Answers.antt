@@ -1,7 +1,4 @@
-use Rattle.std.proofs.Common.{◌≡◌, ◌++◌, subst}
-use Rattle.std.specs.Result.{OnErr, OnOk}
-use Rattle.std.proofs.lemmas.Result.{on_err_weaker, on_ok_weaker}
-use Rattle.erd_canon.specs.code.Pending.{IsFrontMoved, IsMoved}
+use Rattle.erd_canon.proofs.Common.{◌≡◌, ◌++◌, OnOk, OnErr, subst, on_ok_weaker, on_err_weaker, IsFrontMoved, IsMoved}
 use Rattle.erd_canon.proofs.runs.Moving.{IsFrontMoved-behind, IsFrontMoved-trans, IsMoved-behind, IsMoved-trans, on_err}
 use Rattle.erd_canon.proofs.engines.buffered.write_buffered.Goals as goal
 

@@ -1,7 +1,4 @@
-use Rattle.std.specs.Option.{option_copied}
-use Rattle.std.proofs.Common.{◌≤◌, Err, ap, subst}
-use Rattle.erd_canon.specs.Reading.{IsReadWhole}
-use Rattle.erd_canon.specs.Limits.{most_bytes}
+use Rattle.erd_canon.proofs.Common.{◌≤◌, Err, option_copied, ap, subst, most_bytes, IsReadWhole}
 use Rattle.erd_canon.proofs.runs.CheckTexts.{told_of_run}
 use Rattle.erd_canon.proofs.runs.PartTexts.{not_of_fault}
 use Rattle.erd_canon.proofs.engines.canon.run_canon_disposing.Goals as goal

@@ -1,9 +1,4 @@
-use Rattle.std.proofs.Common.{subst, sym, ◌∙◌, [], ◌∷◌, map, codes, inl, inr, refl}
-use Rattle.std.specs.Option.{option_copied}
-use Rattle.erd_tables.specs.Faults.{fault_line}
-use Rattle.erd_canon.specs.Bytes.{IsCanonicalBytes}
-use Rattle.erd_canon.specs.EngineTexts.{text_of_lines}
-use Rattle.erd_canon.specs.Refused.{RefusedAs}
+use Rattle.erd_canon.proofs.Common.{[], ◌∷◌, map, codes, option_copied, sym, refl, ◌∙◌, subst, inl, inr, fault_line, IsCanonicalBytes, text_of_lines, RefusedAs}
 use Rattle.erd_canon.proofs.runs.CheckTexts.{faults_written}
 use Rattle.erd_canon.proofs.runs.PartTexts.{part_of_faults, part_of_form, part_of_not_json}
 use Rattle.erd_canon.proofs.engines.canon.write_answer.Goals as goal

@@ -1,7 +1,4 @@
-use Rattle.std.specs.Option.{option_copied}
-use Rattle.std.proofs.Common.{◌≤◌, subst}
-use Rattle.erd_canon.specs.Reading.{IsReadWhole}
-use Rattle.erd_canon.specs.Limits.{most_bytes}
+use Rattle.erd_canon.proofs.Common.{◌≤◌, option_copied, subst, most_bytes, IsReadWhole}
 use Rattle.erd_canon.proofs.runs.CheckTexts.{told_of_check}
 use Rattle.erd_canon.proofs.engines.check.run_check_disposing.Goals as goal
 

@@ -1,8 +1,4 @@
-use Rattle.std.specs.Option.{option_copied}
-use Rattle.std.proofs.Common.{map, refl, subst}
-use Rattle.erd_tables.specs.Faults.{fault_line}
-use Rattle.erd_canon.specs.EngineTexts.{text_of_lines}
-use Rattle.erd_canon.specs.Refused.{RefusedAs}
+use Rattle.erd_canon.proofs.Common.{map, option_copied, refl, subst, fault_line, text_of_lines, RefusedAs}
 use Rattle.erd_canon.proofs.runs.CheckTexts.{check_faults_written}
 use Rattle.erd_canon.proofs.engines.check.write_checked.Goals as goal
 

@@ -1,8 +1,5 @@
-use Rattle.std.specs.Option.{option_copied}
-use Rattle.std.proofs.Common.{◌∙◌, subst}
+use Rattle.erd_canon.proofs.Common.{option_copied, ◌∙◌, subst, IsComparison, RefusedSide}
 use Rattle.erd_canon.proofs.runs.Comparisons.{difference_written, left_refusal_written, right_refusal_written}
-use Rattle.erd_canon.specs.EngineTexts.{IsComparison}
-use Rattle.erd_canon.specs.Refused.{RefusedSide}
 use Rattle.erd_canon.proofs.engines.compare.write_compared.Goals as goal
 
 pub returns-in-Ok-clause-written : goal.returns-in-Ok-clause-written

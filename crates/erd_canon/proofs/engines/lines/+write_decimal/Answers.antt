@@ -1,4 +1,4 @@
-use Rattle.std.proofs.Common.{◌++◌, ◌/◌, ◌%◌, decimal}
+use Rattle.erd_canon.proofs.Common.{◌/◌, ◌%◌, ◌++◌, decimal}
 use Rattle.erd_canon.proofs.runs.Decimals.{decimal_split}
 use Rattle.erd_canon.proofs.runs.Moving.{IsFrontMoved-first, IsMoved-first, last_moved, last_part, on_err}
 use Rattle.erd_canon.proofs.engines.lines.+write_decimal.Goals as goal

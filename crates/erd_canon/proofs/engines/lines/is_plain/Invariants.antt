@@ -1,5 +1,4 @@
-use Rattle.std.proofs.Common.{◌≡◌, drop}
-use Rattle.erd_tables.specs.Places.{escaped_name}
+use Rattle.erd_canon.proofs.Common.{◌≡◌, drop, escaped_name}
 use Rattle.erd_canon.proofs.engines.lines.is_plain.Given as goal
 
 abbrev pub invariant-loop-byte : goal.invariant-loop-byte

@@ -1,7 +1,5 @@
-use Rattle.std.proofs.Common.{◌++◌, subst, sym}
-use Rattle.std.specs.Result.{OnErr, OnOk}
+use Rattle.erd_canon.proofs.Common.{◌++◌, OnOk, OnErr, sym, subst, IsFrontMoved, IsMoved}
 use Rattle.std.proofs.lemmas.Fmt.{decimal_digit}
-use Rattle.erd_canon.specs.code.Pending.{IsFrontMoved, IsMoved}
 use Rattle.erd_canon.proofs.engines.lines.write_digit.Goals as goal
 
 pub returns-clause-moved : goal.returns-clause-moved

@@ -1,7 +1,4 @@
-use Rattle.std.proofs.Common.{◌≡◌, ◌++◌, [], ◌∷◌, map, ap, ◌∙◌, rules}
-use Rattle.std.specs.Slice.Iter.{iter_rest}
-use Rattle.erd_tables.specs.Faults.{fault_line}
-use Rattle.erd_canon.specs.EngineTexts.{lines_of_side, text_of_lines}
+use Rattle.erd_canon.proofs.Common.{◌≡◌, [], ◌∷◌, ◌++◌, map, ap, ◌∙◌, rules, iter_rest, fault_line, text_of_lines, lines_of_side}
 use Rattle.erd_canon.proofs.runs.Moving.{IsFrontMoved-more, IsMoved-more, on_err}
 use Rattle.erd_canon.proofs.engines.lines.write_each.Goals as goal
 

@@ -1,8 +1,4 @@
-use Rattle.std.proofs.Common.{◌≡◌, ◌++◌, false, map}
-use Rattle.std.specs.Slice.Iter.{iter_rest}
-use Rattle.erd_tables.specs.Faults.{fault_line}
-use Rattle.erd_canon.specs.EngineTexts.{lines_of_side, text_of_lines}
-use Rattle.erd_canon.specs.code.Pending.{IsMoved}
+use Rattle.erd_canon.proofs.Common.{◌≡◌, false, ◌++◌, map, iter_rest, fault_line, text_of_lines, lines_of_side, IsMoved}
 use Rattle.erd_canon.proofs.engines.lines.write_each.Given as goal
 
 abbrev pub invariant-loop-fault : goal.invariant-loop-fault

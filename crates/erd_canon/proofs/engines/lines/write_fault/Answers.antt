@@ -1,6 +1,4 @@
-use Rattle.std.proofs.Common.{◌++◌, codes, refl}
-use Rattle.erd_tables.specs.Faults.{fault_line, reason_text}
-use Rattle.erd_tables.specs.Places.{pointer_text}
+use Rattle.erd_canon.proofs.Common.{◌++◌, codes, refl, reason_text, fault_line, pointer_text}
 use Rattle.erd_canon.proofs.runs.Moving.{IsFrontMoved-first, IsFrontMoved-more, IsMoved-first, IsMoved-more, last_moved, last_part, on_err}
 use Rattle.erd_canon.proofs.engines.lines.write_fault.Goals as goal
 

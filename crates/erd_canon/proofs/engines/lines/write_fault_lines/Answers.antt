@@ -1,9 +1,4 @@
-use Rattle.std.proofs.Common.{map, subst}
-use Rattle.std.specs.Io.KnownBytes.{Appends}
-use Rattle.std.specs.Result.{OnOk}
-use Rattle.erd_tables.specs.Faults.{fault_line}
-use Rattle.erd_canon.specs.EngineTexts.{text_of_lines}
-use Rattle.erd_canon.specs.Writing.{IsPartWritten}
+use Rattle.erd_canon.proofs.Common.{map, OnOk, subst, Appends, fault_line, text_of_lines, IsPartWritten}
 use Rattle.erd_canon.proofs.runs.FaultText.{no_side}
 use Rattle.erd_canon.proofs.engines.lines.write_fault_lines.Goals as goal
 

@@ -1,5 +1,4 @@
-use Rattle.std.proofs.Common.{◌++◌, [], ◌∷◌, append_assoc, refl}
-use Rattle.erd_tables.specs.Faults.{fault_line}
+use Rattle.erd_canon.proofs.Common.{[], ◌∷◌, ◌++◌, refl, append_assoc, fault_line}
 use Rattle.erd_canon.proofs.runs.Moving.{IsFrontMoved-first, IsFrontMoved-more, IsMoved-first, IsMoved-more, last_moved, last_part, on_err}
 use Rattle.erd_canon.proofs.engines.lines.write_line.Goals as goal
 

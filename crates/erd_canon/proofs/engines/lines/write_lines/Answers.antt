@@ -1,7 +1,4 @@
-use Rattle.std.proofs.Common.{◌≡◌, ◌++◌, [], map, rules, subst}
-use Rattle.erd_tables.specs.Faults.{fault_line}
-use Rattle.erd_canon.specs.EngineTexts.{lines_of_side, text_of_lines}
-use Rattle.erd_canon.specs.code.Pending.{IsMoved}
+use Rattle.erd_canon.proofs.Common.{◌≡◌, [], ◌++◌, map, subst, rules, fault_line, text_of_lines, lines_of_side, IsMoved}
 use Rattle.erd_canon.proofs.runs.Moving.{IsPartWritten-moved, part_of_last}
 use Rattle.erd_canon.proofs.engines.lines.write_lines.Goals as goal
 

@@ -1,6 +1,4 @@
-use Rattle.std.proofs.Common.{◌≡◌, ◌++◌, false, drop}
-use Rattle.erd_tables.specs.Places.{escaped_name}
-use Rattle.erd_canon.specs.code.Pending.{IsMoved}
+use Rattle.erd_canon.proofs.Common.{◌≡◌, false, ◌++◌, drop, escaped_name, IsMoved}
 use Rattle.erd_canon.proofs.engines.lines.write_name.Given as goal
 
 abbrev pub invariant-loop-byte : goal.invariant-loop-byte

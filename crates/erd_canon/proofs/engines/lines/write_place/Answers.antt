@@ -1,6 +1,4 @@
-use Rattle.std.proofs.Common.{◌≡◌, ◌++◌, ◌∷◌, ap, ◌∙◌, codes, rules}
-use Rattle.std.specs.Slice.Iter.{iter_rest}
-use Rattle.erd_tables.specs.Places.{pointer_text, step_text}
+use Rattle.erd_canon.proofs.Common.{◌≡◌, ◌∷◌, ◌++◌, codes, ap, ◌∙◌, rules, iter_rest, step_text, pointer_text}
 use Rattle.erd_canon.proofs.runs.Moving.{IsFrontMoved-more, IsMoved-more, on_err}
 use Rattle.erd_canon.proofs.engines.lines.write_place.Goals as goal
 

@@ -1,7 +1,4 @@
-use Rattle.std.proofs.Common.{◌≡◌, ◌++◌, false}
-use Rattle.std.specs.Slice.Iter.{iter_rest}
-use Rattle.erd_tables.specs.Places.{pointer_text}
-use Rattle.erd_canon.specs.code.Pending.{IsMoved}
+use Rattle.erd_canon.proofs.Common.{◌≡◌, false, ◌++◌, iter_rest, pointer_text, IsMoved}
 use Rattle.erd_canon.proofs.engines.lines.write_place.Given as goal
 
 abbrev pub invariant-loop-step : goal.invariant-loop-step

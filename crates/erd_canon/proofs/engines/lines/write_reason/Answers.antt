@@ -1,5 +1,4 @@
-use Rattle.std.proofs.Common.{◌++◌, sym, ap, ◌∙◌}
-use Rattle.erd_tables.specs.Faults.{missing_name, reason_text}
+use Rattle.erd_canon.proofs.Common.{◌++◌, sym, ap, ◌∙◌, missing_name, reason_text}
 use Rattle.erd_canon.proofs.runs.Moving.{IsFrontMoved-first, IsMoved-first, last_moved, last_part, on_err}
 use Rattle.erd_canon.proofs.engines.lines.write_reason.Goals as goal
 

@@ -1,5 +1,4 @@
-use Rattle.std.proofs.Common.{◌≡◌, ◌++◌, decimal, [], ◌∷◌, ap, refl, rules}
-use Rattle.erd_tables.specs.Places.{escaped_name, step_text}
+use Rattle.erd_canon.proofs.Common.{◌≡◌, [], ◌∷◌, ◌++◌, decimal, refl, ap, rules, escaped_name, step_text}
 use Rattle.erd_canon.proofs.runs.Moving.{IsFrontMoved-first, IsMoved-first, last_moved, last_part, on_err}
 use Rattle.erd_canon.proofs.engines.lines.write_step.Goals as goal
 

@@ -1,5 +1,4 @@
-use Rattle.serde_json.specs.View.{items_view, view}
-use Rattle.erd_check.specs.code.Walk.{reasons}
+use Rattle.erd_check.proofs.Common.{view, items_view, reasons}
 use Rattle.erd_check.proofs.TwoWalks.{entries_silent}
 use Rattle.erd_check.proofs.joined_walk.ShapeWithVisitor.passes_over.Goals as goal
 

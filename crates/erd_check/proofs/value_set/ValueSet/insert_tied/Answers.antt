@@ -1,5 +1,4 @@
-use Rattle.std.proofs.Common.{sym, ◌∙◌}
-use Rattle.serde_json.specs.View.{view}
+use Rattle.erd_check.proofs.Common.{sym, ◌∙◌, view}
 use Rattle.erd_check.proofs.ValueSets.{new_untied, one_more}
 use Rattle.erd_check.proofs.value_set.ValueSet.insert_tied.Goals as goal
 

@@ -1,6 +1,4 @@
-use Rattle.std.proofs.Common.{map, take}
-use Rattle.serde_json.specs.View.{view}
-use Rattle.erd_check.specs.ValueSets.{StandsFor}
+use Rattle.erd_check.proofs.Common.{map, take, view, StandsFor}
 use Rattle.erd_check.proofs.value_set.ValueSet.of.Given as goal
 
 abbrev pub invariant-loop-value : goal.invariant-loop-value

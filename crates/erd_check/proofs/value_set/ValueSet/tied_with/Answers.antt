@@ -1,8 +1,5 @@
-use Rattle.std.proofs.Common.{map, sym, ap, ◌∙◌}
-use Rattle.std.specs.List.{list_any}
+use Rattle.erd_check.proofs.Common.{map, sym, ap, ◌∙◌, list_any, view, is_same_json}
 use Rattle.std.proofs.Math.Bool.{or-false}
-use Rattle.serde_json.specs.View.{view}
-use Rattle.erd_check.specs.Trees.{is_same_json}
 use Rattle.erd_check.proofs.ValueSets.{none_tied, one_tied}
 use Rattle.erd_check.proofs.value_set.ValueSet.tied_with.Goals as goal
 

@@ -1,6 +1,5 @@
-use Rattle.std.proofs.Common.{◌∙◌, subst}
+use Rattle.erd_compare.proofs.Common.{◌∙◌, subst, AreCommonRanks}
 use Rattle.erd_compare.specs.code.Compared.{Compared}
-use Rattle.erd_compare.specs.code.CommonRanks.{AreCommonRanks}
 use Rattle.erd_compare.proofs.comparer.Comparer.common_ranks.Goals as goal
 
 pub returns : goal.returns

@@ -1,10 +1,5 @@
-use Rattle.std.proofs.Common.{Some, ◌≡◌, ◌∙◌, option_map, refl, subst}
-use Rattle.serde_json.specs.View.{view}
-use Rattle.erd_meaning.specs.Judged.{Judged}
-use Rattle.erd_meaning.specs.code.KeyOrders.{rank_in_keys}
+use Rattle.erd_compare.proofs.Common.{◌≡◌, Some, option_map, refl, ◌∙◌, subst, view, Judged, rank_in_keys, keys_in_role, key_in_role, on_side, AreCommonByRank}
 use Rattle.erd_compare.specs.code.Compared.{Compared}
-use Rattle.erd_compare.specs.code.KeyedDifferences.{key_in_role, keys_in_role}
-use Rattle.erd_compare.specs.code.RankedSides.{AreCommonByRank, on_side}
 use Rattle.erd_compare.proofs.same_ranks.NamedRanks.{rank_found}
 use Rattle.erd_compare.proofs.comparer.Comparer.rank_at.Goals as goal
 

@@ -1,13 +1,4 @@
-use Rattle.std.proofs.Common.{Option, sym, ap, ap₂, ◌∙◌, option_map, subst}
-use Rattle.std.specs.List.{slice_get}
-use Rattle.std.proofs.lemmas.Result.{IfOk-weaker}
-use Rattle.serde_json.specs.View.{view}
-use Rattle.erd_meaning.specs.Judged.{Judged}
-use Rattle.erd_meaning.specs.Records.{object_record}
-use Rattle.erd_meaning.specs.declared.keys.key.Key.{Key}
-use Rattle.erd_compare.specs.code.Comparing.{Decides, TellsHow}
-use Rattle.erd_compare.specs.code.HeldDifferences.{TellsHeld}
-use Rattle.erd_compare.specs.code.KeyedDifferences.{TellsAtPositions, holder_key_in, objects_in, role_of_part}
+use Rattle.erd_compare.proofs.Common.{slice_get, Option, option_map, sym, ap, ◌∙◌, subst, ap₂, IfOk-weaker, view, Judged, object_record, Key, Decides, TellsHow, TellsHeld, role_of_part, objects_in, holder_key_in, TellsAtPositions}
 use Rattle.erd_compare.proofs.least_difference.KeyedRecords.{records_here, whole_here}
 use Rattle.erd_compare.proofs.first.tables.difference_at.Goals as goal
 

@@ -1,7 +1,4 @@
-use Rattle.std.proofs.Common.{slice_get, sym, ap₂, ◌∙◌, subst, arith}
-use Rattle.serde_json.specs.View.{view}
-use Rattle.erd_meaning.specs.Judged.{Judged}
-use Rattle.erd_compare.specs.code.KeyedDifferences.{TellsAtPositions, TellsNext, key_in_role, rising_in_role}
+use Rattle.erd_compare.proofs.Common.{slice_get, sym, ◌∙◌, subst, ap₂, arith, view, Judged, key_in_role, rising_in_role, TellsAtPositions, TellsNext}
 use Rattle.erd_compare.proofs.least_difference.KeyWalks.{both_rising}
 use Rattle.erd_compare.proofs.least_difference.WalksByRank.{differ_there, low_there, none_there, same_there}
 use Rattle.erd_compare.proofs.first.tables.least_difference.Goals as goal

@@ -1,6 +1,4 @@
-use Rattle.std.proofs.Common.{◌-◌, drop, length}
-use Rattle.serde_json.specs.View.{view}
-use Rattle.erd_compare.specs.code.KeyedDifferences.{role_of_part}
+use Rattle.erd_compare.proofs.Common.{◌-◌, length, drop, view, role_of_part}
 use Rattle.erd_compare.proofs.least_difference.KeyWalks.{AreLeft}
 use Rattle.erd_compare.proofs.least_difference.RisingKeys.{entries}
 use Rattle.erd_compare.proofs.first.tables.least_difference.Given as goal

@@ -1,9 +1,4 @@
-use Rattle.std.proofs.Common.{◌∙◌, ap₂, subst}
-use Rattle.serde_json.specs.View.{view}
-use Rattle.erd_meaning.specs.Judged.{Judged}
-use Rattle.erd_meaning.specs.code.KeyOrders.{rising_positions}
-use Rattle.erd_compare.specs.code.CommonRanks.{AreCommonRanks}
-use Rattle.erd_compare.specs.code.KeyedDifferences.{keys_in_role}
+use Rattle.erd_compare.proofs.Common.{◌∙◌, subst, ap₂, view, Judged, rising_positions, AreCommonRanks, keys_in_role}
 use Rattle.erd_compare.proofs.first.tables.rising_in.Goals as goal
 
 pub returns : goal.returns

@@ -1,10 +1,9 @@
 -- With one key the objects differ as they do by themselves. With two they differ at `ElectionId`, unless a difference comes
 -- before.
-use Rattle.std.proofs.Common.{Some, true≢false, sym, ◌∙◌, subst}
-use Rattle.erd_compare.specs.code.HeldDifferences.{TellsHeld}
+use Rattle.erd_compare.proofs.Common.{Some, sym, ◌∙◌, subst, true≢false, TellsHeld}
 use Rattle.erd_compare.proofs.least_difference.HeldRecords.{told_at_election, told_before, told_of_one}
-use Rattle.erd_compare.proofs.objects.held.held_difference.Goals as goal
 use Rattle.erd_compare.proofs.objects.held.held_difference.Goals.{then-is_same_holder-via-then-is_same_holder, then-is_same_holder-via-else-is_same_holder+then-is_before_election}
+use Rattle.erd_compare.proofs.objects.held.held_difference.Goals as goal
 
 pub returns-then-is_same_holder : goal.returns-then-is_same_holder
 returns-then-is_same_holder c k l decides = elim c.then-is_same_holder.branch [

@@ -1,10 +1,6 @@
-use Rattle.std.proofs.Common.{◌+◌, ◌<◌, length, Bool, Some, None, Ok, true, false, sym, subst}
-use Rattle.serde_json.specs.View.{members_view, view}
-use Rattle.erd_check.specs.Values.{names}
-use Rattle.erd_compare.specs.code.NamesInStep.{AreMembersOf, names_left, names_past}
+use Rattle.erd_compare.proofs.Common.{◌+◌, ◌<◌, Bool, true, false, length, Some, None, Ok, sym, subst, view, members_view, names, names_left, names_past, AreMembersOf, MemberPair}
 use Rattle.erd_compare.proofs.least_difference.NameWalks.{all_members, firsts_left}
 use Rattle.erd_compare.proofs.least_difference.PairWalks.{AreLeft, all_left, differ, equal, fewer, passed}
-use Rattle.erd_compare.specs.declared.objects.least_name.MemberPair.{MemberPair}
 use Rattle.erd_compare.proofs.objects.least_name.least_differing_name.Goals as goal
 
 pub loop-name-init : goal.loop-name-init

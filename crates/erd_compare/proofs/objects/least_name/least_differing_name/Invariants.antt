@@ -1,7 +1,5 @@
-use Rattle.std.proofs.Common.{◌+◌, length}
+use Rattle.erd_compare.proofs.Common.{◌+◌, length, view, members_left, names_left, AreMembersOf}
 use Rattle.std.specs.declared.result.Result.TheVariants.{Ok}
-use Rattle.serde_json.specs.View.{view}
-use Rattle.erd_compare.specs.code.NamesInStep.{AreMembersOf, members_left, names_left}
 use Rattle.erd_compare.proofs.least_difference.PairWalks.{AreLeft}
 use Rattle.erd_compare.proofs.objects.least_name.least_differing_name.Given as goal
 

@@ -1,4 +1,4 @@
-use Rattle.serde_json.specs.View.{view}
+use Rattle.erd_compare.proofs.Common.{view}
 use Rattle.erd_compare.proofs.whole_trees.WholeTrees.{whole_values-entries_of}
 use Rattle.erd_compare.proofs.objects.plain_members.is_same_array.Goals as goal
 

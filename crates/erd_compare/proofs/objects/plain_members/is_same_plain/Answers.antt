@@ -1,5 +1,4 @@
-use Rattle.std.proofs.Common.{sym}
-use Rattle.serde_json.specs.View.{view}
+use Rattle.erd_compare.proofs.Common.{sym, view}
 use Rattle.erd_compare.proofs.same_values.MeantValues.{meant-Decide}
 use Rattle.erd_compare.proofs.objects.plain_members.is_same_plain.Goals as goal
 

@@ -1,5 +1,4 @@
-use Rattle.std.proofs.Common.{subst, sym}
-use Rattle.erd_compare.specs.code.Comparing.{NamesKeys}
+use Rattle.erd_compare.proofs.Common.{sym, subst, NamesKeys}
 use Rattle.erd_compare.proofs.same_values.MeantValues.{member_keyed}
 use Rattle.erd_compare.proofs.objects.plain_members.is_same_plain_member.Goals as goal
 

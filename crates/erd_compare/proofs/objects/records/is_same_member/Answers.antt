@@ -1,13 +1,5 @@
 -- Members that are no selections mean what they do by themselves.
-use Rattle.std.proofs.Common.{Bor, option_map, sym, ap, ◌∙◌}
-use Rattle.std.proofs.lemmas.Result.{IfOk-weaker}
-use Rattle.serde_json.specs.View.{view}
-use Rattle.serde_json.specs.declared.value.Value.{Value}
-use Rattle.erd_tables.specs.Table.{kind_of_member}
-use Rattle.erd_meaning.specs.Records.{member_value}
-use Rattle.erd_compare.specs.code.Comparing.{Decides}
-use Rattle.erd_compare.specs.code.PlainParts.{plain_found}
-use Rattle.erd_compare.specs.code.SelectionMembers.{is_selections}
+use Rattle.erd_compare.proofs.Common.{option_map, sym, ap, ◌∙◌, Bor, IfOk-weaker, view, Value, kind_of_member, member_value, Decides, plain_found, is_selections}
 use Rattle.erd_compare.proofs.same_selections.MemberValues.{other_kind-Decides}
 use Rattle.erd_compare.proofs.objects.records.is_same_member.Goals as goal
 

@@ -1,9 +1,5 @@
 -- The name that was found is the least at which the objects differ.
-use Rattle.std.proofs.Common.{Some, option_map, ap, rules, subst, sym}
-use Rattle.serde_json.specs.View.{view}
-use Rattle.erd_meaning.specs.Records.{member_of_class}
-use Rattle.erd_compare.specs.code.Comparing.{TellsHow}
-use Rattle.erd_compare.specs.code.LeastNames.{MemberMap, TellsLeastName, record_of_class}
+use Rattle.erd_compare.proofs.Common.{Some, option_map, sym, ap, subst, rules, view, member_of_class, TellsHow, MemberMap, record_of_class, TellsLeastName}
 use Rattle.erd_compare.proofs.least_difference.NameWalks.{member_told}
 use Rattle.erd_compare.proofs.least_difference.PairWalks.{members_told}
 use Rattle.erd_compare.proofs.objects.records.member_difference.Goals as goal

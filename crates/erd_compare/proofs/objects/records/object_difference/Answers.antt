@@ -1,12 +1,5 @@
-use Rattle.std.proofs.Common.{◌≡◌, Some, option_map, sym, ap, ◌∙◌, subst, rules}
-use Rattle.std.proofs.lemmas.Result.{IfOk-weaker}
-use Rattle.serde_json.specs.View.{view}
-use Rattle.erd_tables.specs.Classes.{role_of_class}
+use Rattle.erd_compare.proofs.Common.{◌≡◌, Some, option_map, sym, ap, ◌∙◌, subst, rules, IfOk-weaker, view, role_of_class, object_record, TellsHow, record_of_class, IsPlaced}
 use Rattle.erd_meaning.proofs.meanings.SelectionKinds.{class_role}
-use Rattle.erd_meaning.specs.Records.{object_record}
-use Rattle.erd_compare.specs.code.Comparing.{TellsHow}
-use Rattle.erd_compare.specs.code.LeastNames.{record_of_class}
-use Rattle.erd_compare.specs.code.PlacedObjects.{IsPlaced}
 use Rattle.erd_compare.proofs.objects.records.object_difference.Goals as goal
 
 pub returns-then-eq : goal.returns-then-eq

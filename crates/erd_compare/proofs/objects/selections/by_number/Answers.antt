@@ -1,20 +1,9 @@
-use Rattle.std.proofs.Common.{◌≡◌, ◌<◌, ◌+◌, ℕ, List, ◌∷◌, drop, get_or, length, map, Some, option_and_then, option_map, slice_get, refl, sym, ap, ◌∙◌, subst, arith}
-use Rattle.std.proofs.lemmas.List.{drop_all, drop_more}
-use Rattle.std.proofs.lemmas.Option.{slice_get-map, slice_get_read, slice_get_within}
-use Rattle.serde_json.specs.View.{view}
-use Rattle.serde_json.specs.declared.value.Value.{Value}
-use Rattle.erd_tables.specs.declared.class.Family.TheVariants as family
-use Rattle.erd_meaning.specs.Judged.{Judged}
-use Rattle.erd_meaning.specs.Lookups.{selections_before}
+use Rattle.erd_compare.proofs.Common.{◌≡◌, ℕ, ◌+◌, ◌<◌, List, ◌∷◌, map, length, get_or, drop, slice_get, Some, option_map, option_and_then, sym, refl, ap, ◌∙◌, subst, arith, drop_more, drop_all, slice_get-map, slice_get_within, slice_get_read, view, Value, family, Judged, selections_before, Placed, objects, number_of_selection, AreSelectionsIn, on_side}
 use Rattle.erd_meaning.proofs.selections.ContestSelections.{stand_from_start}
-use Rattle.erd_meaning.specs.Objects.{Placed, objects}
-use Rattle.erd_compare.specs.code.CommonNames.{number_of_selection}
-use Rattle.erd_compare.specs.code.PlacedObjects.{AreSelectionsIn}
-use Rattle.erd_compare.specs.code.RankedSides.{on_side}
 use Rattle.erd_compare.proofs.same_selections.PlacedSelections.{stands_after}
 use Rattle.erd_compare.proofs.same_selections.NameMaps.{IsFilling, all_put, named_before, named_first, none_put, unnamed}
-use Rattle.erd_compare.proofs.objects.selections.by_number.Goals as goal
 use Rattle.erd_compare.proofs.objects.selections.by_number.Goals.{in-Some+then-not-contains_key+in_ok-insert, in-Some+else-not-contains_key, in_default}
+use Rattle.erd_compare.proofs.objects.selections.by_number.Goals as goal
 
 -- the selection that stands so far after the first one of its contest
 stands_here : (j : Judged) (contest start i : ℕ) (all : List Value) (v : Value) → AreSelectionsIn j contest (map view all) → start ≡ selections_before (view j.tree) contest → i < length all → v ≡ get_or all i v

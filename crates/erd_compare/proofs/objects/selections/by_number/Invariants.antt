@@ -1,4 +1,4 @@
-use Rattle.std.proofs.Common.{drop}
+use Rattle.erd_compare.proofs.Common.{drop}
 use Rattle.erd_compare.proofs.same_selections.NameMaps.{IsFilling}
 use Rattle.erd_compare.proofs.objects.selections.by_number.Given as goal
 

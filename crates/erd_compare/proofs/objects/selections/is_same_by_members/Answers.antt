@@ -1,13 +1,4 @@
-use Rattle.std.proofs.Common.{◌≡◌, Bor, Bool, true, false, not, is_some, List, ℕ, Option, Some, None, option_map, refl, ap, subst, rules}
-use Rattle.serde_json.specs.Data.{Data}
-use Rattle.serde_json.specs.Find.{get}
-use Rattle.serde_json.specs.View.{view}
-use Rattle.serde_json.specs.declared.value.Value.{Value}
-use Rattle.erd_meaning.specs.Meaning.{PlainValue, a_plain}
-use Rattle.erd_meaning.specs.Records.{plain_member}
-use Rattle.erd_meaning.proofs.meanings.WholeRecords.{absent_plain}
-use Rattle.erd_compare.specs.code.Comparing.{Decides}
-use Rattle.erd_compare.specs.code.PlainParts.{plain_found}
+use Rattle.erd_compare.proofs.Common.{◌≡◌, ℕ, Bool, true, false, not, List, is_some, Some, None, Option, option_map, refl, ap, subst, Bor, rules, Data, get, view, Value, absent_plain, PlainValue, a_plain, plain_member, Decides, plain_found}
 use Rattle.erd_compare.proofs.least_difference.NameWalks.{found-Decides}
 use Rattle.erd_compare.proofs.same_selections.MemberValues.{plain-Decides, plain_maps-Decide}
 use Rattle.erd_compare.proofs.objects.selections.is_same_by_members.Goals as goal

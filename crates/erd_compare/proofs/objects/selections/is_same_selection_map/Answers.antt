@@ -1,7 +1,4 @@
-use Rattle.std.proofs.Common.{map, false, true≢false, sym, ◌∙◌, subst}
-use Rattle.serde_json.specs.View.{view}
-use Rattle.erd_compare.specs.code.SelectionsByName.{numbered_map}
-use Rattle.erd_compare.specs.declared.ranks.side.Side.TheVariants.{Left, Right}
+use Rattle.erd_compare.proofs.Common.{false, map, sym, ◌∙◌, subst, true≢false, view, numbered_map, Left, Right}
 use Rattle.erd_compare.proofs.same_ranks.NumberedSelections.{maps_decide}
 use Rattle.erd_compare.proofs.same_selections.PlacedSelections.{contest_named}
 use Rattle.erd_compare.proofs.same_selections.SelectionWalks.{AreSelectionsLeft, Entry, both_maps, both_passed, decided_not, differ, ended, left_alone, own_left, own_right, whole_at}

@@ -1,5 +1,4 @@
-use Rattle.std.proofs.Common.{map}
-use Rattle.serde_json.specs.View.{view}
+use Rattle.erd_compare.proofs.Common.{map, view}
 use Rattle.erd_compare.proofs.same_selections.SelectionWalks.{AreSelectionsLeft}
 use Rattle.erd_compare.proofs.objects.selections.is_same_selection_map.Given as goal
 

@@ -1,8 +1,5 @@
 -- The maps of the entries are the same.
-use Rattle.std.proofs.Common.{Option, sym, ap, ◌∙◌, option_map, Bor}
-use Rattle.serde_json.specs.Data.{Data}
-use Rattle.serde_json.specs.View.{view}
-use Rattle.serde_json.specs.declared.value.Value.{Value}
+use Rattle.erd_compare.proofs.Common.{Option, option_map, sym, ap, ◌∙◌, Bor, Data, view, Value}
 use Rattle.erd_compare.proofs.same_selections.MemberValues.{filled-there, selections-Decide, whole_filled}
 use Rattle.erd_compare.proofs.same_selections.PlacedSelections.{selections_in}
 use Rattle.erd_compare.proofs.whole_trees.WholeTrees.{whole_values-entries_of}

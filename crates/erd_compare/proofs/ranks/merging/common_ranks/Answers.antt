@@ -1,15 +1,4 @@
-use Rattle.std.proofs.Common.{◌≡◌, ◌+◌, ◌<◌, ◌≤◌, ◌∷◌, [], ◌++◌, length, Some, Less, Equal, slice_get, sym, ap, ◌∙◌, subst, arith}
-use Rattle.std.proofs.lemmas.List.{length-map}
-use Rattle.std.proofs.lemmas.Option.{slice_get_within}
-use Rattle.serde_json.specs.Data.{Data}
-use Rattle.serde_json.specs.View.{view}
-use Rattle.erd_tables.specs.declared.class.Role.{Role}
-use Rattle.erd_meaning.specs.Keys.{Preference}
-use Rattle.erd_meaning.specs.code.KeyOrders.{rising_positions}
-use Rattle.erd_meaning.proofs.finding.OneObject.{at_low}
-use Rattle.erd_meaning.proofs.selections.PositionedKeys.{KeyPosition}
-use Rattle.erd_compare.specs.code.CommonRanks.{next_cmp}
-use Rattle.erd_compare.specs.code.KeyedDifferences.{keys_in_role, rising_in_role}
+use Rattle.erd_compare.proofs.Common.{◌≡◌, ◌+◌, ◌<◌, ◌≤◌, [], ◌∷◌, ◌++◌, length, slice_get, Some, Less, Equal, sym, ap, ◌∙◌, subst, arith, length-map, slice_get_within, Data, view, Role, at_low, KeyPosition, Preference, rising_positions, next_cmp, keys_in_role, rising_in_role}
 use Rattle.erd_compare.proofs.least_difference.RisingKeys.{entries, entry_keys, keys_rise}
 use Rattle.erd_compare.proofs.same_ranks.MergedKeys.{IsMergedTo, all_merged, both_done, equal_key, next_above, next_there, one_passed, other_done}
 use Rattle.erd_compare.proofs.ranks.merging.common_ranks.Goals as goal

@@ -1,6 +1,4 @@
-use Rattle.std.proofs.Common.{◌+◌, ◌-◌, length}
-use Rattle.serde_json.specs.View.{view}
-use Rattle.erd_compare.specs.code.KeyedDifferences.{rising_in_role}
+use Rattle.erd_compare.proofs.Common.{◌+◌, ◌-◌, length, view, rising_in_role}
 use Rattle.erd_compare.proofs.same_ranks.MergedKeys.{IsMergedTo}
 use Rattle.erd_compare.proofs.ranks.merging.common_ranks.Given as goal
 

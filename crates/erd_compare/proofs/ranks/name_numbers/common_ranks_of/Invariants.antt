@@ -1,6 +1,4 @@
-use Rattle.std.proofs.Common.{◌≡◌, ◌++◌, drop}
-use Rattle.std.specs.List.{filter_map}
-use Rattle.erd_compare.specs.code.CommonRanks.{common_rank_of}
+use Rattle.erd_compare.proofs.Common.{◌≡◌, ◌++◌, drop, filter_map, common_rank_of}
 use Rattle.erd_compare.proofs.ranks.name_numbers.common_ranks_of.Given as goal
 
 abbrev pub invariant-loop-rank : goal.invariant-loop-rank

@@ -1,5 +1,4 @@
-use Rattle.std.proofs.Common.{Some, ap, ap₂, option_map, sym, ◌∙◌}
-use Rattle.erd_meaning.specs.NumberedNames.{numbered_parts}
+use Rattle.erd_compare.proofs.Common.{Some, option_map, sym, ap, ◌∙◌, ap₂, numbered_parts}
 use Rattle.erd_compare.proofs.same_ranks.NamesOnSides.{told_at, told_name}
 use Rattle.erd_compare.proofs.ranks.name_numbers.name_at.Goals as goal
 

@@ -1,5 +1,4 @@
-use Rattle.std.proofs.Common.{ap, map}
-use Rattle.erd_meaning.specs.RankedNames.{with_ranks}
+use Rattle.erd_compare.proofs.Common.{map, ap, with_ranks}
 use Rattle.erd_compare.proofs.same_ranks.NameNumbers.{are_name_numbers}
 use Rattle.erd_compare.proofs.ranks.name_numbers.names_of_both.Goals as goal
 

@@ -1,15 +1,7 @@
-use Rattle.std.proofs.Common.{◌<◌, ◌≤◌, Option, Some, length, map, option_and_then, option_map, sym, ap, ◌∙◌, subst}
-use Rattle.serde_json.specs.View.{view}
-use Rattle.erd_tables.specs.declared.class.Family.TheVariants as family
-use Rattle.erd_meaning.specs.Objects.{Placed, objects}
-use Rattle.erd_meaning.specs.NumberedNames.{NumberedParts, numbered_name_cmp}
-use Rattle.erd_meaning.specs.code.NumberedOrders.{numbered_name_cmp_exact, numbered_name_cmp_total}
-use Rattle.erd_meaning.proofs.finding.OneObject.{at_low}
-use Rattle.erd_meaning.specs.RankedNames.{with_ranks}
-use Rattle.erd_compare.specs.code.CommonNames.{name_eq, name_told}
+use Rattle.erd_compare.proofs.Common.{◌<◌, ◌≤◌, map, length, Some, Option, option_map, option_and_then, sym, ap, ◌∙◌, subst, view, family, at_low, NumberedParts, numbered_name_cmp, Placed, objects, with_ranks, numbered_name_cmp_total, numbered_name_cmp_exact, name_told, name_eq}
 use Rattle.erd_compare.proofs.same_ranks.InsertedKeys.{inserted_seen, next_none, next_one, none_left, place_seen}
-use Rattle.erd_compare.proofs.ranks.name_numbers.numbers_of_names.Goals as goal
 use Rattle.erd_compare.proofs.ranks.name_numbers.numbers_of_names.Goals.{in-Some+in_ok-insert_full-in-Some, in-None}
+use Rattle.erd_compare.proofs.ranks.name_numbers.numbers_of_names.Goals as goal
 
 pub loop-position-preserved : goal.loop-position-preserved
 loop-position-preserved c =

@@ -1,9 +1,5 @@
-use Rattle.std.proofs.Common.{◌≡◌, ap₂, ◌∙◌}
-use Rattle.std.proofs.lemmas.Result.{IfOk-weaker}
-use Rattle.std.specs.List.{filter_map}
+use Rattle.erd_compare.proofs.Common.{◌≡◌, filter_map, ◌∙◌, ap₂, IfOk-weaker, ranks_told, common_rank_of}
 use Rattle.erd_tables.specs.declared.class.Role.TheVariants.{OfFamily}
-use Rattle.erd_compare.specs.code.CommonNames.{ranks_told}
-use Rattle.erd_compare.specs.code.CommonRanks.{common_rank_of}
 use Rattle.erd_compare.proofs.ranks.name_numbers.ranks_in_name.Goals as goal
 
 pub returns : goal.returns

@@ -1,6 +1,4 @@
-use Rattle.std.proofs.Common.{Some, option_map, slice_get, sym, ap, ◌∙◌}
-use Rattle.serde_json.specs.View.{view}
-use Rattle.erd_compare.specs.code.KeyedDifferences.{key_in_role}
+use Rattle.erd_compare.proofs.Common.{slice_get, Some, option_map, sym, ap, ◌∙◌, view, key_in_role}
 use Rattle.erd_compare.proofs.least_difference.RisingKeys.{keys_at}
 use Rattle.erd_compare.proofs.ranks.role_objects.key_at_rank.Goals as goal
 

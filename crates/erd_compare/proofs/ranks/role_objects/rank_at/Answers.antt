@@ -1,12 +1,4 @@
-use Rattle.std.proofs.Common.{◌≡◌, ℕ, Option, Some, true, option_map, sym, ap, ◌∙◌}
-use Rattle.std.specs.List.{slice_get}
-use Rattle.serde_json.specs.View.{view}
-use Rattle.erd_tables.specs.declared.class.Role.{Role}
-use Rattle.erd_meaning.specs.Keys.{has_keys}
-use Rattle.erd_meaning.specs.Lookups.{key_in}
-use Rattle.erd_meaning.specs.Objects.{elections}
-use Rattle.erd_meaning.specs.code.KeyOrders.{rank_in_keys}
-use Rattle.erd_compare.specs.code.KeyedDifferences.{is_ranked, key_in_role, keys_in_role}
+use Rattle.erd_compare.proofs.Common.{◌≡◌, ℕ, true, slice_get, Some, Option, option_map, sym, ap, ◌∙◌, view, Role, has_keys, key_in, elections, rank_in_keys, keys_in_role, key_in_role, is_ranked}
 use Rattle.erd_compare.proofs.least_difference.RisingKeys.{election_ranks, family_ranks}
 use Rattle.erd_compare.proofs.ranks.role_objects.rank_at.Goals as goal
 

@@ -1,7 +1,4 @@
-use Rattle.std.proofs.Common.{sym, ap, ◌∙◌}
-use Rattle.serde_json.specs.View.{view}
-use Rattle.erd_meaning.specs.code.KeyOrders.{rising_positions}
-use Rattle.erd_compare.specs.code.KeyedDifferences.{keys_in_role}
+use Rattle.erd_compare.proofs.Common.{sym, ap, ◌∙◌, view, rising_positions, keys_in_role}
 use Rattle.erd_compare.proofs.least_difference.RisingKeys.{election_positions, family_positions}
 use Rattle.erd_compare.proofs.ranks.role_objects.rising.Goals as goal
 

@@ -1,7 +1,4 @@
-use Rattle.std.proofs.Common.{◌≡◌}
-use Rattle.serde_json.specs.View.{members_view}
-use Rattle.erd_check.specs.Trees.{are_same_members}
-use Rattle.erd_compare.specs.code.Choices.{chosen_members}
+use Rattle.erd_compare.proofs.Common.{◌≡◌, members_view, are_same_members, chosen_members}
 use Rattle.erd_compare.proofs.values.chosen_members.are_same_chosen.Given as goal
 
 abbrev pub invariant-loop-name : goal.invariant-loop-name

@@ -1,16 +1,5 @@
 -- The carried members are the chosen ones.
-use Rattle.std.proofs.Common.{◌≡◌, ℕ, List, Bool, Option, Some, None, cond, refl, sym, subst}
-use Rattle.serde_json.specs.Data.{Data}
-use Rattle.serde_json.specs.Find.{get}
-use Rattle.serde_json.specs.View.{view}
-use Rattle.erd_tables.specs.Table.{kind_of_member}
-use Rattle.erd_tables.specs.declared.class.Class.{Class}
-use Rattle.erd_tables.specs.declared.member.MemberKind.{MemberKind}
-use Rattle.erd_tables.specs.declared.member.MemberKind.TheVariants as kind
-use Rattle.erd_meaning.specs.Records.{carried_members, if_carried}
-use Rattle.erd_compare.specs.code.Choices.{is_carried_kind, takes_name}
-use Rattle.erd_compare.specs.code.Comparing.{Decides}
-use Rattle.erd_compare.specs.declared.values.chosen_members.Choice.TheVariants.{Carried}
+use Rattle.erd_compare.proofs.Common.{◌≡◌, ℕ, Bool, cond, List, Some, None, Option, sym, refl, subst, Data, get, view, kind_of_member, Class, MemberKind, kind, if_carried, carried_members, is_carried_kind, takes_name, Decides, Carried}
 use Rattle.erd_compare.proofs.same_values.ChosenMembers.{chosen-Decides}
 use Rattle.erd_compare.proofs.values.chosen_members.is_same_carried.Goals as goal
 

@@ -1,6 +1,4 @@
-use Rattle.std.proofs.Common.{◌≡◌}
-use Rattle.serde_json.specs.View.{members_view}
-use Rattle.erd_compare.specs.code.Choices.{chosen_members}
+use Rattle.erd_compare.proofs.Common.{◌≡◌, members_view, chosen_members}
 use Rattle.erd_compare.proofs.values.chosen_members.next_chosen.Given as goal
 
 abbrev pub invariant-loop-name : goal.invariant-loop-name

@@ -1,24 +1,14 @@
-use Rattle.std.proofs.Common.{◌≡◌, ◌<◌, ◌≤◌, ◌+◌, ◌*◌, ℕ, suc, List, [], ◌∷◌, map, length, get_or, arith, rules, true≢false, refl, codes, sym, ap, subst, ◌∙◌}
-use Rattle.std.specs.List.{AllByRecursion}
-use Rattle.std.specs.Slice.Iter.{iter_rest}
-use Rattle.serde_json.specs.Data.{depth, items_depth}
-use Rattle.serde_json.specs.View.{items_view, view}
-use Rattle.serde_json.specs.declared.value.Value.{Value, the_lemmas}
+use Rattle.erd_compare.proofs.Common.{◌≡◌, ℕ, suc, ◌+◌, ◌*◌, ◌<◌, ◌≤◌, List, [], ◌∷◌, map, length, get_or, codes, sym, refl, ap, ◌∙◌, subst, true≢false, arith, rules, AllByRecursion, iter_rest, depth, items_depth, view, items_view, Value, the_lemmas, family, entries_of, text_at, carried_members, class_of_node, is_header_class, node_of, key_named, IsWholeTree}
 use Rattle.serde_json.proofs.Views.{view-Array}
-use Rattle.erd_check.specs.Values.{entries_of, text_at}
-use Rattle.erd_tables.specs.declared.class.Family.TheVariants as family
-use Rattle.erd_meaning.specs.Records.{carried_members, class_of_node, is_header_class, node_of}
-use Rattle.erd_meaning.specs.SelectionNames.{key_named}
 use Rattle.erd_compare.specs.code.ContentParts.{content_within}
 use Rattle.erd_check.proofs.Lists.{list_of_items-items_of}
-use Rattle.erd_compare.specs.code.Comparing.{IsWholeTree}
 use Rattle.erd_compare.proofs.same_values.EqualOptions.{decides_as}
 use Rattle.erd_compare.proofs.same_content.NodeParts.{decides_swap, entry_depth, get_depth, node_contest, node_header, within_none, within_some}
 use Rattle.erd_compare.proofs.same_content.SameContents.{content-Decides, content_of-none, contest-header, header-contest, header-Decides}
 use Rattle.erd_compare.proofs.same_content.StepByStep.{differ_here, one_further}
 use Rattle.erd_compare.proofs.whole_trees.WholeTrees.{whole_tree-get, whole_value-index, whole_values-entries_of}
-use Rattle.erd_compare.proofs.values.content.+content.Goals as goal
 use Rattle.erd_compare.proofs.values.content.+content.Goals.{is_same_header-then-is_same_owner, is_same_header-else-is_same_owner}
+use Rattle.erd_compare.proofs.values.content.+content.Goals as goal
 
 -- the entry at an index, where the list is lent
 item_at : (vs ws : List Value) (i : ℕ) (v : Value) → ws ≡ vs → i < length ws → v ≡ get_or ws i v → (i < length vs) × (v ≡ get_or vs i v)

@@ -1,10 +1,4 @@
-use Rattle.std.proofs.Common.{◌+◌, ◌*◌, map, drop}
-use Rattle.std.specs.List.{AllByRecursion}
-use Rattle.std.specs.Slice.Iter.{iter_rest}
-use Rattle.serde_json.specs.Data.{depth, items_depth}
-use Rattle.serde_json.specs.View.{items_view, view}
-use Rattle.erd_meaning.specs.Records.{node_of}
-use Rattle.erd_compare.specs.code.Comparing.{IsWholeTree}
+use Rattle.erd_compare.proofs.Common.{◌+◌, ◌*◌, map, drop, AllByRecursion, iter_rest, depth, items_depth, view, items_view, node_of, IsWholeTree}
 use Rattle.erd_compare.proofs.same_content.StepByStep.{AreSameIfLeft}
 use Rattle.erd_compare.proofs.values.content.+content.Given as goal
 

@@ -1,12 +1,4 @@
-use Rattle.std.proofs.Common.{Option, map, option_and_then, sym, ◌∙◌}
-use Rattle.std.specs.Slice.Iter.{iter_rest}
-use Rattle.serde_json.specs.Data.{Data}
-use Rattle.serde_json.specs.Find.{as_str}
-use Rattle.serde_json.specs.View.{view}
-use Rattle.serde_json.specs.declared.value.Value.{Value}
-use Rattle.erd_meaning.specs.Keys.{Preference}
-use Rattle.erd_meaning.specs.NameParts.{NameParts}
-use Rattle.erd_meaning.specs.SelectionNames.{name_named}
+use Rattle.erd_compare.proofs.Common.{map, Option, option_and_then, sym, ◌∙◌, iter_rest, Data, as_str, view, Value, Preference, NameParts, name_named}
 use Rattle.erd_compare.proofs.same_content.StepByStep.{differ_here, one_further}
 use Rattle.erd_compare.proofs.values.content.are_same_names.Goals as goal
 

@@ -1,8 +1,4 @@
-use Rattle.std.proofs.Common.{map, drop, option_and_then}
-use Rattle.std.specs.Slice.Iter.{iter_rest}
-use Rattle.serde_json.specs.Find.{as_str}
-use Rattle.serde_json.specs.View.{view}
-use Rattle.erd_meaning.specs.SelectionNames.{name_named}
+use Rattle.erd_compare.proofs.Common.{map, drop, option_and_then, iter_rest, as_str, view, name_named}
 use Rattle.erd_compare.proofs.same_content.StepByStep.{AreSameIfLeft}
 use Rattle.erd_compare.proofs.values.content.are_same_names.Given as goal
 

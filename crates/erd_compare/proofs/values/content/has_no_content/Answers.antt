@@ -1,4 +1,4 @@
-use Rattle.serde_json.specs.View.{view}
+use Rattle.erd_compare.proofs.Common.{view}
 use Rattle.erd_compare.proofs.same_content.SameContents.{none-Decides}
 use Rattle.erd_compare.proofs.values.content.has_no_content.Goals as goal
 

@@ -1,19 +1,9 @@
-use Rattle.std.proofs.Common.{◌≡◌, List, Option, map, option_and_then, true≢false, codes, refl, sym, ap, ◌∙◌}
+use Rattle.erd_compare.proofs.Common.{◌≡◌, List, map, codes, Option, option_and_then, sym, refl, ap, ◌∙◌, true≢false, Data, as_str, view, Value, family, entries_at, text_at, Preference, NameParts, carried_members, class_of_node, key_named, name_named}
 use Rattle.std.proofs.lemmas.Simd.{map-map}
-use Rattle.serde_json.specs.Data.{Data}
-use Rattle.serde_json.specs.Find.{as_str}
-use Rattle.serde_json.specs.View.{view}
-use Rattle.serde_json.specs.declared.value.Value.{Value}
-use Rattle.erd_tables.specs.declared.class.Family.TheVariants as family
-use Rattle.erd_check.specs.Values.{entries_at, text_at}
-use Rattle.erd_meaning.specs.Keys.{Preference}
-use Rattle.erd_meaning.specs.NameParts.{NameParts}
-use Rattle.erd_meaning.specs.Records.{carried_members, class_of_node}
-use Rattle.erd_meaning.specs.SelectionNames.{key_named, name_named}
 use Rattle.erd_compare.proofs.same_values.EqualOptions.{decides_as}
 use Rattle.erd_compare.proofs.same_content.SameContents.{contest-Decides}
-use Rattle.erd_compare.proofs.values.content.is_same_contest.Goals as goal
 use Rattle.erd_compare.proofs.values.content.is_same_contest.Goals.{then-is_same_owner, else-is_same_owner}
+use Rattle.erd_compare.proofs.values.content.is_same_contest.Goals as goal
 
 -- the name of the selection that a reference names
 abbrev name_in : Preference → Data → Data → Option NameParts

@@ -1,9 +1,4 @@
-use Rattle.std.proofs.Common.{◌==◌, option_and_then, refl, ap₂, ◌∙◌}
-use Rattle.std.specs.Option.{option_eq}
-use Rattle.serde_json.specs.Find.{as_str}
-use Rattle.serde_json.specs.View.{view}
-use Rattle.erd_meaning.specs.SelectionNames.{name_named}
-use Rattle.erd_compare.specs.declared.ranks.side.Side.TheVariants.{Left, Right}
+use Rattle.erd_compare.proofs.Common.{◌==◌, option_and_then, refl, ◌∙◌, ap₂, option_eq, as_str, view, name_named, Left, Right}
 use Rattle.erd_compare.proofs.same_ranks.NameNumbers.{names_decide, reference_named}
 use Rattle.erd_compare.proofs.same_values.EqualOptions.{decides_as}
 use Rattle.erd_compare.proofs.values.content.is_same_name.Goals as goal

@@ -1,8 +1,4 @@
-use Rattle.std.proofs.Common.{Some, ap, ◌∙◌}
-use Rattle.serde_json.specs.View.{view}
-use Rattle.erd_check.specs.Values.{text_at}
-use Rattle.erd_compare.specs.code.RankedSides.{rank_with_id}
-use Rattle.erd_compare.specs.declared.ranks.side.Side.TheVariants.{Left, Right}
+use Rattle.erd_compare.proofs.Common.{Some, ap, ◌∙◌, view, text_at, rank_with_id, Left, Right}
 use Rattle.erd_compare.proofs.same_ranks.NamedRanks.{values_decide}
 use Rattle.erd_compare.proofs.values.content.is_same_owner.Goals as goal
 

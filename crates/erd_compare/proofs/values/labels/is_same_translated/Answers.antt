@@ -1,14 +1,5 @@
 -- The members beside the translations, then the translations.
-use Rattle.std.proofs.Common.{Bool, IfOk, codes, map, refl, ◌∙◌, subst}
-use Rattle.std.proofs.lemmas.Result.{IfOk-weaker}
-use Rattle.serde_json.specs.Data.{Data}
-use Rattle.serde_json.specs.View.{view}
-use Rattle.erd_check.specs.Trees.{are_same_members}
-use Rattle.erd_check.specs.Values.{entries_at}
-use Rattle.erd_meaning.specs.Records.{label_beside_text, json_set}
-use Rattle.erd_compare.specs.code.Choices.{chosen_in, translated_label}
-use Rattle.erd_compare.specs.code.Comparing.{Decides, IsWholeTree}
-use Rattle.erd_compare.specs.declared.values.chosen_members.Choice.TheVariants.{BesideText}
+use Rattle.erd_compare.proofs.Common.{Bool, map, IfOk, codes, refl, ◌∙◌, subst, IfOk-weaker, Data, view, are_same_members, entries_at, json_set, label_beside_text, chosen_in, translated_label, Decides, IsWholeTree, BesideText}
 use Rattle.erd_compare.proofs.same_values.ChosenMembers.{chosen-Decides}
 use Rattle.erd_compare.proofs.same_values.JsonSets.{first_answer, json_set-Decides, second_answer}
 use Rattle.erd_compare.proofs.same_values.Labels.{chosen_beside, translated-Decides}

@@ -1,10 +1,5 @@
-use Rattle.std.proofs.Common.{ℕ, List, map, sym, subst, ◌∙◌}
-use Rattle.serde_json.specs.View.{view}
+use Rattle.erd_compare.proofs.Common.{ℕ, List, map, sym, ◌∙◌, subst, view, keys_named, Decides, IsRankSet, Left, Right}
 use Rattle.erd_tables.specs.declared.class.Role.TheVariants.{OfFamily}
-use Rattle.erd_meaning.specs.SelectionNames.{keys_named}
-use Rattle.erd_compare.specs.code.Comparing.{Decides}
-use Rattle.erd_compare.specs.code.RankedSides.{IsRankSet}
-use Rattle.erd_compare.specs.declared.ranks.side.Side.TheVariants.{Left, Right}
 use Rattle.erd_compare.proofs.same_ranks.RankSets.{each_decide, named_known, ranks_of_keys, sets_decide}
 use Rattle.erd_compare.proofs.values.references.is_same_key_set.Goals as goal
 

@@ -1,5 +1,4 @@
-use Rattle.serde_json.specs.Find.{as_str}
-use Rattle.serde_json.specs.View.{view}
+use Rattle.erd_compare.proofs.Common.{as_str, view}
 use Rattle.erd_compare.proofs.same_ranks.NamedRanks.{values_decide}
 use Rattle.erd_compare.proofs.values.references.is_same_reference.Goals as goal
 

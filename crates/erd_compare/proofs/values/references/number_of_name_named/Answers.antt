@@ -1,10 +1,4 @@
-use Rattle.std.proofs.Common.{Some, None, option_and_then, option_map, sym, ap, ◌∙◌, subst}
-use Rattle.serde_json.specs.View.{view}
-use Rattle.erd_meaning.specs.Judged.{Judged}
-use Rattle.erd_meaning.specs.Lookups.{FindsId}
-use Rattle.erd_meaning.specs.SelectionNames.{name_named}
-use Rattle.erd_compare.specs.code.CommonNames.{number_of_name}
-use Rattle.erd_compare.specs.code.RankedSides.{on_side}
+use Rattle.erd_compare.proofs.Common.{Some, None, option_map, option_and_then, sym, ap, ◌∙◌, subst, view, Judged, FindsId, name_named, number_of_name, on_side}
 use Rattle.erd_compare.proofs.same_values.ReferencedKeys.{name_elsewhere, name_here, name_nowhere}
 use Rattle.erd_compare.proofs.values.references.number_of_name_named.Goals as goal
 

@@ -1,7 +1,4 @@
-use Rattle.std.proofs.Common.{Some, None, sym, ◌∙◌, subst}
-use Rattle.serde_json.specs.View.{view}
-use Rattle.erd_meaning.specs.Judged.{Judged}
-use Rattle.erd_meaning.specs.Lookups.{FindsId}
+use Rattle.erd_compare.proofs.Common.{Some, None, sym, ◌∙◌, subst, view, Judged, FindsId}
 use Rattle.erd_compare.proofs.same_ranks.NamedRanks.{named_elsewhere, named_here, named_nowhere}
 use Rattle.erd_compare.proofs.values.references.rank_with_id.Goals as goal
 

@@ -1,8 +1,4 @@
-use Rattle.std.proofs.Common.{◌≡◌, ◌++◌, drop, option_and_then}
-use Rattle.std.specs.List.{filter_map}
-use Rattle.serde_json.specs.Find.{as_str}
-use Rattle.serde_json.specs.View.{view}
-use Rattle.erd_compare.specs.code.RankedSides.{rank_with_id}
+use Rattle.erd_compare.proofs.Common.{◌≡◌, ◌++◌, drop, filter_map, option_and_then, as_str, view, rank_with_id}
 use Rattle.erd_compare.proofs.values.references.ranks_named.Given as goal
 
 abbrev pub invariant-loop-value : goal.invariant-loop-value

@@ -1,4 +1,4 @@
-use Rattle.std.proofs.Common.{◌==◌}
+use Rattle.erd_compare.proofs.Common.{◌==◌}
 use Rattle.std.proofs.lemmas.List.Filters.{dedup_is}
 use Rattle.erd_compare.proofs.same_ranks.RankSets.{sorted_once}
 use Rattle.erd_compare.proofs.values.references.set_of.Goals as goal

@@ -1,8 +1,5 @@
-use Rattle.std.proofs.Common.{◌≡◌, map, drop}
-use Rattle.std.specs.List.{list_all}
-use Rattle.serde_json.specs.View.{view}
+use Rattle.erd_compare.proofs.Common.{◌≡◌, map, drop, list_all, view, json_set}
 use Rattle.erd_check.specs.ValueSets.{values_in}
-use Rattle.erd_meaning.specs.Records.{json_set}
 use Rattle.erd_compare.proofs.values.sets.are_in.Given as goal
 
 abbrev pub invariant-loop-value : goal.invariant-loop-value

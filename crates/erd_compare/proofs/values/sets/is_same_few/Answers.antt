@@ -1,8 +1,5 @@
 -- Each value of either list is among the other exactly if the two are the same set.
-use Rattle.std.proofs.Common.{Bool, map, subst}
-use Rattle.serde_json.specs.View.{view}
-use Rattle.erd_meaning.specs.Records.{json_set}
-use Rattle.erd_compare.specs.code.Comparing.{Decides}
+use Rattle.erd_compare.proofs.Common.{Bool, map, subst, view, json_set, Decides}
 use Rattle.erd_compare.proofs.same_values.JsonSets.{first_answer, json_set-Decides, second_answer}
 use Rattle.erd_compare.proofs.whole_trees.WholeTrees.{whole_trees-views}
 use Rattle.erd_compare.proofs.values.sets.is_same_few.Goals as goal

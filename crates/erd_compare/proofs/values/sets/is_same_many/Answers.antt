@@ -1,13 +1,9 @@
 -- Each value of either list is in the set of the other exactly if the two are the same set.
-use Rattle.std.proofs.Common.{Bool, map, sym, ap, ◌∙◌, subst}
-use Rattle.std.specs.List.{list_all}
-use Rattle.serde_json.specs.View.{view}
-use Rattle.erd_meaning.specs.Records.{json_set}
-use Rattle.erd_compare.specs.code.Comparing.{Decides}
+use Rattle.erd_compare.proofs.Common.{Bool, map, sym, ap, ◌∙◌, subst, list_all, view, json_set, Decides}
 use Rattle.erd_compare.proofs.same_values.JsonSets.{first_answer, json_set-Decides, second_answer, stands_for}
 use Rattle.erd_compare.proofs.whole_trees.WholeTrees.{whole_trees-views}
-use Rattle.erd_compare.proofs.values.sets.is_same_many.Goals as goal
 use Rattle.erd_compare.proofs.values.sets.is_same_many.Goals.{else-are_in, then-are_in}
+use Rattle.erd_compare.proofs.values.sets.is_same_many.Goals as goal
 
 pub returns : goal.returns
 returns c =

@@ -1,7 +1,5 @@
 -- Equality as JSON decides equality of whole trees.
-use Rattle.std.proofs.Common.{sym, subst, Bool}
-use Rattle.serde_json.specs.View.{view}
-use Rattle.erd_compare.specs.code.Comparing.{Decides}
+use Rattle.erd_compare.proofs.Common.{Bool, sym, subst, view, Decides}
 use Rattle.erd_compare.proofs.whole_trees.WholeTrees.{is_same_json-Decides}
 use Rattle.erd_compare.proofs.values.sets.is_same_value.Goals as goal
 

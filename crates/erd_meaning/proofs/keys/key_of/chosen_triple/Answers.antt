@@ -1,11 +1,6 @@
 -- The one that is chosen is the key.
-use Rattle.std.proofs.Common.{arith, ◌≡◌, map, codes, Some, sym, ◌∙◌}
-use Rattle.std.specs.Option.{option_copied}
+use Rattle.erd_meaning.proofs.Common.{◌≡◌, map, Some, codes, option_copied, sym, ◌∙◌, arith, view, entries_at, triple_of, choice}
 use Rattle.std.proofs.lemmas.Grind.{common_steps}
-use Rattle.serde_json.specs.View.{view}
-use Rattle.erd_check.specs.Values.{entries_at}
-use Rattle.erd_meaning.specs.Keys.{triple_of}
-use Rattle.erd_meaning.specs.code.ChosenKeys.{choice}
 use Rattle.erd_meaning.proofs.orders.ChoiceOrder.{key_is_choice}
 use Rattle.erd_meaning.proofs.keys.key_of.chosen_triple.Goals as goal
 

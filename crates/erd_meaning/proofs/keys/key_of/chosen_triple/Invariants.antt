@@ -1,9 +1,4 @@
-use Rattle.std.proofs.Common.{◌≡◌, List, drop, map}
-use Rattle.std.specs.Option.{option_copied}
-use Rattle.serde_json.specs.View.{view}
-use Rattle.serde_json.specs.declared.value.Value.{Value}
-use Rattle.erd_meaning.specs.Keys.{triple_of}
-use Rattle.erd_meaning.specs.code.ChosenKeys.{choice_of}
+use Rattle.erd_meaning.proofs.Common.{◌≡◌, List, map, drop, option_copied, view, Value, triple_of, choice_of}
 use Rattle.erd_meaning.proofs.keys.key_of.chosen_triple.Given as goal
 
 abbrev pub invariant-loop-identifier : goal.invariant-loop-identifier

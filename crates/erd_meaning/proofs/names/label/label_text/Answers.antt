@@ -1,5 +1,4 @@
-use Rattle.std.proofs.Common.{◌∙◌}
-use Rattle.serde_json.specs.View.{members_view, view}
+use Rattle.erd_meaning.proofs.Common.{◌∙◌, view, members_view}
 use Rattle.erd_meaning.proofs.selections.WrittenLabels.{object_written}
 use Rattle.erd_meaning.proofs.names.label.label_text.Goals as goal
 

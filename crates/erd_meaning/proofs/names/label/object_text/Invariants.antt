@@ -1,7 +1,4 @@
-use Rattle.std.proofs.Common.{◌≡◌, ◌∷◌, false, true}
-use Rattle.serde_json.specs.View.{members_view}
-use Rattle.serde_json.specs.Written.{members_have_float}
-use Rattle.erd_meaning.specs.code.LabelTexts.{rest_text}
+use Rattle.erd_meaning.proofs.Common.{◌≡◌, true, false, ◌∷◌, members_view, members_have_float, rest_text}
 use Rattle.erd_meaning.specs.code.ShownLabels.{text_with}
 use Rattle.erd_meaning.proofs.names.label.object_text.Given as goal
 

@@ -1,10 +1,4 @@
-use Rattle.std.proofs.Common.{codes, sym, ap, ◌∙◌}
-use Rattle.std.proofs.lemmas.Cmp.{nat_list_cmp_total}
-use Rattle.serde_json.specs.View.{view}
-use Rattle.serde_json.specs.Written.{compact_text}
-use Rattle.erd_check.specs.Values.{entries_at}
-use Rattle.erd_meaning.specs.SelectionNames.{rising_list}
-use Rattle.erd_tables.specs.Texts.{text_cmp}
+use Rattle.erd_meaning.proofs.Common.{codes, sym, ap, ◌∙◌, nat_list_cmp_total, view, compact_text, text_cmp, entries_at, rising_list}
 use Rattle.erd_meaning.proofs.orders.RisingLists.{rising_from_sort, rising_list_map}
 use Rattle.erd_meaning.proofs.names.label.rising_translations.Goals as goal
 

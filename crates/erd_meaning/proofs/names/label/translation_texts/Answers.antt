@@ -1,8 +1,4 @@
-use Rattle.std.proofs.Common.{◌≡◌, ℕ, ◌+◌, ◌<◌, length, get_or, List, [], ◌∷◌, ◌++◌, map, take, codes, sym, ap, ap₂, ◌∙◌}
-use Rattle.std.proofs.lemmas.List.{map-append, take_more}
-use Rattle.serde_json.specs.View.{view}
-use Rattle.serde_json.specs.Written.{compact_text}
-use Rattle.serde_json.specs.declared.value.Value.{Value}
+use Rattle.erd_meaning.proofs.Common.{◌≡◌, ℕ, ◌+◌, ◌<◌, List, [], ◌∷◌, ◌++◌, map, length, get_or, take, codes, sym, ap, ◌∙◌, ap₂, map-append, take_more, view, compact_text, Value}
 use Rattle.erd_meaning.proofs.selections.WholeParts.{whole_entry}
 use Rattle.erd_meaning.proofs.names.label.translation_texts.Goals as goal
 

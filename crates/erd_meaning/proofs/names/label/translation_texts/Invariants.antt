@@ -1,6 +1,4 @@
-use Rattle.std.proofs.Common.{◌≡◌, map, take}
-use Rattle.serde_json.specs.View.{view}
-use Rattle.serde_json.specs.Written.{compact_text}
+use Rattle.erd_meaning.proofs.Common.{◌≡◌, map, take, view, compact_text}
 use Rattle.erd_meaning.proofs.names.label.translation_texts.Given as goal
 
 abbrev pub invariant-loop-value : goal.invariant-loop-value

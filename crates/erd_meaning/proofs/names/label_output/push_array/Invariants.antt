@@ -1,5 +1,4 @@
-use Rattle.std.proofs.Common.{◌≡◌, ◌++◌, false, drop, string_bytes}
-use Rattle.erd_meaning.specs.code.LabelTexts.{joined_text}
+use Rattle.erd_meaning.proofs.Common.{◌≡◌, false, ◌++◌, drop, string_bytes, joined_text}
 use Rattle.erd_meaning.proofs.names.label_output.push_array.Given as goal
 
 abbrev pub invariant-loop-text : goal.invariant-loop-text

@@ -1,11 +1,4 @@
-use Rattle.std.proofs.Common.{◌≡◌, IfOk, ℕ, List, map, nat_cmp, ap, ◌∙◌, subst}
-use Rattle.serde_json.specs.View.{view}
-use Rattle.erd_meaning.specs.SelectionNames.{rising_list}
-use Rattle.erd_meaning.specs.code.NamesAmong.{selection_keys_among}
-use Rattle.erd_meaning.specs.RankedNames.{family_chosen}
-use Rattle.erd_meaning.specs.code.RanksAmong.{ranked_key}
-use Rattle.erd_meaning.specs.code.Shown.{shown}
-use Rattle.erd_meaning.specs.declared.keys.key.Key.{Key}
+use Rattle.erd_meaning.proofs.Common.{◌≡◌, ℕ, List, map, IfOk, nat_cmp, ap, ◌∙◌, subst, view, family_chosen, rising_list, selection_keys_among, ranked_key, shown, Key}
 use Rattle.erd_meaning.proofs.selections.RankedKeys.{chosen_known, ranked_in_order}
 use Rattle.erd_meaning.proofs.names.naming.chosen_keys.Goals as goal
 

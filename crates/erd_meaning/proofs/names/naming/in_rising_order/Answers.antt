@@ -1,6 +1,4 @@
-use Rattle.std.proofs.Common.{nat_cmp, rules}
-use Rattle.std.proofs.lemmas.Cmp.{nat_cmp_total, on_total}
-use Rattle.std.proofs.lemmas.List.Sorted.{answers_always}
+use Rattle.erd_meaning.proofs.Common.{nat_cmp, rules, nat_cmp_total, on_total, answers_always}
 use Rattle.erd_meaning.proofs.orders.RisingLists.{rising_from_sort}
 use Rattle.erd_meaning.proofs.names.naming.in_rising_order.Goals as goal
 

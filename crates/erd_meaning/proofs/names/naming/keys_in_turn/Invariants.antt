@@ -1,9 +1,4 @@
-use Rattle.std.proofs.Common.{◌≡◌, ◌++◌, drop, map}
-use Rattle.serde_json.specs.View.{view}
-use Rattle.erd_meaning.specs.code.NamesAmong.{keys_among}
-use Rattle.erd_meaning.specs.RankedNames.{family_chosen}
-use Rattle.erd_meaning.specs.code.RanksAmong.{ranked_key}
-use Rattle.erd_meaning.specs.code.Shown.{shown}
+use Rattle.erd_meaning.proofs.Common.{◌≡◌, ◌++◌, map, drop, view, family_chosen, keys_among, ranked_key, shown}
 use Rattle.erd_meaning.proofs.names.naming.keys_in_turn.Given as goal
 
 abbrev pub invariant-loop-reference : goal.invariant-loop-reference

@@ -1,4 +1,4 @@
-use Rattle.std.proofs.Common.{◌≡◌, map, take}
+use Rattle.erd_meaning.proofs.Common.{◌≡◌, map, take}
 use Rattle.erd_meaning.proofs.names.naming.keys_of.Given as goal
 
 abbrev pub invariant-loop-one : goal.invariant-loop-one

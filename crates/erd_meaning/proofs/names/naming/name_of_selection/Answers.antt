@@ -1,6 +1,4 @@
-use Rattle.std.proofs.Common.{◌≡◌, map, sym, ap, ◌∙◌}
-use Rattle.serde_json.specs.View.{view}
-use Rattle.erd_meaning.specs.code.Shown.{shown}
+use Rattle.erd_meaning.proofs.Common.{◌≡◌, map, sym, ap, ◌∙◌, view, shown}
 use Rattle.erd_meaning.proofs.selections.RankedKeys.{name_with, ranked_selection}
 use Rattle.erd_meaning.proofs.names.naming.name_of_selection.Goals as goal
 

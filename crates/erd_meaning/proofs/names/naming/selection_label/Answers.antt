@@ -1,5 +1,4 @@
-use Rattle.std.proofs.Common.{codes, sym}
-use Rattle.serde_json.specs.View.{view}
+use Rattle.erd_meaning.proofs.Common.{codes, sym, view}
 use Rattle.erd_meaning.proofs.selections.WholeParts.{whole_get}
 use Rattle.erd_meaning.proofs.names.naming.selection_label.Goals as goal
 

@@ -1,4 +1,4 @@
-use Rattle.std.proofs.Common.{◌≡◌, take}
+use Rattle.erd_meaning.proofs.Common.{◌≡◌, take}
 use Rattle.erd_meaning.proofs.names.selection_name.copied_keys.Given as goal
 
 abbrev pub invariant-loop-key : goal.invariant-loop-key

@@ -1,5 +1,4 @@
-use Rattle.std.proofs.Common.{codes}
-use Rattle.serde_json.specs.View.{view}
+use Rattle.erd_meaning.proofs.Common.{codes, view}
 use Rattle.erd_meaning.proofs.selections.WholeParts.{whole_entry}
 use Rattle.erd_meaning.proofs.names.selection_walk.meet_contest.Goals as goal
 

@@ -1,12 +1,4 @@
-use Rattle.std.proofs.Common.{◌≡◌, ℕ, drop, map}
-use Rattle.serde_json.specs.View.{view}
-use Rattle.erd_check.specs.Paths.{steps_of}
-use Rattle.erd_meaning.specs.code.NamesAmong.{name_among}
-use Rattle.erd_meaning.specs.Objects.{Placed, placed_from}
-use Rattle.erd_meaning.specs.code.RanksAmong.{AllAreRanked}
-use Rattle.erd_meaning.specs.code.SelectionWalk.{named_all}
-use Rattle.erd_meaning.specs.code.Shown.{shown}
-use Rattle.erd_meaning.specs.code.ShownWalks.{names_met}
+use Rattle.erd_meaning.proofs.Common.{◌≡◌, ℕ, map, drop, view, steps_of, Placed, placed_from, name_among, AllAreRanked, named_all, shown, names_met}
 use Rattle.erd_meaning.proofs.names.selection_walk.meet_contest.Given as goal
 
 abbrev pub invariant-loop-index : goal.invariant-loop-index

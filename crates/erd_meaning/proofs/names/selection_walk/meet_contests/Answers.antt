@@ -1,12 +1,4 @@
-use Rattle.std.proofs.Common.{arith, ◌≡◌, ◌+◌, ◌<◌, ◌^◌, [], ◌∷◌, ◌++◌, codes, length, map, ap, ◌∙◌}
-use Rattle.serde_json.specs.View.{view}
-use Rattle.erd_tables.specs.declared.place.Step.TheVariants.{Name}
-use Rattle.erd_check.specs.Paths.{steps_of}
-use Rattle.erd_meaning.specs.Objects.{placed_entries, placed_from}
-use Rattle.erd_meaning.specs.code.NamesAmong.{name_among}
-use Rattle.erd_meaning.specs.code.SelectionWalk.{named_all, numbered_from}
-use Rattle.erd_meaning.specs.code.Shown.{placed_at, shown}
-use Rattle.erd_meaning.specs.code.ShownWalks.{names_met}
+use Rattle.erd_meaning.proofs.Common.{◌≡◌, ◌+◌, ◌^◌, ◌<◌, [], ◌∷◌, ◌++◌, map, length, codes, ap, ◌∙◌, arith, view, Name, steps_of, placed_from, placed_entries, name_among, numbered_from, named_all, shown, placed_at, names_met}
 use Rattle.erd_meaning.proofs.finding.ElectionsHeld.{as_many}
 use Rattle.erd_meaning.proofs.selections.MetSelections.{all_named, named_inside}
 use Rattle.erd_meaning.proofs.selections.WholeParts.{whole_entry}

@@ -1,10 +1,4 @@
-use Rattle.std.proofs.Common.{◌≡◌, drop, map}
-use Rattle.erd_check.specs.Paths.{steps_of}
-use Rattle.erd_meaning.specs.code.NamesAmong.{name_among}
-use Rattle.erd_meaning.specs.code.RanksAmong.{AllAreRanked}
-use Rattle.erd_meaning.specs.code.SelectionWalk.{named_all}
-use Rattle.erd_meaning.specs.code.Shown.{shown}
-use Rattle.erd_meaning.specs.code.ShownWalks.{names_met}
+use Rattle.erd_meaning.proofs.Common.{◌≡◌, map, drop, steps_of, name_among, AllAreRanked, named_all, shown, names_met}
 use Rattle.erd_meaning.proofs.selections.MetSelections.{of_contests_from}
 use Rattle.erd_meaning.proofs.names.selection_walk.meet_contests.Given as goal
 

@@ -1,11 +1,4 @@
-use Rattle.std.proofs.Common.{◌≡◌, ◌++◌, true, false, sym, ap, ◌∙◌, append-nil, subst, List}
-use Rattle.std.proofs.lemmas.Bool.{not-false, not-true}
-use Rattle.erd_tables.specs.declared.fault.Reason.TheVariants.{TwinSelection}
-use Rattle.erd_check.specs.Paths.{fault_at, steps_of}
-use Rattle.erd_meaning.specs.code.ObjectWalk.{fault_if}
-use Rattle.erd_meaning.specs.code.RanksAmong.{AllAreRanked, names_of}
-use Rattle.erd_meaning.specs.RankedNames.{PlacedName}
-use Rattle.erd_meaning.specs.code.SelectionWalk.{is_taken}
+use Rattle.erd_meaning.proofs.Common.{◌≡◌, true, false, List, ◌++◌, sym, ap, ◌∙◌, subst, append-nil, not-true, not-false, TwinSelection, steps_of, fault_at, PlacedName, fault_if, names_of, AllAreRanked, is_taken}
 use Rattle.erd_meaning.proofs.selections.RankedTests.{any_ranked, inserted_names, inserted_ranked}
 use Rattle.erd_meaning.proofs.names.selection_walk.meet_name.Goals as goal
 

@@ -1,12 +1,4 @@
-use Rattle.std.proofs.Common.{Option, map, sym, ap, ◌∙◌}
-use Rattle.std.proofs.lemmas.Result.{IfOk-weaker}
-use Rattle.std.specs.Option.{option_map_or}
-use Rattle.serde_json.specs.View.{view}
-use Rattle.erd_check.specs.Paths.{steps_of}
-use Rattle.erd_meaning.specs.NameParts.{NameParts}
-use Rattle.erd_meaning.specs.code.SelectionWalk.{with_name}
-use Rattle.erd_meaning.specs.code.Shown.{shown}
-use Rattle.erd_meaning.specs.code.ShownWalks.{names_met}
+use Rattle.erd_meaning.proofs.Common.{map, Option, sym, ap, ◌∙◌, IfOk-weaker, option_map_or, view, steps_of, NameParts, with_name, shown, names_met}
 use Rattle.erd_meaning.proofs.selections.RankedKeys.{ranked_name_is}
 use Rattle.erd_meaning.proofs.names.selection_walk.meet_selection.Goals as goal
 

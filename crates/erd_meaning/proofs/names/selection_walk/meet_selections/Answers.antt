@@ -1,13 +1,4 @@
-use Rattle.std.proofs.Common.{arith, ◌≡◌, List, [], ◌∷◌, codes, length, map, ap, ◌∙◌}
-use Rattle.serde_json.specs.View.{view}
-use Rattle.erd_tables.specs.declared.class.Family.TheVariants.{Contest}
-use Rattle.erd_tables.specs.declared.place.Step.{Step}
-use Rattle.erd_tables.specs.declared.place.Step.TheVariants.{Name}
-use Rattle.erd_meaning.specs.Objects.{contests}
-use Rattle.erd_meaning.specs.code.NamesAmong.{name_among}
-use Rattle.erd_meaning.specs.code.SelectionWalk.{named_all, numbered_from}
-use Rattle.erd_meaning.specs.code.Shown.{shown}
-use Rattle.erd_meaning.specs.code.ShownWalks.{names_met}
+use Rattle.erd_meaning.proofs.Common.{◌≡◌, List, [], ◌∷◌, map, length, codes, ap, ◌∙◌, arith, view, Contest, Step, Name, contests, name_among, numbered_from, named_all, shown, names_met}
 use Rattle.erd_meaning.proofs.finding.Lookups.{counted_kept}
 use Rattle.erd_meaning.proofs.selections.MetSelections.{all_left, contests_are, contests_from, election_left, none_left, within_all}
 use Rattle.erd_meaning.proofs.selections.WholeParts.{whole_entry}

@@ -1,9 +1,4 @@
-use Rattle.std.proofs.Common.{map}
-use Rattle.erd_check.specs.Paths.{steps_of}
-use Rattle.erd_meaning.specs.code.NamesAmong.{name_among}
-use Rattle.erd_meaning.specs.code.RanksAmong.{AllAreRanked}
-use Rattle.erd_meaning.specs.code.Shown.{shown}
-use Rattle.erd_meaning.specs.code.ShownWalks.{names_met}
+use Rattle.erd_meaning.proofs.Common.{map, steps_of, name_among, AllAreRanked, shown, names_met}
 use Rattle.erd_meaning.proofs.selections.MetSelections.{ElectionsLeft}
 use Rattle.erd_meaning.proofs.names.selection_walk.meet_selections.Given as goal
 

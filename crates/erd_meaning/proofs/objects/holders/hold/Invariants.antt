@@ -1,4 +1,4 @@
-use Rattle.std.proofs.Common.{◌≡◌, ◌++◌, drop, length, replicate}
+use Rattle.erd_meaning.proofs.Common.{◌≡◌, ◌++◌, length, drop, replicate}
 use Rattle.erd_meaning.proofs.objects.holders.hold.Given as goal
 
 abbrev pub invariant-loop-entry : goal.invariant-loop-entry

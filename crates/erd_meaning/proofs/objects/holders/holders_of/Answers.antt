@@ -1,6 +1,4 @@
-use Rattle.std.proofs.Common.{◌++◌, List, ℕ, ap, map, ◌∙◌}
-use Rattle.serde_json.specs.View.{view}
-use Rattle.erd_meaning.specs.code.ElectionKeys.{held_from}
+use Rattle.erd_meaning.proofs.Common.{ℕ, List, ◌++◌, map, ap, ◌∙◌, view, held_from}
 use Rattle.erd_meaning.proofs.finding.HeldLists.{election_held, elections_held}
 use Rattle.erd_meaning.proofs.objects.holders.holders_of.Goals as goal
 

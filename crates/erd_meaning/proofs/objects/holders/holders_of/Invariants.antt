@@ -1,6 +1,4 @@
-use Rattle.std.proofs.Common.{◌≡◌, ◌++◌, drop, map}
-use Rattle.serde_json.specs.View.{view}
-use Rattle.erd_meaning.specs.code.ElectionKeys.{held_from}
+use Rattle.erd_meaning.proofs.Common.{◌≡◌, ◌++◌, map, drop, view, held_from}
 use Rattle.erd_meaning.proofs.objects.holders.holders_of.Given as goal
 
 abbrev pub invariant-loop-position : goal.invariant-loop-position

@@ -1,10 +1,4 @@
-use Rattle.std.proofs.Common.{◌≡◌, drop, map}
-use Rattle.std.specs.List.{flat_map}
-use Rattle.serde_json.specs.View.{view}
-use Rattle.erd_check.specs.Paths.{steps_of}
-use Rattle.erd_meaning.specs.Objects.{placed_from}
-use Rattle.erd_meaning.specs.code.ObjectWalk.{contest_located, met_all}
-use Rattle.erd_meaning.specs.code.ShownWalks.{met_of}
+use Rattle.erd_meaning.proofs.Common.{◌≡◌, map, drop, flat_map, view, steps_of, placed_from, contest_located, met_all, met_of}
 use Rattle.erd_meaning.proofs.objects.object_walk.meet_contests.Given as goal
 
 abbrev pub invariant-loop-index : goal.invariant-loop-index

@@ -1,8 +1,4 @@
-use Rattle.std.proofs.Common.{[], ◌∷◌, ◌++◌, codes}
-use Rattle.erd_tables.specs.declared.place.Step.TheVariants.{Name}
-use Rattle.erd_check.specs.Paths.{steps_of}
-use Rattle.erd_meaning.specs.code.ObjectWalk.{election_located}
-use Rattle.erd_meaning.specs.code.ShownWalks.{met_of}
+use Rattle.erd_meaning.proofs.Common.{[], ◌∷◌, ◌++◌, codes, Name, steps_of, election_located, met_of}
 use Rattle.erd_meaning.proofs.identity.MetObjects.{election_met, entry, met_inside}
 use Rattle.erd_meaning.proofs.objects.object_walk.meet_each_election.Goals as goal
 

@@ -1,11 +1,4 @@
-use Rattle.std.proofs.Common.{◌≡◌, [], ◌∷◌, ◌++◌, Bool, IfOk, ap, codes, nat_lt, subst}
-use Rattle.std.specs.List.{flat_map}
-use Rattle.erd_tables.specs.declared.place.Step.TheVariants.{Name}
-use Rattle.erd_check.specs.Paths.{steps_of}
-use Rattle.erd_meaning.specs.Objects.{placed_entries}
-use Rattle.erd_meaning.specs.code.ObjectWalk.{election_located, met_all}
-use Rattle.erd_meaning.specs.code.Shown.{placed_at}
-use Rattle.erd_meaning.specs.code.ShownWalks.{met_of}
+use Rattle.erd_meaning.proofs.Common.{◌≡◌, Bool, [], ◌∷◌, ◌++◌, IfOk, nat_lt, codes, flat_map, ap, subst, Name, steps_of, placed_entries, election_located, met_all, placed_at, met_of}
 use Rattle.erd_meaning.proofs.finding.ElectionsHeld.{as_many}
 use Rattle.erd_meaning.proofs.objects.object_walk.meet_elections.Goals as goal
 

@@ -1,9 +1,4 @@
-use Rattle.std.proofs.Common.{◌≡◌, drop, map}
-use Rattle.serde_json.specs.View.{view}
-use Rattle.erd_check.specs.Paths.{steps_of}
-use Rattle.erd_meaning.specs.Objects.{placed_from}
-use Rattle.erd_meaning.specs.code.ObjectWalk.{located, met_all}
-use Rattle.erd_meaning.specs.code.ShownWalks.{met_of}
+use Rattle.erd_meaning.proofs.Common.{◌≡◌, map, drop, view, steps_of, placed_from, located, met_all, met_of}
 use Rattle.erd_meaning.proofs.objects.object_walk.meet_entries.Given as goal
 
 abbrev pub invariant-loop-index : goal.invariant-loop-index

@@ -1,7 +1,4 @@
-use Rattle.std.proofs.Common.{rules}
-use Rattle.std.proofs.lemmas.Cmp.{on_total}
-use Rattle.std.proofs.lemmas.List.Sorted.{answers_always}
-use Rattle.erd_meaning.specs.code.KeyOrders.{lent_key_cmp}
+use Rattle.erd_meaning.proofs.Common.{rules, on_total, answers_always, lent_key_cmp}
 use Rattle.erd_meaning.proofs.orders.RisingLists.{rising_from_sort}
 use Rattle.erd_meaning.proofs.selections.RankedKeys.{lent_key_cmp_total}
 use Rattle.erd_meaning.proofs.objects.order.in_rising_order.Goals as goal

@@ -1,5 +1,4 @@
-use Rattle.std.proofs.Common.{◌≡◌, drop, length}
-use Rattle.erd_meaning.specs.Places.{places_put}
+use Rattle.erd_meaning.proofs.Common.{◌≡◌, length, drop, places_put}
 use Rattle.erd_meaning.proofs.objects.order.places_in.Given as goal
 
 abbrev pub invariant-loop-place : goal.invariant-loop-place

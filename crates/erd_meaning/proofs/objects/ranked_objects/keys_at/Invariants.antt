@@ -1,7 +1,4 @@
-use Rattle.std.proofs.Common.{◌≡◌, map, take}
-use Rattle.erd_meaning.specs.code.KeyOrders.{seen_keys}
-use Rattle.erd_meaning.specs.code.RanksAmong.{key_at_among}
-use Rattle.erd_meaning.specs.code.Shown.{shown}
+use Rattle.erd_meaning.proofs.Common.{◌≡◌, map, take, seen_keys, key_at_among, shown}
 use Rattle.erd_meaning.proofs.objects.ranked_objects.keys_at.Given as goal
 
 abbrev pub invariant-loop-position : goal.invariant-loop-position

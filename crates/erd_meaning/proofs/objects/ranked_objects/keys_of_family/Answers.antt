@@ -1,9 +1,4 @@
-use Rattle.std.proofs.Common.{◌<◌, ◌≤◌, List, length, map, sym, ap, ◌∙◌, subst}
-use Rattle.std.proofs.lemmas.List.{length-map, take_all}
-use Rattle.erd_meaning.specs.code.KeyOrders.{family_keys, positioned, seen_keys}
-use Rattle.erd_meaning.specs.code.ObjectLookups.{those_of}
-use Rattle.erd_meaning.specs.code.ObjectWalk.{Kept}
-use Rattle.erd_meaning.specs.code.Shown.{shown}
+use Rattle.erd_meaning.proofs.Common.{◌<◌, ◌≤◌, List, map, length, sym, ap, ◌∙◌, subst, take_all, length-map, positioned, seen_keys, family_keys, those_of, Kept, shown}
 use Rattle.erd_meaning.proofs.selections.PositionedKeys.{KeyEntry, key_of_those, one_positioned}
 use Rattle.erd_meaning.proofs.objects.ranked_objects.keys_of_family.Goals as goal
 

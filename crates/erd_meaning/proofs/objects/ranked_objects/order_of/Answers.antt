@@ -1,12 +1,4 @@
-use Rattle.std.proofs.Common.{◌≡◌, [], List, Option, true, map, refl, sym, ap, ◌∙◌, subst}
-use Rattle.std.proofs.lemmas.Result.{IfOk-weaker}
-use Rattle.std.specs.List.{IsDistinct}
-use Rattle.erd_tables.specs.declared.class.Family.{Family}
-use Rattle.erd_tables.specs.declared.class.Family.TheVariants as family
-use Rattle.erd_meaning.specs.Keys.{has_keys}
-use Rattle.erd_meaning.specs.code.KeyOrders.{AreDistinct, IsOrder, family_keys, keys_seen, positioned}
-use Rattle.erd_meaning.specs.code.Shown.{shown}
-use Rattle.erd_meaning.specs.declared.keys.key.Key.{Key}
+use Rattle.erd_meaning.proofs.Common.{◌≡◌, true, List, [], map, Option, sym, refl, ap, ◌∙◌, subst, IfOk-weaker, IsDistinct, Family, family, has_keys, positioned, keys_seen, AreDistinct, family_keys, IsOrder, shown, Key}
 use Rattle.erd_meaning.proofs.selections.PositionedKeys.{KeyEntry, keys_placed}
 use Rattle.erd_meaning.proofs.objects.ranked_objects.order_of.Goals as goal
 

@@ -1,13 +1,5 @@
-use Rattle.std.proofs.Common.{◌≡◌, ◌==◌, ◌&&◌, Bor, Bool, Some, None, cond, List, ℕ, ap, sym, ◌∙◌}
-use Rattle.std.specs.Cmp.Lexicographic.{bytes_decides}
-use Rattle.std.specs.Map.{lookup}
-use Rattle.std.specs.Option.{is_some, option_or}
-use Rattle.std.specs.Str.{bytes_eq}
-use Rattle.indexmap.specs.IndexMap.{get_by}
+use Rattle.erd_meaning.proofs.Common.{◌≡◌, ℕ, Bool, cond, ◌&&◌, List, is_some, ◌==◌, Some, None, bytes_eq, sym, ap, ◌∙◌, Bor, bytes_decides, lookup, option_or, get_by, is_salted_id, text_number, Salted}
 use Rattle.indexmap.proofs.CallerLemmas.{insert_entry-new}
-use Rattle.erd_meaning.specs.code.Indexed.{is_salted_id}
-use Rattle.erd_meaning.specs.code.Salts.{text_number}
-use Rattle.erd_meaning.specs.declared.keys.salted.Salted.{Salted}
 use Rattle.erd_meaning.proofs.finding.Pushed.{lookup_push, none_found}
 use Rattle.erd_meaning.proofs.finding.SaltedTests.{number_implied}
 use Rattle.erd_meaning.proofs.objects.table.note_id.Goals as goal

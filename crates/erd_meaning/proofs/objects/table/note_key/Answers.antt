@@ -1,14 +1,5 @@
-use Rattle.std.proofs.Common.{◌≡◌, Bool, Some, None, cond, true, ap, ap₂, sym, ◌∙◌}
-use Rattle.std.specs.Map.{lookup}
-use Rattle.std.specs.Option.{is_some, option_or}
-use Rattle.indexmap.specs.IndexMap.{get_by}
+use Rattle.erd_meaning.proofs.Common.{◌≡◌, Bool, true, cond, is_some, Some, None, sym, ap, ◌∙◌, ap₂, lookup, option_or, get_by, Family, key_writes, same_owned, is_salted_owned, salted_number, Key, Salted}
 use Rattle.indexmap.proofs.CallerLemmas.{insert_entry-new}
-use Rattle.erd_tables.specs.declared.class.Family.{Family}
-use Rattle.erd_meaning.specs.Hashes.{key_writes}
-use Rattle.erd_meaning.specs.code.Indexed.{is_salted_owned, same_owned}
-use Rattle.erd_meaning.specs.code.Salts.{salted_number}
-use Rattle.erd_meaning.specs.declared.keys.key.Key.{Key}
-use Rattle.erd_meaning.specs.declared.keys.salted.Salted.{Salted}
 use Rattle.erd_meaning.proofs.finding.OwnedKeys.{owned_asked, owned_exact}
 use Rattle.erd_meaning.proofs.finding.Pushed.{lookup_push, none_found, or_known}
 use Rattle.erd_meaning.proofs.finding.SaltedTests.{number_implied}

@@ -1,4 +1,4 @@
-use Rattle.std.proofs.Common.{◌∙◌}
+use Rattle.erd_meaning.proofs.Common.{◌∙◌}
 use Rattle.erd_meaning.proofs.finding.Lookups.{counted}
 use Rattle.erd_meaning.proofs.report.Report.count.Goals as goal
 

@@ -1,12 +1,4 @@
-use Rattle.std.proofs.Common.{◌∷◌, [], Option, Some, List, ap, option_map, refl, sym, ◌≡◌, ◌∙◌}
-use Rattle.std.specs.List.{slice_get}
-use Rattle.std.proofs.lemmas.Option.{slice_get_read}
-use Rattle.serde_json.specs.View.{view}
-use Rattle.serde_json.specs.declared.value.Value.{Value}
-use Rattle.erd_check.specs.Shapes.{IsFaultless}
-use Rattle.erd_meaning.specs.Judged.{Judged}
-use Rattle.erd_meaning.specs.Keys.{Preference}
-use Rattle.erd_meaning.specs.Objects.{Placed, elections}
+use Rattle.erd_meaning.proofs.Common.{◌≡◌, List, [], ◌∷◌, slice_get, Some, Option, option_map, sym, refl, ap, ◌∙◌, slice_get_read, view, Value, IsFaultless, Judged, Preference, Placed, elections}
 use Rattle.erd_meaning.specs.code.ResolvedIndexes.{AreResolved}
 use Rattle.erd_meaning.specs.declared.report.Indexes.{Indexes}
 use Rattle.erd_meaning.proofs.finding.ElectionsHeld.{election_value, some_election}

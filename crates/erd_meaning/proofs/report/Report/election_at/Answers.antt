@@ -1,8 +1,4 @@
-use Rattle.std.proofs.Common.{ap, option_map, ◌∙◌}
-use Rattle.std.specs.List.{slice_get}
-use Rattle.serde_json.specs.View.{view}
-use Rattle.erd_meaning.specs.Judged.{Judged}
-use Rattle.erd_meaning.specs.Objects.{Placed, elections}
+use Rattle.erd_meaning.proofs.Common.{slice_get, option_map, ap, ◌∙◌, view, Judged, Placed, elections}
 use Rattle.erd_meaning.proofs.finding.ElectionsHeld.{election_value}
 use Rattle.erd_meaning.proofs.report.Report.election_at.Goals as goal
 

@@ -1,8 +1,4 @@
-use Rattle.std.proofs.Common.{[], ◌∷◌, codes, ap, length, ◌∙◌}
-use Rattle.serde_json.specs.View.{view}
-use Rattle.erd_tables.specs.declared.place.Step.TheVariants.{Name}
-use Rattle.erd_meaning.specs.Judged.{Judged}
-use Rattle.erd_meaning.specs.Objects.{elections}
+use Rattle.erd_meaning.proofs.Common.{[], ◌∷◌, length, codes, ap, ◌∙◌, view, Name, Judged, elections}
 use Rattle.erd_meaning.proofs.finding.ElectionsHeld.{as_many}
 use Rattle.erd_meaning.proofs.report.Report.election_count.Goals as goal
 

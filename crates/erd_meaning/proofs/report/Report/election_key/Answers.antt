@@ -1,7 +1,4 @@
-use Rattle.std.proofs.Common.{Option, List, ap, option_and_then, ◌∙◌}
-use Rattle.std.specs.List.{slice_get}
-use Rattle.serde_json.specs.View.{view}
-use Rattle.erd_meaning.specs.declared.keys.key.Key.{Key}
+use Rattle.erd_meaning.proofs.Common.{List, slice_get, Option, option_and_then, ap, ◌∙◌, view, Key}
 use Rattle.erd_meaning.proofs.finding.ElectionsHeld.{election_key_is}
 use Rattle.erd_meaning.proofs.report.Report.election_key.Goals as goal
 

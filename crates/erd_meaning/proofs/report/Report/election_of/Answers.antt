@@ -1,5 +1,4 @@
-use Rattle.std.proofs.Common.{◌∙◌}
-use Rattle.serde_json.specs.View.{view}
+use Rattle.erd_meaning.proofs.Common.{◌∙◌, view}
 use Rattle.erd_meaning.proofs.finding.ElectionsHeld.{election_holds}
 use Rattle.erd_meaning.proofs.report.Report.election_of.Goals as goal
 

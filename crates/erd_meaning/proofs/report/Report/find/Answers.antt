@@ -1,6 +1,4 @@
-use Rattle.std.proofs.Common.{sym, subst}
-use Rattle.erd_meaning.specs.Lookups.{FindsKey}
-use Rattle.serde_json.specs.View.{view}
+use Rattle.erd_meaning.proofs.Common.{sym, subst, view, FindsKey}
 use Rattle.erd_meaning.proofs.finding.Found.{finds_key}
 use Rattle.erd_meaning.proofs.report.Report.find.Goals as goal
 

@@ -1,8 +1,4 @@
-use Rattle.std.proofs.Common.{◌≡◌, map, sym, ◌∙◌}
-use Rattle.std.specs.List.{position}
-use Rattle.erd_meaning.specs.code.RanksAmong.{names_of}
-use Rattle.erd_meaning.specs.code.SelectionWalk.{is_selection_named}
-use Rattle.erd_meaning.specs.code.Shown.{shown}
+use Rattle.erd_meaning.proofs.Common.{◌≡◌, map, position, sym, ◌∙◌, names_of, is_selection_named, shown}
 use Rattle.erd_meaning.proofs.finding.FoundSelections.{selection_found}
 use Rattle.erd_meaning.proofs.selections.RankedTests.{position_sought}
 use Rattle.erd_meaning.proofs.report.Report.find_selection.Goals as goal

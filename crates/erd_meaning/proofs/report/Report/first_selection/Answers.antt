@@ -1,6 +1,4 @@
-use Rattle.std.proofs.Common.{ap, ◌∙◌, subst}
-use Rattle.serde_json.specs.View.{view}
-use Rattle.erd_meaning.specs.code.ObjectIndexes.{IsStart, contests_before}
+use Rattle.erd_meaning.proofs.Common.{ap, ◌∙◌, subst, view, contests_before, IsStart}
 use Rattle.erd_meaning.proofs.selections.ContestSelections.{start_counted}
 use Rattle.erd_meaning.proofs.selections.NumberedObjects.{contests_counted_in}
 use Rattle.erd_meaning.proofs.report.Report.first_selection.Goals as goal

@@ -1,4 +1,4 @@
-use Rattle.std.proofs.Common.{◌∙◌}
+use Rattle.erd_meaning.proofs.Common.{◌∙◌}
 use Rattle.erd_meaning.proofs.finding.Lookups.{part_at}
 use Rattle.erd_meaning.proofs.report.Report.key_at.Goals as goal
 

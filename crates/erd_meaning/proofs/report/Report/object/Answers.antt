@@ -1,5 +1,4 @@
-use Rattle.std.proofs.Common.{ap, option_map, ◌∙◌}
-use Rattle.erd_meaning.specs.code.ObjectWalk.{Kept}
+use Rattle.erd_meaning.proofs.Common.{option_map, ap, ◌∙◌, Kept}
 use Rattle.erd_meaning.proofs.finding.Lookups.{value_at}
 use Rattle.erd_meaning.proofs.report.Report.object.Goals as goal
 

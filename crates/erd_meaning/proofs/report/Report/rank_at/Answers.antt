@@ -1,5 +1,4 @@
-use Rattle.std.proofs.Common.{◌∙◌}
-use Rattle.erd_meaning.specs.code.RanksAmong.{names_of}
+use Rattle.erd_meaning.proofs.Common.{◌∙◌, names_of}
 use Rattle.erd_meaning.proofs.selections.RankedReports.{rank_same_at}
 use Rattle.erd_meaning.proofs.report.Report.rank_at.Goals as goal
 

@@ -1,4 +1,4 @@
-use Rattle.std.proofs.Common.{◌∙◌}
+use Rattle.erd_meaning.proofs.Common.{◌∙◌}
 use Rattle.erd_meaning.proofs.selections.RankedReports.{ranked_there}
 use Rattle.erd_meaning.proofs.report.Report.ranked_name_at.Goals as goal
 

@@ -1,5 +1,4 @@
-use Rattle.std.proofs.Common.{map, ap, ◌∙◌}
-use Rattle.erd_meaning.specs.code.RanksAmong.{names_of}
+use Rattle.erd_meaning.proofs.Common.{map, ap, ◌∙◌, names_of}
 use Rattle.erd_meaning.proofs.selections.PositionedKeys.{KeyPosition}
 use Rattle.erd_meaning.proofs.selections.RankedReports.{rising_same}
 use Rattle.erd_meaning.proofs.report.Report.rising.Goals as goal

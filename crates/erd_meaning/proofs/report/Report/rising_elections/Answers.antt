@@ -1,9 +1,4 @@
-use Rattle.std.proofs.Common.{map, ap, ◌∙◌}
-use Rattle.std.specs.Option.{option_cmp}
-use Rattle.serde_json.specs.View.{view}
-use Rattle.erd_meaning.specs.Keys.{key_cmp, key_of}
-use Rattle.erd_meaning.specs.Objects.{Placed, elections}
-use Rattle.erd_meaning.specs.SelectionNames.{rising_list}
+use Rattle.erd_meaning.proofs.Common.{map, ap, ◌∙◌, option_cmp, view, key_cmp, key_of, Placed, elections, rising_list}
 use Rattle.erd_meaning.proofs.selections.PositionedKeys.{KeyPosition, positioned_made}
 use Rattle.erd_meaning.proofs.report.Report.rising_elections.Goals as goal
 

@@ -1,10 +1,4 @@
-use Rattle.std.proofs.Common.{◌≡◌, map, ◌∙◌}
-use Rattle.std.proofs.lemmas.Result.{IfOk-weaker}
-use Rattle.serde_json.specs.View.{view}
-use Rattle.erd_meaning.specs.Lookups.{rising_keys}
-use Rattle.erd_meaning.specs.code.KeyOrders.{seen_keys}
-use Rattle.erd_meaning.specs.code.RanksAmong.{names_of, rising_keys_among}
-use Rattle.erd_meaning.specs.code.Shown.{shown}
+use Rattle.erd_meaning.proofs.Common.{◌≡◌, map, ◌∙◌, IfOk-weaker, view, rising_keys, seen_keys, rising_keys_among, names_of, shown}
 use Rattle.erd_meaning.proofs.selections.RankedReports.{rising_same}
 use Rattle.erd_meaning.proofs.report.Report.rising_keys.Goals as goal
 

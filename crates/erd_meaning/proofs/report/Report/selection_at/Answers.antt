@@ -1,11 +1,4 @@
-use Rattle.std.proofs.Common.{◌≡◌, Option, Some, None, option_map, refl, sym, ap, ◌∙◌}
-use Rattle.serde_json.specs.Data.{Data}
-use Rattle.serde_json.specs.View.{view}
-use Rattle.erd_meaning.specs.Keys.{Preference}
-use Rattle.erd_meaning.specs.Lookups.{selection_in}
-use Rattle.erd_meaning.specs.NameParts.{NameParts}
-use Rattle.erd_meaning.specs.RankedNames.{PlacedName, ranked_name}
-use Rattle.erd_meaning.specs.code.SelectionWalk.{NumberedName}
+use Rattle.erd_meaning.proofs.Common.{◌≡◌, Some, None, Option, option_map, sym, refl, ap, ◌∙◌, Data, view, Preference, selection_in, NameParts, ranked_name, PlacedName, NumberedName}
 use Rattle.erd_meaning.proofs.report.Report.selection_at.Goals as goal
 
 -- a name without its ranks

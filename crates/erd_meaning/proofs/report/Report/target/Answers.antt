@@ -1,6 +1,4 @@
-use Rattle.std.proofs.Common.{sym, subst}
-use Rattle.erd_meaning.specs.Lookups.{FindsId}
-use Rattle.serde_json.specs.View.{view}
+use Rattle.erd_meaning.proofs.Common.{sym, subst, view, FindsId}
 use Rattle.erd_meaning.proofs.finding.Found.{finds_id}
 use Rattle.erd_meaning.proofs.report.Report.target.Goals as goal
 

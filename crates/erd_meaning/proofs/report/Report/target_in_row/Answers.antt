@@ -1,7 +1,4 @@
-use Rattle.std.proofs.Common.{map, sym, subst}
-use Rattle.erd_meaning.specs.Lookups.{FindsId}
-use Rattle.erd_meaning.specs.code.Shown.{shown}
-use Rattle.serde_json.specs.View.{view}
+use Rattle.erd_meaning.proofs.Common.{map, sym, subst, view, FindsId, shown}
 use Rattle.erd_meaning.proofs.finding.Found.{finds_id, own_ids}
 use Rattle.erd_meaning.proofs.report.Report.target_in_row.Goals as goal
 

@@ -1,8 +1,4 @@
-use Rattle.std.proofs.Common.{◌<◌, ◌^◌, length, subst, sym, arith}
-use Rattle.serde_json.specs.View.{view}
-use Rattle.erd_meaning.specs.Accepted.{IsAccepted}
-use Rattle.erd_meaning.specs.Judged.{Judged}
-use Rattle.erd_meaning.specs.Objects.{IsBounded}
+use Rattle.erd_meaning.proofs.Common.{◌^◌, ◌<◌, length, sym, subst, arith, view, IsAccepted, Judged, IsBounded}
 use Rattle.erd_meaning.proofs.accepted.Phases.{accepted_by_phases}
 use Rattle.erd_meaning.proofs.finding.Lookups.{few_objects}
 use Rattle.erd_meaning.proofs.report.Report.tree.Goals as goal

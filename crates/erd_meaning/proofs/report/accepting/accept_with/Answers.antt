@@ -1,14 +1,4 @@
-use Rattle.std.proofs.Common.{◌≡◌, Option, subst, sym}
-use Rattle.std.specs.Option.{option_copied}
-use Rattle.std.specs.Prelude.{IfSome}
-use Rattle.std.proofs.lemmas.Result.{err_from_is_err_and}
-use Rattle.serde_json.specs.View.{view}
-use Rattle.serde_json.specs.declared.value.Value.{Value}
-use Rattle.erd_check.specs.Refusals.{RefusedFor}
-use Rattle.erd_check.specs.Shapes.{IsFaultless}
-use Rattle.erd_meaning.specs.Accepted.{IsFault}
-use Rattle.erd_meaning.specs.LaterFaults.{SelectionFault}
-use Rattle.erd_meaning.specs.code.Resolved.{IsIdentified, IsReferred}
+use Rattle.erd_meaning.proofs.Common.{◌≡◌, IfSome, Option, option_copied, sym, subst, err_from_is_err_and, view, Value, RefusedFor, IsFaultless, IsFault, SelectionFault, IsIdentified, IsReferred}
 use Rattle.erd_meaning.specs.declared.report.accepting.Clear.{Clear}
 use Rattle.erd_meaning.proofs.refused.Refused.{refused_for_selections, refused_for_shape}
 use Rattle.erd_meaning.proofs.report.accepting.accept_with.Goals as goal

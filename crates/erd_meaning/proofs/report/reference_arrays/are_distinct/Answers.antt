@@ -1,8 +1,5 @@
-use Rattle.std.proofs.Common.{◌==◌, ◌≡◌, ℕ, List, subst, sym}
-use Rattle.std.specs.Cmp.{nat_eq_equiv}
-use Rattle.std.proofs.lemmas.List.Sorted.{IsPermutation-sym}
+use Rattle.erd_meaning.proofs.Common.{◌≡◌, ℕ, List, ◌==◌, sym, subst, IsPermutation-sym, nat_eq_equiv, IsRisingFrom}
 use Rattle.indexmap.proofs.MapLemmas.{distinct_permutation}
-use Rattle.erd_meaning.specs.code.RisingNumbers.{IsRisingFrom}
 use Rattle.erd_meaning.proofs.references.ClearArrays.{rising_differ}
 use Rattle.erd_meaning.proofs.report.reference_arrays.are_distinct.Goals as goal
 

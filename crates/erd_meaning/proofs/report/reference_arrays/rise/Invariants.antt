@@ -1,5 +1,4 @@
-use Rattle.std.proofs.Common.{drop}
-use Rattle.erd_meaning.specs.code.RisingNumbers.{IsRisingFrom}
+use Rattle.erd_meaning.proofs.Common.{drop, IsRisingFrom}
 use Rattle.erd_meaning.proofs.report.reference_arrays.rise.Given as goal
 
 abbrev pub invariant-loop-number : goal.invariant-loop-number

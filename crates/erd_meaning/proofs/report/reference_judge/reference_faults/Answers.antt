@@ -1,14 +1,5 @@
-use Rattle.std.proofs.Common.{◌∙◌, subst, sym, ap, map, List}
-use Rattle.serde_json.specs.View.{view}
-use Rattle.erd_tables.specs.Faults.{ListsAll}
-use Rattle.erd_tables.specs.declared.class.Role.TheVariants.{Report}
-use Rattle.erd_check.specs.Visits.{told_of_report}
+use Rattle.erd_meaning.proofs.Common.{List, map, sym, ap, ◌∙◌, subst, view, ListsAll, Report, tree_in_order, told_of_report, ReferenceFault, Kept, reference_reasons_told, shown}
 use Rattle.erd_check.specs.declared.want.Want.TheVariants.{Object}
-use Rattle.erd_check.proofs.Deciding.{tree_in_order}
-use Rattle.erd_meaning.specs.LaterFaults.{ReferenceFault}
-use Rattle.erd_meaning.specs.code.ObjectWalk.{Kept}
-use Rattle.erd_meaning.specs.code.ReferenceReasons.{reference_reasons_told}
-use Rattle.erd_meaning.specs.code.Shown.{shown}
 use Rattle.erd_meaning.proofs.finding.Found.{own_ids}
 use Rattle.erd_meaning.proofs.references.ReferenceWalks.{references_all}
 use Rattle.erd_meaning.proofs.report.reference_judge.reference_faults.Goals as goal

@@ -1,15 +1,6 @@
-use Rattle.std.proofs.Common.{◌≡◌, List, [], Option, ap, length, map, subst, sym, ◌∙◌}
-use Rattle.std.specs.Prelude.{IfSome}
-use Rattle.serde_json.specs.View.{view}
-use Rattle.serde_json.specs.declared.value.Value.{Value}
-use Rattle.erd_tables.specs.declared.class.Role.TheVariants.{Report}
-use Rattle.erd_check.specs.Visits.{IsInOrder, told_of_report}
+use Rattle.erd_meaning.proofs.Common.{◌≡◌, List, [], map, length, IfSome, Option, sym, ap, ◌∙◌, subst, view, Value, Report, told_of_report, IsInOrder, ReferenceFault, Kept, kept_objects, reference_reasons_told, shown}
 use Rattle.erd_check.specs.declared.want.Want.TheVariants.{Object}
-use Rattle.erd_check.proofs.FaultLists.{none_from_empty}
-use Rattle.erd_meaning.specs.LaterFaults.{ReferenceFault}
-use Rattle.erd_meaning.specs.code.ObjectWalk.{Kept, kept_objects}
-use Rattle.erd_meaning.specs.code.ReferenceReasons.{reference_reasons_told}
-use Rattle.erd_meaning.specs.code.Shown.{shown}
+use Rattle.erd_check.proofs.Deciding.{none_from_empty}
 use Rattle.erd_meaning.proofs.finding.Found.{own_ids}
 use Rattle.erd_meaning.proofs.references.ReferenceWalks.{references_all}
 use Rattle.erd_meaning.proofs.report.reference_judge.shape_with_references.Goals as goal

@@ -1,7 +1,4 @@
-use Rattle.std.proofs.Common.{◌∙◌, sym}
-use Rattle.serde_json.specs.View.{view}
-use Rattle.erd_check.proofs.Deciding.{none_from_empty}
-use Rattle.erd_meaning.specs.LaterFaults.{ReferenceFault}
+use Rattle.erd_meaning.proofs.Common.{sym, ◌∙◌, view, none_from_empty, ReferenceFault}
 use Rattle.erd_meaning.proofs.report.resolving.check_references.Goals as goal
 
 pub returns-then-len-eq0-clause-referred : goal.returns-then-len-eq0-clause-referred

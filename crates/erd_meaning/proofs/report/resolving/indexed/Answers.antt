@@ -1,6 +1,4 @@
-use Rattle.std.proofs.Common.{sym, subst}
-use Rattle.serde_json.specs.View.{view}
-use Rattle.erd_meaning.specs.code.KeyOrders.{AreDistinct}
+use Rattle.erd_meaning.proofs.Common.{sym, subst, view, AreDistinct}
 use Rattle.erd_meaning.proofs.accepted.DistinctKeys.{election_keys_distinct}
 use Rattle.erd_meaning.proofs.report.resolving.indexed.Goals as goal
 

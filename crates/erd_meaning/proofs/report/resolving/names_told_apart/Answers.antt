@@ -1,7 +1,4 @@
-use Rattle.std.proofs.Common.{◌≡◌, [], length, map, ap, ◌∙◌, sym}
-use Rattle.std.specs.Prelude.{◌≢◌}
-use Rattle.serde_json.specs.View.{view}
-use Rattle.erd_meaning.specs.code.Shown.{shown}
+use Rattle.erd_meaning.proofs.Common.{◌≡◌, ◌≢◌, [], map, length, sym, ap, ◌∙◌, view, shown}
 use Rattle.erd_meaning.specs.declared.names.selection_walk.SelectionWalk.{SelectionWalk}
 use Rattle.erd_meaning.proofs.selections.WalkedNames.{NamesWalked, names_left, no_twin_left, twins_left}
 use Rattle.erd_meaning.proofs.report.resolving.names_told_apart.Goals as goal

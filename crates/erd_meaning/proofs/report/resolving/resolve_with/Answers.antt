@@ -1,14 +1,4 @@
-use Rattle.std.specs.Option.{option_copied}
-use Rattle.std.proofs.Common.{◌≡◌, map, subst}
-use Rattle.std.proofs.lemmas.Result.{err_from_is_err_and}
-use Rattle.serde_json.specs.View.{view}
-use Rattle.serde_json.specs.declared.value.Value.{Value}
-use Rattle.erd_check.specs.Refusals.{RefusedFor}
-use Rattle.erd_check.specs.Shapes.{IsFaultless}
-use Rattle.erd_meaning.specs.Accepted.{IsFault}
-use Rattle.erd_meaning.specs.code.ObjectWalk.{election_keys, kept_objects}
-use Rattle.erd_meaning.specs.code.Resolved.{IsIdentified, IsReferred}
-use Rattle.erd_meaning.specs.code.Shown.{shown}
+use Rattle.erd_meaning.proofs.Common.{◌≡◌, map, option_copied, subst, err_from_is_err_and, view, Value, RefusedFor, IsFaultless, IsFault, kept_objects, election_keys, IsIdentified, IsReferred, shown}
 use Rattle.erd_meaning.proofs.accepted.Phases.{accepted_by_phases}
 use Rattle.erd_meaning.proofs.refused.Refused.{refused_for_identity, refused_for_references, refused_for_selections}
 use Rattle.erd_meaning.proofs.report.resolving.resolve_with.Goals as goal

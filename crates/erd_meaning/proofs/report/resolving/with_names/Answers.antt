@@ -1,14 +1,4 @@
-use Rattle.std.proofs.Common.{List, map, sym, ap, ◌∙◌, subst}
-use Rattle.std.proofs.lemmas.Result.{err_from_is_err_and}
-use Rattle.serde_json.specs.View.{view}
-use Rattle.serde_json.specs.declared.value.Value.{Value}
-use Rattle.erd_check.specs.Refusals.{RefusedFor}
-use Rattle.erd_meaning.specs.LaterFaults.{SelectionFault}
-use Rattle.erd_meaning.specs.code.KeyOrders.{HaveDistinctKeys}
-use Rattle.erd_meaning.specs.code.ObjectWalk.{kept_objects}
-use Rattle.erd_meaning.specs.code.Resolved.{IsIdentified, IsReferred, IsToldApart}
-use Rattle.erd_meaning.specs.code.Shown.{shown}
-use Rattle.erd_meaning.specs.declared.objects.object.Object.{Object}
+use Rattle.erd_meaning.proofs.Common.{List, map, sym, ap, ◌∙◌, subst, err_from_is_err_and, view, Value, RefusedFor, SelectionFault, HaveDistinctKeys, kept_objects, IsIdentified, IsReferred, IsToldApart, shown, Object}
 use Rattle.erd_meaning.proofs.accepted.DistinctKeys.{kept_distinct}
 use Rattle.erd_meaning.proofs.report.resolving.with_names.Goals as goal
 

@@ -1,24 +1,8 @@
-use Rattle.std.proofs.Common.{◌≡◌, ◌<◌, ◌++◌, ◌+◌, ℕ, [], Some, codes, get_or, length, drop, option_map, slice_get, sym, ap, ap₂, ◌∙◌, subst}
-use Rattle.std.proofs.lemmas.List.{length-map}
-use Rattle.std.proofs.lemmas.Option.{same_Some, slice_get-map, slice_get_within}
-use Rattle.std.proofs.lemmas.Result.{on_ok_weaker}
-use Rattle.serde_json.specs.Data.{Data}
-use Rattle.serde_json.specs.View.{items_of, view}
-use Rattle.erd_tables.specs.declared.class.Family.TheVariants as family
-use Rattle.erd_check.specs.Values.{entries_at}
-use Rattle.erd_check.specs.Wants.{class_of_object}
-use Rattle.erd_meaning.specs.Lookups.{rank_of}
-use Rattle.erd_meaning.specs.Objects.{contests}
-use Rattle.erd_meaning.specs.SelectionNames.{selection_role}
+use Rattle.erd_normal.proofs.Common.{◌≡◌, ℕ, ◌+◌, ◌<◌, [], ◌++◌, length, get_or, drop, slice_get, Some, codes, option_map, sym, ap, ◌∙◌, subst, ap₂, length-map, same_Some, slice_get-map, slice_get_within, on_ok_weaker, Data, items_of, view, family, entries_at, class_of_object, rank_of, contests, selection_role, canonical_selection_id, normal_value, normal_object_with, with_id, rising_selections, value_tokens, items_tokens, map_from, written_selection}
 use Rattle.erd_normal.proofs.ranks.PartObjects.{seen_key, seen_value}
 use Rattle.erd_normal.proofs.ranks.SelectionRanks.{next_selection, none_left, selections_left}
 use Rattle.erd_normal.proofs.texts.WholeObjects.{entry_whole}
 use Rattle.erd_normal.proofs.texts.DueTokens.{then_rest}
-use Rattle.erd_normal.specs.Canonical.{canonical_selection_id}
-use Rattle.erd_normal.specs.code.NormalTree.{normal_object_with, normal_value, with_id}
-use Rattle.erd_normal.specs.code.SelectionOrders.{rising_selections}
-use Rattle.erd_normal.specs.code.Tokens.{items_tokens, value_tokens}
-use Rattle.erd_normal.specs.code.WrittenTree.{map_from, written_selection}
 use Rattle.erd_normal.proofs.objects.contest_selections.write_in_contest.Goals as goal
 
 pub entry_at-requires : goal.entry_at-requires

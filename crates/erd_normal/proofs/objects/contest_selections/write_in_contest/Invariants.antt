@@ -1,10 +1,4 @@
-use Rattle.std.proofs.Common.{◌≡◌, ◌++◌, codes, drop}
-use Rattle.serde_json.specs.View.{items_of, view}
-use Rattle.erd_check.specs.Values.{entries_at}
-use Rattle.erd_meaning.specs.SelectionNames.{rising_list}
-use Rattle.erd_normal.specs.code.NormalTree.{by_name}
-use Rattle.erd_normal.specs.code.Tokens.{items_tokens}
-use Rattle.erd_normal.specs.code.WrittenTree.{map_from, written_in_contest, written_selection}
+use Rattle.erd_normal.proofs.Common.{◌≡◌, ◌++◌, drop, codes, items_of, view, entries_at, rising_list, by_name, items_tokens, map_from, written_selection, written_in_contest}
 use Rattle.erd_normal.proofs.objects.contest_selections.write_in_contest.Given as goal
 
 abbrev pub invariant-loop-rank : goal.invariant-loop-rank

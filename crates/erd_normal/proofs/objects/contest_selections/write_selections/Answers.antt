@@ -1,14 +1,6 @@
-use Rattle.std.proofs.Common.{◌++◌, [], ◌∷◌, List, append_assoc, option_map, refl, slice_get, sym, ap, ◌∙◌}
-use Rattle.std.proofs.lemmas.Result.{on_ok_weaker}
-use Rattle.json.specs.Token.{begin_array}
-use Rattle.serde_json.specs.Data.{Data}
-use Rattle.serde_json.specs.View.{items_of, view}
-use Rattle.erd_meaning.specs.Objects.{contests}
+use Rattle.erd_normal.proofs.Common.{List, [], ◌∷◌, ◌++◌, slice_get, option_map, sym, refl, ap, ◌∙◌, append_assoc, on_ok_weaker, begin_array, Data, items_of, view, contests, array_of, value_tokens, items_tokens, written_in_contest}
 use Rattle.erd_normal.proofs.ranks.PartObjects.{seen_value, unseen_value}
 use Rattle.erd_normal.proofs.texts.DueTokens.{array_written}
-use Rattle.erd_normal.specs.code.NormalTree.{array_of}
-use Rattle.erd_normal.specs.code.Tokens.{items_tokens, value_tokens}
-use Rattle.erd_normal.specs.code.WrittenTree.{written_in_contest}
 use Rattle.erd_normal.proofs.objects.contest_selections.write_selections.Goals as goal
 
 pub write_in_contest-requires : goal.write_in_contest-requires

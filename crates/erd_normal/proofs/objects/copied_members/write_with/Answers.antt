@@ -1,13 +1,5 @@
-use Rattle.std.proofs.Common.{◌≡◌, ◌++◌, ap, sym, ◌∙◌}
-use Rattle.std.proofs.lemmas.Result.{on_ok_weaker}
-use Rattle.serde_json.specs.Data.{object}
-use Rattle.serde_json.specs.View.{members_view, view}
-use Rattle.serde_json.specs.Written.{has_float}
-use Rattle.serde_json.proofs.Views.{view-Object}
+use Rattle.erd_normal.proofs.Common.{◌≡◌, ◌++◌, sym, ap, ◌∙◌, on_ok_weaker, view-Object, object, view, members_view, has_float, put_all, put_in, due_list, value_tokens}
 use Rattle.erd_tables.specs.declared.class.Class.TheVariants.{InternationalizedText}
-use Rattle.erd_normal.specs.code.Building.{put_all, put_in}
-use Rattle.erd_normal.specs.code.DueMembers.{due_list}
-use Rattle.erd_normal.specs.code.Tokens.{value_tokens}
 use Rattle.erd_normal.proofs.texts.PutObjects.{copied}
 use Rattle.erd_normal.proofs.objects.copied_members.write_with.Goals as goal
 

@@ -1,16 +1,7 @@
-use Rattle.std.proofs.Common.{◌≡◌, ◌++◌, ◌+◌, ◌≤◌, ℕ, length, map, drop, sym, ap, ◌∙◌, arith}
-use Rattle.std.proofs.lemmas.List.{drop_all, length-map}
-use Rattle.std.proofs.lemmas.Option.{slice_get_within}
-use Rattle.std.proofs.lemmas.Result.{on_ok_weaker}
-use Rattle.serde_json.specs.Data.{Data}
-use Rattle.serde_json.specs.View.{items_of, view}
-use Rattle.erd_meaning.specs.Objects.{Placed, objects}
+use Rattle.erd_normal.proofs.Common.{◌≡◌, ℕ, ◌+◌, ◌≤◌, ◌++◌, map, length, drop, sym, ap, ◌∙◌, arith, length-map, drop_all, slice_get_within, on_ok_weaker, Data, items_of, view, Placed, objects, objects_in_part, value_tokens, items_tokens, written_object}
 use Rattle.erd_normal.proofs.ranks.InOrder.{left_there, next}
 use Rattle.erd_normal.proofs.ranks.PartObjects.{in_part_there}
 use Rattle.erd_normal.proofs.texts.DueTokens.{array_written, then_rest}
-use Rattle.erd_normal.specs.code.ElectionParts.{objects_in_part}
-use Rattle.erd_normal.specs.code.Tokens.{items_tokens, value_tokens}
-use Rattle.erd_normal.specs.code.WrittenTree.{written_object}
 use Rattle.erd_normal.proofs.objects.family_objects.write_family.Goals as goal
 
 pub write_object_at-requires : goal.write_object_at-requires

@@ -1,8 +1,4 @@
-use Rattle.std.proofs.Common.{◌≡◌, ◌++◌, map, drop}
-use Rattle.serde_json.specs.View.{items_of, view}
-use Rattle.erd_normal.specs.code.ElectionParts.{objects_in_part}
-use Rattle.erd_normal.specs.code.Tokens.{items_tokens}
-use Rattle.erd_normal.specs.code.WrittenTree.{written_object, written_objects}
+use Rattle.erd_normal.proofs.Common.{◌≡◌, ◌++◌, map, drop, items_of, view, objects_in_part, items_tokens, written_object, written_objects}
 use Rattle.erd_normal.proofs.objects.family_objects.write_family.Given as goal
 
 abbrev pub invariant-loop-position : goal.invariant-loop-position

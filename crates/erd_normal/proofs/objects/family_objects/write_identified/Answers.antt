@@ -1,10 +1,5 @@
-use Rattle.std.proofs.Common.{◌++◌, Some, option_map, ap, sym, ◌∙◌}
-use Rattle.std.proofs.lemmas.Result.{on_ok_weaker}
-use Rattle.serde_json.specs.View.{view}
-use Rattle.erd_check.specs.Wants.{class_of_object}
+use Rattle.erd_normal.proofs.Common.{◌++◌, Some, option_map, sym, ap, ◌∙◌, on_ok_weaker, view, class_of_object, normal_object_with, with_id, value_tokens}
 use Rattle.erd_normal.proofs.texts.PutObjects.{put_id}
-use Rattle.erd_normal.specs.code.NormalTree.{normal_object_with, with_id}
-use Rattle.erd_normal.specs.code.Tokens.{value_tokens}
 use Rattle.erd_normal.proofs.objects.family_objects.write_identified.Goals as goal
 
 pub returns-in-Some : goal.returns-in-Some

@@ -1,17 +1,5 @@
-use Rattle.std.proofs.Common.{◌≡◌, ◌++◌, option_map, slice_get, sym, ap, ap₂, ◌∙◌}
-use Rattle.std.proofs.lemmas.Result.{on_ok_weaker}
-use Rattle.serde_json.specs.Data.{Data}
-use Rattle.serde_json.specs.View.{view}
-use Rattle.erd_tables.specs.declared.class.Role.TheVariants as role
-use Rattle.erd_check.specs.Wants.{class_of_object}
-use Rattle.erd_meaning.specs.Keys.{key_of}
-use Rattle.erd_meaning.specs.Lookups.{rank_of}
-use Rattle.erd_meaning.specs.Objects.{objects}
+use Rattle.erd_normal.proofs.Common.{◌≡◌, ◌++◌, slice_get, option_map, sym, ap, ◌∙◌, ap₂, on_ok_weaker, Data, view, role, class_of_object, key_of, rank_of, objects, canonical_id, normal_object_with, with_id, value_tokens, written_object_value}
 use Rattle.erd_normal.proofs.ranks.PartObjects.{found_below, found_key, found_value}
-use Rattle.erd_normal.specs.Canonical.{canonical_id}
-use Rattle.erd_normal.specs.code.NormalTree.{normal_object_with, with_id}
-use Rattle.erd_normal.specs.code.Tokens.{value_tokens}
-use Rattle.erd_normal.specs.code.WrittenTree.{written_object_value}
 use Rattle.erd_normal.proofs.objects.family_objects.write_object_at.Goals as goal
 
 pub write_identified-requires : goal.write_identified-requires

@@ -1,12 +1,5 @@
-use Rattle.std.proofs.Common.{◌++◌, ◌∙◌, drop, sym, ap}
-use Rattle.serde_json.specs.View.{members_view, view}
-use Rattle.serde_json.proofs.Views.{Entry}
-use Rattle.erd_tables.specs.Table.{kind_of_member}
+use Rattle.erd_normal.proofs.Common.{◌++◌, drop, sym, ap, ◌∙◌, Entry, view, members_view, kind_of_member, first_if, put_all, due_list, normal_members, members_tokens}
 use Rattle.erd_normal.proofs.built.BuiltMembers.{whole_first, whole_rest}
-use Rattle.erd_normal.specs.code.Building.{first_if, put_all}
-use Rattle.erd_normal.specs.code.DueMembers.{due_list}
-use Rattle.erd_normal.specs.code.NormalTree.{normal_members}
-use Rattle.erd_normal.specs.code.Tokens.{members_tokens}
 use Rattle.erd_normal.proofs.objects.members.write_members.Goals as goal
 
 pub loop-name-preserved : goal.loop-name-preserved

@@ -1,10 +1,4 @@
-use Rattle.std.proofs.Common.{◌≡◌, ◌++◌, false, drop}
-use Rattle.serde_json.specs.View.{members_view}
-use Rattle.serde_json.specs.Written.{members_have_float}
-use Rattle.erd_normal.specs.code.Building.{put_all}
-use Rattle.erd_normal.specs.code.DueMembers.{AreDue, due_list}
-use Rattle.erd_normal.specs.code.NormalTree.{normal_members}
-use Rattle.erd_normal.specs.code.Tokens.{members_tokens}
+use Rattle.erd_normal.proofs.Common.{◌≡◌, false, ◌++◌, drop, members_view, members_have_float, put_all, due_list, AreDue, normal_members, members_tokens}
 use Rattle.erd_normal.proofs.objects.members.write_members.Given as goal
 
 abbrev pub invariant-loop-name : goal.invariant-loop-name

@@ -1,9 +1,6 @@
-use Rattle.std.proofs.Common.{rules, ◌≡◌, ◌++◌, length, sym, subst, arith}
-use Rattle.std.proofs.Math.Seq.{take-append_seam}
+use Rattle.erd_normal.proofs.Common.{◌≡◌, ◌++◌, length, take, drop, sym, subst, arith, rules, take-append_seam, IsStablySorted}
 use Rattle.erd_normal.proofs.lists.StableRising.{sorted_by_keys}
-use Rattle.erd_normal.specs.StableOrder.{IsStablySorted}
 use Rattle.erd_normal.proofs.order.stable_sort.in_order.Goals as goal
-use lib.ListN.{drop, take}
 
 pub returns : goal.returns
 returns g c =

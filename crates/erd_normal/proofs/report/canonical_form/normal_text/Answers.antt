@@ -1,11 +1,5 @@
-use Rattle.std.proofs.Common.{◌≡◌, ◌++◌, ap, ◌∙◌, subst}
-use Rattle.serde_json.specs.View.{view}
-use Rattle.erd_check.specs.Numbers.{HasFittingNumbers}
-use Rattle.erd_check.specs.Trees.{IsTree}
-use Rattle.erd_meaning.specs.Judged.{Judged}
+use Rattle.erd_normal.proofs.Common.{◌≡◌, ◌++◌, ap, ◌∙◌, subst, view, HasFittingNumbers, IsTree, Judged, normal_tree, value_tokens}
 use Rattle.erd_normal.proofs.texts.FormTexts.{text_of_form}
-use Rattle.erd_normal.specs.code.NormalTree.{normal_tree}
-use Rattle.erd_normal.specs.code.Tokens.{value_tokens}
 use Rattle.erd_normal.proofs.report.canonical_form.normal_text.Goals as goal
 
 pub returns : goal.returns

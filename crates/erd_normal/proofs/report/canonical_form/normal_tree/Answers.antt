@@ -1,9 +1,4 @@
-use Rattle.std.proofs.Common.{◌≡◌, ap, sym, ◌∙◌, subst}
-use Rattle.serde_json.specs.Read.{read}
-use Rattle.serde_json.specs.View.{view}
-use Rattle.serde_json.specs.Written.{has_float}
-use Rattle.erd_check.specs.Trees.{IsNoDeeper, IsShallow, IsTree}
-use Rattle.erd_normal.specs.Canonical.{IsCanonicalFormOf}
+use Rattle.erd_normal.proofs.Common.{◌≡◌, sym, ap, ◌∙◌, subst, read, view, has_float, IsTree, IsShallow, IsNoDeeper, IsCanonicalFormOf}
 use Rattle.erd_normal.proofs.texts.FormTexts.{read_form}
 use Rattle.erd_normal.proofs.report.canonical_form.normal_tree.Goals as goal
 

@@ -1,12 +1,6 @@
-use Rattle.std.proofs.Common.{◌≡◌, ◌++◌, option_map, slice_get, sym, ap, ◌∙◌}
-use Rattle.std.proofs.lemmas.Result.{on_ok_weaker}
-use Rattle.serde_json.specs.Data.{Data}
-use Rattle.serde_json.specs.View.{view}
-use Rattle.erd_meaning.specs.Objects.{elections}
+use Rattle.erd_normal.proofs.Common.{◌≡◌, ◌++◌, slice_get, option_map, sym, ap, ◌∙◌, on_ok_weaker, Data, view, elections, value_tokens, written_election}
 use Rattle.erd_normal.proofs.ranks.PartObjects.{found_below, found_value}
 use Rattle.erd_normal.proofs.texts.PutObjects.{put_none}
-use Rattle.erd_normal.specs.code.Tokens.{value_tokens}
-use Rattle.erd_normal.specs.code.WrittenTree.{written_election}
 use Rattle.erd_normal.proofs.report.election.write_election_at.Goals as goal
 
 pub write_object-requires-clause-whole : goal.write_object-requires-clause-whole

@@ -1,20 +1,7 @@
-use Rattle.std.proofs.Common.{◌≡◌, ◌++◌, ◌+◌, ◌≤◌, ℕ, length, map, drop, sym, ap, ◌∙◌, arith}
-use Rattle.std.proofs.lemmas.List.{drop_all, length-map}
-use Rattle.std.proofs.lemmas.Option.{slice_get_within}
-use Rattle.std.proofs.lemmas.Result.{on_ok_weaker}
-use Rattle.std.specs.Option.{option_cmp}
-use Rattle.serde_json.specs.Data.{Data}
-use Rattle.serde_json.specs.View.{items_of, view}
-use Rattle.erd_meaning.specs.Judged.{Judged}
-use Rattle.erd_meaning.specs.Keys.{key_cmp, key_of}
-use Rattle.erd_meaning.specs.Objects.{Placed, elections}
-use Rattle.erd_meaning.proofs.finding.OneObject.{in_at}
+use Rattle.erd_normal.proofs.Common.{◌≡◌, ℕ, ◌+◌, ◌≤◌, ◌++◌, map, length, drop, sym, ap, ◌∙◌, arith, length-map, drop_all, slice_get_within, on_ok_weaker, option_cmp, Data, items_of, view, in_at, Judged, key_cmp, key_of, Placed, elections, rising_elections, value_tokens, items_tokens, written_election}
 use Rattle.erd_normal.proofs.ranks.InOrder.{left_there, next, stands}
 use Rattle.erd_normal.proofs.ranks.PartObjects.{lent_elections}
 use Rattle.erd_normal.proofs.texts.DueTokens.{array_written, then_rest}
-use Rattle.erd_normal.specs.code.ElectionParts.{rising_elections}
-use Rattle.erd_normal.specs.code.Tokens.{items_tokens, value_tokens}
-use Rattle.erd_normal.specs.code.WrittenTree.{written_election}
 use Rattle.erd_normal.proofs.report.election.write_elections.Goals as goal
 
 pub write_election_at-requires : goal.write_election_at-requires

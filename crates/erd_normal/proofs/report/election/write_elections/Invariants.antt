@@ -1,8 +1,4 @@
-use Rattle.std.proofs.Common.{◌≡◌, ◌++◌, map, drop}
-use Rattle.serde_json.specs.View.{items_of, view}
-use Rattle.erd_normal.specs.code.ElectionParts.{rising_elections}
-use Rattle.erd_normal.specs.code.Tokens.{items_tokens}
-use Rattle.erd_normal.specs.code.WrittenTree.{written_election, written_elections}
+use Rattle.erd_normal.proofs.Common.{◌≡◌, ◌++◌, map, drop, items_of, view, rising_elections, items_tokens, written_election, written_elections}
 use Rattle.erd_normal.proofs.report.election.write_elections.Given as goal
 
 abbrev pub invariant-loop-position : goal.invariant-loop-position

@@ -1,17 +1,6 @@
-use Rattle.std.proofs.Common.{◌++◌, ap, ◌∙◌, subst}
-use Rattle.std.proofs.lemmas.Result.{on_ok_weaker}
-use Rattle.serde_json.specs.View.{view}
-use Rattle.erd_tables.specs.declared.class.Role.TheVariants as role
-use Rattle.erd_check.specs.Trees.{IsTree}
-use Rattle.erd_check.specs.Wants.{class_of_object}
-use Rattle.erd_meaning.specs.Judged.{Judged}
-use Rattle.erd_meaning.specs.Accepted.{IsAccepted}
+use Rattle.erd_normal.proofs.Common.{◌++◌, ap, ◌∙◌, subst, on_ok_weaker, view, role, IsTree, class_of_object, IsAccepted, Judged, put_in, normal_object_with, envelope_values, value_tokens, written_report_value}
 use Rattle.erd_normal.proofs.ranks.WrittenTrees.{written_is_normal}
 use Rattle.erd_normal.proofs.texts.PutObjects.{put_envelope}
-use Rattle.erd_normal.specs.code.Building.{put_in}
-use Rattle.erd_normal.specs.code.NormalTree.{envelope_values, normal_object_with}
-use Rattle.erd_normal.specs.code.WrittenTree.{written_report_value}
-use Rattle.erd_normal.specs.code.Tokens.{value_tokens}
 use Rattle.erd_normal.proofs.report.report_text.write_report.Goals as goal
 
 pub returns : goal.returns

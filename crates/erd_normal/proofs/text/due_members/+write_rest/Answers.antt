@@ -1,4 +1,4 @@
-use Rattle.std.proofs.lemmas.Result.{on_ok_weaker}
+use Rattle.erd_normal.proofs.Common.{on_ok_weaker}
 use Rattle.erd_normal.proofs.texts.DueTokens.{rest_at, whole_at}
 use Rattle.erd_normal.proofs.text.due_members.+write_rest.Goals as goal
 

@@ -1,4 +1,4 @@
-use Rattle.std.proofs.Common.{◌-◌, length}
+use Rattle.erd_normal.proofs.Common.{◌-◌, length}
 use Rattle.erd_normal.proofs.text.due_members.+write_rest.Given as goal
 
 abbrev pub decreases-write_rest : goal.decreases-write_rest

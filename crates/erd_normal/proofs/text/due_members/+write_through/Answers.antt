@@ -1,5 +1,4 @@
-use Rattle.std.proofs.Common.{sym}
-use Rattle.std.proofs.lemmas.Result.{IfOk-weaker}
+use Rattle.erd_normal.proofs.Common.{sym, IfOk-weaker}
 use Rattle.erd_normal.proofs.texts.DueTokens.{equal_at, greater_at, less_at, whole_at}
 use Rattle.erd_normal.proofs.text.due_members.+write_through.Goals as goal
 

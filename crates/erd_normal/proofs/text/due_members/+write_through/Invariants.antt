@@ -1,4 +1,4 @@
-use Rattle.std.proofs.Common.{◌-◌, length}
+use Rattle.erd_normal.proofs.Common.{◌-◌, length}
 use Rattle.erd_normal.proofs.text.due_members.+write_through.Given as goal
 
 abbrev pub decreases-write_through : goal.decreases-write_through

@@ -1,7 +1,4 @@
-use Rattle.std.proofs.Common.{◌≡◌, ◌++◌, false, drop}
-use Rattle.serde_json.specs.View.{items_view, members_view}
-use Rattle.serde_json.specs.Written.{items_have_float, members_have_float}
-use Rattle.erd_normal.specs.code.Tokens.{items_tokens, members_tokens}
+use Rattle.erd_normal.proofs.Common.{◌≡◌, false, ◌++◌, drop, items_view, members_view, items_have_float, members_have_float, items_tokens, members_tokens}
 use Rattle.erd_normal.proofs.text.value.+copy.Given as goal
 
 abbrev pub invariant-write_items-loop-item : goal.invariant-write_items-loop-item

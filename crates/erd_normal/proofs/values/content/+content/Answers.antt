@@ -1,17 +1,7 @@
-use Rattle.std.proofs.Common.{◌≡◌, ◌++◌, ◌+◌, drop, Option, ap, sym, ◌∙◌}
-use Rattle.std.proofs.lemmas.Bool.{or_parts}
-use Rattle.std.proofs.lemmas.Result.{on_ok_weaker}
-use Rattle.std.specs.Option.{option_map_or}
-use Rattle.serde_json.specs.Data.{member as member_of}
-use Rattle.serde_json.specs.View.{items_view, members_view, view}
-use Rattle.serde_json.specs.Written.{has_float, items_have_float}
-use Rattle.serde_json.proofs.Views.{Entry}
-use Rattle.erd_tables.specs.declared.member.MemberKind.{MemberKind}
+use Rattle.erd_normal.proofs.Common.{◌≡◌, ◌+◌, ◌++◌, drop, Option, sym, ap, ◌∙◌, or_parts, on_ok_weaker, option_map_or, Entry, member as member_of, view, items_view, members_view, has_float, items_have_float, MemberKind, normal_node_value, normal_content, normal_nodes, normal_node, normal_node_members, value_tokens, items_tokens, members_tokens, member_tokens}
 use Rattle.erd_normal.proofs.built.BuiltMembers.{whole_first, whole_rest}
 use Rattle.erd_normal.proofs.built.NormalMembers.{node_value}
 use Rattle.erd_normal.proofs.texts.DueTokens.{entries_from, kept_member, member_or_none, then_rest}
-use Rattle.erd_normal.specs.code.NormalTree.{normal_content, normal_node, normal_node_members, normal_node_value, normal_nodes}
-use Rattle.erd_normal.specs.code.Tokens.{items_tokens, member_tokens, members_tokens, value_tokens}
 use Rattle.erd_normal.proofs.values.content.+content.Goals as goal
 
 pub write_node_member-returns-in_ok-key : goal.write_node_member-returns-in_ok-key

@@ -1,8 +1,4 @@
-use Rattle.std.proofs.Common.{◌≡◌, ◌++◌, false, drop}
-use Rattle.serde_json.specs.View.{items_view, members_view, view}
-use Rattle.serde_json.specs.Written.{items_have_float, members_have_float}
-use Rattle.erd_normal.specs.code.NormalTree.{normal_node_members, normal_nodes}
-use Rattle.erd_normal.specs.code.Tokens.{items_tokens, members_tokens}
+use Rattle.erd_normal.proofs.Common.{◌≡◌, false, ◌++◌, drop, view, items_view, members_view, items_have_float, members_have_float, normal_nodes, normal_node_members, items_tokens, members_tokens}
 use Rattle.erd_normal.proofs.values.content.+content.Given as goal
 
 abbrev pub invariant-write_nodes-loop-item : goal.invariant-write_nodes-loop-item

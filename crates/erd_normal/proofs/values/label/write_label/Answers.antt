@@ -1,13 +1,6 @@
-use Rattle.std.proofs.Common.{◌++◌, [], ◌∷◌, List, codes, ap, ◌∙◌}
-use Rattle.std.proofs.lemmas.Result.{on_ok_weaker}
-use Rattle.serde_json.specs.Data.{Data}
-use Rattle.serde_json.specs.View.{view}
-use Rattle.erd_meaning.specs.SelectionNames.{compact_cmp, rising_list}
+use Rattle.erd_normal.proofs.Common.{List, [], ◌∷◌, ◌++◌, codes, ap, ◌∙◌, on_ok_weaker, Data, view, rising_list, compact_cmp, put_in, array_of, value_tokens}
 use Rattle.erd_normal.proofs.texts.PutObjects.{put_text}
 use Rattle.erd_normal.proofs.texts.WholeObjects.{whole_list_at}
-use Rattle.erd_normal.specs.code.Building.{put_in}
-use Rattle.erd_normal.specs.code.NormalTree.{array_of}
-use Rattle.erd_normal.specs.code.Tokens.{value_tokens}
 use Rattle.erd_normal.proofs.values.label.write_label.Goals as goal
 
 pub returns : goal.returns

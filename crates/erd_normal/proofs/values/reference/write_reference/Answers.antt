@@ -1,11 +1,5 @@
-use Rattle.std.proofs.Common.{◌≡◌, ◌++◌, ap, subst, ◌∙◌}
-use Rattle.std.specs.Result.{OnOk}
-use Rattle.serde_json.specs.Data.{Data, string}
-use Rattle.serde_json.specs.View.{view}
+use Rattle.erd_normal.proofs.Common.{◌≡◌, ◌++◌, OnOk, ap, ◌∙◌, subst, Data, string, view, id_of_rank, normal_id, value_tokens}
 use Rattle.erd_normal.proofs.ranks.RankedReferences.{text_named}
-use Rattle.erd_normal.specs.code.Building.{id_of_rank}
-use Rattle.erd_normal.specs.code.NormalTree.{normal_id}
-use Rattle.erd_normal.specs.code.Tokens.{value_tokens}
 use Rattle.erd_normal.proofs.values.reference.write_reference.Goals as goal
 
 pub returns : goal.returns

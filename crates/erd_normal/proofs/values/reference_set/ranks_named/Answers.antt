@@ -1,8 +1,5 @@
-use Rattle.std.proofs.Common.{ap, ◌∙◌}
-use Rattle.serde_json.specs.View.{view}
-use Rattle.erd_check.specs.Values.{text_of}
+use Rattle.erd_normal.proofs.Common.{ap, ◌∙◌, view, text_of, rank_named}
 use Rattle.erd_normal.proofs.built.NormalEntries.{one_value}
-use Rattle.erd_normal.specs.code.Orders.{rank_named}
 use Rattle.erd_normal.proofs.values.reference_set.ranks_named.Goals as goal
 
 pub loop-value-preserved : goal.loop-value-preserved

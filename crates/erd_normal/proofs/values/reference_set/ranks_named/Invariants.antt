@@ -1,7 +1,4 @@
-use Rattle.std.proofs.Common.{◌≡◌, map, take}
-use Rattle.serde_json.specs.View.{view}
-use Rattle.erd_check.specs.Values.{text_of}
-use Rattle.erd_normal.specs.code.Orders.{rank_named}
+use Rattle.erd_normal.proofs.Common.{◌≡◌, map, take, view, text_of, rank_named}
 use Rattle.erd_normal.proofs.values.reference_set.ranks_named.Given as goal
 
 abbrev pub invariant-loop-value : goal.invariant-loop-value

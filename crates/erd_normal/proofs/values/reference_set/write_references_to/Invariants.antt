@@ -1,8 +1,4 @@
-use Rattle.std.proofs.Common.{◌≡◌, ◌++◌, map, drop}
-use Rattle.serde_json.specs.Data.{string}
-use Rattle.serde_json.specs.View.{items_of}
-use Rattle.erd_normal.specs.code.Building.{id_of_rank}
-use Rattle.erd_normal.specs.code.Tokens.{items_tokens}
+use Rattle.erd_normal.proofs.Common.{◌≡◌, ◌++◌, map, drop, string, items_of, id_of_rank, items_tokens}
 use Rattle.erd_normal.proofs.values.reference_set.write_references_to.Given as goal
 
 abbrev pub invariant-loop-rank : goal.invariant-loop-rank

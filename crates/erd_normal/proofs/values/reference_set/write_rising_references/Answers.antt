@@ -1,18 +1,8 @@
-use Rattle.std.proofs.Common.{◌≡◌, ◌++◌, ℕ, List, map, sym, ap, subst, ◌∙◌}
-use Rattle.std.specs.List.Sorted.{IsPermutation}
-use Rattle.std.specs.Result.{OnOk}
-use Rattle.serde_json.specs.Data.{Data, string}
-use Rattle.serde_json.specs.View.{view}
-use Rattle.erd_check.specs.Values.{text_of}
-use Rattle.erd_meaning.specs.SelectionNames.{rising_list}
+use Rattle.erd_normal.proofs.Common.{◌≡◌, ℕ, List, ◌++◌, map, OnOk, IsPermutation, sym, ap, ◌∙◌, subst, Data, string, view, text_of, rising_list, id_of_rank, reference_cmp, array_of, rank_named, value_tokens}
 use Rattle.erd_normal.proofs.canonical.RisingReports.{reference_cmp_total}
 use Rattle.erd_normal.proofs.lists.NumbersInOrder.{numbers_in_order}
 use Rattle.erd_normal.proofs.lists.StableRising.{map_after}
 use Rattle.erd_normal.proofs.ranks.RankedReferences.{ranks_rise, text_named}
-use Rattle.erd_normal.specs.code.Building.{id_of_rank}
-use Rattle.erd_normal.specs.code.NormalTree.{array_of, reference_cmp}
-use Rattle.erd_normal.specs.code.Orders.{rank_named}
-use Rattle.erd_normal.specs.code.Tokens.{value_tokens}
 use Rattle.erd_normal.proofs.values.reference_set.write_rising_references.Goals as goal
 
 pub returns : goal.returns

@@ -1,7 +1,4 @@
-use Rattle.std.proofs.Common.{◌≡◌, ◌++◌, map, drop}
-use Rattle.serde_json.specs.View.{items_of, view}
-use Rattle.erd_normal.specs.code.NormalTree.{normal_selection_reference}
-use Rattle.erd_normal.specs.code.Tokens.{items_tokens}
+use Rattle.erd_normal.proofs.Common.{◌≡◌, ◌++◌, map, drop, items_of, view, normal_selection_reference, items_tokens}
 use Rattle.erd_normal.proofs.values.reference_set.write_selection_references.Given as goal
 
 abbrev pub invariant-loop-value : goal.invariant-loop-value

@@ -1,6 +1,4 @@
-use Rattle.std.proofs.Common.{map, ap, ◌∙◌}
-use Rattle.serde_json.specs.View.{view}
-use Rattle.erd_normal.specs.code.Building.{beside, beside_compact_text}
+use Rattle.erd_normal.proofs.Common.{map, ap, ◌∙◌, view, beside, beside_compact_text}
 use Rattle.erd_normal.proofs.built.NormalEntries.{one_more}
 use Rattle.erd_normal.proofs.built.ContentParts.{whole_item}
 use Rattle.erd_normal.proofs.values.rising_values.with_texts.Goals as goal

@@ -1,7 +1,4 @@
-use Rattle.std.proofs.Common.{◌≡◌, false, map, take}
-use Rattle.serde_json.specs.View.{items_view, view}
-use Rattle.serde_json.specs.Written.{items_have_float}
-use Rattle.erd_normal.specs.code.Building.{beside, beside_compact_text}
+use Rattle.erd_normal.proofs.Common.{◌≡◌, false, map, take, view, items_view, items_have_float, beside, beside_compact_text}
 use Rattle.erd_normal.proofs.values.rising_values.with_texts.Given as goal
 
 abbrev pub invariant-loop-value : goal.invariant-loop-value

@@ -1,7 +1,4 @@
-use Rattle.std.proofs.Common.{◌≡◌, ◌++◌, false, map, drop}
-use Rattle.serde_json.specs.View.{items_of, view}
-use Rattle.serde_json.specs.Written.{items_have_float}
-use Rattle.erd_normal.specs.code.Tokens.{items_tokens}
+use Rattle.erd_normal.proofs.Common.{◌≡◌, false, ◌++◌, map, drop, items_of, view, items_have_float, items_tokens}
 use Rattle.erd_normal.proofs.values.rising_values.write_each.Given as goal
 
 abbrev pub invariant-loop-pair : goal.invariant-loop-pair

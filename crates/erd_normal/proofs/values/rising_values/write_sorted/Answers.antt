@@ -1,15 +1,6 @@
-use Rattle.erd_meaning.specs.SelectionNames.{compact_cmp, rising_list}
-use Rattle.std.proofs.Common.{◌≡◌, ◌++◌, List, map, ap, ◌∙◌}
-use Rattle.std.proofs.lemmas.Cmp.{nat_list_cmp_total}
-use Rattle.std.proofs.lemmas.Result.{on_ok_weaker}
-use Rattle.serde_json.specs.Data.{Data}
-use Rattle.serde_json.specs.View.{items_of, view}
-use Rattle.serde_json.specs.Written.{compact_text, items_have_float}
-use Rattle.erd_tables.specs.Texts.{text_cmp}
+use Rattle.erd_normal.proofs.Common.{◌≡◌, List, ◌++◌, map, ap, ◌∙◌, nat_list_cmp_total, on_ok_weaker, Data, items_of, view, items_have_float, compact_text, text_cmp, rising_list, compact_cmp, array_of, value_tokens}
 use Rattle.erd_normal.proofs.lists.StableRising.{rising_by_part}
 use Rattle.erd_normal.proofs.texts.WholeObjects.{whole_rising}
-use Rattle.erd_normal.specs.code.NormalTree.{array_of}
-use Rattle.erd_normal.specs.code.Tokens.{value_tokens}
 use Rattle.erd_normal.proofs.values.rising_values.write_sorted.Goals as goal
 
 pub returns : goal.returns

@@ -1,14 +1,7 @@
-use Rattle.std.proofs.Common.{◌≡◌, ◌++◌, List, inl, inr, map, ap, sym, ◌∙◌}
-use Rattle.std.proofs.lemmas.Result.{on_ok_weaker}
-use Rattle.serde_json.specs.Data.{Data}
-use Rattle.serde_json.specs.View.{view}
-use Rattle.erd_check.specs.Values.{entries_of}
-use Rattle.erd_meaning.specs.SelectionNames.{compact_cmp, rising_list}
+use Rattle.erd_normal.proofs.Common.{◌≡◌, List, ◌++◌, map, sym, ap, ◌∙◌, inl, inr, on_ok_weaker, Data, view, entries_of, rising_list, compact_cmp, normal_selection_reference, unless_no_entry, array_of, normal_value, value_tokens}
 use Rattle.erd_normal.proofs.lists.StableRising.{map_after}
 use Rattle.erd_normal.proofs.texts.WholeObjects.{whole_list}
 use Rattle.erd_normal.proofs.texts.DueTokens.{kept_value}
-use Rattle.erd_normal.specs.code.NormalTree.{array_of, normal_selection_reference, normal_value, unless_no_entry}
-use Rattle.erd_normal.specs.code.Tokens.{value_tokens}
 use Rattle.erd_normal.proofs.values.value_of_kind.write_of_kind.Goals as goal
 
 pub returns-in-Identifiers : goal.returns-in-Identifiers

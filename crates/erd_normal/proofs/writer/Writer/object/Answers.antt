@@ -1,5 +1,4 @@
-use Rattle.std.proofs.Common.{option_map, sym, ap, ◌∙◌}
-use Rattle.serde_json.specs.View.{view}
+use Rattle.erd_normal.proofs.Common.{option_map, sym, ap, ◌∙◌, view}
 use Rattle.erd_normal.proofs.texts.WholeObjects.{object_found}
 use Rattle.erd_normal.proofs.writer.Writer.object.Goals as goal
 

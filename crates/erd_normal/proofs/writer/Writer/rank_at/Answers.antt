@@ -1,7 +1,4 @@
-use Rattle.std.proofs.Common.{◌≡◌, sym, ◌∙◌, subst}
-use Rattle.serde_json.specs.View.{view}
-use Rattle.erd_meaning.specs.Judged.{Judged}
-use Rattle.erd_meaning.specs.Lookups.{key_in, rank_of}
+use Rattle.erd_normal.proofs.Common.{◌≡◌, sym, ◌∙◌, subst, view, Judged, key_in, rank_of}
 use Rattle.erd_normal.proofs.ranks.RankedReferences.{none_lent}
 use Rattle.erd_normal.proofs.writer.Writer.rank_at.Goals as goal
 

@@ -1,8 +1,4 @@
-use Rattle.std.proofs.Common.{subst}
-use Rattle.serde_json.specs.View.{view}
-use Rattle.erd_meaning.specs.Accepted.{IsAccepted}
-use Rattle.erd_meaning.specs.Judged.{Judged}
-use Rattle.erd_meaning.specs.Lookups.{FindsId}
+use Rattle.erd_normal.proofs.Common.{subst, view, IsAccepted, Judged, FindsId}
 use Rattle.erd_normal.proofs.ranks.RankedReferences.{keyed_unless}
 use Rattle.erd_normal.proofs.writer.Writer.rank_in_row.Goals as goal
 

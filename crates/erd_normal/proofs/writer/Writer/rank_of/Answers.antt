@@ -1,6 +1,4 @@
-use Rattle.std.proofs.Common.{sym, ◌∙◌, subst}
-use Rattle.serde_json.specs.View.{view}
-use Rattle.erd_meaning.specs.Lookups.{FindsId}
+use Rattle.erd_normal.proofs.Common.{sym, ◌∙◌, subst, view, FindsId}
 use Rattle.erd_normal.proofs.ranks.RankedReferences.{named_elsewhere, named_here, named_nowhere}
 use Rattle.erd_normal.proofs.writer.Writer.rank_of.Goals as goal
 

@@ -1,15 +1,5 @@
-use Rattle.std.proofs.Common.{◌≡◌, ℕ, [], Some, None, option_map, slice_get, sym, ap, ap₂, ◌∙◌, subst}
-use Rattle.std.proofs.lemmas.Option.{same_Some}
-use Rattle.std.specs.Option.{option_map_or}
-use Rattle.serde_json.specs.Data.{string}
-use Rattle.serde_json.specs.View.{view}
-use Rattle.erd_tables.specs.declared.class.Family.TheVariants as family
-use Rattle.erd_meaning.specs.Judged.{Judged}
-use Rattle.erd_meaning.specs.Lookups.{id_in, key_in, rank_of}
-use Rattle.erd_meaning.specs.NameParts.{NameParts}
+use Rattle.erd_normal.proofs.Common.{◌≡◌, ℕ, [], slice_get, Some, None, option_map, sym, ap, ◌∙◌, subst, ap₂, same_Some, option_map_or, string, view, family, Judged, key_in, rank_of, id_in, NameParts, canonical_selection_id, normal_selection_reference}
 use Rattle.erd_normal.proofs.ranks.SelectionReferences.{rank_there, reference_there, selection_at, selection_there}
-use Rattle.erd_normal.specs.Canonical.{canonical_selection_id}
-use Rattle.erd_normal.specs.code.NormalTree.{normal_selection_reference}
 use Rattle.erd_normal.proofs.writer.Writer.ranks_at.Goals as goal
 
 pub returns : goal.returns

@@ -1,7 +1,4 @@
-use Rattle.std.proofs.Common.{ap, ◌∙◌}
-use Rattle.serde_json.specs.View.{view}
-use Rattle.erd_meaning.specs.Judged.{Judged}
-use Rattle.erd_normal.specs.code.ElectionParts.{part_seen, positions_in_part}
+use Rattle.erd_normal.proofs.Common.{ap, ◌∙◌, view, Judged, positions_in_part, part_seen}
 use Rattle.erd_normal.proofs.writer.Writer.rising.Goals as goal
 
 pub returns : goal.returns

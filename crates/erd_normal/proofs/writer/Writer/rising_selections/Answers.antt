@@ -1,11 +1,5 @@
-use Rattle.std.proofs.Common.{[], ap, slice_get, ◌∙◌}
-use Rattle.std.specs.Option.{option_map_or}
-use Rattle.serde_json.specs.View.{view}
-use Rattle.erd_meaning.specs.Judged.{Judged}
-use Rattle.erd_meaning.specs.Objects.{Placed, contests}
+use Rattle.erd_normal.proofs.Common.{[], slice_get, ap, ◌∙◌, option_map_or, view, Judged, Placed, contests, part_seen, rising_selections}
 use Rattle.erd_normal.proofs.ranks.PartsFilled.{part_listed}
-use Rattle.erd_normal.specs.code.ElectionParts.{part_seen}
-use Rattle.erd_normal.specs.code.SelectionOrders.{rising_selections}
 use Rattle.erd_normal.proofs.writer.Writer.rising_selections.Goals as goal
 
 pub returns : goal.returns

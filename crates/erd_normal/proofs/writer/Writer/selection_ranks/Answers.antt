@@ -1,12 +1,5 @@
-use Rattle.std.proofs.Common.{◌≡◌, [], sym, ◌∙◌, subst}
-use Rattle.serde_json.specs.Data.{string}
-use Rattle.serde_json.specs.View.{view}
-use Rattle.erd_tables.specs.declared.class.Family.TheVariants as family
-use Rattle.erd_meaning.specs.Judged.{Judged}
-use Rattle.erd_meaning.specs.Lookups.{id_in}
-use Rattle.std.proofs.Common.{Some}
+use Rattle.erd_normal.proofs.Common.{◌≡◌, [], Some, sym, ◌∙◌, subst, string, view, family, Judged, id_in, normal_selection_reference}
 use Rattle.erd_normal.proofs.ranks.SelectionReferences.{selection_elsewhere, selection_found, selection_nowhere}
-use Rattle.erd_normal.specs.code.NormalTree.{normal_selection_reference}
 use Rattle.erd_normal.proofs.writer.Writer.selection_ranks.Goals as goal
 
 pub returns-then-is_same : goal.returns-then-is_same

@@ -1,5 +1,4 @@
-use Rattle.std.proofs.Common.{rules}
-use Rattle.std.proofs.lemmas.Result.{IfOk-weaker}
+use Rattle.erd_normal.proofs.Common.{rules, IfOk-weaker}
 use Rattle.erd_normal.proofs.writer.election_parts.election_parts.Goals as goal
 
 pub returns : goal.returns

@@ -1,5 +1,4 @@
-use Rattle.std.proofs.Common.{◌≡◌, ℕ, [], length}
-use Rattle.erd_normal.specs.code.ElectionParts.{part_seen}
+use Rattle.erd_normal.proofs.Common.{◌≡◌, ℕ, [], length, part_seen}
 use Rattle.erd_normal.proofs.writer.election_parts.empty_parts.Given as goal
 
 abbrev pub invariant-loop : goal.invariant-loop

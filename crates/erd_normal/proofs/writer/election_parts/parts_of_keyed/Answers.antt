@@ -1,12 +1,7 @@
-use Rattle.std.proofs.Common.{◌≡◌, ◌==◌, ◌<◌, ◌≤◌, ℕ, inl, inr, [], ◌∷◌, ◌++◌, filter, get_or, length, map, take, ap, sym, ◌∙◌, subst, arith}
-use Rattle.std.proofs.Math.Seq.{take-length}
-use Rattle.std.proofs.lemmas.Bool.{cases_lt}
-use Rattle.serde_json.specs.View.{view}
-use Rattle.erd_meaning.specs.Objects.{Placed, elections, objects}
+use Rattle.erd_normal.proofs.Common.{◌≡◌, ℕ, ◌<◌, ◌≤◌, [], ◌∷◌, ◌++◌, map, length, get_or, take, ◌==◌, filter, sym, ap, ◌∙◌, subst, inl, inr, arith, take-length, cases_lt, view, Placed, elections, objects, in_order_of_keys, part_at, part_seen}
 use Rattle.erd_normal.proofs.lists.NumberedKept.{kept_map}
 use Rattle.erd_normal.proofs.ranks.PartObjects.{in_order, lent_positions, no_part}
 use Rattle.erd_normal.proofs.ranks.PartsFilled.{get_or_here, one_put, part_missing}
-use Rattle.erd_normal.specs.code.ElectionParts.{in_order_of_keys, part_at, part_seen}
 use Rattle.erd_normal.proofs.writer.election_parts.parts_of_keyed.Goals as goal
 
 pub loop-position-init : goal.loop-position-init

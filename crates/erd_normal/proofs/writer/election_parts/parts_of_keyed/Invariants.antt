@@ -1,7 +1,4 @@
-use Rattle.std.proofs.Common.{◌≡◌, ℕ, ◌<◌, length}
-use Rattle.serde_json.specs.View.{view}
-use Rattle.erd_meaning.specs.Objects.{elections}
-use Rattle.erd_normal.specs.code.ElectionParts.{part_at, part_seen}
+use Rattle.erd_normal.proofs.Common.{◌≡◌, ℕ, ◌<◌, length, view, elections, part_at, part_seen}
 use Rattle.erd_normal.proofs.ranks.PartsFilled.{put_in}
 use Rattle.erd_normal.proofs.writer.election_parts.parts_of_keyed.Given as goal
 

@@ -1,4 +1,4 @@
-use Rattle.std.proofs.Common.{[], ◌∷◌, ◌++◌, ap, ◌∙◌}
+use Rattle.erd_normal.proofs.Common.{[], ◌∷◌, ◌++◌, ap, ◌∙◌}
 use Rattle.erd_normal.proofs.ranks.PartsFilled.{part_is, part_kept, part_set}
 use Rattle.erd_normal.proofs.writer.election_parts.put_in_part.Goals as goal
 

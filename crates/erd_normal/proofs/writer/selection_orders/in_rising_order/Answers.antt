@@ -1,7 +1,6 @@
-use Rattle.std.proofs.Common.{rules}
+use Rattle.erd_normal.proofs.Common.{rules, lent_name_cmp}
 use Rattle.erd_normal.proofs.lists.StableRising.{rising_from_stable, sorted_by_keys}
 use Rattle.erd_normal.proofs.ranks.SelectionRanks.{lent_total}
-use Rattle.erd_normal.specs.code.SelectionOrders.{lent_name_cmp}
 use Rattle.erd_normal.proofs.writer.selection_orders.in_rising_order.Goals as goal
 
 pub returns : goal.returns

@@ -1,11 +1,5 @@
-use Rattle.std.proofs.Common.{◌≡◌, ◌<◌, ◌≤◌, ◌∷◌, [], ◌++◌, length, map, Option, Some, option_map, slice_get, ap, ◌∙◌, arith}
-use Rattle.std.proofs.lemmas.List.{length-map, map-append, take_all}
-use Rattle.std.proofs.lemmas.Option.{slice_get-map}
-use Rattle.std.specs.Option.{option_copied}
-use Rattle.serde_json.specs.View.{view}
-use Rattle.erd_meaning.proofs.finding.OneObject.{at_low}
+use Rattle.erd_normal.proofs.Common.{◌≡◌, ◌<◌, ◌≤◌, [], ◌∷◌, ◌++◌, map, length, slice_get, Some, Option, option_map, option_copied, ap, ◌∙◌, arith, take_all, map-append, length-map, slice_get-map, view, at_low, positioned}
 use Rattle.erd_meaning.specs.RankedNames.{RankedParts, ranked_name}
-use Rattle.erd_meaning.specs.code.KeyOrders.{positioned}
 use Rattle.erd_normal.proofs.ranks.SelectionRanks.{one_placed, ranked_name_of, see}
 use Rattle.erd_normal.proofs.writer.selection_orders.names_from.Goals as goal
 

@@ -1,6 +1,4 @@
-use Rattle.std.proofs.Common.{◌≡◌, map, take}
-use Rattle.serde_json.specs.View.{view}
-use Rattle.erd_meaning.specs.code.KeyOrders.{positioned}
+use Rattle.erd_normal.proofs.Common.{◌≡◌, map, take, view, positioned}
 use Rattle.erd_normal.proofs.ranks.SelectionRanks.{ranked_name_of, see}
 use Rattle.erd_normal.proofs.writer.selection_orders.names_from.Given as goal
 

@@ -1,4 +1,4 @@
-use Rattle.std.proofs.Common.{◌≡◌, map, take}
+use Rattle.erd_normal.proofs.Common.{◌≡◌, map, take}
 use Rattle.erd_normal.proofs.writer.selection_orders.positions_of.Given as goal
 
 abbrev pub invariant-loop-name : goal.invariant-loop-name

@@ -1,9 +1,4 @@
-use Rattle.std.proofs.Common.{◌≡◌, map, ap, ◌∙◌}
-use Rattle.std.proofs.lemmas.Result.{IfOk-weaker}
-use Rattle.std.specs.Option.{option_cmp}
-use Rattle.serde_json.specs.View.{view}
-use Rattle.erd_meaning.specs.SelectionNames.{name_cmp, name_of}
-use Rattle.erd_meaning.specs.code.KeyOrders.{positions_by}
+use Rattle.erd_normal.proofs.Common.{◌≡◌, map, ap, ◌∙◌, IfOk-weaker, option_cmp, view, name_of, name_cmp, positions_by}
 use Rattle.erd_normal.proofs.ranks.SelectionRanks.{LentName, sorted_names}
 use Rattle.erd_normal.proofs.writer.selection_orders.rising_in_contest.Goals as goal
 

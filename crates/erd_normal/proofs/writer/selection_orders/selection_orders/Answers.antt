@@ -1,23 +1,10 @@
-use Rattle.std.proofs.Common.{◌≡◌, ◌<◌, ◌+◌, ◌++◌, ℕ, List, [], length, map, replicate, take, option_map, Some, slice_get, sym, ap, ap₂, ◌∙◌, subst, arith}
-use Rattle.std.proofs.lemmas.List.{length-map}
-use Rattle.std.proofs.lemmas.Option.{slice_get-map}
-use Rattle.std.proofs.Math.Seq.{take-length}
-use Rattle.std.specs.List.{AllByRecursion, flat_map}
-use Rattle.std.specs.Option.{option_cmp, option_map_or}
-use Rattle.serde_json.specs.Data.{Data}
-use Rattle.serde_json.specs.View.{view}
-use Rattle.erd_check.proofs.Positions.{has_at}
-use Rattle.erd_meaning.proofs.finding.OneObject.{at_low}
-use Rattle.erd_meaning.specs.Objects.{IsBounded, Placed, contests}
+use Rattle.erd_normal.proofs.Common.{◌≡◌, ℕ, ◌+◌, ◌<◌, List, [], ◌++◌, map, length, take, replicate, slice_get, Some, option_map, flat_map, sym, ap, ◌∙◌, subst, ap₂, arith, take-length, length-map, slice_get-map, AllByRecursion, option_cmp, option_map_or, Data, view, has_at, at_low, Placed, contests, IsBounded, name_of, name_cmp, positions_by, rising_selections}
 use Rattle.erd_meaning.specs.Places.{places_put}
-use Rattle.erd_meaning.specs.SelectionNames.{name_cmp, name_of}
-use Rattle.erd_meaning.specs.code.KeyOrders.{positions_by}
 use Rattle.erd_normal.proofs.built.NormalEntries.{one_more}
 use Rattle.erd_normal.proofs.lists.StableRising.{map_after}
 use Rattle.erd_normal.proofs.ranks.NamesInTurn.{flat_more, starts_after}
 use Rattle.erd_normal.proofs.ranks.SelectionRanks.{low_in_contest, places_are_ranks, ranks_in, selections_ranked}
 use Rattle.erd_normal.proofs.ranks.SelectionsInTurn.{contest_values, few_in_turn, named_in_turn, selections_of, value_there}
-use Rattle.erd_normal.specs.code.SelectionOrders.{rising_selections}
 use Rattle.erd_normal.proofs.writer.selection_orders.selection_orders.Goals as goal
 
 -- the contest at a position, and its selections

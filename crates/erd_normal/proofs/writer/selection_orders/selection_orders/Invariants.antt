@@ -1,9 +1,6 @@
-use Rattle.std.proofs.Common.{◌≡◌, length, map, take}
-use Rattle.std.specs.List.{flat_map}
-use Rattle.serde_json.specs.View.{view}
+use Rattle.erd_normal.proofs.Common.{◌≡◌, map, length, take, flat_map, view, rising_selections}
 use Rattle.erd_normal.proofs.ranks.SelectionRanks.{ranks_in}
 use Rattle.erd_normal.proofs.ranks.SelectionsInTurn.{contest_values, selections_of}
-use Rattle.erd_normal.specs.code.SelectionOrders.{rising_selections}
 use Rattle.erd_normal.proofs.writer.selection_orders.selection_orders.Given as goal
 
 abbrev pub invariant-loop-index : goal.invariant-loop-index

@@ -1,6 +1,4 @@
-use Rattle.std.proofs.Common.{option_map, slice_get, sym, ap, ◌∙◌}
-use Rattle.serde_json.specs.View.{view}
-use Rattle.erd_meaning.specs.Objects.{contests}
+use Rattle.erd_normal.proofs.Common.{slice_get, option_map, sym, ap, ◌∙◌, view, contests}
 use Rattle.erd_normal.proofs.ranks.SelectionsInTurn.{listed_there, unlisted_there}
 use Rattle.erd_normal.proofs.writer.selection_orders.selections_at.Goals as goal
 

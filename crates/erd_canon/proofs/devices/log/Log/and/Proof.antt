@@ -1,8 +1,6 @@
 -- The log with one more pair is picked. The function reads no parameter, and makes a struct whose only field owns nothing.
-use Rattle.std.proofs.Common.{List, [], ◌∷◌, ◌++◌, refl}
-use seplogic.Ra.Ura.{Ura}
+use Rattle.erd_canon.proofs.Common.{List, [], ◌∷◌, ◌++◌, refl, RattleType, owns, owned, nothing, vptr, Val, Ura, ‵, raw, ◌⊛◌, prop, !, ◌$◌, move, keep, split, fsplit, fjoin, feq_l, regoal, suffices, done, qed, ◌∵◌, Logic}
 use mir.Syntax.{Fn, Args, a_type}
-use mir.Val.{Val, vptr}
 use mir.MapTy.{inst_fn}
 use base.Logic.{SProp, ent}
 use prog.Memory.{Memory}
@@ -11,18 +9,15 @@ use prog.Wp.{Calls, Loops, WpFn, Tables}
 use contract.Monad.{Fun}
 use contract.Running.{tables, tables_of}
 use sound.WpLaws.{WpFn-mono}
-use types.Logic.{Logic}
-use types.Kit.{‵, raw, ◌⊛◌, prop, ◌$◌, ◌∵◌, !, qed, move, keep, drop, split, fsplit, fjoin, feq_l, regoal, suffices, done}
+use types.Kit.{drop}
 use types.Part.{agg}
 use types.Run.{enter, returns, and_then, no_more}
 use types.ByLocal.{alloc_all, pass_all, free_all, look_at, get, sets}
 use denote.Exit.{yes}
-use denote.RattleType.{RattleType, owns}
 use denote.Builtin.{RefOf}
 use denote.Laws.{Is}
 use denote.Param.{param, layouts}
 use denote.Signature.{plain, types_at}
-use denote.Steps.{nothing, owned}
 use denote.Struct.Laws.{makes}
 use denote.Struct.Tuple.{Tuple}
 use denote.Triple.Clauses.{Clauses, Ended, closing}
@@ -30,11 +25,11 @@ use denote.Triple.Entry.{alive}
 use denote.Triple.Spec.{Meets, triple_of}
 use denote.Triple.Table.{entered}
 use denote.Triple.Walked.{says, Stays, stay_dropped, walk_of, ends_at, walk_Meets, Goes-dropped}
-use Rattle.std.specs.contracts.marker.PhantomData as Mark
 use Rattle.erd_canon.proofs.logs.Made.{none, one, one_made}
+use Rattle.erd_canon.specs.contracts.devices.log.Log.and.Key.{name as #self}
+use Rattle.std.specs.contracts.marker.PhantomData as Mark
 use Rattle.erd_canon.specs.contracts.devices.log.Log as Log
 use Rattle.erd_canon.specs.contracts.devices.log.Log.and as F
-use Rattle.erd_canon.specs.contracts.devices.log.Log.and.Key.{name as #self}
 use Rattle.erd_canon.proofs.devices.log.Log.and.Statement as stated
 use Rattle.erd_canon.proofs.devices.log.Log.and.Code as code
 

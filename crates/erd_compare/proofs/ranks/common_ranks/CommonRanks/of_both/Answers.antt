@@ -1,5 +1,4 @@
-use Rattle.std.proofs.Common.{rules, refl}
-use Rattle.erd_tables.specs.declared.class.Role.TheVariants as role
+use Rattle.erd_compare.proofs.Common.{refl, rules, role}
 use Rattle.erd_compare.proofs.same_ranks.KeyRanks.{common_by_rank}
 use Rattle.erd_compare.proofs.ranks.common_ranks.CommonRanks.of_both.Goals as goal
 

@@ -1,7 +1,4 @@
-use Rattle.std.proofs.Common.{not, ap, ◌∙◌}
-use Rattle.std.specs.List.{list_any, position_or_len}
-use Rattle.indexmap.specs.IndexSet.{insert_key}
-use Rattle.erd_meaning.specs.code.Salts.{keys_in}
+use Rattle.erd_meaning.proofs.Common.{not, ap, ◌∙◌, list_any, position_or_len, insert_key, keys_in}
 use Rattle.erd_meaning.proofs.finding.KeptOnErrors.{on_error}
 use Rattle.erd_meaning.proofs.finding.NumberedKeys.{inserted_any, inserted_index, inserted_keys}
 use Rattle.erd_meaning.proofs.keys.salted_set.SaltedSet.insert_full.Goals as goal

@@ -1,5 +1,4 @@
-use Rattle.std.proofs.Common.{ap, ◌∙◌}
-use Rattle.std.specs.List.{position}
+use Rattle.erd_meaning.proofs.Common.{position, ap, ◌∙◌}
 use Rattle.erd_meaning.proofs.finding.NumberedKeys.{position_numbered}
 use Rattle.erd_meaning.proofs.keys.salted_set.SaltedSet.position.Goals as goal
 

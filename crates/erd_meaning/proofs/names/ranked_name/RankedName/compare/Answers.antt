@@ -1,5 +1,4 @@
-use Rattle.std.proofs.Common.{◌≡◌, ◌∙◌, rules}
-use Rattle.erd_meaning.specs.RankedNames.{ranked_name_cmp}
+use Rattle.erd_meaning.proofs.Common.{◌≡◌, ◌∙◌, rules, ranked_name_cmp}
 use Rattle.erd_meaning.proofs.selections.RanksInTurn.{names_in_order}
 use Rattle.erd_meaning.proofs.names.ranked_name.RankedName.compare.Goals as goal
 

@@ -1,4 +1,4 @@
-use Rattle.std.proofs.Common.{refl}
+use Rattle.erd_meaning.proofs.Common.{refl}
 use Rattle.erd_meaning.proofs.orders.ComparisonChains.{then_assoc}
 use Rattle.erd_meaning.proofs.names.selection_name.SelectionName.compare.Goals as goal
 

@@ -1,9 +1,5 @@
-use Rattle.std.proofs.Common.{◌≡◌, flat_map, fold, map, take}
-use Rattle.std.specs.Hash.{usize}
+use Rattle.erd_meaning.proofs.Common.{◌≡◌, map, take, fold, flat_map, usize, family_chosen, fed_rank, shown}
 use Rattle.std.specs.Hash.DefaultHasher.{write}
-use Rattle.erd_meaning.specs.code.RanksAmong.{fed_rank}
-use Rattle.erd_meaning.specs.RankedNames.{family_chosen}
-use Rattle.erd_meaning.specs.code.Shown.{shown}
 use Rattle.erd_meaning.proofs.names.sought_name.SoughtName.feed_ranks.Given as goal
 
 abbrev pub invariant-loop-key : goal.invariant-loop-key

@@ -1,9 +1,4 @@
-use Rattle.std.proofs.Common.{◌≡◌, ◌&&◌, ◌==◌, List, get_or, length, map, sym, ap, ◌∙◌, Some}
-use Rattle.erd_meaning.specs.NameParts.{NameParts}
-use Rattle.erd_meaning.specs.code.RanksAmong.{are_ranks_of, is_key_among, rank_among}
-use Rattle.erd_meaning.specs.RankedNames.{family_chosen}
-use Rattle.erd_meaning.specs.code.Shown.{shown}
-use Rattle.erd_meaning.specs.declared.keys.key.Key.{Key}
+use Rattle.erd_meaning.proofs.Common.{◌≡◌, ◌&&◌, List, map, length, get_or, ◌==◌, Some, sym, ap, ◌∙◌, NameParts, family_chosen, rank_among, is_key_among, are_ranks_of, shown, Key}
 use Rattle.erd_meaning.proofs.selections.RankedTests.{all_pass_at, lengths_differ, next_left, one_fails}
 use Rattle.erd_meaning.proofs.names.sought_name.SoughtName.has_ranks.Goals as goal
 

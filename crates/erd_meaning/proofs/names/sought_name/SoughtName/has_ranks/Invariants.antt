@@ -1,7 +1,4 @@
-use Rattle.std.proofs.Common.{◌≡◌, drop, map}
-use Rattle.erd_meaning.specs.code.RanksAmong.{are_ranks_of}
-use Rattle.erd_meaning.specs.RankedNames.{family_chosen}
-use Rattle.erd_meaning.specs.code.Shown.{shown}
+use Rattle.erd_meaning.proofs.Common.{◌≡◌, map, drop, family_chosen, are_ranks_of, shown}
 use Rattle.erd_meaning.proofs.names.sought_name.SoughtName.has_ranks.Given as goal
 
 abbrev pub invariant-loop-index : goal.invariant-loop-index

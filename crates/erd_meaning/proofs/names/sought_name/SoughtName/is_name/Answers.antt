@@ -1,9 +1,4 @@
-use Rattle.std.proofs.Common.{◌≡◌, ℕ, List, false, is_eq, map, true, sym, ap, ap₂, ◌∙◌}
-use Rattle.erd_meaning.specs.NameParts.{NameParts}
-use Rattle.erd_meaning.specs.NumberedNames.{numbered_name_cmp, numbered_parts}
-use Rattle.erd_meaning.specs.code.RanksAmong.{are_ranks_of}
-use Rattle.erd_meaning.specs.RankedNames.{family_chosen}
-use Rattle.erd_meaning.specs.code.Shown.{shown}
+use Rattle.erd_meaning.proofs.Common.{◌≡◌, ℕ, true, false, List, map, is_eq, sym, ap, ◌∙◌, ap₂, NameParts, numbered_parts, numbered_name_cmp, family_chosen, are_ranks_of, shown}
 use Rattle.erd_meaning.proofs.selections.RankedTests.{sought_hits, sought_misses}
 use Rattle.erd_meaning.proofs.names.sought_name.SoughtName.is_name.Goals as goal
 

@@ -1,13 +1,5 @@
-use Rattle.std.proofs.Common.{◌++◌, flat_map, fold, length, map, ap, ◌∙◌}
-use Rattle.std.specs.Hash.{fed_then, str, usize}
+use Rattle.erd_meaning.proofs.Common.{◌++◌, map, length, fold, flat_map, ap, ◌∙◌, fed_then, str, usize, text_of_class, after_keys_writes, NameParts, family_chosen, fed_rank, salted_number, shown}
 use Rattle.std.specs.Hash.DefaultHasher.{finish, write}
-use Rattle.erd_tables.specs.Classes.{text_of_class}
-use Rattle.erd_meaning.specs.Hashes.{after_keys_writes}
-use Rattle.erd_meaning.specs.NameParts.{NameParts}
-use Rattle.erd_meaning.specs.RankedNames.{family_chosen}
-use Rattle.erd_meaning.specs.code.RanksAmong.{fed_rank}
-use Rattle.erd_meaning.specs.code.Salts.{salted_number}
-use Rattle.erd_meaning.specs.code.Shown.{shown}
 use Rattle.erd_meaning.proofs.selections.RankedTests.{sought_fed}
 use Rattle.erd_meaning.proofs.names.sought_name.SoughtNameSoughtTuple2UsizeRankedNameSelectionName.number.Goals as goal
 

@@ -1,6 +1,4 @@
-use Rattle.std.proofs.Common.{◌<◌, ◌≤◌, List, length, ap, ◌∙◌, subst}
-use Rattle.std.proofs.lemmas.List.{take_all}
-use Rattle.erd_meaning.specs.code.KeyOrders.{positioned, seen_keys}
+use Rattle.erd_meaning.proofs.Common.{◌<◌, ◌≤◌, List, length, ap, ◌∙◌, subst, take_all, positioned, seen_keys}
 use Rattle.erd_meaning.proofs.selections.PositionedKeys.{KeyEntry, one_positioned}
 use Rattle.erd_meaning.proofs.objects.election_table.ElectionTable.lent_keys.Goals as goal
 

@@ -1,5 +1,4 @@
-use Rattle.std.proofs.Common.{◌≡◌, take}
-use Rattle.erd_meaning.specs.code.KeyOrders.{positioned, seen_keys}
+use Rattle.erd_meaning.proofs.Common.{◌≡◌, take, positioned, seen_keys}
 use Rattle.erd_meaning.proofs.objects.election_table.ElectionTable.lent_keys.Given as goal
 
 abbrev pub invariant-loop-index : goal.invariant-loop-index

@@ -1,7 +1,4 @@
-use Rattle.std.proofs.Common.{List, Option, sym, ap, ◌∙◌, subst}
-use Rattle.std.proofs.lemmas.Result.{IfOk-weaker}
-use Rattle.erd_meaning.specs.code.KeyOrders.{AreDistinct, IsOrder, keys_seen, positioned}
-use Rattle.erd_meaning.specs.declared.keys.key.Key.{Key}
+use Rattle.erd_meaning.proofs.Common.{List, Option, sym, ap, ◌∙◌, subst, IfOk-weaker, positioned, keys_seen, AreDistinct, IsOrder, Key}
 use Rattle.erd_meaning.proofs.selections.PositionedKeys.{keys_placed}
 use Rattle.erd_meaning.proofs.objects.election_table.ElectionTable.order.Goals as goal
 

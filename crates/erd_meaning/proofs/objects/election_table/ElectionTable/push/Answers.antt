@@ -1,8 +1,4 @@
-use Rattle.std.proofs.Common.{◌∷◌, [], ◌++◌, List, Option, ap, ap₂, sym, subst, ◌∙◌}
-use Rattle.std.specs.List.{list_any}
-use Rattle.erd_meaning.specs.code.ElectionKeys.{AreSeen}
-use Rattle.erd_meaning.specs.code.ObjectWalk.{same_key}
-use Rattle.erd_meaning.specs.declared.keys.key.Key.{Key}
+use Rattle.erd_meaning.proofs.Common.{List, [], ◌∷◌, ◌++◌, Option, sym, ap, ◌∙◌, subst, ap₂, list_any, AreSeen, same_key, Key}
 use Rattle.erd_meaning.proofs.identity.SeenKeys.{seen_is, seen_more}
 use Rattle.erd_meaning.proofs.objects.election_table.ElectionTable.push.Goals as goal
 

@@ -1,16 +1,5 @@
-use Rattle.std.proofs.Common.{◌≡◌, ◌<◌, ℕ, List, length, map, replicate, sym, ap, ◌∙◌, subst}
-use Rattle.std.proofs.lemmas.Simd.{map-map}
-use Rattle.std.specs.Cmp.Lexicographic.{options_total}
-use Rattle.std.specs.List.{AllByRecursion}
-use Rattle.std.specs.Option.{option_cmp, option_copied}
-use Rattle.erd_meaning.specs.Keys.{key_cmp}
-use Rattle.erd_meaning.specs.code.KeyOrders.{positioned}
-use Rattle.erd_meaning.specs.SelectionNames.{rising_list}
-use Rattle.erd_meaning.specs.code.KeyOrders.{seen_keys}
+use Rattle.erd_meaning.proofs.Common.{◌≡◌, ℕ, ◌<◌, List, map, length, replicate, option_copied, sym, ap, ◌∙◌, subst, map-map, options_total, AllByRecursion, option_cmp, key_cmp, places_put, rising_list, positioned, seen_keys, keys_seen, rising_positions, key_cmp_total}
 use Rattle.erd_meaning.proofs.selections.PositionedKeys.{KeyEntry, KeyPosition, rising_seen}
-use Rattle.erd_meaning.specs.code.Orders.{key_cmp_total}
-use Rattle.erd_meaning.specs.code.KeyOrders.{keys_seen, rising_positions}
-use Rattle.erd_meaning.specs.Places.{places_put}
 use Rattle.erd_meaning.proofs.orders.OrdersMade.{all_low, ranks_are}
 use Rattle.erd_meaning.proofs.objects.order.Order.of.Goals as goal
 

@@ -1,13 +1,4 @@
-use Rattle.std.proofs.Common.{◌≡◌, List, ℕ, Option, Some, None, map, option_and_then, option_map, slice_get, sym, ap, ◌∙◌}
-use Rattle.erd_tables.specs.declared.class.Family.{Family}
-use Rattle.erd_meaning.specs.code.NamesAmong.{key_among}
-use Rattle.erd_meaning.specs.code.ObjectIndexes.{number_among}
-use Rattle.erd_meaning.specs.code.ObjectLookups.{those_of}
-use Rattle.erd_meaning.specs.code.ObjectWalk.{Kept}
-use Rattle.erd_meaning.specs.RankedNames.{family_chosen}
-use Rattle.erd_meaning.specs.code.RanksAmong.{ranked_key}
-use Rattle.erd_meaning.specs.code.Shown.{shown}
-use Rattle.erd_meaning.specs.declared.objects.object.Object.{Object}
+use Rattle.erd_meaning.proofs.Common.{◌≡◌, ℕ, List, map, slice_get, Some, None, Option, option_map, option_and_then, sym, ap, ◌∙◌, Family, family_chosen, key_among, number_among, those_of, Kept, ranked_key, shown, Object}
 use Rattle.erd_meaning.proofs.finding.FoundWithId.{object_numbered}
 use Rattle.erd_meaning.proofs.objects.ranked_objects.RankedObjects.key_referred.Goals as goal
 

@@ -1,12 +1,5 @@
-use Rattle.std.proofs.Common.{List, map, option_map, slice_get, ap, ◌∙◌}
-use Rattle.std.proofs.lemmas.Option.{slice_get-map}
+use Rattle.erd_meaning.proofs.Common.{List, map, slice_get, option_map, ap, ◌∙◌, slice_get-map, those_of, Kept, rank_among, shown, Object, Order}
 use Rattle.erd_meaning.specs.Families.{entry_of}
-use Rattle.erd_meaning.specs.code.ObjectLookups.{those_of}
-use Rattle.erd_meaning.specs.code.ObjectWalk.{Kept}
-use Rattle.erd_meaning.specs.code.RanksAmong.{rank_among}
-use Rattle.erd_meaning.specs.code.Shown.{shown}
-use Rattle.erd_meaning.specs.declared.objects.object.Object.{Object}
-use Rattle.erd_meaning.specs.declared.objects.order.Order.{Order}
 use Rattle.erd_meaning.proofs.selections.PositionedKeys.{ranks_of_order}
 use Rattle.erd_meaning.proofs.objects.ranked_objects.RankedObjects.rank_at.Goals as goal
 

@@ -1,13 +1,4 @@
-use Rattle.std.proofs.Common.{◌≡◌, Some, List, map, option_map, slice_get, refl, sym, ap, ◌∙◌}
-use Rattle.std.proofs.lemmas.Option.{slice_get-map}
-use Rattle.erd_meaning.specs.Keys.{has_keys}
-use Rattle.erd_meaning.specs.RankedNames.{family_chosen}
-use Rattle.erd_meaning.specs.code.ObjectIndexes.{number_of_key}
-use Rattle.erd_meaning.specs.code.ObjectLookups.{those_of}
-use Rattle.erd_meaning.specs.code.ObjectWalk.{Kept}
-use Rattle.erd_meaning.specs.code.RanksAmong.{rank_among}
-use Rattle.erd_meaning.specs.code.Shown.{shown}
-use Rattle.erd_meaning.specs.declared.objects.object.Object.{Object}
+use Rattle.erd_meaning.proofs.Common.{◌≡◌, List, map, slice_get, Some, option_map, sym, refl, ap, ◌∙◌, slice_get-map, has_keys, family_chosen, number_of_key, those_of, Kept, rank_among, shown, Object}
 use Rattle.erd_meaning.proofs.selections.RankedKeys.{rank_found}
 use Rattle.erd_meaning.proofs.selections.RankedReports.{chosen_keyed}
 use Rattle.erd_meaning.proofs.objects.ranked_objects.RankedObjects.rank_of.Goals as goal

@@ -1,8 +1,4 @@
-use Rattle.std.proofs.Common.{List, map, ap, ◌∙◌}
-use Rattle.erd_meaning.specs.code.KeyOrders.{family_keys, rising_positions}
-use Rattle.erd_meaning.specs.code.Shown.{shown}
-use Rattle.erd_meaning.specs.declared.objects.object.Object.{Object}
-use Rattle.erd_meaning.specs.declared.objects.order.Order.{Order}
+use Rattle.erd_meaning.proofs.Common.{List, map, ap, ◌∙◌, rising_positions, family_keys, shown, Object, Order}
 use Rattle.erd_meaning.proofs.objects.ranked_objects.RankedObjects.rising.Goals as goal
 
 pub returns : goal.returns

@@ -1,12 +1,4 @@
-use Rattle.std.proofs.Common.{◌≡◌, List, map, sym, ap, ◌∙◌}
-use Rattle.std.proofs.lemmas.Result.{IfOk-weaker}
-use Rattle.std.specs.Option.{option_cmp}
-use Rattle.erd_meaning.specs.Keys.{key_cmp}
-use Rattle.erd_meaning.specs.SelectionNames.{rising_list}
-use Rattle.erd_meaning.specs.code.KeyOrders.{lent_key_cmp, seen_keys}
-use Rattle.erd_meaning.specs.code.RanksAmong.{key_at_among, rising_keys_among}
-use Rattle.erd_meaning.specs.code.Shown.{shown}
-use Rattle.erd_meaning.specs.declared.objects.object.Object.{Object}
+use Rattle.erd_meaning.proofs.Common.{◌≡◌, List, map, sym, ap, ◌∙◌, IfOk-weaker, option_cmp, key_cmp, rising_list, seen_keys, lent_key_cmp, key_at_among, rising_keys_among, shown, Object}
 use Rattle.erd_meaning.proofs.selections.PositionedKeys.{KeyPosition, from_positions, rising_seen}
 use Rattle.erd_meaning.proofs.objects.ranked_objects.RankedObjects.rising_keys.Goals as goal
 

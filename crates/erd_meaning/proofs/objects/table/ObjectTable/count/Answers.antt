@@ -1,7 +1,4 @@
-use Rattle.std.proofs.Common.{ap, length, map, List, ◌∙◌}
-use Rattle.erd_meaning.specs.code.ObjectLookups.{those_of}
-use Rattle.erd_meaning.specs.code.Shown.{shown}
-use Rattle.erd_meaning.specs.declared.objects.object.Object.{Object}
+use Rattle.erd_meaning.proofs.Common.{List, map, length, ap, ◌∙◌, those_of, shown, Object}
 use Rattle.erd_meaning.proofs.finding.Pushed.{places_length}
 use Rattle.erd_meaning.proofs.objects.table.ObjectTable.count.Goals as goal
 

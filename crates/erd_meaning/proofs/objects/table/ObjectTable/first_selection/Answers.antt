@@ -1,10 +1,4 @@
-use Rattle.std.proofs.Common.{◌≡◌, List, ap, map, subst, sym, ◌∙◌, rules}
-use Rattle.std.proofs.Math.Dec.{leb}
-use Rattle.std.proofs.lemmas.List.Sorted.{IsPartitionPoint-from_clause, IsPartitionedBy-leb}
-use Rattle.std.specs.List.Sorted.{IsNonDecreasingBy}
-use Rattle.erd_meaning.specs.code.ObjectIndexes.{IsStart, contests_before}
-use Rattle.erd_meaning.specs.code.Shown.{shown}
-use Rattle.erd_meaning.specs.declared.objects.object.Object.{Object}
+use Rattle.erd_meaning.proofs.Common.{◌≡◌, leb, List, map, sym, ap, ◌∙◌, subst, rules, IsPartitionedBy-leb, IsPartitionPoint-from_clause, IsNonDecreasingBy, contests_before, IsStart, shown, Object}
 use Rattle.erd_meaning.proofs.selections.ContestSelections.{before_rising}
 use Rattle.erd_meaning.proofs.objects.table.ObjectTable.first_selection.Goals as goal
 

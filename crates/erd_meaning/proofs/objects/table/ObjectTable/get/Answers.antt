@@ -1,9 +1,4 @@
-use Rattle.std.proofs.Common.{arith, ◌≡◌, ap, ◌∙◌, Some, None, option_map, option_and_then, length, List, ℕ, map, refl, sym}
-use Rattle.std.specs.List.{slice_get}
-use Rattle.std.proofs.lemmas.Option.{slice_get-map, slice_get_past, slice_get_read}
-use Rattle.erd_meaning.specs.code.ObjectLookups.{those_of}
-use Rattle.erd_meaning.specs.code.Shown.{shown}
-use Rattle.erd_meaning.specs.declared.objects.object.Object.{Object}
+use Rattle.erd_meaning.proofs.Common.{◌≡◌, ℕ, List, map, length, slice_get, Some, None, option_map, option_and_then, sym, refl, ap, ◌∙◌, arith, slice_get-map, slice_get_read, slice_get_past, those_of, shown, Object}
 use Rattle.erd_meaning.proofs.finding.Pushed.{places_get}
 use Rattle.erd_meaning.proofs.objects.table.ObjectTable.get.Goals as goal
 

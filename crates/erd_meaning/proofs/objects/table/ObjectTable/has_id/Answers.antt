@@ -1,10 +1,4 @@
-use Rattle.std.proofs.Common.{◌==◌, ◌&&◌, ap, Bor, List, ℕ, is_some, map, ◌∙◌}
-use Rattle.std.specs.Str.{bytes_eq}
-use Rattle.indexmap.specs.IndexMap.{get_by}
-use Rattle.erd_meaning.specs.code.ReferenceReasons.{is_known}
-use Rattle.erd_meaning.specs.code.Shown.{shown}
-use Rattle.erd_meaning.specs.declared.keys.salted.Salted.{Salted}
-use Rattle.erd_meaning.specs.declared.objects.object.Object.{Object}
+use Rattle.erd_meaning.proofs.Common.{ℕ, ◌&&◌, List, map, is_some, ◌==◌, bytes_eq, ap, ◌∙◌, Bor, get_by, is_known, shown, Salted, Object}
 use Rattle.erd_meaning.proofs.finding.Known.{id_known}
 use Rattle.erd_meaning.proofs.objects.table.ObjectTable.has_id.Goals as goal
 

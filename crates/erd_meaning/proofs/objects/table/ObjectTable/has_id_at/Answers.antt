@@ -1,8 +1,4 @@
-use Rattle.std.proofs.Common.{Bor, ℕ, List, Option, Some, ap, map, option_and_then, option_map, sym, ◌∙◌}
-use Rattle.std.specs.Cmp.Lexicographic.{bytes_decides}
-use Rattle.erd_meaning.specs.code.ObjectWalk.{Kept}
-use Rattle.erd_meaning.specs.code.Shown.{shown}
-use Rattle.erd_meaning.specs.declared.objects.object.Object.{Object}
+use Rattle.erd_meaning.proofs.Common.{ℕ, List, map, Some, Option, option_map, option_and_then, sym, ap, ◌∙◌, Bor, bytes_decides, Kept, shown, Object}
 use Rattle.erd_meaning.proofs.objects.table.ObjectTable.has_id_at.Goals as goal
 
 pub returns-in-Some-id : goal.returns-in-Some-id

@@ -1,12 +1,4 @@
-use Rattle.std.proofs.Common.{Bool, List, ap, map, ◌∙◌}
-use Rattle.indexmap.specs.IndexMap.{get_by}
-use Rattle.erd_tables.specs.declared.class.Family.{Family}
-use Rattle.erd_meaning.specs.code.Indexed.{is_salted_owned}
-use Rattle.erd_meaning.specs.code.ObjectIndexes.{number_of_key}
-use Rattle.erd_meaning.specs.code.Shown.{shown}
-use Rattle.erd_meaning.specs.declared.keys.key.Key.{Key}
-use Rattle.erd_meaning.specs.declared.keys.salted.Salted.{Salted}
-use Rattle.erd_meaning.specs.declared.objects.object.Object.{Object}
+use Rattle.erd_meaning.proofs.Common.{Bool, List, map, ap, ◌∙◌, get_by, Family, is_salted_owned, number_of_key, shown, Key, Salted, Object}
 use Rattle.erd_meaning.proofs.finding.OwnedKeys.{owned_asked}
 use Rattle.erd_meaning.proofs.objects.table.ObjectTable.position_of_key.Goals as goal
 

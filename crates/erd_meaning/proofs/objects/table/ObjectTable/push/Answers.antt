@@ -1,17 +1,4 @@
-use Rattle.std.proofs.Common.{Bor, ◌≡◌, ◌+◌, ℕ, List, [], ◌∷◌, ◌++◌, length, map, cond, false, Option, Some, None, is_some, refl, sym, ap, ap₂, ◌∙◌, arith}
-use Rattle.std.specs.List.{list_any}
-use Rattle.std.specs.Map.{lookup}
-use Rattle.std.specs.Option.{option_map_or, option_or}
-use Rattle.std.proofs.lemmas.List.{length-map, map-append}
-use Rattle.erd_tables.specs.declared.class.Family.{Family}
-use Rattle.erd_tables.specs.declared.class.Family.TheVariants as family
-use Rattle.erd_meaning.specs.code.Indexed.{is_salted_owned, same_owned}
-use Rattle.erd_meaning.specs.code.ObjectIndexes.{contests_before, contests_noted, number_of_id, number_of_key, places_from, with_place}
-use Rattle.erd_meaning.specs.code.ObjectLookups.{keeps_id, those_of}
-use Rattle.erd_meaning.specs.code.ObjectWalk.{has_same_id, has_same_key}
-use Rattle.erd_meaning.specs.code.Shown.{shown}
-use Rattle.erd_meaning.specs.declared.keys.key.Key.{Key}
-use Rattle.erd_meaning.specs.declared.objects.object.Object.{Object}
+use Rattle.erd_meaning.proofs.Common.{◌≡◌, ℕ, ◌+◌, false, cond, List, [], ◌∷◌, ◌++◌, map, length, is_some, Some, None, Option, sym, refl, ap, ◌∙◌, ap₂, arith, Bor, map-append, length-map, list_any, lookup, option_map_or, option_or, Family, family, same_owned, is_salted_owned, with_place, places_from, number_of_id, number_of_key, contests_noted, contests_before, those_of, keeps_id, has_same_key, has_same_id, shown, Key, Object}
 use Rattle.erd_meaning.proofs.finding.Known.{has_id_known, has_key_known, noted_any}
 use Rattle.erd_meaning.proofs.finding.Pushed.{before_push, number_of_id_push, number_of_key_push, places_length, places_push}
 use Rattle.erd_meaning.proofs.objects.table.ObjectTable.push.Goals as goal

@@ -1,10 +1,7 @@
-use Rattle.std.proofs.Common.{◌==◌, ◌≡◌, ◌++◌, ◌∷◌, ◌∙◌, ℕ, List, [], true, true≢false, ap, append-nil, append_assoc, map, subst, sym, vec_items}
-use Rattle.std.specs.List.{IsDistinct}
-use Rattle.serde_json.specs.View.{view}
-use Rattle.erd_meaning.specs.code.Shown.{shown}
+use Rattle.erd_meaning.proofs.Common.{◌≡◌, ℕ, true, List, [], ◌∷◌, ◌++◌, map, ◌==◌, vec_items, sym, ap, ◌∙◌, subst, true≢false, append_assoc, append-nil, IsDistinct, view, shown}
 use Rattle.erd_meaning.proofs.references.ClearArrays.{clear_array, none_left, placed_left}
-use Rattle.erd_meaning.proofs.report.reference_judge.ReferenceJudge.are_clear.Goals as goal
 use Rattle.erd_meaning.proofs.report.reference_judge.ReferenceJudge.are_clear.Goals.{then-is_set+in_ok-push, else-is_set}
+use Rattle.erd_meaning.proofs.report.reference_judge.ReferenceJudge.are_clear.Goals as goal
 
 pub loop-item-init : goal.loop-item-init
 loop-item-init c ns placed differ =

@@ -1,8 +1,4 @@
-use Rattle.std.proofs.Common.{◌≡◌, ◌==◌, ℕ, List, ◌++◌, drop, map, true}
-use Rattle.std.specs.List.{IsDistinct}
-use Rattle.serde_json.specs.View.{items_view, view}
-use Rattle.erd_meaning.specs.code.ReferenceReasons.{AreClear}
-use Rattle.erd_meaning.specs.code.Shown.{shown}
+use Rattle.erd_meaning.proofs.Common.{◌≡◌, ℕ, true, List, ◌++◌, map, drop, ◌==◌, IsDistinct, view, items_view, AreClear, shown}
 use Rattle.erd_meaning.proofs.references.ClearArrays.{ArePlaced}
 use Rattle.erd_meaning.proofs.report.reference_judge.ReferenceJudge.are_clear.Given as goal
 

@@ -1,6 +1,4 @@
-use Rattle.std.proofs.Common.{Bor, ℕ, List, Option, ap, map, option_map, sym, ◌∙◌}
-use Rattle.serde_json.specs.View.{view}
-use Rattle.erd_meaning.specs.code.Shown.{shown}
+use Rattle.erd_meaning.proofs.Common.{ℕ, List, map, Option, option_map, sym, ap, ◌∙◌, Bor, view, shown}
 use Rattle.erd_meaning.proofs.finding.FoundWithId.{not_false}
 use Rattle.erd_meaning.proofs.finding.OwnedKeys.{families_same}
 use Rattle.erd_meaning.proofs.references.ReasonsFound.{among_family, clear_of_family, text_read}

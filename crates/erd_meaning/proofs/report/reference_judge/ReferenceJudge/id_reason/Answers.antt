@@ -1,9 +1,4 @@
-use Rattle.std.proofs.Common.{ap, map, sym, ◌∙◌}
-use Rattle.std.specs.Option.{option_to_list}
-use Rattle.serde_json.specs.View.{view}
-use Rattle.erd_tables.specs.declared.fault.Reason.TheVariants.{SelectionOfOtherContest}
-use Rattle.erd_meaning.specs.code.ReferenceReasons.{reason_if}
-use Rattle.erd_meaning.specs.code.Shown.{shown}
+use Rattle.erd_meaning.proofs.Common.{map, option_to_list, sym, ap, ◌∙◌, view, SelectionOfOtherContest, reason_if, shown}
 use Rattle.erd_meaning.proofs.finding.FoundWithId.{not_false, not_true}
 use Rattle.erd_meaning.proofs.finding.OwnedKeys.{families_same}
 use Rattle.erd_meaning.proofs.references.ReasonsFound.{reasons_of_family, reasons_of_other, reasons_of_unknown, told_if}

@@ -1,6 +1,4 @@
-use Rattle.std.proofs.Common.{map, sym, ◌∙◌}
-use Rattle.erd_tables.specs.declared.class.Family.TheVariants as family
-use Rattle.erd_meaning.specs.code.Shown.{shown}
+use Rattle.erd_meaning.proofs.Common.{map, sym, ◌∙◌, family, shown}
 use Rattle.erd_meaning.proofs.references.ReasonsFound.{in_own_contest}
 use Rattle.erd_meaning.proofs.report.reference_judge.ReferenceJudge.is_in_contest_with.Goals as goal
 

@@ -1,8 +1,5 @@
-use Rattle.std.proofs.Common.{map, sym, ◌∙◌}
-use Rattle.std.specs.Prelude.{⊤}
+use Rattle.erd_meaning.proofs.Common.{map, sym, ◌∙◌, ⊤, reference_reasons_told, shown}
 use Rattle.erd_meaning.proofs.references.SilentWalks.{is_known_of_all, is_silent}
-use Rattle.erd_meaning.specs.code.ReferenceReasons.{reference_reasons_told}
-use Rattle.erd_meaning.specs.code.Shown.{shown}
 use Rattle.erd_meaning.proofs.references.ReasonsFound.{of_references}
 use Rattle.erd_meaning.proofs.report.reference_judge.ReferenceJudgeVisitor.enters.Goals as goal
 

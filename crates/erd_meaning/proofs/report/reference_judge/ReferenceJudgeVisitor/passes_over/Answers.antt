@@ -1,11 +1,4 @@
-use Rattle.std.proofs.Common.{false, map, true, IsTrue}
-use Rattle.std.proofs.lemmas.Result.{IfOk-weaker}
-use Rattle.std.specs.Prelude.{⊤}
-use Rattle.erd_tables.specs.declared.class.Family.TheVariants as family
-use Rattle.serde_json.specs.View.{items_view, view}
-use Rattle.erd_check.specs.Visits.{AreEntriesKnown}
-use Rattle.erd_meaning.specs.code.ReferenceReasons.{AreClear}
-use Rattle.erd_meaning.specs.code.Shown.{shown}
+use Rattle.erd_meaning.proofs.Common.{true, false, map, IsTrue, IfOk-weaker, ⊤, view, items_view, family, AreEntriesKnown, AreClear, shown}
 use Rattle.erd_meaning.proofs.references.SilentWalks.{are_entries_known}
 use Rattle.erd_meaning.proofs.report.reference_judge.ReferenceJudgeVisitor.passes_over.Goals as goal
 

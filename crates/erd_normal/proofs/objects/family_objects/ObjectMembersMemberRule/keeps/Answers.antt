@@ -1,10 +1,5 @@
-use Rattle.std.proofs.Common.{◌≡◌, false, not, if◌then◌else◌, ap, sym, ◌∙◌}
-use Rattle.std.specs.Option.{is_some}
-use Rattle.serde_json.specs.View.{view}
-use Rattle.erd_check.specs.Faults.{is_empty_array}
+use Rattle.erd_normal.proofs.Common.{◌≡◌, false, not, is_some, if◌then◌else◌, sym, ap, ◌∙◌, view, is_empty_array, normal_value, holds_parts}
 use Rattle.erd_normal.proofs.texts.PutObjects.{kept_in_object}
-use Rattle.erd_normal.specs.code.NormalTree.{normal_value}
-use Rattle.erd_normal.specs.code.WrittenTree.{holds_parts}
 use Rattle.erd_normal.proofs.objects.family_objects.ObjectMembersMemberRule.keeps.Goals as goal
 
 pub returns-else-holds_parts : goal.returns-else-holds_parts

@@ -1,6 +1,4 @@
-use Rattle.std.proofs.Common.{ap, sym, ◌∙◌}
-use Rattle.std.specs.Option.{is_some}
-use Rattle.serde_json.specs.View.{view}
+use Rattle.erd_normal.proofs.Common.{is_some, sym, ap, ◌∙◌, view}
 use Rattle.erd_normal.proofs.texts.PutObjects.{other_report_value}
 use Rattle.erd_normal.proofs.report.report_text.ReportMembersMemberRule.keeps.Goals as goal
 

@@ -1,0 +1,44 @@
+-- The names that the proofs of this crate cite most, passed on from one place. Declares nothing.
+pub use Rattle.erd_normal.proofs.Common.{◌≡◌, ℕ, zero, suc, ◌+◌, ◌-◌, ◌/◌, ◌%◌, ◌^◌, ◌<◌, ◌≤◌, Bool, true, false, ◌&&◌, ◌⊎◌, ◌↔◌, List, [], ◌∷◌, ◌++◌, map, length, get_or, take, drop, pos, negsuc, is_some, OnOk, nat_lt, ◌==◌, slice_get, Some, None, string_bytes, codes, IsUtf8, decimal, Contains, Option, option_map, option_copied, bytes_eq, unwrap_or, sym, refl, ap, ◌∙◌, subst, ap₂, inl, inr, append_assoc, append-nil, map-id, arith, lit<, length-append, Bor, rules, lt-ltb, ne_eqb, IfOk-weaker, on_ok_weaker, Num, unsigned, negative, float, Data, null, number, string, array, object, Items, no_items, item, Members, no_members, member, depth, items_depth, read, max_depth, items_of, view, number_text, outline, items_outline, members_outline, has_float, items_have_float, comma_if, compact_text, items_text, Reason, reason, IsFittingNumber, HasFittingNumbers, ItemsHaveFittingNumbers, MembersHaveFittingNumbers, IsTree, AreTrees, IsShallow, IsNoDeeper, IsAccepted, Preference, meaning}
+pub use Rattle.erd_compare.proofs.Common.{◌≢◌, IfOk, Ok, Err, Result, iter_rest, record_at, Differ, IsDifference}
+pub use Rattle.erd_meaning.proofs.Common.{OnErr, fold, take-append-drop, err_from_is_err_and, fault_cmp, Fault, IsFault}
+unfoldable pub use Rattle.erd_normal.proofs.Common.{digits, serde_json_on_literals}
+pub use Rattle.std.proofs.Common.{IsErrAnd, vec_len, MatchResult, take-add}
+pub use Rattle.std.proofs.lemmas.Result.{on_err_weaker}
+pub use Rattle.std.proofs.lemmas.Str.{IsUtf8-string_bytes}
+pub use Rattle.std.specs.Fmt.{signed_decimal}
+pub use Rattle.std.specs.Io.KnownBytes.{Appends, Consumes}
+unfoldable pub use Rattle.clap.proofs.OnLiterals.{clap_on_literals}
+pub use Rattle.clap.specs.Simple.{Shape, app_of_fields}
+pub use Rattle.clap.specs.Takes.{settle_passes, word_passes, step_passes, turn_passes, default_passes, is_valid, level_passes}
+unfoldable pub use Rattle.clap.specs.Takes.{walk_passes}
+pub use Rattle.clap.specs.Walk.{Rule, arg_by_id, arg_by_index, Held, option, idle, next, value, option_word, word_met, Walk, to_positional, after_step, walk_from, walk, finished, nothing_held, rows_after}
+unfoldable pub use Rattle.clap.specs.Walk.{walked}
+pub use Rattle.clap.specs.Words.{kind_of, found_of, built, Row, Text, first_of, rows_of, App, app_of, is_simple, new_app, subcommand_of, subcommand_rows_of, with_subcommand, takes, IsAmong, Kinds, fault_of, is_simple_and_free}
+pub use Rattle.clap.specs.declared.error.kind.ErrorKind.TheVariants.{DisplayHelp, MissingRequiredArgument, OutOfMemory, UnknownArgument}
+pub use Rattle.erd_tables.specs.Faults.{missing_name, reason_text, fault_line}
+pub use Rattle.erd_tables.specs.Places.{escaped_byte, escaped_name, step_text, pointer_text}
+pub use Rattle.erd_compare.specs.declared.difference.Difference.{Difference}
+pub use Rattle.erd_canon.specs.Bytes.{IsTreeOf, IsNotJson, IsAcceptedReport, IsCanonicalBytes}
+pub use Rattle.erd_canon.specs.DataValues.{step_data, fault_data, faults_data, refused_data, comparison_data}
+pub use Rattle.erd_canon.specs.EngineTexts.{text_of_lines, IsRefusal, IsCheckText, IsCanonicalOutput, IsCanonicalErrors, comparison_line, lines_of_side, IsCompareText, IsComparison, IsRefusedReport}
+pub use Rattle.erd_canon.specs.ExactLines.{preference_words, words_of, IsFileName, IsPreferenceWord, HasPlainWords}
+pub use Rattle.erd_canon.specs.Limits.{most_bytes}
+pub use Rattle.erd_canon.specs.ReadLines.{subcommand_request, request_in, IsLineRead, IsFaultFor}
+pub use Rattle.erd_canon.specs.Reading.{Exceeds, IsReadWhole}
+pub use Rattle.erd_canon.specs.Refused.{IsSomeReport, RefusedAs, refusal_for, RefusedSide}
+pub use Rattle.erd_canon.specs.Run.{IsToldNotJson, IsChecked, IsAnswered, IsSideRefused, IsCompared, IsAnswerWritten, IsCheckWritten, IsCompareWritten, IsToldCheck, IsToldCompare, IsToldRun, IsWholeCheck, IsWholeRun}
+pub use Rattle.erd_canon.specs.Subcommands.{program}
+pub use Rattle.erd_canon.specs.Writing.{IsAnswerPartWritten, IsPartWritten}
+pub use Rattle.erd_canon.specs.code.Pending.{IsFrontMoved, IsMoved}
+pub use Rattle.erd_canon.specs.code.RefusalData.{TellsRefusalAs, AppendsRefusal, IsRefusalAnswer, IsSideAnswer}
+pub use Rattle.erd_canon.specs.declared.bytes.refusal.Refusal.{Refusal, Refusal as refusal}
+pub use Rattle.erd_canon.specs.declared.engines.outcome.Outcome.{Outcome}
+pub use Rattle.erd_canon.specs.declared.engines.outcome.Outcome.TheVariants.{Bad, Good, NotJson}
+pub use Rattle.erd_canon.specs.declared.engines.outcome.RunFault.{RunFault}
+pub use denote.RattleType.{RattleType, Valss, owns}
+pub use denote.Steps.{owned, nothing}
+pub use mir.Val.{vptr, vstruct, vnil, vcons, Val}
+pub use seplogic.Ra.Ura.{Ura}
+pub use types.Kit.{‵, raw, ◌⊛◌, prop, !, ◌$◌, step, move, keep, split, fsplit, fjoin, fpack, feq_l, feq_i, regoal, suffices, done, qed, Goal, Item, Step, ◌∵◌}
+pub use types.Logic.{Logic}
