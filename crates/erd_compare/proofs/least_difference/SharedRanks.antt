@@ -71,7 +71,7 @@ module _ (a b : Judged) (r : Role) (c : IsComparable a.prefer (view a.tree)) (ra
       let place : common_rank a b r g.0 ≡ n = let two : Some (common_rank a b r g.0) ≡ Some n = sym (common_at n g there) ∙ is in cc in
       let stands = stands_second g.0 keys_left keys_right (n, right_key n g there) in
       let its : slice_get (keys_left ++ keys_right) n ≡ Some g.0 = ap (slice_get (keys_left ++ keys_right)) (sym place) ∙ place_stands g.0 (keys_left ++ keys_right) stands.0 stands.1 in
-      same_Some (sym (first_at keys_left keys_right n e.0 (left_key n e here)) ∙ its)
+      same_Some _ _ (sym (first_at keys_left keys_right n e.0 (left_key n e here)) ∙ its)
 
   -- ---- what the code finds
 

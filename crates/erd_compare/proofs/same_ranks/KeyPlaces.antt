@@ -24,7 +24,7 @@ place_stands k (l ∷ ls) i e = at (same k l) refl i e (λ j. place_stands k ls 
     at : (b : Bool) → same k l ≡ b → (i : ℕ) → slice_get (l ∷ ls) i ≡ Some k → ((j : ℕ) → slice_get ls j ≡ Some k → slice_get ls (place_of k ls) ≡ Some k)
         → slice_get (l ∷ ls) (cond b 0 (suc (place_of k ls))) ≡ Some k
     at true is i e rest = ap Some (sym (options_exact key_cmp equal_keys k l is))
-    at false is zero e rest = absurd (true≢false (sym (same_itself k l (same_Some e)) ∙ is))
+    at false is zero e rest = absurd (true≢false (sym (same_itself k l (same_Some _ _ e)) ∙ is))
     at false is (suc i) e rest = rest i e
 
 -- ---- two lists
@@ -62,7 +62,7 @@ stands_second k (l ∷ ls) ms its = let rest = stands_second k ls ms its in (suc
 
 -- keys in a list with one place are one key
 pub one_place : (k l : Option Key) (ks : List (Option Key)) → Stands k ks → Stands l ks → place_of k ks ≡ place_of l ks → k ≡ l
-one_place k l ks mine its e = same_Some (sym (place_stands k ks mine.0 mine.1) ∙ (ap (slice_get ks) e ∙ place_stands l ks its.0 its.1))
+one_place k l ks mine its e = same_Some _ _ (sym (place_stands k ks mine.0 mine.1) ∙ (ap (slice_get ks) e ∙ place_stands l ks its.0 its.1))
 
 -- ---- in a list that strictly rises
 

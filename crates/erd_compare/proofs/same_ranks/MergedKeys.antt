@@ -34,12 +34,12 @@ module _ (ones others : List (Option Key)) (up : IsStrictlySortedBy by_key ones)
       up_to j y over g = of (cases_order (length ranks) j)
         where
           of : (length ranks ≡ j) ⊎ ((length ranks < j) ⊎ (j < length ranks)) → by_key k y ≡ Less
-          of (inl same) = let its : key ≡ y = same_Some (sym here ∙ (ap (slice_get others) same ∙ g)) in subst (λ z. by_key k z ≡ Less) its less
+          of (inl same) = let its : key ≡ y = same_Some _ _ (sym here ∙ (ap (slice_get others) same ∙ g)) in subst (λ z. by_key k z ≡ Less) its less
           of (inr (inl l)) = by_key_total.trans k key y less (sorted_at by_key others (length ranks) j key y more l here g)
           of (inr (inr h)) = absurd (omega (arith, over, h))
 
       at : (i j : ℕ) (x y : Option Key) → length ranks ≤ j → slice_get ones i ≡ Some x → slice_get others j ≡ Some y → (i ≡ passed) ⊎ ((i < passed) ⊎ (passed < i)) → i < passed + 1 → by_key x y ≡ Less
-      at i j x y over e g (inl same) under = let its : k ≡ x = same_Some (sym there ∙ (ap (slice_get ones) (sym same) ∙ e)) in subst (λ z. by_key z y ≡ Less) its (up_to j y over g)
+      at i j x y over e g (inl same) under = let its : k ≡ x = same_Some _ _ (sym there ∙ (ap (slice_get ones) (sym same) ∙ e)) in subst (λ z. by_key z y ≡ Less) its (up_to j y over g)
       at i j x y over e g (inr (inl l)) under = m.below i j x y l over e g
       at i j x y over e g (inr (inr h)) under = absurd (omega (arith, h, under))
 

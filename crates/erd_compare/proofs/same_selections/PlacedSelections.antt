@@ -1,5 +1,5 @@
 -- The selections of a contest among those of their report.
-use Rattle.erd_compare.proofs.Common.{◌≡◌, ℕ, ◌+◌, Bool, true, false, cond, List, ◌==◌, slice_get, Some, None, codes, Option, option_map, option_and_then, sym, refl, ap, ◌∙◌, subst, slice_get-map, option_and_then_some, Data, get, view, role_of_class, kind_of_member, Class, family, role, MemberKind, kind, In, In-flat_map, entries_of, entries_at, option_map-Some, in_at, Judged, Placed, contests, selections_of_contest, objects, numbered_selections, name_of, IsPairOf, IsPlaced, AreSelectionsAt, AreSelectionsIn, on_side, is_selections, MemberPair, Side}
+use Rattle.erd_compare.proofs.Common.{◌≡◌, ℕ, ◌+◌, Bool, true, false, cond, List, ◌==◌, slice_get, Some, None, codes, Option, option_map, option_and_then, sym, refl, ap, ◌∙◌, subst, slice_get-map, option_and_then_some, Data, get, view, role_of_class, kind_of_member, Class, class, family, role, MemberKind, kind, In, In-flat_map, entries_of, entries_at, option_map-Some, in_at, Judged, Placed, contests, selections_of_contest, objects, numbered_selections, name_of, IsPairOf, IsPlaced, AreSelectionsAt, AreSelectionsIn, on_side, is_selections, MemberPair, Side}
 use Rattle.erd_meaning.proofs.accepted.Skeleton.{values-placed_entries}
 use Rattle.erd_meaning.proofs.selections.NumberedSelections.{numbered_at}
 use Rattle.erd_meaning.specs.code.SelectionWalk.{StandFrom, if_of_contest, selection_of}
@@ -14,6 +14,17 @@ holds_selections : (k : MemberKind) → is_selections k ≡ true → kinds.is_se
 holds_selections (kind.Keyed family.Selection) e = refl
 holds_selections k e = cc
 
+-- a class whose member holds selections is that of contests
+selections_role : (c : Class) (name : List ℕ) → kinds.is_selections (kind_of_member c name) ≡ true → role_of_class c ≡ role.OfFamily family.Contest
+selections_role c name is = at c (subst (λ n. kinds.is_selections (kind_of_member c n) ≡ true) (kinds.selections_name c name is) is)
+  where
+    at : (c : Class) → kinds.is_selections (kind_of_member c (codes "ContestSelection")) ≡ true → role_of_class c ≡ role.OfFamily family.Contest
+    at class.CandidateContest e = refl
+    at class.BallotMeasureContest e = refl
+    at class.RetentionContest e = refl
+    at class.PartyContest e = refl
+    at c e = cc
+
 through : (name : List ℕ) (d : Data) (o : Option Placed) → option_map (λ o. o.value) o ≡ Some d → option_and_then (λ o. get name o.value) o ≡ get name d
 through name d None e = cc
 through name d (Some o) e = let same : o.value ≡ d = cc in ap (get name) same
@@ -23,7 +34,7 @@ placed_selections : (a : Judged) (c : Class) (name : List ℕ) (i : ℕ) (d : Da
     → is_selections (kind_of_member c name) ≡ true → AreSelectionsAt a i found
 placed_selections a c name i d found placed is holds =
     let selections : kinds.is_selections (kind_of_member c name) ≡ true = holds_selections (kind_of_member c name) holds in
-    let contest : IsPlaced a (role.OfFamily family.Contest) i d = subst (λ r. IsPlaced a r i d) (kinds.selections_role c name selections) placed in
+    let contest : IsPlaced a (role.OfFamily family.Contest) i d = subst (λ r. IsPlaced a r i d) (selections_role c name selections) placed in
     through (codes "ContestSelection") d (slice_get (contests (view a.tree)) i) contest ∙ ap (λ n. get n d) (sym (kinds.selections_name c name selections)) ∙ sym is
 
 -- what the objects at two positions have under a name
