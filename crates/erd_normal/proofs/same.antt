@@ -9,8 +9,6 @@ pub mod Lookups
 pub mod Steady
 pub mod Related
 pub mod Owners
-pub mod Decided
-pub mod Differ
 pub mod Examples
 pub mod Merged
 pub mod Lists
