@@ -2,5 +2,4 @@
 pub mod Ids
 pub mod Closed
 pub mod SameTrees
-pub mod NamesAlike
 pub mod Unique

@@ -37,10 +37,6 @@ is_flat_class c = false
 
 rows_flat : (c : Class) → is_flat_class c ≡ true → list_all (λ m. is_flat m.kind) (rows_of_class c) ≡ true
 rows_flat class.ElectionReport e = refl
-rows_flat class.Election e = refl
-rows_flat class.CandidateSelection e = refl
-rows_flat class.BallotMeasureSelection e = refl
-rows_flat class.PartySelection e = refl
 rows_flat c e = cc
 
 pub kind_is_flat : (c : Class) (name : List ℕ) → is_flat_class c ≡ true → is_flat (kind_of_member c name) ≡ true

@@ -9,13 +9,14 @@ use Rattle.erd_normal.proofs.same.Places.{envelope_quiet, is_quiet, quiet_step}
 use Rattle.erd_normal.proofs.same.Types.{scope_same}
 use Rattle.erd_normal.proofs.same.accepted.AbsentMembers.{IsSound}
 use Rattle.erd_normal.proofs.same.accepted.AcceptedShape.{no_fault_at}
-use Rattle.erd_normal.proofs.same.accepted.AskedAgain.{AskedAgain, HasSoundMembers, again_from, of_report}
+use Rattle.erd_normal.proofs.same.accepted.AskedAgain.{AskedAgain, HasSoundMembers, again_from}
 use Rattle.erd_normal.proofs.rearranged.RearrangedIds.{alike_ids, TellsIds}
 use Rattle.erd_normal.proofs.same.Basics.{says_itself}
 use Rattle.erd_normal.proofs.same.InTurn.{says_in_turn}
 use Rattle.erd_normal.proofs.same.Rearrangements.{comes_back, texts_come_back, turned_back, covers, id_covered}
 use Rattle.erd_normal.proofs.same.accepted.Accepted.{same_is_accepted}
 use Rattle.erd_normal.proofs.same.means.Meanings.{saying_the_same_means_the_same}
+use Rattle.erd_normal.proofs.same.Steady.{of_report}
 
 -- ---- a report that is alike to an accepted one has no fault of shape in its envelope: each of its members says the same as that of the other one
 

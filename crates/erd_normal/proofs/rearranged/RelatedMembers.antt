@@ -1,5 +1,5 @@
 -- What stands in an object of a report, and what in one that is alike to it: under each name, and in each array.
-use Rattle.erd_normal.proofs.Common.{◌≡◌, ℕ, true, false, List, [], if◌then◌else◌, Some, None, codes, Option, option_map, bytes_eq, sym, refl, ap, ◌∙◌, subst, option_map_or, Data, string, array, object, Members, get_member, get, as_str, kind_of_member, is_required, Class, Family, Role, role, kind, At, list_of_items-place, ObjectAt, ObjectIn, Has, Within-step, AsksObject, of_role, of_label, member_within, Within, want_by_kind, ShapeFault, NoneOf, entries_of, entries_at, class_of_object, scope_inside, member_want, want_of_name, entry_want, is_compared_set, asked, scope, Want, Member, Object, is_id_text}
+use Rattle.erd_normal.proofs.Common.{◌≡◌, ℕ, true, false, List, [], if◌then◌else◌, Some, codes, Option, option_map, bytes_eq, sym, refl, ap, ◌∙◌, subst, option_map_or, Data, string, array, object, Members, get_member, get, as_str, kind_of_member, is_required, Class, Family, Role, role, kind, At, list_of_items-place, ObjectAt, ObjectIn, Has, Within-step, AsksObject, of_role, of_label, member_within, Within, want_by_kind, ShapeFault, NoneOf, entries_of, entries_at, class_of_object, scope_inside, member_want, want_of_name, entry_want, is_compared_set, asked, scope, Want, Member, Object, is_id_text}
 use Rattle.erd_normal.proofs.lists.Matched.{Both, both, neither, Matched, matched_none, matched_within}
 use Rattle.erd_normal.proofs.rearranged.AlikeChanges.{Alike}
 use Rattle.erd_normal.proofs.rearranged.AlikeParts.{alike_array, alike_member}
@@ -39,10 +39,8 @@ module _ (ρ : List ℕ → List ℕ) (t : Data) where
   -- of an array that may be absent
   pub related_listed : (w v : Want) (o p : Option Data) → entry_want w ≡ Some v → is_compared_set w ≡ false → Both (Related ρ t w) o p
       → Matched (Related ρ t v) (option_map_or entries_of o []) (option_map_or entries_of p [])
-  related_listed w v None None asks apart neither = matched_none _
-  related_listed w v (Some d) (Some e) asks apart (both r) = related_entries w v d e asks apart r
-  related_listed w v None (Some e) asks apart k = elim k [ ]
-  related_listed w v (Some d) None asks apart k = elim k [ ]
+  related_listed w v o p asks apart neither = matched_none _
+  related_listed w v o p asks apart (both r) = related_entries w v _ _ asks apart r
 
   -- ---- objects
 
@@ -61,10 +59,8 @@ module _ (ρ : List ℕ → List ℕ) (t : Data) where
         (alike_member ρ (scope_inside w (object ms)) ms h.0 h.2 name)))
       where
         at : (o p : Option Data) → get_member name ms ≡ o → Both (Alike ρ (Some (member_want c name))) o p → Both (Related ρ t (member_want c name)) o p
-        at None None found neither = neither
-        at (Some d) (Some f) found (both r) = both (record { inside = member_within t clean w q ms c name d a.asks a.among other a.inside found; is_alike = r })
-        at None (Some f) found k = elim k [ ]
-        at (Some d) None found k = elim k [ ]
+        at o p found neither = neither
+        at o p found (both r) = both (record { inside = member_within t clean w q ms c name _ a.asks a.among other a.inside found; is_alike = r })
 
     -- the same of an object with a role
     pub related_in : (r : Role) (d e : Data) (o : ObjectIn t r d) → Related ρ t (Object r) d e → (name : List ℕ) → bytes_eq name (codes "@type") ≡ false

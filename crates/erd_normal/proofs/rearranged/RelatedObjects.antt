@@ -1,6 +1,6 @@
 -- The objects of a report and those of one that is alike to it: those of each family are matched, and related objects have `@id`s that are one but for
 -- the function of texts.
-use Rattle.erd_normal.proofs.Common.{◌≡◌, ℕ, Bool, false, List, Some, None, codes, Option, option_map, flat_map, option_and_then, bytes_eq, refl, ap, ◌∙◌, subst, Data, get, as_str, kind_of_member, is_required, class, Family, family, Role, role, kind, object_in, report_class, election_class, ObjectIn, Within-root, want_by_kind, ShapeFault, NoneOf, entries_at, Member, Object, contest_selections, id_of}
+use Rattle.erd_normal.proofs.Common.{◌≡◌, ℕ, Bool, false, List, Some, codes, Option, option_map, flat_map, option_and_then, bytes_eq, refl, ap, ◌∙◌, subst, Data, get, as_str, kind_of_member, is_required, class, Family, family, Role, role, kind, object_in, report_class, election_class, ObjectIn, Within-root, want_by_kind, ShapeFault, NoneOf, entries_at, Member, Object, contest_selections, id_of}
 use Rattle.erd_normal.proofs.built.NormalGets.{kind_of_family_id}
 use Rattle.erd_normal.proofs.lists.Matched.{Both, both, neither, Matched, matched_flat}
 use Rattle.erd_normal.proofs.rearranged.AlikeChanges.{Alike}
@@ -15,10 +15,8 @@ module _ (ρ : List ℕ → List ℕ) (t : Data) (clean : NoneOf (ShapeFault t))
 
   -- related objects of a family have the same `@id` but for the function of texts
   ids_found : (required : Bool) (o p : Option Data) → Both (Related ρ t (Member kind.Identity required)) o p → option_and_then as_str p ≡ option_map ρ (option_and_then as_str o)
-  ids_found required None None neither = refl
-  ids_found required (Some d) (Some e) (both r) = related_id_text ρ (Member kind.Identity required) d e refl r.is_alike
-  ids_found required None (Some e) h = elim h [ ]
-  ids_found required (Some d) None h = elim h [ ]
+  ids_found required o p neither = refl
+  ids_found required o p (both r) = related_id_text ρ (Member kind.Identity required) _ _ refl r.is_alike
 
   pub id_became : (f : Family) (d e : Data) → RelatedIn (role.OfFamily f) d e → id_of e ≡ option_map ρ (id_of d)
   id_became f d e r =

@@ -1,6 +1,6 @@
 -- If u says what t says, t says what u says.
-use Rattle.erd_normal.proofs.Common.{List, Option, IsPermutation, sym, subst, IsPermutation-sym, Data, Items, Members, items_of, list_of_items-items_of, list_of_items, entry_want, Scope, Want, IsPermutation-reordered, SaysBack, Sides, not_asked, a_null, a_flag, a_number, a_text, an_id, a_list, a_set, an_object, no_entry, one_entry, no_member, in_both, left_only, right_only, Same, SameEntries, SameMembers}
-use Rattle.erd_normal.proofs.lists.Matched.{Paired, none, more}
+use Rattle.erd_normal.proofs.Common.{List, Option, IsPermutation, sym, subst, IsPermutation-sym, Data, Items, Members, items_of, list_of_items-items_of, list_of_items, entry_want, Scope, Want, IsPermutation-reordered, SaysBack, Sides, not_asked, a_null, a_flag, a_number, a_text, an_id, a_list, a_set, an_object, no_entry, one_entry, no_member, in_both, left_only, right_only, Same, SameEntries, SameMembers, is_table_set, ◌≡◌, true, false, Some, array}
+use Rattle.erd_normal.proofs.lists.Matched.{Paired, none, more, Matched}
 use Rattle.erd_normal.proofs.lists.NumbersInOrder.{permuted_reordered}
 use Rattle.erd_normal.proofs.lists.BuiltLists.{items_again}
 use Rattle.erd_normal.proofs.same.Lists.{follows}
@@ -37,6 +37,18 @@ set_swapped m w ds fs es p h =
       permuted = subst (IsPermutation (list_of_items es)) (sym (list_of_items-items_of f.new)) (IsPermutation-reordered f.reordered);
       entries = subst (SameEntries m w (items_of f.new)) (items_again ds) (paired_entries m w (paired_flip f.paired));
     }
+
+-- arrays whose entries say the same say the same
+module _ (m : Sides) where
+  pub set_says : (w : Want) (ds es : Items) → is_table_set w ≡ true → Matched (Same m (entry_want w)) (list_of_items ds) (list_of_items es) → Same m (Some w) (array ds) (array es)
+  set_says w ds es is h =
+      let f = follows h.reordered (paired_flip h.paired) in
+      a_set (items_of f.new) is (subst (IsPermutation (list_of_items ds)) (sym (list_of_items-items_of f.new)) (IsPermutation-reordered f.reordered))
+      (subst (SameEntries m (entry_want w) (items_of f.new)) (items_again es) (paired_entries m (entry_want w) (paired_flip f.paired)))
+
+  pub list_says : (w : Want) (ds es : Items) → is_table_set w ≡ false → Paired (Same m (entry_want w)) (list_of_items ds) (list_of_items es) → Same m (Some w) (array ds) (array es)
+  list_says w ds es is h =
+      a_list is (subst (λ x. SameEntries m (entry_want w) x es) (items_again ds) (subst (SameEntries m (entry_want w) (items_of (list_of_items ds))) (items_again es) (paired_entries m (entry_want w) h)))
 
 -- ---- the other way round
 

@@ -1,5 +1,5 @@
 -- The values of a report's objects, family by family, without their places.
-use Rattle.erd_normal.proofs.Common.{◌≡◌, ℕ, false, List, map, codes, flat_map, bytes_eq, Less, Equal, sym, refl, ap, ◌∙◌, subst, tied_itself, Data, kind_of_member, class, Family, family, kind, has_mapped, map_has, Has, entries_at, values-placed_entries, values-placed_flat, IsBefore, Placed, placed_entries, report_of, elections, contests, objects}
+use Rattle.erd_normal.proofs.Common.{◌≡◌, ℕ, false, List, map, codes, flat_map, bytes_eq, Less, Equal, sym, ap, ◌∙◌, subst, tied_itself, Data, kind_of_member, class, Family, family, kind, has_mapped, map_has, Has, entries_at, values-placed_entries, values-placed_flat, IsBefore, Placed, placed_entries, report_of, elections, contests, objects}
 use Rattle.erd_tables.specs.Places.{place_cmp}
 use Rattle.erd_tables.proofs.PlaceOrder.{place_cmp_total}
 
@@ -57,27 +57,3 @@ pub record InElections (f : Family) (name : List ℕ) : Type 0 where
   pub other : bytes_eq name (codes "@type") ≡ false
   pub keyed : kind_of_member class.Election name ≡ kind.Keyed f
   pub are : (t : Data) → objects f t ≡ flat_map (placed_entries name) (elections t)
-
-pub units : InReport family.Unit (codes "GpUnit")
-units = record { other = refl; keyed = refl; are = λ t. refl }
-
-pub parties : InReport family.Party (codes "Party")
-parties = record { other = refl; keyed = refl; are = λ t. refl }
-
-pub persons : InReport family.Person (codes "Person")
-persons = record { other = refl; keyed = refl; are = λ t. refl }
-
-pub offices : InReport family.Office (codes "Office")
-offices = record { other = refl; keyed = refl; are = λ t. refl }
-
-pub headers : InReport family.Header (codes "Header")
-headers = record { other = refl; keyed = refl; are = λ t. refl }
-
-pub candidates : InElections family.Candidate (codes "Candidate")
-candidates = record { other = refl; keyed = refl; are = λ t. refl }
-
-pub contests_home : InElections family.Contest (codes "Contest")
-contests_home = record { other = refl; keyed = refl; are = λ t. refl }
-
-pub styles : InElections family.Style (codes "BallotStyle")
-styles = record { other = refl; keyed = refl; are = λ t. refl }

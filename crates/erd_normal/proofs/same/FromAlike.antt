@@ -1,11 +1,9 @@
 -- Reports that are alike say the same, if each `@id` text that was replaced comes back.
-use Rattle.erd_normal.proofs.Common.{◌≡◌, ℕ, Bool, true, false, cond, ◌&&◌, List, [], ◌∷◌, Some, None, Option, IsPermutation, sym, refl, ap, ◌∙◌, subst, Data, null, boolean, number, string, array, object, Items, no_items, item, Members, no_members, member, get_member, items_of, role, At, Name, list_of_items-place, list_of_items-items_of, get_member-first, here, later, Has, Within-step, Within-root, within-tree, Within, get_member-later, IsTree, AreTrees, AreMembers, list_of_items, entries_of, scope_inside, want_of_name, entry_want, is_compared_set, is_table_set, Asked, asked, is_repeated, Scope, Want, Object, IsPermutation-reordered, is_id_text, Sides, not_asked, a_null, a_flag, a_number, a_text, an_id, a_list, a_set, an_object, no_member, in_both, Same, SameEntries, SameMembers, SaysTheSame}
+use Rattle.erd_normal.proofs.Common.{◌≡◌, ℕ, Bool, true, false, cond, ◌&&◌, List, [], ◌∷◌, Some, None, Option, sym, refl, subst, Data, null, boolean, number, string, array, object, Items, no_items, item, Members, no_members, member, get_member, role, At, Name, list_of_items-place, get_member-first, here, later, Has, Within-step, Within-root, within-tree, Within, get_member-later, IsTree, AreTrees, AreMembers, list_of_items, entries_of, scope_inside, want_of_name, entry_want, is_compared_set, is_table_set, Asked, asked, is_repeated, Scope, Want, Object, is_id_text, Sides, not_asked, a_null, a_flag, a_number, a_text, an_id, an_object, no_member, in_both, Same, SameMembers, SaysTheSame}
 use Rattle.erd_normal.proofs.lists.Matched.{Paired, none, more}
-use Rattle.erd_normal.proofs.lists.BuiltLists.{items_again}
 use Rattle.erd_normal.proofs.rearranged.AlikeChanges.{Alike, AlikeMembers, AreAlike, IsArranged}
 use Rattle.erd_normal.proofs.rearranged.AlikeParts.{alike_unasked}
-use Rattle.erd_normal.proofs.same.Back.{paired_entries, paired_flip}
-use Rattle.erd_normal.proofs.same.Lists.{follows}
+use Rattle.erd_normal.proofs.same.Back.{set_says, list_says}
 
 -- each text of an `@id` or a reference of the report comes back
 pub record ComesBack (ρ σ : List ℕ → List ℕ) (t : Data) : Type 0 where
@@ -43,14 +41,8 @@ module _ (ρ σ : List ℕ → List ℕ) (t u : Data) (back : ComesBack ρ σ t)
 
   array_same : (w : Want) (ds : Items) (fs : List Data) (es : Items) (b : Bool) → is_table_set w ≡ b → Paired (Same m (entry_want w)) (list_of_items ds) fs
       → IsArranged b fs (list_of_items es) → Same m (Some w) (array ds) (array es)
-  array_same w ds fs es true is p arranged =
-      let f = follows arranged (paired_flip p) in
-      a_set (items_of f.new) is (subst (IsPermutation (list_of_items ds)) (sym (list_of_items-items_of f.new)) (IsPermutation-reordered f.reordered))
-      (subst (SameEntries m (entry_want w) (items_of f.new)) (items_again es) (paired_entries m (entry_want w) (paired_flip f.paired)))
-  array_same w ds fs es false is p arranged =
-      a_list is
-      (subst (λ x. SameEntries m (entry_want w) x es) (items_again ds)
-      (subst (SameEntries m (entry_want w) (items_of (list_of_items ds))) (ap items_of arranged ∙ items_again es) (paired_entries m (entry_want w) p)))
+  array_same w ds fs es true is p arranged = set_says m w ds es is (record { middle = fs; paired = p; reordered = arranged })
+  array_same w ds fs es false is p arranged = list_says m w ds es is (subst (Paired (Same m (entry_want w)) (list_of_items ds)) arranged p)
 
   abbrev EntriesStand : Option Want → List Data → Type 0
   EntriesStand o ds = (v : Want) → o ≡ Some v → (x : Data) → Has ds x → Stands t v x

@@ -1,10 +1,11 @@
 -- What a value is, by what the table asks of it: so an `@id` that it asks for is that of an object of a family.
-use Rattle.erd_normal.proofs.Common.{◌≡◌, ℕ, Bool, true, false, cond, ◌&&◌, List, [], ◌∷◌, is_some, Some, None, codes, Option, option_map, flat_map, option_and_then, bytes_eq, sym, refl, ap, ◌∙◌, subst, and_parts, AllByRecursion, option_map_or, Data, string, array, object, Items, Members, get_member, get_item, as_str, role_of_class, family_of_role, family_of_class, kind_of_member, is_required, Class, Family, family, Role, role, MemberKind, kind, Step, At, Name, string_from_text, text_exact, Has, Within-step, wanted_within, Within, list_of_items, entries_of, entries_at, class_of_object, scope_inside, want_of_kind, is_report_class, member_want, carried_want, want_of_name, entry_want, is_compared_set, Asked, asked, is_repeated, asked_inside, asked_from, asked_at, scope, Want, Carried, ClassText, Member, Object, Reference, Status, no_shape_fault, owned, unrepeated_reference, flat-has, class_role, IsAccepted, has_keys, Preference, owner}
+use Rattle.erd_normal.proofs.Common.{◌≡◌, ℕ, Bool, true, false, cond, ◌&&◌, List, [], is_some, Some, None, codes, Option, option_map, flat_map, option_and_then, bytes_eq, sym, refl, ap, ◌∙◌, subst, and_parts, AllByRecursion, option_map_or, Data, string, array, object, Items, Members, get_member, get_item, as_str, role_of_class, family_of_role, family_of_class, kind_of_member, is_required, Class, Family, family, Role, role, MemberKind, kind, Step, At, string_from_text, text_exact, Has, Within-step, wanted_within, Within, list_of_items, entries_of, entries_at, class_of_object, scope_inside, want_of_kind, is_report_class, member_want, carried_want, want_of_name, entry_want, Asked, asked, is_repeated, asked_at, scope, Want, Carried, ClassText, Member, Object, Reference, Status, no_shape_fault, owned, unrepeated_reference, flat-has, class_role, IsAccepted, has_keys, Preference, owner}
 use Rattle.erd_normal.proofs.built.AskedMembers.{all_items}
 use Rattle.erd_normal.proofs.built.FamilyNames.{family_name, holds, home, is_home, is_report_role}
 use Rattle.erd_normal.proofs.same.FamilyValues.{family_values}
 use Rattle.erd_normal.proofs.same.Lists.{entry_has}
 use Rattle.erd_normal.proofs.same.SharedIds.{IsId}
+use Rattle.erd_normal.proofs.throughout.InsideValues.{all_inside}
 
 -- ---- a reference of an accepted report names an object of its family
 
@@ -125,34 +126,8 @@ entry_part t (Member kind.Ordered required) ds i v x part asks found = same_part
 entry_part t Carried ds i v x part asks found = same_part t x Carried v asks tt
 entry_part t w ds i v x part asks found = cc
 
--- ---- along the place
-
-part_some : (t : Data) (make : Want → Data → Asked) → ((v : Want) (d : Data) → (make v d).want ≡ v) → ((v : Want) (d : Data) → (make v d).value ≡ d) → (o : Option Want) (p : Option Data) (c : Asked)
-    → ((v : Want) (d : Data) → o ≡ Some v → p ≡ Some d → IsPart t v d) → option_and_then (λ v. option_map (make v) p) o ≡ Some c → IsPart t c.want c.value
-part_some t make want value None p c each e = cc
-part_some t make want value (Some v) None c each e = cc
-part_some t make want value (Some v) (Some d) c each e =
-    let one : make v d ≡ c = cc in
-    subst (λ x. IsPart t x.want x.value) one (subst (λ w. IsPart t w (make v d).value) (sym (want v d)) (subst (IsPart t v) (sym (value v d)) (each v d refl refl)))
-
-part_step : (t : Data) (w : Want) (d : Data) (s : Step) (c : Asked) → IsPart t w d → asked_inside w d s ≡ Some c → IsPart t c.want c.value
-part_step t w (object ms) (Name n) c part e =
-    part_some t asked (λ v d. refl) (λ v d. refl) (want_of_name (scope_inside w (object ms)) n) (get_member n ms) c (λ v x asks found. name_part t ms x w n v part asks found) e
-part_step t w (array ds) (At i) c part e =
-    part_some t (λ v d. record { want = v; value = d; repeated = is_compared_set w && is_repeated ds i d }) (λ v d. refl) (λ v d. refl) (entry_want w) (get_item i ds) c
-    (λ v x asks found. entry_part t w ds i v x part asks found) e
-part_step t w d s c part e = cc
-
-part_from : (t : Data) (ss : List Step) (a c : Asked) → IsPart t a.want a.value → asked_from a ss ≡ Some c → IsPart t c.want c.value
-part_from t [] a c part e = let one : a ≡ c = cc in subst (λ x. IsPart t x.want x.value) one part
-part_from t (s ∷ ss) a c part e = at (asked_inside a.want a.value s) refl (λ b. part_from t ss b c)
-  where
-    at : (o : Option Asked) → asked_inside a.want a.value s ≡ o → ((b : Asked) → IsPart t b.want b.value → asked_from b ss ≡ Some c → IsPart t c.want c.value) → IsPart t c.want c.value
-    at None is step = let g : None ≡ Some c = ap (option_and_then (λ b. asked_from b ss)) (sym is) ∙ e in cc
-    at (Some b) is step = step b (part_step t a.want a.value s b part is) (ap (option_and_then (λ b. asked_from b ss)) (sym is) ∙ e)
-
 pub part_at : (t : Data) (p : List Step) (a : Asked) → asked_at t p ≡ Some a → IsPart t a.want a.value
-part_at t p a stands = part_from t p (asked (Object role.Report) t) a refl stands
+part_at t p a stands = all_inside (IsPart t) (λ w ms n v x. name_part t ms x w n v) (λ w ds i v x. entry_part t w ds i v x) (asked (Object role.Report) t) p a refl stands
 
 -- the text where an `@id` is asked for is the `@id` of an object
 pub asked_id : (t : Data) (p : List Step) (a : Asked) (required : Bool) (s : List ℕ) → asked_at t p ≡ Some a → a.want ≡ Member kind.Identity required → a.value ≡ string s → IsId t s

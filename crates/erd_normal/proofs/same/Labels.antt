@@ -1,25 +1,25 @@
 -- The worst case of the names of selections: a label with translations. Labels that say the same have one text, with their translations
 -- in rising order.
-use Rattle.erd_normal.proofs.Common.{◌≡◌, ℕ, Bool, true, false, cond, List, [], ◌∷◌, ◌++◌, map, Some, None, codes, Option, bytes_eq, Ordering, Greater, sym, refl, ap, ◌∙◌, subst, ap₂, nat_list_cmp_total, exact_bytes, option_map_or, match_ordering, get_member-put, Data, null, array, object, Members, no_members, member, put, get_member, items_of, comma_if, compact_text, items_text, members_text, kind_of_member, is_required, text_cmp, class, role, kind, text_exact, members_unique, put-trees, kind_of_unlisted_has, IsTree, AreMembers, entries_of, entries_at, class_of_object, member_want, want_of_name, Scope, scope, Want, ClassText, Member, Object, reordered_map, Reordered, rising_list_map, rising_list, compact_cmp, with_rising_text, Sides, MayBeAbsent, Same, SameMembers}
+use Rattle.erd_normal.proofs.Common.{◌≡◌, ℕ, Bool, true, false, List, [], ◌∷◌, ◌++◌, map, Some, None, codes, Option, bytes_eq, Ordering, Greater, sym, refl, ap, ◌∙◌, subst, ap₂, nat_list_cmp_total, exact_bytes, option_map_or, match_ordering, get_member-put, Data, null, array, object, Members, no_members, member, put, get_member, items_of, comma_if, compact_text, items_text, members_text, kind_of_member, text_cmp, class, role, kind, text_exact, members_unique, put-trees, kind_of_unlisted_has, IsTree, AreMembers, entries_of, entries_at, class_of_object, want_of_name, Scope, scope, Member, reordered_map, Reordered, rising_list_map, rising_list, compact_cmp, with_rising_text, Sides, MayBeAbsent, Same, SameMembers}
 use Rattle.erd_meaning.proofs.orders.Reordered.{no_entry}
 use Rattle.erd_normal.proofs.built.NormalGets.{put_elsewhere, put_twice}
 use Rattle.erd_normal.proofs.lists.Matched.{matched_equal}
 use Rattle.erd_normal.proofs.lists.NumbersInOrder.{rising-reordered}
 use Rattle.erd_normal.proofs.same.Lookups.{Aligned, both_there, not_both, MayLack, lookups, of_object}
 use Rattle.erd_normal.proofs.same.Related.{entries_matched, lacking_empty}
-use Rattle.erd_normal.proofs.same.Steady.{is_steady, is_steady_kind, stays_one, steady_of_kind, steady_same, is_plain, is_plain_kind, plain_of_kind}
+use Rattle.erd_normal.proofs.same.Steady.{is_steady, is_steady_kind, stays_one, steady_of_kind, steady_same, is_plain, is_plain_kind, plain_of_kind, AllPlain}
+use Rattle.erd_normal.proofs.throughout.InsideValues.{known_passes}
 
 -- ---- texts of values in order
 
 -- arrays whose entries have the same texts have one text
 entries_one_text : (b : Bool) (xs ys : List Data) → map compact_text xs ≡ map compact_text ys → items_text b (items_of xs) ≡ items_text b (items_of ys)
 entries_one_text b [] [] e = refl
-entries_one_text b [] (y ∷ ys) e = cc
-entries_one_text b (x ∷ xs) [] e = cc
 entries_one_text b (x ∷ xs) (y ∷ ys) e =
     let first : compact_text x ≡ compact_text y = cc in
     let rest : map compact_text xs ≡ map compact_text ys = cc in
     ap₂ (λ s r. comma_if b ++ (s ++ r)) first (entries_one_text true xs ys rest)
+entries_one_text b xs ys e = cc
 
 array_one_text : (xs ys : List Data) → map compact_text xs ≡ map compact_text ys → compact_text (array (items_of xs)) ≡ compact_text (array (items_of ys))
 array_one_text xs ys e = ap (λ s. 91 ∷ s) (entries_one_text false xs ys e)
@@ -51,16 +51,9 @@ plain_beside k e f = rw f (kind_of_unlisted_has is_plain_kind class.Internationa
 pub steady_beside : (k : List ℕ) → bytes_eq k (codes "@type") ≡ false → bytes_eq k (codes "Text") ≡ false → is_steady_kind (kind_of_member class.InternationalizedText k) ≡ true
 steady_beside k e f = rw f (kind_of_unlisted_has is_steady_kind class.InternationalizedText k e refl refl refl)
 
--- what holds of all that is asked beside `Text`
-pub asked_beside : (P : Want → Bool) (k : List ℕ) → P (ClassText role.Label) ≡ true → (bytes_eq k (codes "@type") ≡ false → P (member_want class.InternationalizedText k) ≡ true) → (v : Want) → want_of_name in_label k ≡ Some v → P v ≡ true
-asked_beside P k text other v asks = at (bytes_eq k (codes "@type")) refl
-  where
-    at : (b : Bool) → bytes_eq k (codes "@type") ≡ b → P v ≡ true
-    at true is = let one : ClassText role.Label ≡ v = let g : Some (ClassText role.Label) ≡ Some v = rw is at asks in cc in ap P (sym one) ∙ text
-    at false is =
-        let g : Some (member_want class.InternationalizedText k) ≡ Some v = sym (ap (λ b. cond b (Some (ClassText role.Label)) (Some (member_want class.InternationalizedText k))) is) ∙ asks in
-        let one : member_want class.InternationalizedText k ≡ v = cc in
-        ap P (sym one) ∙ other is
+-- all that is asked beside `Text` is plain
+pub all_plain_beside : (k : List ℕ) → bytes_eq k (codes "Text") ≡ false → AllPlain (want_of_name in_label k)
+all_plain_beside k other = known_passes is_plain role.Label class.InternationalizedText k refl (λ e. plain_of_kind (kind_of_member class.InternationalizedText k) _ (plain_beside k e other))
 
 -- the members of labels of the class
 record LabelMembers (ms ns : Members) : Type 0 where
@@ -72,20 +65,19 @@ module _ (m : Sides) where
   beside_stays : (t : Data) (k : List ℕ) (d : Data) → bytes_eq k (codes "Text") ≡ false → MayBeAbsent t in_label k d → ⊥
   beside_stays t k d other h =
       stays_one t in_label k d
-      (asked_beside is_steady k refl (λ e. steady_of_kind (kind_of_member class.InternationalizedText k) (is_required class.InternationalizedText k) (steady_beside k e other))) refl h
+      (known_passes is_steady role.Label class.InternationalizedText k refl (λ e. steady_of_kind (kind_of_member class.InternationalizedText k) _ (steady_beside k e other))) refl h
 
   none_beside : (t : Data) (k : List ℕ) (o : Option Data) → bytes_eq k (codes "Text") ≡ false → MayLack t in_label k o → o ≡ None
   none_beside t k None other h = refl
   none_beside t k (Some d) other h = absurd (beside_stays t k d other (h.each d refl))
 
   same_beside : (k : List ℕ) (o p : Option Data) → bytes_eq k (codes "Text") ≡ false → Aligned m in_label k o p → o ≡ p
-  same_beside k (Some d) (Some e) other (both_there h) =
-      ap Some (steady_same m (λ v asks. asked_beside is_plain k refl (λ e. plain_of_kind (kind_of_member class.InternationalizedText k) (is_required class.InternationalizedText k) (plain_beside k e other)) v asks) h)
+  same_beside k (Some d) (Some e) other (both_there h) = ap Some (steady_same m h (all_plain_beside k other))
   same_beside k o p other (not_both l r) = none_beside m.left k o other l ∙ sym (none_beside m.right k p other r)
 
   same_texts : (o p : Option Data) → Aligned m in_label (codes "Text") o p → Reordered (option_map_or entries_of o []) (option_map_or entries_of p [])
   same_texts (Some d) (Some e) (both_there h) =
-      matched_equal (λ x y same. steady_same m (λ v asks. let one : Object role.Language ≡ v = cc in ap is_plain (sym one)) same) (entries_matched m (Member kind.Languages true) h)
+      matched_equal (λ x y same. steady_same m same refl) (entries_matched m (Member kind.Languages true) h)
   same_texts o p (not_both l r) =
       subst (λ x. Reordered x (option_map_or entries_of p [])) (sym (lacking_empty m.left in_label (codes "Text") o refl l))
       (subst (Reordered []) (sym (lacking_empty m.right in_label (codes "Text") p refl r)) no_entry)

@@ -1,5 +1,5 @@
 -- What an `@id` names in a report, and what the text that it stands for names in one that says the same.
-use Rattle.erd_normal.proofs.Common.{◌≡◌, ℕ, Bool, true, false, List, Some, None, codes, Option, find, option_and_then, bytes_eq, sym, refl, ap, ◌∙◌, subst, false_from_ne_true, both_ways, option_map_or, Data, object, get_member, as_str, is_required, Family, role, kind, text_exact, text_itself, ObjectIn, Within-root, want_by_kind, IsTree, scope_inside, want_of_name, Scope, scope, Want, Member, Object, no_shape_fault, has_id-Some, IsAccepted, Preference, key_of, id_of, has_id, owner, key_named, ReferencesNameTheSame, IsUsed, Sides, StandsFor, IsUnused, is_array_kind, is_envelope, an_empty_array, of_the_envelope, an_unused_id, a_null, a_flag, a_number, a_text, an_id, a_list, a_set, an_object, MayBeAbsent, Same}
+use Rattle.erd_normal.proofs.Common.{◌≡◌, ℕ, Bool, true, false, List, Some, None, codes, Option, find, option_and_then, bytes_eq, sym, refl, ap, ◌∙◌, subst, false_from_ne_true, both_ways, option_map_or, Data, object, get_member, as_str, is_required, Family, role, kind, text_exact, text_itself, ObjectIn, Within-root, want_by_kind, IsTree, scope_inside, want_of_name, Scope, scope, Want, Member, Object, no_shape_fault, has_id-Some, IsAccepted, Preference, key_of, id_of, has_id, owner, key_named, ReferencesNameTheSame, IsUsed, Sides, StandsFor, IsUnused, is_array_kind, is_envelope, an_empty_array, of_the_envelope, an_unused_id, a_text, an_id, MayBeAbsent, Same}
 use Rattle.erd_normal.proofs.built.NormalGets.{kind_of_family_id}
 use Rattle.erd_normal.proofs.lists.Matched.{AtMostOne, Both, apart_distinct, matched_find, one_if_apart, said_same}
 use Rattle.erd_normal.proofs.same.FamilyValues.{family_values}
@@ -26,14 +26,9 @@ unused_of t s required (Some d) asks other h a is = at (h.each d refl)
 
 -- texts of `@id`s that say the same
 texts_same : (m : Sides) (required : Bool) {x y : Data} → Same m (Some (Member kind.Identity required)) x y → (d e : Data) → id_of d ≡ as_str x → id_of e ≡ as_str y → IdsAlike m d e
-texts_same m required a_null d e left right = no_ids (λ a is. let x : None ≡ Some a = sym left ∙ is in cc) (λ b is. let x : None ≡ Some b = sym right ∙ is in cc)
-texts_same m required a_flag d e left right = no_ids (λ a is. let x : None ≡ Some a = sym left ∙ is in cc) (λ b is. let x : None ≡ Some b = sym right ∙ is in cc)
-texts_same m required a_number d e left right = no_ids (λ a is. let x : None ≡ Some a = sym left ∙ is in cc) (λ b is. let x : None ≡ Some b = sym right ∙ is in cc)
 texts_same m required (a_text is) d e left right = cc
 texts_same m required (an_id {s = a} {s' = b} is h) d e left right = two_ids a b left right h
-texts_same m required (a_list is h) d e left right = no_ids (λ a is. let x : None ≡ Some a = sym left ∙ is in cc) (λ b is. let x : None ≡ Some b = sym right ∙ is in cc)
-texts_same m required (a_set fs is p h) d e left right = no_ids (λ a is. let x : None ≡ Some a = sym left ∙ is in cc) (λ b is. let x : None ≡ Some b = sym right ∙ is in cc)
-texts_same m required (an_object h) d e left right = no_ids (λ a is. let x : None ≡ Some a = sym left ∙ is in cc) (λ b is. let x : None ≡ Some b = sym right ∙ is in cc)
+texts_same m required h d e left right = no_ids (λ a is. let x : None ≡ Some a = sym left ∙ is in cc) (λ b is. let x : None ≡ Some b = sym right ∙ is in cc)
 
 ids_found : (m : Sides) (s : Scope) (required : Bool) (o p : Option Data) → want_of_name s (codes "@id") ≡ Some (Member kind.Identity required) → is_envelope s (codes "@id") ≡ false
     → Aligned m s (codes "@id") o p → (d e : Data) → id_of d ≡ option_and_then as_str o → id_of e ≡ option_and_then as_str p → IdsAlike m d e

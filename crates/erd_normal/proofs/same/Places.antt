@@ -1,7 +1,9 @@
 -- Each reference of the right report comes from one of the left report that it stands for: no reference stands in a member that may be
 -- absent.
-use Rattle.erd_normal.proofs.Common.{◌≡◌, ℕ, Bool, true, false, cond, ◌&&◌, List, [], ◌∷◌, is_some, Some, None, codes, Option, option_map, option_and_then, bytes_eq, sym, refl, ap, ◌∙◌, subst, and_parts, list_all, Data, array, object, no_items, Members, get_member, get_item, Row, envelope_rows, kind_in_rows, class, role, MemberKind, kind, Step, At, Name, text_exact, is_reference, scope_inside, member_want, want_of_name, entry_want, is_compared_set, Asked, asked, is_repeated, asked_of_entry, asked_inside, asked_from, Scope, scope, Want, ClassText, Member, Object, Reference, is_envelope, an_empty_array, of_the_envelope, an_unused_id, MayBeAbsent}
-use Rattle.erd_normal.proofs.same.Steady.{plain_entry, plain_scope, is_plain}
+use Rattle.erd_normal.proofs.Common.{◌≡◌, ℕ, Bool, true, false, List, [], ◌∷◌, Some, None, Option, option_and_then, sym, refl, ap, ◌∙◌, subst, Data, array, object, no_items, Members, class, MemberKind, kind, Step, At, Name, is_reference, scope_inside, member_want, want_of_name, entry_want, is_compared_set, Asked, asked, asked_of_entry, asked_inside, asked_from, Scope, scope, Want, Member, Reference, is_envelope, an_empty_array, of_the_envelope, an_unused_id, MayBeAbsent, option_map_or}
+use Rattle.erd_normal.proofs.same.Steady.{plain_scope, is_plain, AllPlain}
+use Rattle.erd_normal.proofs.throughout.InsideValues.{along, known_passes, one_inside}
+use Rattle.erd_normal.proofs.throughout.ThroughoutReports.{of_envelope}
 
 -- ---- no reference is asked for in what is plain, nor in identifiers
 
@@ -17,57 +19,28 @@ pub quiet_no_reference : (w : Want) → is_quiet w ≡ true → is_reference w �
 quiet_no_reference (Reference f) h r = cc
 quiet_no_reference w h r = cc
 
-asked_some : (make : Want → Data → Asked) → ((v : Want) (d : Data) → (make v d).want ≡ v) → (o : Option Want) (p : Option Data) (c : Asked) → ((v : Want) → o ≡ Some v → is_quiet v ≡ true)
-    → option_and_then (λ v. option_map (make v) p) o ≡ Some c → is_quiet c.want ≡ true
-asked_some make same None p c quiet e = cc
-asked_some make same (Some v) None c quiet e = cc
-asked_some make same (Some v) (Some d) c quiet e = let one : make v d ≡ c = cc in subst (λ x. is_quiet x.want ≡ true) one (ap is_quiet (same v d) ∙ quiet v refl)
+quiet_entry : (w : Want) → is_quiet w ≡ true → option_map_or is_quiet (entry_want w) true ≡ true
+quiet_entry (Member kind.Identifiers required) h = refl
+quiet_entry w h = cc
 
-quiet_entry : (w : Want) → is_quiet w ≡ true → (v : Want) → entry_want w ≡ Some v → is_quiet v ≡ true
-quiet_entry (Member kind.Identifiers required) h v e = let one : Object role.Identifier ≡ v = cc in ap is_quiet (sym one)
-quiet_entry w h v e = quiet_plain v (plain_entry w h v e)
-
-quiet_name : (w : Want) (ms : Members) → is_quiet w ≡ true → (n : List ℕ) (v : Want) → want_of_name (scope_inside w (object ms)) n ≡ Some v → is_quiet v ≡ true
-quiet_name (Member kind.Identifiers required) ms h n v e = cc
-quiet_name w ms h n v e = quiet_plain v (plain_scope w ms h n v e)
+quiet_name : (w : Want) (ms : Members) (n : List ℕ) (v : Want) → is_quiet w ≡ true → want_of_name (scope_inside w (object ms)) n ≡ Some v → is_quiet v ≡ true
+quiet_name (Member kind.Identifiers required) ms n v h asks = cc
+quiet_name w ms n v h asks = quiet_plain v (subst AllPlain asks (plain_scope w ms h n))
 
 pub quiet_step : (w : Want) (d : Data) (s : Step) (c : Asked) → is_quiet w ≡ true → asked_inside w d s ≡ Some c → is_quiet c.want ≡ true
-quiet_step w (object ms) (Name n) c h e = asked_some asked (λ v d. refl) (want_of_name (scope_inside w (object ms)) n) (get_member n ms) c (λ v asks. quiet_name w ms h n v asks) e
-quiet_step w (array ds) (At i) c h e =
-    asked_some (λ v d. record { want = v; value = d; repeated = is_compared_set w && is_repeated ds i d }) (λ v d. refl) (entry_want w) (get_item i ds) c (λ v asks. quiet_entry w h v asks) e
-quiet_step w d s c h e = cc
+quiet_step =
+    one_inside (λ w d. is_quiet w ≡ true) (λ w ms n v x h asks found. quiet_name w ms n v h asks) (λ w ds i v x h asks found. subst (λ o. option_map_or is_quiet o true ≡ true) asks (quiet_entry w h))
 
 pub quiet_from : (a : Asked) (ss : List Step) (c : Asked) → is_quiet a.want ≡ true → asked_from a ss ≡ Some c → is_quiet c.want ≡ true
-quiet_from a [] c h e = let one : a ≡ c = cc in subst (λ x. is_quiet x.want ≡ true) one h
-quiet_from a (s ∷ ss) c h e = at (asked_inside a.want a.value s) refl (λ b. quiet_from b ss c)
-  where
-    at : (o : Option Asked) → asked_inside a.want a.value s ≡ o → ((b : Asked) → is_quiet b.want ≡ true → asked_from b ss ≡ Some c → is_quiet c.want ≡ true) → is_quiet c.want ≡ true
-    at None is step = let g : None ≡ Some c = ap (option_and_then (λ b. asked_from b ss)) (sym is) ∙ e in cc
-    at (Some b) is step = step b (quiet_step a.want a.value s b h is) (ap (option_and_then (λ b. asked_from b ss)) (sym is) ∙ e)
+quiet_from = along (λ x. is_quiet x.want ≡ true) (λ x y s. quiet_step x.want x.value s y)
 
 -- ---- what may be absent
 
-in_rows : (Q : List ℕ → Bool) (rows : List Row) (n : List ℕ) → is_some (kind_in_rows rows n) ≡ true → list_all (λ row. Q row.name) rows ≡ true → Q n ≡ true
-in_rows Q [] n h all = cc
-in_rows Q (row ∷ rows) n h all = at (bytes_eq n row.name) refl (and_parts (Q row.name) (list_all (λ r. Q r.name) rows) all) (in_rows Q rows n)
-  where
-    at : (b : Bool) → bytes_eq n row.name ≡ b → (Q row.name ≡ true) × (list_all (λ r. Q r.name) rows ≡ true) → (is_some (kind_in_rows rows n) ≡ true → list_all (λ r. Q r.name) rows ≡ true → Q n ≡ true) → Q n ≡ true
-    at true is both step = ap Q (text_exact n row.name is) ∙ both.0
-    at false is both step = step (rw is at h) both.1
-
--- what is asked of a member of the envelope
-abbrev quiet_name_of : List ℕ → Bool
-quiet_name_of n = is_quiet (member_want class.ElectionReport n)
-
+-- nor in the envelope
 pub envelope_quiet : (s : Scope) (n : List ℕ) (v : Want) → is_envelope s n ≡ true → want_of_name s n ≡ Some v → is_quiet v ≡ true
-envelope_quiet (scope.Members r (Some class.ElectionReport)) n v h asks = at (bytes_eq n (codes "@type")) refl
-  where
-    at : (b : Bool) → bytes_eq n (codes "@type") ≡ b → is_quiet v ≡ true
-    at true is = let one : ClassText r ≡ v = let g : Some (ClassText r) ≡ Some v = rw is at asks in cc in ap is_quiet (sym one)
-    at false is =
-        let g : Some (member_want class.ElectionReport n) ≡ Some v = sym (ap (λ b. cond b (Some (ClassText r)) (Some (member_want class.ElectionReport n))) is) ∙ asks in
-        let one : member_want class.ElectionReport n ≡ v = cc in
-        ap is_quiet (sym one) ∙ in_rows quiet_name_of envelope_rows n h refl
+envelope_quiet (scope.Members r (Some class.ElectionReport)) n v h asks =
+    subst (λ o. option_map_or is_quiet o true ≡ true) asks
+    (known_passes is_quiet r class.ElectionReport n refl (λ other. of_envelope (λ n. is_quiet (member_want class.ElectionReport n) ≡ true) refl refl refl refl refl refl refl refl refl n h))
 envelope_quiet s n v h asks = cc
 
 nothing_in_no_items : (o : Option Want) (set : Bool) (i : ℕ) → asked_of_entry o set no_items i ≡ None

@@ -1,5 +1,5 @@
 -- The objects of two reports that say the same: those of each family are matched, and matched ones have one key.
-use Rattle.erd_normal.proofs.Common.{◌≡◌, ℕ, true, false, List, [], Some, None, codes, Option, flat_map, bytes_eq, sym, refl, ap, ◌∙◌, subst, option_map_or, Data, object, Members, get_member, role_of_class, is_envelope_name, kind_of_member, is_required, Class, class, Family, family, Role, role, MemberKind, kind, object_in, report_class, election_class, ObjectIn, here, later, Has, unrepeated, want_by_kind, ShapeFault, NoneOf, IsTree, list_of_items, entries_of, entries_at, class_of_object, scope_inside, member_want, want_of_name, entry_want, Scope, scope, Want, Member, Object, contest_selections, reordered_self, reordered_back, reordered-has, Reordered, Preference, key_of, Sides, is_envelope, an_empty_array, of_the_envelope, an_unused_id, a_null, a_flag, a_number, a_text, an_id, a_list, a_set, an_object, MayBeAbsent, Same}
+use Rattle.erd_normal.proofs.Common.{◌≡◌, ℕ, true, false, List, [], Some, None, codes, Option, flat_map, bytes_eq, sym, refl, ap, ◌∙◌, subst, option_map_or, Data, object, Members, get_member, role_of_class, is_envelope_name, kind_of_member, is_required, Class, class, Family, family, Role, role, MemberKind, kind, object_in, report_class, election_class, ObjectIn, here, later, Has, unrepeated, want_by_kind, ShapeFault, NoneOf, IsTree, list_of_items, entries_of, entries_at, class_of_object, scope_inside, member_want, want_of_name, entry_want, Scope, scope, Want, Member, Object, contest_selections, reordered_self, reordered_back, reordered-has, Reordered, Preference, key_of, Sides, is_envelope, an_empty_array, of_the_envelope, an_unused_id, a_list, a_set, MayBeAbsent, Same}
 use Rattle.erd_normal.proofs.built.LeastKeys.{key_of_identifiers-reordered, kind_of_identifiers}
 use Rattle.erd_normal.proofs.lists.Matched.{Matched, matched_equal, matched_flat, matched_none, Paired, none, more}
 use Rattle.erd_normal.proofs.lists.NumbersInOrder.{permuted_reordered}
@@ -8,7 +8,7 @@ use Rattle.erd_normal.proofs.same.Back.{entries_paired}
 use Rattle.erd_normal.proofs.same.FromAlike.{Stands, entry_stands, member_stands, stands_tree}
 use Rattle.erd_normal.proofs.same.Lists.{follows}
 use Rattle.erd_normal.proofs.same.Lookups.{Aligned, both_there, not_both, MayLack, lookups, of_object}
-use Rattle.erd_normal.proofs.same.Steady.{steady_same, is_plain}
+use Rattle.erd_normal.proofs.same.Steady.{steady_same}
 use Rattle.erd_normal.proofs.same.Types.{scope_same}
 
 -- ---- lists
@@ -31,14 +31,9 @@ matched_left h p = let f = follows (reordered_back h) p in record { middle = f.n
 
 -- the entries of values that say the same are matched
 pub entries_matched : (m : Sides) (w : Want) {d e : Data} → Same m (Some w) d e → Matched (Same m (entry_want w)) (entries_of d) (entries_of e)
-entries_matched m w a_null = matched_none _
-entries_matched m w a_flag = matched_none _
-entries_matched m w a_number = matched_none _
-entries_matched m w (a_text is) = matched_none _
-entries_matched m w (an_id is h) = matched_none _
 entries_matched m w (a_list {es = es} is h) = record { middle = list_of_items es; paired = entries_paired m h; reordered = reordered_self (list_of_items es) }
 entries_matched m w (a_set {ds = ds} fs is p h) = matched_left (permuted_reordered (list_of_items ds) (list_of_items fs) p) (entries_paired m h)
-entries_matched m w (an_object h) = matched_none _
+entries_matched m w h = matched_none _
 
 -- a member that may be absent has no entries, if it is not in the envelope
 absent_empty : (t : Data) (s : Scope) (name : List ℕ) (d : Data) → is_envelope s name ≡ false → MayBeAbsent t s name d → entries_of d ≡ []
@@ -160,7 +155,7 @@ module _ (m : Sides) (left_tree : IsTree m.left) (right_tree : IsTree m.right) w
         → Reordered (entries_at (codes "ExternalIdentifier") d) (entries_at (codes "ExternalIdentifier") e)
     identifiers_match r d e o related other is =
         let name = codes "ExternalIdentifier" in
-        matched_equal (λ x y h. steady_same m (λ v asks. let g : Object role.Identifier ≡ v = cc in ap is_plain (sym g)) h.same)
+        matched_equal (λ x y h. steady_same m h.same refl)
         (related_array r d e o related name kind.Identifiers (Member kind.Identifiers (is_required o.class name)) (Object role.Identifier) refl is
         (want_by_kind o.class name kind.Identifiers is refl) refl (no_report r o.class name o.role other))
 

@@ -1,5 +1,5 @@
 -- Objects that say the same have the same class, and so the same is asked of their members.
-use Rattle.erd_normal.proofs.Common.{◌≡◌, ℕ, true, false, List, Some, codes, Option, option_and_then, bytes_eq, sym, refl, ap, ◌∙◌, subst, Data, object, Members, get_member, as_str, class_in_role, Class, class, Role, role, kind, class_of_object, scope_of_object, member_want, want_of_name, Scope, scope, Want, Carried, ClassText, Member, Object, is_id_text, Sides, is_envelope, an_empty_array, of_the_envelope, an_unused_id, not_asked, a_null, a_flag, a_number, a_text, an_id, a_list, a_set, an_object, no_member, in_both, left_only, right_only, MayBeAbsent, Same, SameMembers}
+use Rattle.erd_normal.proofs.Common.{◌≡◌, ℕ, true, false, List, Some, codes, Option, option_and_then, bytes_eq, sym, refl, ap, ◌∙◌, subst, Data, object, Members, get_member, as_str, class_in_role, Class, class, Role, role, kind, class_of_object, scope_of_object, member_want, want_of_name, Scope, scope, Want, Carried, ClassText, Member, Object, is_id_text, Sides, is_envelope, an_empty_array, of_the_envelope, an_unused_id, an_id, no_member, in_both, left_only, right_only, MayBeAbsent, Same, SameMembers, option_map_or, true≢false}
 use Rattle.erd_normal.proofs.same.Lookups.{get_one, get_both}
 
 -- ---- `@type` is never left out
@@ -18,23 +18,15 @@ type_stays t s d (an_empty_array k required asks is empty) = asks_class s (Membe
 type_stays t s d (of_the_envelope h) = no_envelope_type s h
 type_stays t s d (an_unused_id id required asks is unused) = asks_class s (Member kind.Identity required) asks (λ r e. cc) (λ e. cc)
 
-type_plain : (s : Scope) (v : Want) → want_of_name s (codes "@type") ≡ Some v → is_id_text v ≡ false
-type_plain scope.Nothing v e = cc
-type_plain (scope.Members r c) v e = let h : ClassText r ≡ v = cc in ap is_id_text (sym h)
-type_plain scope.Carried v e = let h : Carried ≡ v = cc in ap is_id_text (sym h)
+type_plain : (s : Scope) → option_map_or is_id_text (want_of_name s (codes "@type")) false ≡ false
+type_plain scope.Nothing = refl
+type_plain s = refl
 
 -- ---- texts
 
-pub text_same : (m : Sides) {o : Option Want} {d e : Data} → Same m o d e → ((v : Want) → o ≡ Some v → is_id_text v ≡ false) → as_str d ≡ as_str e
-text_same m not_asked plain = refl
-text_same m a_null plain = refl
-text_same m a_flag plain = refl
-text_same m a_number plain = refl
-text_same m (a_text is) plain = refl
-text_same m (an_id {w = w} is h) plain = let e : true ≡ false = sym is ∙ plain w refl in cc
-text_same m (a_list is h) plain = refl
-text_same m (a_set fs is p h) plain = refl
-text_same m (an_object h) plain = refl
+pub text_same : (m : Sides) {o : Option Want} {d e : Data} → Same m o d e → option_map_or is_id_text o false ≡ false → as_str d ≡ as_str e
+text_same m (an_id is h) plain = absurd (true≢false (sym is ∙ plain))
+text_same m h plain = refl
 
 -- ---- classes
 
@@ -47,7 +39,7 @@ module _ (m : Sides) where
   type_same no_member = refl
   type_same (in_both {s = s} {k = k} {d = d} {e = e} {ms = ms} {ns = ns} h rest) =
       get_both (λ o p. option_and_then as_str o ≡ option_and_then as_str p) (codes "@type") k d e ms ns
-      (λ named. text_same m h (λ v asks. type_plain s v (ap (want_of_name s) named ∙ asks))) (type_same rest)
+      (λ named. text_same m h (ap (λ n. option_map_or is_id_text (want_of_name s n) false) (sym named) ∙ type_plain s)) (type_same rest)
   type_same (left_only {s = s} {k = k} {d = d} {ms = ms} {ns = ns} h rest) =
       get_one (λ o. option_and_then as_str o ≡ type_text ns) (codes "@type") k d ms (λ named. absurd (type_stays m.left s d (subst (λ x. MayBeAbsent m.left s x d) (sym named) h))) (type_same rest)
   type_same (right_only {s = s} {k = k} {e = e} {ms = ms} {ns = ns} h rest) =

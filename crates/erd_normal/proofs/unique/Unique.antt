@@ -1,5 +1,5 @@
 -- Canonical reports that mean the same are equal, since they say the same.
-use Rattle.erd_normal.proofs.Common.{◌≡◌, ℕ, Bool, true, false, List, [], Some, None, sym, refl, ap, ◌∙◌, subst, Data, array, Family, family, Role, role, MemberKind, kind, Step, array_from, list_of_items_exact, position_of, Within-root, wanted_within, unrepeated, within-tree, Within, ShapeFault, NoneOf, entries_of, Asked, asked, asked_at, Want, Member, Object, Reference, has-flat, no_shape_fault, Contains-Has, Has-Contains, flat-has, one_object, has_keys, Preference, Placed, contests, selections_of_contest, objects, IsObject, id_of, key_set, content_of, object_record, keys_named, kind_wanted, IsCanonical, ReferencesAgree, ObjectsAgree, CanonicalIsUnique, MeanAlike, Sides}
+use Rattle.erd_normal.proofs.Common.{◌≡◌, ℕ, Bool, true, false, List, [], Some, None, sym, refl, ap, ◌∙◌, subst, Data, array, Family, family, Role, role, MemberKind, kind, Step, list_of_items_exact, position_of, Within-root, wanted_within, unrepeated, within-tree, Within, ShapeFault, NoneOf, entries_of, Asked, asked, asked_at, Want, Member, Object, Reference, has-flat, no_shape_fault, Contains-Has, Has-Contains, flat-has, one_object, has_keys, Preference, Placed, contests, selections_of_contest, objects, IsObject, id_of, key_set, content_of, object_record, keys_named, kind_wanted, IsCanonical, ReferencesAgree, ObjectsAgree, CanonicalIsUnique, MeanAlike, Sides, NamesAgree, HaveSameNames}
 use Rattle.erd_normal.proofs.same.FromAlike.{Stands}
 use Rattle.erd_normal.proofs.same.complete.Objects.{all_says, classes_same, members_value, none_aligned, two_say, within_t, within_u}
 use Rattle.erd_normal.proofs.same.complete.Sets.{MeanOne, references_matched, TextsTied}
@@ -99,29 +99,27 @@ module _ (π : Preference) (t u : Data) (alike : MeanAlike π t u) where
 
   set_alike : (f : Family) (r r' : Bool) (v w : Data) → has_keys f ≡ true → Within t (asked (Member (kind.Many f) r) v) → Within u (asked (Member (kind.Many f) r') w)
       → key_set (keys_named π t f (entries_of v)) ≡ key_set (keys_named π u f (entries_of w)) → v ≡ w
+  set_alike f r r' (array ds) (array es) h inside inside' same =
+      let st : Stands t (Member (kind.Many f) r) (array ds) = record { repeated = false; inside = inside } in
+      let st' : Stands u (Member (kind.Many f) r') (array es) = record { repeated = false; inside = inside' } in
+      ap array (sets_equal π t u alike.left alike.right (mean_one π t u alike) (Member (kind.Many f) r) (Member (kind.Many f) r') (kind.Many f) r r' ds es refl refl refl st st'
+      (matched_within_both (λ x y. x ≡ y) (entries_equal π t u alike.left alike.right (mean_one π t u alike) (Member (kind.Many f) r) (Member (kind.Many f) r') (Reference f) ds es refl refl st st')
+      (references_matched π t u m alike.left.accepted alike.right.accepted tied f h r r' ds es inside inside' same)))
   set_alike f r r' v w h inside inside' same =
-      let ds = array_from v (wanted_within t (no_shape_fault π t alike.left.accepted) (asked (Member (kind.Many f) r) v) inside) in
-      let es = array_from w (wanted_within u (no_shape_fault π u alike.right.accepted) (asked (Member (kind.Many f) r') w) inside') in
-      let left : Within t (asked (Member (kind.Many f) r) (array ds.0)) = subst (λ x. Within t (asked (Member (kind.Many f) r) x)) ds.1 inside in
-      let right : Within u (asked (Member (kind.Many f) r') (array es.0)) = subst (λ x. Within u (asked (Member (kind.Many f) r') x)) es.1 inside' in
-      let st : Stands t (Member (kind.Many f) r) (array ds.0) = record { repeated = false; inside = left } in
-      let st' : Stands u (Member (kind.Many f) r') (array es.0) = record { repeated = false; inside = right } in
-      ds.1 ∙ ap array (sets_equal π t u alike.left alike.right (mean_one π t u alike) (Member (kind.Many f) r) (Member (kind.Many f) r') (kind.Many f) r r' ds.0 es.0 refl refl refl st st'
-      (matched_within_both (λ x y. x ≡ y) (entries_equal π t u alike.left alike.right (mean_one π t u alike) (Member (kind.Many f) r) (Member (kind.Many f) r') (Reference f) ds.0 es.0 refl refl st st')
-      (references_matched π t u m alike.left.accepted alike.right.accepted tied f h r r' ds.0 es.0 left right
-      (sym (ap (λ x. key_set (keys_named π t f (entries_of x))) ds.1) ∙ same ∙ ap (λ x. key_set (keys_named π u f (entries_of x))) es.1)))) ∙ sym es.1
+      let x = wanted_within t (no_shape_fault π t alike.left.accepted) (asked (Member (kind.Many f) r) v) inside in
+      let y = wanted_within u (no_shape_fault π u alike.right.accepted) (asked (Member (kind.Many f) r') w) inside' in
+      cc
 
   content_alike : (r r' : Bool) (v w : Data) → Within t (asked (Member kind.Content r) v) → Within u (asked (Member kind.Content r') w) → content_of π t v ≡ content_of π u w → v ≡ w
+  content_alike r r' (array ds) (array es) inside inside' same =
+      ap array (list_of_items_exact ds es (paired_equal (λ x y e. e) (paired_within_both (λ x y. x ≡ y)
+      (entries_equal π t u alike.left alike.right (mean_one π t u alike) (Member kind.Content r) (Member kind.Content r') (Object role.Content) ds es refl refl (record { repeated = false; inside = inside }) (record { repeated = false; inside = inside' }))
+      (entries_paired m (content_says π t u m alike.left.accepted alike.right.accepted tied r r' ds es
+      (within-tree t (asked (Member kind.Content r) (array ds)) alike.left_tree inside) (within-tree u (asked (Member kind.Content r') (array es)) alike.right_tree inside') inside inside' same)))))
   content_alike r r' v w inside inside' same =
-      let ds = array_from v (wanted_within t (no_shape_fault π t alike.left.accepted) (asked (Member kind.Content r) v) inside) in
-      let es = array_from w (wanted_within u (no_shape_fault π u alike.right.accepted) (asked (Member kind.Content r') w) inside') in
-      let left : Within t (asked (Member kind.Content r) (array ds.0)) = subst (λ x. Within t (asked (Member kind.Content r) x)) ds.1 inside in
-      let right : Within u (asked (Member kind.Content r') (array es.0)) = subst (λ x. Within u (asked (Member kind.Content r') x)) es.1 inside' in
-      ds.1 ∙ ap array (list_of_items_exact ds.0 es.0 (paired_equal (λ x y e. e) (paired_within_both (λ x y. x ≡ y)
-      (entries_equal π t u alike.left alike.right (mean_one π t u alike) (Member kind.Content r) (Member kind.Content r') (Object role.Content) ds.0 es.0 refl refl (record { repeated = false; inside = left }) (record { repeated = false; inside = right }))
-      (entries_paired m (content_says π t u m alike.left.accepted alike.right.accepted tied r r' ds.0 es.0
-      (within-tree t (asked (Member kind.Content r) (array ds.0)) alike.left_tree left) (within-tree u (asked (Member kind.Content r') (array es.0)) alike.right_tree right) left right
-      (sym (ap (content_of π t) ds.1) ∙ same ∙ ap (content_of π u) es.1)))))) ∙ sym es.1
+      let x = wanted_within t (no_shape_fault π t alike.left.accepted) (asked (Member kind.Content r) v) inside in
+      let y = wanted_within u (no_shape_fault π u alike.right.accepted) (asked (Member kind.Content r') w) inside' in
+      cc
 
 pub references_agree : ReferencesAgree
 references_agree π t u alike = record {
@@ -142,3 +140,7 @@ references_agree π t u alike = record {
       let w' = within_kind u (no_shape_fault π u alike.right.accepted) q b kind.Content is' g in
       content_alike π t u alike w.0 w'.0 a.value b.value w.1 w'.1 same;
 }
+
+-- canonical reports that mean the same have the same keys, names and `@id` texts, in the same order
+pub names_agree : NamesAgree
+names_agree π t u alike = subst (HaveSameNames π t) (unique π t u alike) (record { election_keys = refl; keys = λ f h. refl; names = refl; ids = λ f. refl })

@@ -1,5 +1,5 @@
 -- What stands in the right report alone has no fault of shape, and nothing in it is a reference or part of a ballot.
-use Rattle.erd_normal.proofs.Common.{◌≡◌, ℕ, Bool, true, false, cond, List, [], ◌∷◌, Some, None, codes, bytes_eq, sym, refl, ap, ◌∙◌, subst, list_any, Data, string, array, object, no_items, Members, get_member, role, Reason, reason, MemberKind, kind, Step, Within, names_wanted, is_shape_fault, ShapeFault, NoneOf, scope_inside, carried_want, want_of_name, Asked, asked, asked_from, Scope, scope, Want, Carried, ClassText, Member, Object, Reference, is_array_kind, is_envelope, an_empty_array, of_the_envelope, an_unused_id, MayBeAbsent}
+use Rattle.erd_normal.proofs.Common.{◌≡◌, ℕ, Bool, true, false, cond, List, [], ◌∷◌, Some, None, codes, bytes_eq, sym, refl, ap, ◌∙◌, subst, list_any, Data, string, array, object, no_items, Members, get_member, role, Reason, reason, MemberKind, kind, Step, Within, names_wanted, is_shape_fault, ShapeFault, NoneOf, scope_inside, carried_want, want_of_name, Asked, asked, asked_from, Scope, scope, Want, Carried, ClassText, Member, Object, Reference, is_array_kind, is_envelope, an_empty_array, of_the_envelope, an_unused_id, MayBeAbsent, has_kind, not}
 use Rattle.erd_normal.proofs.same.Lookups.{MayLack}
 use Rattle.erd_normal.proofs.same.Places.{is_quiet, nothing_after, nothing_empty}
 use Rattle.erd_normal.proofs.same.accepted.RequiredMembers.{elections_required, member_of, named_if_required, required_stays}
@@ -21,9 +21,8 @@ abbrev pub IsSoundInside : Asked → Type 0
 IsSoundInside c = (ss : List Step) (b : Asked) → asked_from c ss ≡ Some b → IsSound b
 
 pub quiet_lone : (w : Want) → is_quiet w ≡ true → is_lone w ≡ true
-quiet_lone (Reference f) h = cc
 quiet_lone (Object role.Content) h = cc
-quiet_lone w h = refl
+quiet_lone w h = cc
 
 -- where nothing is asked inside
 closed_sound : (v : Want) (d : Data) → IsSound (asked v d) → ((s : Step) (ss : List Step) (b : Asked) → asked_from (asked v d) (s ∷ ss) ≡ Some b → ⊥) → IsSoundInside (asked v d)
@@ -57,23 +56,14 @@ spare scope.Nothing n k required is_array asks none = cc
 spare scope.Carried n k required is_array asks none =
     let h : carried_want n ≡ Member k required = cc in absurd (carried_array _ k required is_array h)
 
+array_kind : (k : MemberKind) → is_array_kind k ≡ true → not (has_kind k (array no_items)) ≡ false
+array_kind kind.Identity is_array = cc
+array_kind k is_array = cc
+
 array_fault : (k : MemberKind) (required : Bool) → is_array_kind k ≡ true → IsSpare k required → (r : Reason) → is_shape_fault (asked (Member k required) (array no_items)) r ≡ false
 array_fault k true is_array h r = absurd (h.optional refl)
-array_fault (kind.Many f) false is_array h reason.WrongKind = refl
-array_fault (kind.Many f) false is_array h r = refl
-array_fault (kind.Keyed f) false is_array h reason.WrongKind = refl
-array_fault (kind.Keyed f) false is_array h r = refl
-array_fault kind.Identifiers false is_array h reason.WrongKind = refl
-array_fault kind.Identifiers false is_array h r = refl
-array_fault kind.Languages false is_array h reason.WrongKind = refl
-array_fault kind.Languages false is_array h r = refl
+array_fault k false is_array h reason.WrongKind = array_kind k is_array
 array_fault kind.Elections false is_array h r = absurd (h.other refl)
-array_fault kind.Content false is_array h reason.WrongKind = refl
-array_fault kind.Content false is_array h r = refl
-array_fault kind.Ordered false is_array h reason.WrongKind = refl
-array_fault kind.Ordered false is_array h r = refl
-array_fault kind.Outside false is_array h reason.WrongKind = refl
-array_fault kind.Outside false is_array h r = refl
 array_fault k false is_array h r = cc
 
 empty_sound : (k : MemberKind) (required : Bool) → is_array_kind k ≡ true → IsSpare k required → IsSoundInside (asked (Member k required) (array no_items))

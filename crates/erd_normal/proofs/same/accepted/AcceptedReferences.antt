@@ -13,6 +13,7 @@ use Rattle.erd_normal.proofs.same.Related.{Objects, Related, no_report, object_o
 use Rattle.erd_normal.proofs.same.accepted.AbsentMembers.{IsSound, is_lone}
 use Rattle.erd_normal.proofs.same.accepted.AskedAgain.{AskedAgain, asked_again, none_repeated}
 use Rattle.erd_normal.proofs.same.accepted.RequiredMembers.{required_stays}
+use Rattle.erd_normal.proofs.same.means.References.{used}
 
 -- what is no reference has no fault of this kind
 no_reference : (u : Data) (a : Asked) (w : Want) → a.want ≡ w → is_reference w ≡ false → (r : Reason) → is_reference_fault u a r ≡ false
@@ -26,15 +27,6 @@ no_reference u a w e other r = refl
 which_reference : (w : Want) → is_reference w ≡ true → (f : Family) × (w ≡ Reference f)
 which_reference (Reference f) e = (f, refl)
 which_reference w e = cc
-
-used : (t : Data) (f : Family) (d : Data) (s : List ℕ) → Stands t (Reference f) d → d ≡ string s → IsUsed t s
-used t f d s stands text = record {
-  place = stands.inside.place;
-  asked = record { want = Reference f; value = d; repeated = stands.repeated };
-  stands = stands.inside.is;
-  reference = refl;
-  text = text;
-}
 
 module _ (m : Sides) (left_tree : IsTree m.left) (right_tree : IsTree m.right) (π : Preference) (accepted : IsAccepted π m.left) (sound : HasSoundEnvelope m.right)
     (root : Related m (Object role.Report) m.left m.right) where

@@ -1,5 +1,5 @@
 -- All that is asked in the right report is asked in the left one of a value that says the same and repeats no other, or has no fault of shape.
-use Rattle.erd_normal.proofs.Common.{◌≡◌, ℕ, Bool, true, false, not, ◌&&◌, ◌⊎◌, List, [], ◌∷◌, IsSomeAnd, IsTrue, Some, None, Option, option_map, option_and_then, bytes_eq, sym, refl, ap, ◌∙◌, subst, ap₂, inl, inr, false_from_ne_true, Data, string, array, object, Items, Members, get_member, get_item, is_envelope_name, Class, class, Family, Role, role, reason, kind, Step, At, Name, string_from_text, list_of_items-place, list_of_items-tree, text_itself, is_same_exact, Has, Within-step, Within-root, not_within, faultless, wanted_within, within-tree, Within, is_reference, is_shape_fault, IsTree, is_same_json, list_of_items, class_of_object, scope_inside, want_of_name, entry_want, is_compared_set, Asked, asked, is_repeated, asked_of_member, asked_inside, asked_from, asked_at, scope, Want, Carried, Member, Object, Reference, no_shape_fault, no_reference_fault, class_role, unrepeated_distinct, reordered-has, IsAccepted, Preference, is_reference_fault, HasSoundEnvelope, Sides, is_envelope, Same}
+use Rattle.erd_normal.proofs.Common.{◌≡◌, ℕ, Bool, true, false, not, ◌&&◌, ◌⊎◌, List, [], ◌∷◌, IsSomeAnd, IsTrue, Some, None, Option, option_map, option_and_then, bytes_eq, sym, refl, ap, ◌∙◌, subst, ap₂, inl, inr, false_from_ne_true, Data, string, array, object, Items, Members, get_member, get_item, Family, role, reason, kind, Step, At, Name, string_from_text, list_of_items-place, list_of_items-tree, text_itself, is_same_exact, Has, Within-step, Within-root, not_within, faultless, wanted_within, within-tree, Within, is_reference, is_shape_fault, IsTree, is_same_json, list_of_items, scope_inside, want_of_name, entry_want, is_compared_set, Asked, asked, is_repeated, asked_of_member, asked_inside, asked_from, asked_at, Want, Member, Object, Reference, no_shape_fault, no_reference_fault, unrepeated_distinct, reordered-has, IsAccepted, Preference, is_reference_fault, HasSoundEnvelope, Sides, is_envelope, Same}
 use Rattle.erd_normal.proofs.same.IdsOfObjects.{IsPart, part_at}
 use Rattle.erd_normal.proofs.same.Places.{envelope_quiet, quiet_from}
 use Rattle.erd_normal.proofs.same.accepted.AbsentMembers.{IsSoundInside, quiet_lone, IsSound, absent_sound}
@@ -10,29 +10,11 @@ use Rattle.erd_normal.proofs.throughout.UnrepeatedEntries.{AreUnlike, same_turne
 use Rattle.erd_normal.proofs.same.InTurn.{id_text}
 use Rattle.erd_normal.proofs.same.Lookups.{Aligned, both_there, not_both, MayLack, lookups}
 use Rattle.erd_normal.proofs.same.Related.{entries_matched, matched_within_both}
-use Rattle.erd_normal.proofs.same.Steady.{steady_same, is_plain}
+use Rattle.erd_normal.proofs.same.Steady.{steady_same, is_plain, of_report}
 use Rattle.erd_normal.proofs.same.Types.{scope_same}
 use Rattle.erd_normal.proofs.same.CameFrom.{from_object, from_array}
 
--- ---- the report itself is asked for at the root alone, so a member of the envelope stands under the root
-
-pub record OfReport (w : Want) (n : List ℕ) : Type 0 where
-  pub report : w ≡ Object role.Report
-  pub name : is_envelope_name n ≡ true
-
-of_class : (r : Role) (ns : Members) (n : List ℕ) (o : Option Class) → class_of_object r (object ns) ≡ o → is_envelope (scope.Members r o) n ≡ true → (role.Report ≡ r) × (is_envelope_name n ≡ true)
-of_class r ns n None among h = cc
-of_class r ns n (Some class.ElectionReport) among h = (class_role r (object ns) class.ElectionReport among, h)
-of_class r ns n (Some c) among h = cc
-
-no_label : role.Report ≡ role.Label → ⊥
-no_label e = cc
-
-pub of_report : (w : Want) (ns : Members) (n : List ℕ) → is_envelope (scope_inside w (object ns)) n ≡ true → OfReport w n
-of_report (Object r) ns n h = let x = of_class r ns n (class_of_object r (object ns)) refl h in record { report = ap Object (sym x.0); name = x.1 }
-of_report (Member kind.Label required) ns n h = let x = of_class role.Label ns n (class_of_object role.Label (object ns)) refl h in absurd (no_label x.0)
-of_report Carried ns n h = cc
-of_report w ns n h = cc
+-- ---- members of the envelope
 
 module _ (u : Data) (sound : HasSoundEnvelope u) where
   under_root : (b : Asked) (n : List ℕ) (c : Asked) → Within u b → b.want ≡ Object role.Report → asked_inside b.want b.value (Name n) ≡ Some c → asked_at u (Name n ∷ []) ≡ Some c
@@ -133,8 +115,7 @@ module _ (m : Sides) (left_tree : IsTree m.left) (right_tree : IsTree m.right) (
     where
       at : (is_plain v ≡ true) ⊎ ((f : Family) × (v ≡ Reference f)) → is_same_json x' x ≡ true
       at (inl plain) =
-          let all : (w : Want) → Some v ≡ Some w → is_plain w ≡ true = λ w is. let one : v ≡ w = cc in ap is_plain (sym one) ∙ plain in
-          subst (λ z. is_same_json z x ≡ true) (sym (steady_same m all e'.same)) (subst (λ z. is_same_json y' z ≡ true) (sym (steady_same m all e.same)) h)
+          subst (λ z. is_same_json z x ≡ true) (sym (steady_same m e'.same plain)) (subst (λ z. is_same_json y' z ≡ true) (sym (steady_same m e.same plain)) h)
       at (inr o) =
           one_text o.0 x x' y y' (subst (λ w. Within m.left (asked w x)) o.1 e.inside) (subst (λ w. Within m.left (asked w x')) o.1 e'.inside)
           (subst (λ w. Same m (Some w) x y) o.1 e.same) (subst (λ w. Same m (Some w) x' y') o.1 e'.same) (is_same_exact y' y e'.tree e.tree h)

@@ -78,7 +78,6 @@ elections_required c n no_type is = at (bytes_eq n (codes "@id")) refl
 -- ---- what is asked of a member
 
 want_parts : (q : MemberKind) (b : Bool) (k : MemberKind) (required : Bool) → want_of_kind q b ≡ Member k required → (q ≡ k) × (b ≡ required)
-want_parts (kind.One f) b k required e = cc
 want_parts kind.Carried b k required e = cc
 want_parts q b k required e = (cc, cc)
 

@@ -1,5 +1,5 @@
 -- The objects of two accepted reports that mean the same are matched: elections by their keys, the objects of each family in each
-use Rattle.erd_normal.proofs.Common.{◌≡◌, ℕ, Bool, true, ◌⊎◌, List, [], ◌∷◌, map, Some, None, codes, Option, option_map, find, option_and_then, is_eq, sym, refl, ap, ◌∙◌, subst, inl, inr, tied_itself, same_Some, options_total, option_cmp, Data, null, boolean, number, string, array, object, no_items, item, get, Family, family, role, entries_in, object_in, ObjectIn, and_then-Some, has_mapped, Has-cases, Has, Within, entries_at, class_of_object, asked, Object, objects_distinct, elections_distinct, has-flat, held_key_in, no_shape_fault, no_identity_fault, find-Some, find-any, has_identifier, skeleton, values-placed_entries, election_stands, stands, flat-has, contest_selections, options_exact, equal_keys, equal_names, any-has, IsAccepted, has_keys, key_cmp, Preference, key_of, election_key_of, SelectionRecord, ObjectRecord, NameParts, Placed, placed_entries, report_of, elections, contests, selections_of_contest, objects, plain_member, selection_record, selection_map, member_value, member_of_class, object_record, record_in_election, placed_record, placed_with_key, records_of, name_of, name_cmp, key_cmp_total, name_cmp_total, Key}
+use Rattle.erd_normal.proofs.Common.{◌≡◌, ℕ, Bool, true, ◌⊎◌, List, [], ◌∷◌, map, Some, None, codes, Option, option_map, find, option_and_then, is_eq, sym, refl, ap, ◌∙◌, subst, inl, inr, tied_itself, same_Some, options_total, option_cmp, Data, array, no_items, get, Family, family, role, entries_in, object_in, ObjectIn, and_then-Some, has_mapped, Has-cases, Has, Within, entries_at, class_of_object, asked, Object, objects_distinct, elections_distinct, has-flat, held_key_in, no_shape_fault, no_identity_fault, find-Some, find-any, has_identifier, skeleton, values-placed_entries, election_stands, stands, flat-has, contest_selections, options_exact, equal_keys, equal_names, any-has, IsAccepted, has_keys, key_cmp, Preference, key_of, election_key_of, SelectionRecord, ObjectRecord, NameParts, Placed, placed_entries, report_of, elections, contests, selections_of_contest, objects, plain_member, selection_record, selection_map, member_value, member_of_class, object_record, record_in_election, placed_record, placed_with_key, records_of, name_of, name_cmp, key_cmp_total, name_cmp_total, Key}
 use Rattle.erd_meaning.proofs.meanings.WholeRecords.{apart_from_election, no_election_id}
 use Rattle.erd_normal.proofs.lists.Matched.{Matched, matched_back, matched_on, matched_within}
 use Rattle.erd_normal.proofs.same.Lists.{ApartBy, matched_by_keys}
@@ -156,14 +156,8 @@ and_then_map f g (Some x) = refl
 
 -- the map that the selections of a contest mean
 map_of_value : (π : Preference) (t : Data) (n : NameParts) (o : Option Data) → map_in (selections_value π t o) n ≡ selection_map π t (entries_in o) n
-map_of_value π t n None = refl
 map_of_value π t n (Some (array no_items)) = refl
-map_of_value π t n (Some (array (item d ds))) = refl
-map_of_value π t n (Some null) = refl
-map_of_value π t n (Some (boolean b)) = refl
-map_of_value π t n (Some (number x)) = refl
-map_of_value π t n (Some (string x)) = refl
-map_of_value π t n (Some (object ms)) = refl
+map_of_value π t n o = refl
 
 module _ (π : Preference) (t : Data) (accepted : IsAccepted π t) where
   -- no two elections have one key

@@ -15,9 +15,8 @@ abbrev pub is_apart : Class → List ℕ → Bool
 is_apart c name = is_in_envelope c name || not (means_itself (kind_of_member c name))
 
 pub not_apart : (a b : Bool) → a || not b ≡ false → (a ≡ false) × (b ≡ true)
-not_apart true b e = cc
 not_apart false true e = (refl, refl)
-not_apart false false e = cc
+not_apart a b e = cc
 
 pub meant_unless_apart : (c : Class) (k : List ℕ) → is_apart c k ≡ false → means_itself (kind_of_member c k) ≡ true
 meant_unless_apart c k e = (not_apart (is_in_envelope c k) (means_itself (kind_of_member c k)) e).1
@@ -61,13 +60,7 @@ left_of f = []
 
 class_leaves : (c : Class) → is_some (family_of_class c) ≡ true → leaves_out (left_of (family_of_class c)) c ≡ true
 class_leaves class.ElectionReport h = cc
-class_leaves class.Election h = cc
-class_leaves class.OrderedContest h = cc
-class_leaves class.OrderedHeader h = cc
-class_leaves class.ExternalIdentifier h = cc
-class_leaves class.InternationalizedText h = cc
-class_leaves class.LanguageString h = cc
-class_leaves c h = refl
+class_leaves c h = cc
 
 pub leaves : (f : Family) (c : Class) → role_of_class c ≡ role.OfFamily f → leaves_out (left_of (Some f)) c ≡ true
 leaves f c e =
@@ -106,9 +99,8 @@ json_in o = null
 pub word_same : (π : Preference) (t u : Data) (o p : Option Data) → option_and_then (plain_value π t kind.Word) o ≡ option_and_then (plain_value π u kind.Word) p → o ≡ p
 unfolding json_in
 word_same π t u None None e = refl
-word_same π t u None (Some w) e = cc
-word_same π t u (Some v) None e = cc
 word_same π t u (Some v) (Some w) e = ap Some (ap json_in e)
+word_same π t u o p e = cc
 
 -- ---- objects
 

@@ -10,7 +10,7 @@ use Rattle.erd_normal.proofs.same.complete.Members.{apart_cases, apart_named, is
 use Rattle.erd_normal.proofs.same.complete.Texts.{Counterpart, by_key, by_name, ids_stand, sides, texts_tied}
 use Rattle.erd_normal.proofs.same.complete.Sets.{MeanOne}
 use Rattle.erd_normal.proofs.meaning.AlikeRecords.{class_of_record, members_in}
-use Rattle.erd_normal.proofs.same.FamilyValues.{InElections, InReport, candidates, contests_home, headers, offices, parties, persons, styles, units}
+use Rattle.erd_normal.proofs.same.FamilyValues.{InElections, InReport}
 use Rattle.erd_normal.proofs.same.Types.{asked_of_name}
 
 id_text : (π : Preference) (t : Data) → IsAccepted π t → (b : Bool) (r : Bool) (v : Data) → Within t (asked (want_of_kind (if b then kind.Identity else kind.StrangeIdentity) r) v) → Some v ≡ option_map string (as_str v)
@@ -218,9 +218,9 @@ module _ (π : Preference) (t u : Data) (both : MeanOne π t u) (default : List 
       by_name_in : (ms ns : Members) → d.value ≡ object ms → e.value ≡ object ns → ObjectAt t (Object role.Election) role.Election class.Election ms → ObjectAt u (Object role.Election) role.Election class.Election ns
           → (n : List ℕ) → Has election_names n → AlignedIn role.Election class.Election ms ns n
       by_name_in ms ns is is' a b n =
-          each_name (AlignedIn role.Election class.Election ms ns) (codes "Candidate") _ n (held family.Candidate (codes "Candidate") refl candidates (other_says family.Candidate refl (leaves family.Candidate)) ms ns is is' a b)
-          (each_name (AlignedIn role.Election class.Election ms ns) (codes "Contest") _ n (held family.Contest (codes "Contest") refl contests_home contest_says ms ns is is' a b)
-          (each_name (AlignedIn role.Election class.Election ms ns) (codes "BallotStyle") _ n (held family.Style (codes "BallotStyle") refl styles (other_says family.Style refl (leaves family.Style)) ms ns is is' a b)
+          each_name (AlignedIn role.Election class.Election ms ns) (codes "Candidate") _ n (held family.Candidate (codes "Candidate") refl (record { other = refl; keyed = refl; are = λ t. refl }) (other_says family.Candidate refl (leaves family.Candidate)) ms ns is is' a b)
+          (each_name (AlignedIn role.Election class.Election ms ns) (codes "Contest") _ n (held family.Contest (codes "Contest") refl (record { other = refl; keyed = refl; are = λ t. refl }) contest_says ms ns is is' a b)
+          (each_name (AlignedIn role.Election class.Election ms ns) (codes "BallotStyle") _ n (held family.Style (codes "BallotStyle") refl (record { other = refl; keyed = refl; are = λ t. refl }) (other_says family.Style refl (leaves family.Style)) ms ns is is' a b)
           (λ i. elim i [ ])))
 
   -- ---- the report
@@ -252,11 +252,11 @@ module _ (π : Preference) (t u : Data) (both : MeanOne π t u) (default : List 
 
     by_name_in_report : (n : List ℕ) → Has report_names n → InReportAligned n
     by_name_in_report n =
-        each_name InReportAligned (codes "GpUnit") _ n (listed_in_report family.Unit (codes "GpUnit") refl (leaves family.Unit) units)
-        (each_name InReportAligned (codes "Party") _ n (listed_in_report family.Party (codes "Party") refl (leaves family.Party) parties)
-        (each_name InReportAligned (codes "Person") _ n (listed_in_report family.Person (codes "Person") refl (leaves family.Person) persons)
-        (each_name InReportAligned (codes "Office") _ n (listed_in_report family.Office (codes "Office") refl (leaves family.Office) offices)
-        (each_name InReportAligned (codes "Header") _ n (listed_in_report family.Header (codes "Header") refl (leaves family.Header) headers)
+        each_name InReportAligned (codes "GpUnit") _ n (listed_in_report family.Unit (codes "GpUnit") refl (leaves family.Unit) (record { other = refl; keyed = refl; are = λ t. refl }))
+        (each_name InReportAligned (codes "Party") _ n (listed_in_report family.Party (codes "Party") refl (leaves family.Party) (record { other = refl; keyed = refl; are = λ t. refl }))
+        (each_name InReportAligned (codes "Person") _ n (listed_in_report family.Person (codes "Person") refl (leaves family.Person) (record { other = refl; keyed = refl; are = λ t. refl }))
+        (each_name InReportAligned (codes "Office") _ n (listed_in_report family.Office (codes "Office") refl (leaves family.Office) (record { other = refl; keyed = refl; are = λ t. refl }))
+        (each_name InReportAligned (codes "Header") _ n (listed_in_report family.Header (codes "Header") refl (leaves family.Header) (record { other = refl; keyed = refl; are = λ t. refl }))
         (each_name InReportAligned (codes "Election") _ n elections_listed (λ i. elim i [ ]))))))
 
     -- a member of the envelope may be absent

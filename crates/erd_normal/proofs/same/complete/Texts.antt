@@ -1,6 +1,6 @@
 -- The two functions of texts: an `@id` of the one report goes to that of the object with the same key, or of the selection with the
 -- same name of the contest with the same key.
-use Rattle.erd_normal.proofs.Common.{◌≡◌, ℕ, true, ◌⊎◌, List, [], ◌∷◌, map, Some, None, codes, Option, find, flat_map, option_and_then, bytes_eq, sym, refl, ap, ◌∙◌, subst, inl, inr, ⊎_elim, list_any, option_map_or, Data, families, Family, family, role, text_exact, text_itself, and_then-Some, here, later, Has-cases, Has, Asked, asked, Object, no_identity_fault, find-Some, find-any, Has-Contains, has_identifier, values-placed_entries, stands, flat-has, one_object, one_keyed, one_named, has_id-Some, owner_is, owned_by, any-has, has-any, IsAccepted, has_keys, Preference, key_of, is_selection_in, Placed, contests, selections_of_contest, objects, id_of, has_id, owner, name_of, name_named, Sides, StandsFor}
+use Rattle.erd_normal.proofs.Common.{◌≡◌, ℕ, true, List, [], ◌∷◌, map, Some, None, codes, Option, find, flat_map, option_and_then, sym, refl, ap, ◌∙◌, subst, list_any, option_map_or, Data, families, Family, family, role, and_then-Some, here, later, Has, Asked, asked, Object, no_identity_fault, find-Some, find-any, Has-Contains, has_identifier, values-placed_entries, stands, flat-has, one_object, one_keyed, one_named, has_id-Some, owner_is, owned_by, any-has, has-any, IsAccepted, has_keys, Preference, key_of, is_selection_in, Placed, contests, selections_of_contest, objects, id_of, has_id, owner, name_of, name_named, Sides, StandsFor, Bool, ◌&&◌, is_some, unwrap_or, ap₂, and_parts, has_id-from, map_has}
 use Rattle.erd_normal.proofs.canonical.ContestSelections.{one_contest}
 use Rattle.erd_normal.proofs.lists.Lists.{is_family}
 use Rattle.erd_normal.proofs.lists.Matched.{Matched, matched_flat, Paired, none, more}
@@ -47,13 +47,13 @@ pub selection_named : (π : Preference) (v : Data) → IsAccepted π v → (c : 
     → (x : Placed) × Has (selections_of_contest c) x × (id_of x.value ≡ Some r) × (name_named π v r ≡ name_of π v x.value)
 selection_named π v accepted c r h e =
     let d = has-any (has_id r) (map (λ (o : Placed). o.value) (selections_of_contest c)) (ap (list_any (has_id r)) (values-placed_entries (codes "ContestSelection") c) ∙ e) in
-    let x = placed_of (selections_of_contest c) d.0 d.1 in
+    let x = map_has (λ (o : Placed). o.value) (selections_of_contest c) d.0 d.1 in
     let id : id_of x.0.value ≡ Some r = ap id_of x.2 ∙ has_id-Some r d.0 d.2 in
     (x.0, x.1, id, ap (option_and_then (name_of π v)) (owner_is π v accepted family.Selection x.0 r (flat-has selections_of_contest (contests v) c x.0 h x.1) id))
-  where
-    placed_of : (xs : List Placed) (d : Data) → Has (map (λ x. x.value) xs) d → (x : Placed) × Has xs x × (x.value ≡ d)
-    placed_of [] d h = elim h [ ]
-    placed_of (x ∷ xs) d h = ⊎_elim (λ e. (x, here, e)) (λ k. let r = placed_of xs d k in (r.0, later r.1, r.2)) (Has-cases x.value d (map (λ x. x.value) xs) h)
+
+pub some_again : (o : Option (List ℕ)) → is_some o ≡ true → o ≡ Some (unwrap_or o [])
+some_again None h = cc
+some_again (Some s) h = refl
 
 -- two objects and their `@id`s
 pub record Couple (π : Preference) (t u : Data) : Type 0 where
@@ -124,127 +124,108 @@ module _ (π : Preference) (t u : Data) (both : MeanOne π t u) where
   fellows family.Selection = chosen_fellows
   fellows f = keyed_fellows f refl
 
-  couple_if : (f : Family) (o p : Placed) → Fellows f o p → (a b : Option (List ℕ)) → id_of o.value ≡ a → id_of p.value ≡ b → List (Couple π t u) → List (Couple π t u)
-  couple_if f o p r (Some a) (Some b) is is' rest = record {
-    family = f;
-    one = o;
-    other = p;
-    one_stands = r.one_stands;
-    other_stands = r.other_stands;
-    related = r.related;
+  record Pair : Type 0 where
+    family : Family
+    one : Placed
+    other : Placed
+    fellows : Fellows family one other
+
+  pairs_in : (f : Family) {xs ys : List Placed} → Paired (Fellows f) xs ys → List Pair
+  pairs_in f none = []
+  pairs_in f (more {x = x} {y = y} r rest) = record { family = f; one = x; other = y; fellows = r } ∷ pairs_in f rest
+
+  pairs : List Pair
+  pairs = flat_map (λ f. pairs_in f (fellows f).paired) families
+
+  pair_in : (f : Family) {xs ys : List Placed} (h : Paired (Fellows f) xs ys) (o : Placed) → Has xs o → (p : Pair) × Has (pairs_in f h) p × (p.one ≡ o) × (p.family ≡ f)
+  unfolding pairs_in
+  pair_in f none o h = elim h [ ]
+  pair_in f (more r rest) o here = (_, here, refl, refl)
+  pair_in f (more r rest) o (later h) = let p = pair_in f rest o h in (p.0, later p.1, p.2, p.3)
+
+  -- the pair of an object
+  pair_of : (f : Family) (o : Placed) → Has (objects f t) o → (p : Pair) × Has pairs p × (p.one ≡ o) × (p.family ≡ f)
+  unfolding pairs
+  pair_of f o h =
+      let p = pair_in f (fellows f).paired o h in
+      (p.0, flat-has (λ f. pairs_in f (fellows f).paired) families f p.0 (Has-Contains families f (is_family f)) p.1, p.2, p.3)
+
+  -- the couple that a pair with these `@id`s is
+  abbrev couple : (p : Pair) (a b : List ℕ) → id_of p.one.value ≡ Some a → id_of p.other.value ≡ Some b → Couple π t u
+  couple p a b is is' = record {
+    family = p.family;
+    one = p.one;
+    other = p.other;
+    one_stands = p.fellows.one_stands;
+    other_stands = p.fellows.other_stands;
+    related = p.fellows.related;
     text = a;
     other_text = b;
     is = is;
     other_is = is';
-  } ∷ rest
-  couple_if f o p r a b is is' rest = rest
-
-  couples_in : (f : Family) {xs ys : List Placed} → Paired (Fellows f) xs ys → List (Couple π t u)
-  couples_in f none = []
-  couples_in f (more {x = x} {y = y} r rest) = couple_if f x y r (id_of x.value) (id_of y.value) refl refl (couples_in f rest)
-
-  pub couples : List (Couple π t u)
-  couples = flat_map (λ f. couples_in f (fellows f).paired) families
-
-  -- a couple of these texts
-  pub record Found (cs : List (Couple π t u)) (a b : List ℕ) : Type 0 where
-    couple : Couple π t u
-    stands_in : Has cs couple
-    text : couple.text ≡ a
-    other_text : couple.other_text ≡ b
-
-  found_if : (f : Family) (o p : Placed) (r : Fellows f o p) (x y : Option (List ℕ)) (is : id_of o.value ≡ x) (is' : id_of p.value ≡ y) (rest : List (Couple π t u)) (a b : List ℕ) → x ≡ Some a → y ≡ Some b
-      → Found (couple_if f o p r x y is is' rest) a b
-  unfolding couple_if
-  found_if f o p r (Some x) (Some y) is is' rest a b e g = let same : x ≡ a = cc in let same' : y ≡ b = cc in record { couple = _; stands_in = here; text = same; other_text = same' }
-  found_if f o p r None y is is' rest a b e g = cc
-  found_if f o p r (Some x) None is is' rest a b e g = cc
-
-  later_if : (f : Family) (o p : Placed) (r : Fellows f o p) (x y : Option (List ℕ)) (is : id_of o.value ≡ x) (is' : id_of p.value ≡ y) (rest : List (Couple π t u)) (a b : List ℕ) → Found rest a b → Found (couple_if f o p r x y is is' rest) a b
-  unfolding couple_if
-  later_if f o p r (Some x) (Some y) is is' rest a b h = record { couple = h.couple; stands_in = later h.stands_in; text = h.text; other_text = h.other_text }
-  later_if f o p r None y is is' rest a b h = h
-  later_if f o p r (Some x) None is is' rest a b h = h
-
-  -- the fellow of an object, and the couple that they are
-  pub record Fellow (f : Family) (o : Placed) (cs : List (Couple π t u)) : Type 0 where
-    pub fellow : Placed
-    pub fellows : Fellows f o fellow
-    found : (a b : List ℕ) → id_of o.value ≡ Some a → id_of fellow.value ≡ Some b → Found cs a b
-
-  fellow_in : (f : Family) {xs ys : List Placed} (h : Paired (Fellows f) xs ys) (o : Placed) → Has xs o → Fellow f o (couples_in f h)
-  unfolding couples_in
-  fellow_in f none o h = elim h [ ]
-  fellow_in f (more {x = x} {y = y} {xs = xs} r rest) o h = at (Has-cases x o xs h) (fellow_in f rest o)
-    where
-      at : (x ≡ o) ⊎ Has xs o → (Has xs o → Fellow f o (couples_in f rest)) → Fellow f o (couple_if f x y r (id_of x.value) (id_of y.value) refl refl (couples_in f rest))
-      at (inl e) on = subst (λ z. Fellow f z (couple_if f x y r (id_of x.value) (id_of y.value) refl refl (couples_in f rest))) e
-          (record { fellow = y; fellows = r; found = λ a b is is'. found_if f x y r (id_of x.value) (id_of y.value) refl refl (couples_in f rest) a b is is' })
-      at (inr i) on = let g = on i in
-          record { fellow = g.fellow; fellows = g.fellows; found = λ a b is is'. later_if f x y r (id_of x.value) (id_of y.value) refl refl (couples_in f rest) a b (g.found a b is is') }
-
-  pub fellow_of : (f : Family) (o : Placed) → Has (objects f t) o → Fellow f o couples
-  unfolding couples
-  fellow_of f o h =
-      let g = fellow_in f (fellows f).paired o h in
-      record {
-        fellow = g.fellow;
-        fellows = g.fellows;
-        found = λ a b is is'. let x = g.found a b is is' in
-            record { couple = x.couple; stands_in = flat-has (λ f. couples_in f (fellows f).paired) families f x.couple (Has-Contains families f (is_family f)) x.stands_in; text = x.text; other_text = x.other_text };
-      }
+  }
 
   -- ---- the functions
 
   module _ (default : List ℕ) where
+    -- one side of a pair has the `@id`, and the other side has one
+    abbrev passes : (Pair → Placed) → (Pair → Placed) → List ℕ → Pair → Bool
+    passes key other s p = has_id s (key p).value && is_some (id_of (other p).value)
+
+    abbrev lookup : (Pair → Placed) → (Pair → Placed) → List ℕ → List ℕ
+    lookup key other s = option_map_or (λ p. unwrap_or (id_of (other p).value) []) (find (passes key other s) pairs) default
+
     pub there : List ℕ → List ℕ
-    there s = option_map_or (λ (c : Couple π t u). c.other_text) (find (λ (c : Couple π t u). bytes_eq s c.text) couples) default
+    there = lookup (λ p. p.one) (λ p. p.other)
 
     pub back : List ℕ → List ℕ
-    back s = option_map_or (λ (c : Couple π t u). c.text) (find (λ (c : Couple π t u). bytes_eq s c.other_text) couples) default
+    back = lookup (λ p. p.other) (λ p. p.one)
 
     abbrev pub sides : Data → Data → Sides
     sides l r = record { left = l; right = r; there = there; back = back }
 
-    there_is : (a b : List ℕ) → Found couples a b → b ≡ there a
-    unfolding there
-    there_is a b h =
-        let test = λ (c : Couple π t u). bytes_eq a c.text in
-        let x = find-any test couples (any-has test couples h.couple h.stands_in (ap (bytes_eq a) h.text ∙ text_itself a)) in
-        sym h.other_text ∙ couples_agree π t u both.left both.right h.couple x.0 (h.text ∙ text_exact a x.0.text x.2) ∙ sym (ap (λ o. option_map_or (λ (c : Couple π t u). c.other_text) o default) x.1)
+    looked_up : (key other : Pair → Placed) → ((p q : Pair) (s a b : List ℕ) → id_of (key p).value ≡ Some s → id_of (key q).value ≡ Some s → id_of (other p).value ≡ Some a → id_of (other q).value ≡ Some b → a ≡ b)
+        → (p : Pair) → Has pairs p → (s a : List ℕ) → id_of (key p).value ≡ Some s → id_of (other p).value ≡ Some a → a ≡ lookup key other s
+    looked_up key other agree p h s a is is' =
+        let x = find-any (passes key other s) pairs (any-has (passes key other s) pairs p h (ap₂ ◌&&◌ (has_id-from s (key p).value is) (ap is_some is'))) in
+        let both = and_parts (has_id s (key x.0).value) (is_some (id_of (other x.0).value)) x.2 in
+        agree p x.0 s a (unwrap_or (id_of (other x.0).value) []) is (has_id-Some s (key x.0).value both.0) is' (some_again (id_of (other x.0).value) both.1)
+        ∙ sym (ap (λ o. option_map_or (λ q. unwrap_or (id_of (other q).value) []) o default) x.1)
 
-    back_is : (a b : List ℕ) → Found couples a b → a ≡ back b
-    unfolding back
-    back_is a b h =
-        let test = λ (c : Couple π t u). bytes_eq b c.other_text in
-        let x = find-any test couples (any-has test couples h.couple h.stands_in (ap (bytes_eq b) h.other_text ∙ text_itself b)) in
-        sym h.text ∙ couples_agree π u t both.right both.left (turned_couple π t u h.couple) (turned_couple π t u x.0) (h.other_text ∙ text_exact b x.0.other_text x.2) ∙ sym (ap (λ o. option_map_or (λ (c : Couple π t u). c.text) o default) x.1)
+    -- a text that is found is of a pair, if it is not the default
+    pair_found : (key other : Pair → Placed) (s s' : List ℕ) → s' ≡ lookup key other s → (s' ≡ default → ⊥) → (p : Pair) × (id_of (key p).value ≡ Some s) × (id_of (other p).value ≡ Some s')
+    pair_found key other s s' e apart = at (find (passes key other s) pairs) refl e
+      where
+        at : (o : Option Pair) → find (passes key other s) pairs ≡ o → s' ≡ option_map_or (λ p. unwrap_or (id_of (other p).value) []) o default
+            → (p : Pair) × (id_of (key p).value ≡ Some s) × (id_of (other p).value ≡ Some s')
+        at None is g = absurd (apart g)
+        at (Some p) is g =
+            let x = and_parts (has_id s (key p).value) (is_some (id_of (other p).value)) (find-Some (passes key other s) pairs p is).1 in
+            (p, has_id-Some s (key p).value x.0, some_again (id_of (other p).value) x.1 ∙ ap Some (sym g))
 
     -- the `@id`s of an object and its counterpart stand for one another
     pub ids_stand : (l r : Data) (f : Family) (o p : Placed) (a b : List ℕ) → Has (objects f t) o → Has (objects f u) p → Counterpart π t u f o p → id_of o.value ≡ Some a → id_of p.value ≡ Some b → StandsFor (sides l r) a b
+    unfolding there back
     ids_stand l r f o p a b h k related is is' =
-        let g = fellow_of f o h in
-        let same : g.fellow ≡ p = one_counterpart π t u both.left both.right f o g.fellow p g.fellows.other_stands k g.fellows.related related in
-        let x = g.found a b is (ap (λ (z : Placed). id_of z.value) same ∙ is') in
-        (there_is a b x, back_is a b x)
+        let x = pair_of f o h in
+        let same : x.0.other ≡ p = one_counterpart π t u both.left both.right f o x.0.other p (subst (λ g. Has (objects g u) x.0.other) x.3 x.0.fellows.other_stands) k
+        (subst (λ g. Counterpart π t u g o x.0.other) x.3 (subst (λ z. Counterpart π t u x.0.family z x.0.other) x.2 x.0.fellows.related)) related in
+        let left : id_of x.0.one.value ≡ Some a = ap (λ (z : Placed). id_of z.value) x.2 ∙ is in
+        let right : id_of x.0.other.value ≡ Some b = ap (λ (z : Placed). id_of z.value) same ∙ is' in (
+          looked_up (λ q. q.one) (λ q. q.other) (λ v w s c d e g i j. couples_agree π t u both.left both.right (couple v s c e i) (couple w s d g j) refl) x.0 x.1 a b left right,
+          looked_up (λ q. q.other) (λ q. q.one)
+              (λ v w s c d e g i j. couples_agree π u t both.right both.left (turned_couple π t u (couple v c s i e)) (turned_couple π t u (couple w d s j g)) refl) x.0 x.1 b a right left,
+        )
 
     -- a text that comes back is of a couple, if it is not the default
     pub couple_back : (s s' : List ℕ) → s ≡ back s' → (s ≡ default → ⊥) → (c : Couple π t u) × (c.text ≡ s) × (c.other_text ≡ s')
     unfolding back
-    couple_back s s' e other = at (find (λ (c : Couple π t u). bytes_eq s' c.other_text) couples) refl e
-      where
-        at : (o : Option (Couple π t u)) → find (λ (c : Couple π t u). bytes_eq s' c.other_text) couples ≡ o → s ≡ option_map_or (λ (c : Couple π t u). c.text) o default → (c : Couple π t u) × (c.text ≡ s) × (c.other_text ≡ s')
-        at None is g = absurd (other g)
-        at (Some c) is g = (c, sym g, sym (text_exact s' c.other_text (find-Some (λ (c : Couple π t u). bytes_eq s' c.other_text) couples c is).1))
+    couple_back s s' e apart = let p = pair_found (λ q. q.other) (λ q. q.one) s' s e apart in (couple p.0 s s' p.2 p.1, refl, refl)
 
     -- and one that goes there
     pub couple_there : (s s' : List ℕ) → s' ≡ there s → (s' ≡ default → ⊥) → (c : Couple π t u) × (c.text ≡ s) × (c.other_text ≡ s')
     unfolding there
-    couple_there s s' e other = at (find (λ (c : Couple π t u). bytes_eq s c.text) couples) refl e
-      where
-        at : (o : Option (Couple π t u)) → find (λ (c : Couple π t u). bytes_eq s c.text) couples ≡ o → s' ≡ option_map_or (λ (c : Couple π t u). c.other_text) o default → (c : Couple π t u) × (c.text ≡ s) × (c.other_text ≡ s')
-        at None is g = absurd (other g)
-        at (Some c) is g = (c, sym (text_exact s c.text (find-Some (λ (c : Couple π t u). bytes_eq s c.text) couples c is).1), sym g)
+    couple_there s s' e apart = let p = pair_found (λ q. q.one) (λ q. q.other) s s' e apart in (couple p.0 s s' p.1 p.2, refl, refl)
 
     -- ---- references
 

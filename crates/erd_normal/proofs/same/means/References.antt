@@ -1,5 +1,5 @@
 -- References of two reports that say the same name objects with one key.
-use Rattle.erd_normal.proofs.Common.{◌≡◌, ℕ, List, [], ◌∷◌, map, Some, Option, option_and_then, unwrap_or, refl, ap, ◌∙◌, subst, ap₂, Data, null, boolean, number, string, array, object, Items, as_str, Family, here, later, Has, wanted_within, list_of_items, Want, Reference, no_shape_fault, key_cmp, Preference, key_set, rising_list, key_named, keys_named, IsUsed, Sides, StandsFor, a_null, a_flag, a_number, a_text, an_id, a_list, a_set, an_object, no_entry, one_entry, Same, SameEntries}
+use Rattle.erd_normal.proofs.Common.{◌≡◌, ℕ, List, [], ◌∷◌, map, Some, Option, option_and_then, unwrap_or, refl, ap, ◌∙◌, subst, ap₂, Data, string, Items, as_str, Family, here, later, Has, wanted_within, list_of_items, Want, Reference, no_shape_fault, key_cmp, Preference, key_set, rising_list, key_named, keys_named, IsUsed, Sides, StandsFor, an_id, no_entry, one_entry, Same, SameEntries, string_from_text, sym, a_text, a_set}
 use Rattle.erd_normal.proofs.lists.Matched.{Matched, paired_kept}
 use Rattle.erd_normal.proofs.lists.NumbersInOrder.{rising_keys_named-reordered}
 use Rattle.erd_normal.proofs.meaning.RisingMeanings.{keys_named-reordered}
@@ -7,28 +7,19 @@ use Rattle.erd_normal.proofs.same.FromAlike.{Stands}
 use Rattle.erd_normal.proofs.same.Owners.{keys_named_same}
 use Rattle.erd_normal.proofs.same.Related.{Related}
 use Rattle.erd_normal.proofs.same.means.Members.{TwoReports}
+use Rattle.erd_normal.proofs.same.InTurn.{id_text}
 
 -- a reference is in use
-used : (t : Data) (f : Family) (s : List ℕ) → Stands t (Reference f) (string s) → IsUsed t s
-used t f s st = record {
-  place = st.inside.place;
-  asked = record { want = Reference f; value = string s; repeated = st.repeated };
-  stands = st.inside.is;
-  reference = refl;
-  text = refl;
-}
+pub used : (t : Data) (f : Family) (d : Data) (s : List ℕ) → Stands t (Reference f) d → d ≡ string s → IsUsed t s
+used t f d s st text = record { place = st.inside.place; asked = record { want = Reference f; value = d; repeated = st.repeated }; stands = st.inside.is; reference = refl; text = text }
 
 module _ (m : Sides) (f : Family) {A : Type 0} (left right : List ℕ → Option A)
     (alike : (s s' : List ℕ) → StandsFor m s s' → IsUsed m.left s → IsUsed m.right s' → left s ≡ right s') where
   texts_alike : {d e : Data} → Same m (Some (Reference f)) d e → Stands m.left (Reference f) d → Stands m.right (Reference f) e → option_and_then left (as_str d) ≡ option_and_then right (as_str e)
-  texts_alike a_null l r = refl
-  texts_alike a_flag l r = refl
-  texts_alike a_number l r = refl
+  texts_alike (an_id {s = s} {s' = s'} is pair) l r = alike s s' pair (used m.left f (string s) s l refl) (used m.right f (string s') s' r refl)
   texts_alike (a_text is) l r = cc
-  texts_alike (an_id {s = s} {s' = s'} is pair) l r = alike s s' pair (used m.left f s l) (used m.right f s' r)
-  texts_alike (a_list is h) l r = refl
-  texts_alike (a_set fs is p h) l r = refl
-  texts_alike (an_object h) l r = refl
+  texts_alike (a_set fs is p h) l r = cc
+  texts_alike h l r = refl
 
   -- what is said alike of texts that stand for one another is said alike of references
   pub said_alike : (d e : Data) → Related m (Reference f) d e → option_and_then left (as_str d) ≡ option_and_then right (as_str e)
@@ -62,16 +53,9 @@ module _ (m : Sides) (π : Preference) (g : TwoReports m π) where
       ∙ rising_keys_named-reordered π m.right f h.reordered
 
   -- a reference is a text
-  key_of_text : (f : Family) {d e : Data} → Same m (Some (Reference f)) d e → Stands m.left (Reference f) d → Stands m.right (Reference f) e
-      → key_named π m.left f (unwrap_or (as_str d) []) ≡ key_named π m.right f (unwrap_or (as_str e) [])
-  key_of_text f a_null l r = let x = wanted_within m.left (no_shape_fault π m.left g.accepted) (record { want = Reference f; value = null; repeated = l.repeated }) l.inside in cc
-  key_of_text f (a_flag {b = b}) l r = let x = wanted_within m.left (no_shape_fault π m.left g.accepted) (record { want = Reference f; value = boolean b; repeated = l.repeated }) l.inside in cc
-  key_of_text f (a_number {n = n}) l r = let x = wanted_within m.left (no_shape_fault π m.left g.accepted) (record { want = Reference f; value = number n; repeated = l.repeated }) l.inside in cc
-  key_of_text f (a_text is) l r = cc
-  key_of_text f (an_id {s = s} {s' = s'} is pair) l r = named_alike f s s' pair (used m.left f s l) (used m.right f s' r)
-  key_of_text f (a_list {ds = ds} is h) l r = let x = wanted_within m.left (no_shape_fault π m.left g.accepted) (record { want = Reference f; value = array ds; repeated = l.repeated }) l.inside in cc
-  key_of_text f (a_set fs is p h) l r = cc
-  key_of_text f (an_object {ms = ms} h) l r = let x = wanted_within m.left (no_shape_fault π m.left g.accepted) (record { want = Reference f; value = object ms; repeated = l.repeated }) l.inside in cc
-
   pub key_alike_text : (f : Family) (d e : Data) → Related m (Reference f) d e → key_named π m.left f (unwrap_or (as_str d) []) ≡ key_named π m.right f (unwrap_or (as_str e) [])
-  key_alike_text f d e r = key_of_text f r.same r.left r.right
+  key_alike_text f d e r =
+      let s = string_from_text d (wanted_within m.left (no_shape_fault π m.left g.accepted) (record { want = Reference f; value = d; repeated = r.left.repeated }) r.left.inside) in
+      let o = id_text m s.0 r.same refl s.1 in
+      ap (λ x. key_named π m.left f (unwrap_or (as_str x) [])) s.1 ∙ named_alike f s.0 o.other o.pair (used m.left f d s.0 r.left s.1) (used m.right f e o.other r.right o.is)
+      ∙ sym (ap (λ x. key_named π m.right f (unwrap_or (as_str x) [])) o.is)

@@ -9,7 +9,7 @@ use Rattle.erd_normal.proofs.canonical.SelectionIds.{listed, selection_values}
 use Rattle.erd_normal.proofs.canonical.SelectionTexts.{canonical_selection_id_exact}
 use Rattle.erd_normal.proofs.lists.KeyedRanks.{rank_exact, rank_low}
 use Rattle.erd_normal.proofs.throughout.ThroughoutMembers.{is_prefixed}
-use Rattle.erd_normal.proofs.same.complete.Texts.{no_keys, one_family}
+use Rattle.erd_normal.proofs.same.complete.Texts.{no_keys, one_family, some_again}
 
 -- ---- the canonical `@id` of an object
 
@@ -125,10 +125,6 @@ has_letters f i id = at (id_prefix f)
     at : (o : Option (List ℕ)) → option_map (λ letters. letters ++ decimal (i + 1)) o ≡ Some id → is_some o ≡ true
     at None e = cc
     at (Some letters) e = refl
-
-pub some_again : (o : Option (List ℕ)) → is_some o ≡ true → o ≡ Some (unwrap_or o [])
-some_again None h = cc
-some_again (Some s) h = refl
 
 pub has_canonical : (f : Family) (i : ℕ) → is_prefixed f ≡ true → is_some (canonical_id f i) ≡ true
 has_canonical f i = at (id_prefix f)

@@ -1,6 +1,6 @@
 -- Each reference of the report that is built has the canonical `@id` of an object that the report refers to. So nothing there refers to an
 -- object without `@id`, and nothing in the report refers to a style.
-use Rattle.erd_normal.proofs.Common.{◌≡◌, ℕ, Bool, true, false, ◌&&◌, List, [], ◌∷◌, if◌then◌else◌, Some, None, codes, Option, option_map, option_and_then, bytes_eq, unwrap_or, sym, refl, ap, ◌∙◌, subst, same_Some, AllByRecursion, list_all, Data, string, array, object, get_member, get_item, rows_of_class, kind_of_identity, kind_of_member, is_required, Class, class, Family, role, MemberKind, kind, Step, At, Name, array_from, Has, wanted_within, Within, kind_of_class, want_unless_status, is_reference, IsTree, list_of_items, text_of, scope_inside, want_of_kind, is_report_class, member_want, carried_want, want_of_name, entry_want, is_compared_set, Asked, asked, is_repeated, asked_inside, asked_from, Scope, scope, Want, Carried, ClassText, Member, Object, Reference, no_shape_fault, owned, unrepeated_reference, one_object, owned_by, all_rising, IsAccepted, Preference, key_of, Placed, objects, id_of, owner, IsBounded, rising_list, key_named, StandsFor, IsUnused, id_of_key, normal_id, normal_reference, reference_cmp, normal_selection_reference, normal_tree}
+use Rattle.erd_normal.proofs.Common.{◌≡◌, ℕ, Bool, true, false, ◌&&◌, List, [], Some, None, codes, option_and_then, bytes_eq, unwrap_or, sym, refl, ap, ◌∙◌, subst, AllByRecursion, list_all, Data, string, array, object, rows_of_class, kind_of_identity, kind_of_member, is_required, Class, class, Family, role, MemberKind, kind, Step, array_from, Has, wanted_within, Within, kind_of_class, want_unless_status, is_reference, IsTree, list_of_items, text_of, scope_inside, want_of_kind, is_report_class, member_want, want_of_name, entry_want, Asked, asked, asked_from, Scope, scope, Want, Carried, Member, Object, Reference, no_shape_fault, owned, unrepeated_reference, one_object, owned_by, all_rising, IsAccepted, Preference, key_of, Placed, objects, id_of, owner, IsBounded, rising_list, key_named, StandsFor, IsUnused, id_of_key, normal_id, normal_reference, reference_cmp, normal_selection_reference, normal_tree, option_map_or}
 use Rattle.erd_normal.proofs.same.IdsOfObjects.{Refers, reference_refers, references_refer}
 use Rattle.erd_normal.proofs.canonical.SelectionIds.{text_built}
 use Rattle.erd_normal.proofs.lists.BuiltLists.{all_map, entry_holds}
@@ -9,9 +9,10 @@ use Rattle.erd_normal.proofs.throughout.ThroughoutMembers.{HoldsOfMembers, built
 use Rattle.erd_normal.proofs.throughout.ThroughoutObjects.{HoldsOfObjects}
 use Rattle.erd_normal.proofs.throughout.ThroughoutReports.{HoldsOfBuilt, holds_of_built}
 use Rattle.erd_normal.proofs.throughout.ThroughoutValues.{is_apart}
-use Rattle.erd_normal.proofs.same.normal.NewIds.{NewId, has_canonical, new_exact, of_contest, of_family, prefixed_keys, sides, some_again, stands_for}
-use Rattle.erd_normal.proofs.same.complete.Texts.{one_family}
+use Rattle.erd_normal.proofs.same.normal.NewIds.{NewId, has_canonical, new_exact, of_contest, of_family, prefixed_keys, sides, stands_for}
+use Rattle.erd_normal.proofs.same.complete.Texts.{one_family, some_again}
 use Rattle.erd_tables.specs.declared.class.Family.TheVariants as family
+use Rattle.erd_normal.proofs.throughout.InsideValues.{all_inside, carried_passes, name_passes}
 
 -- ---- references of the report
 
@@ -151,52 +152,19 @@ free_member c name other = at (is_report_class c && bytes_eq name (codes "Status
         ap is_free (want_unless_status c name is)
         ∙ free_of_kind (kind_of_member c name) (is_required c name) (kind_of_class is_free_kind c name other (free_rows c).0 (free_rows c).1 refl refl)
 
-free_in_scope : (s : Scope) (name : List ℕ) (v : Want) → want_of_name s name ≡ Some v → is_free v ≡ true
-free_in_scope scope.Nothing name v e = cc
-free_in_scope scope.Carried name v e = let same : carried_want name ≡ v = cc in ap is_free (sym same) ∙ at _
-  where
-    at : (b : Bool) → is_free (if b then Member kind.StrangeIdentity false else Carried) ≡ true
-    at true = refl
-    at false = refl
-free_in_scope (scope.Members r o) name v e = at (bytes_eq name (codes "@type")) refl o e
-  where
-    at : (b : Bool) → bytes_eq name (codes "@type") ≡ b → (o : Option Class) → (if b then Some (ClassText r) else option_map (λ c. member_want c name) o) ≡ Some v → is_free v ≡ true
-    at true is o e = let same : ClassText r ≡ v = cc in ap is_free (sym same)
-    at false is None e = cc
-    at false is (Some c) e = let same : member_want c name ≡ v = same_Some _ _ e in ap is_free (sym same) ∙ free_member c name is
+free_name : (s : Scope) (name : List ℕ) → option_map_or is_free (want_of_name s name) true ≡ true
+free_name scope.Nothing name = refl
+free_name scope.Carried name = carried_passes is_free refl refl name
+free_name (scope.Members r o) name = name_passes is_free r o name refl (λ c is other. free_member c name other)
 
-free_entry : (w v : Want) → is_free w ≡ true → entry_want w ≡ Some v → is_free v ≡ true
-free_entry (Member (kind.Many family.Style) required) v h e = cc
-free_entry (Member (kind.Many f) required) v h e = let same : Reference f ≡ v = cc in ap is_free (sym same)
-free_entry (Member (kind.Keyed f) required) v h e = let same : Object (role.OfFamily f) ≡ v = cc in ap is_free (sym same)
-free_entry (Member kind.Identifiers required) v h e = let same : Object role.Identifier ≡ v = cc in ap is_free (sym same)
-free_entry (Member kind.Languages required) v h e = let same : Object role.Language ≡ v = cc in ap is_free (sym same)
-free_entry (Member kind.Elections required) v h e = let same : Object role.Election ≡ v = cc in ap is_free (sym same)
-free_entry (Member kind.Content required) v h e = let same : Object role.Content ≡ v = cc in ap is_free (sym same)
-free_entry (Member kind.Ordered required) v h e = let same : Reference family.Selection ≡ v = cc in ap is_free (sym same)
-free_entry Carried v h e = let same : Carried ≡ v = cc in ap is_free (sym same)
-free_entry w v h e = cc
-
-free_some : (make : Want → Data → Asked) → ((v : Want) (d : Data) → (make v d).want ≡ v) → (o : Option Want) (p : Option Data) (b : Asked) → ((v : Want) → o ≡ Some v → is_free v ≡ true)
-    → option_and_then (λ v. option_map (make v) p) o ≡ Some b → is_free b.want ≡ true
-free_some make same None p b free e = cc
-free_some make same (Some v) None b free e = cc
-free_some make same (Some v) (Some d) b free e = let one : make v d ≡ b = cc in subst (λ (x : Asked). is_free x.want ≡ true) one (ap is_free (same v d) ∙ free v refl)
-
-free_inside : (w : Want) (d : Data) (s : Step) (b : Asked) → is_free w ≡ true → asked_inside w d s ≡ Some b → is_free b.want ≡ true
-free_inside w (object ms) (Name n) b h e =
-    free_some asked (λ v d. refl) (want_of_name (scope_inside w (object ms)) n) (get_member n ms) b (λ v is. free_in_scope (scope_inside w (object ms)) n v is) e
-free_inside w (array ds) (At i) b h e =
-    free_some (λ v d. record { want = v; value = d; repeated = is_compared_set w && is_repeated ds i d }) (λ v d. refl) (entry_want w) (get_item i ds) b (λ v is. free_entry w v h is) e
-free_inside w d s b h e = cc
+free_entry : (w : Want) → is_free w ≡ true → option_map_or is_free (entry_want w) true ≡ true
+free_entry (Member (kind.Many family.Style) required) h = cc
+free_entry w h = refl
 
 free_from : (a : Asked) (p : List Step) (b : Asked) → is_free a.want ≡ true → asked_from a p ≡ Some b → is_free b.want ≡ true
-free_from a [] b h e = let same : a ≡ b = cc in subst (λ (x : Asked). is_free x.want ≡ true) same h
-free_from a (s ∷ p) b h e = at (asked_inside a.want a.value s) refl e (λ x. free_from x p b)
-  where
-    at : (o : Option Asked) → asked_inside a.want a.value s ≡ o → option_and_then (λ x. asked_from x p) o ≡ Some b → ((x : Asked) → is_free x.want ≡ true → asked_from x p ≡ Some b → is_free b.want ≡ true) → is_free b.want ≡ true
-    at None is e step = cc
-    at (Some x) is e step = step x (free_inside a.want a.value s x h is) e
+free_from =
+    all_inside (λ w d. is_free w ≡ true) (λ w ms n v x h asks found. subst (λ o. option_map_or is_free o true ≡ true) asks (free_name (scope_inside w (object ms)) n))
+    (λ w ds i v x h asks found. subst (λ o. option_map_or is_free o true ≡ true) asks (free_entry w h))
 
 module _ (π : Preference) (t : Data) (accepted : IsAccepted π t) where
   one_reference : (g : Family) (s : List ℕ) (a : Asked) → a.want ≡ Reference g → a.value ≡ string s → Within t a → Within t (asked (Reference g) (string s))

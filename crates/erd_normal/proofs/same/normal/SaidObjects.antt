@@ -1,9 +1,8 @@
 -- What is built of the order of a ballot, a selection and an object of a family says what they say.
-use Rattle.erd_normal.proofs.Common.{◌≡◌, ℕ, zero, suc, Bool, true, false, List, map, Some, None, codes, Option, option_map, option_and_then, bytes_eq, sym, refl, ap, ◌∙◌, subst, list_all, Data, string, array, object, Items, no_items, item, Members, no_members, member, get_member, get_item, get, as_str, text_of_class, role_of_class, rows_of_class, kind_of_member, is_required, Class, class, Family, family, Role, role, MemberKind, kind, entries_in, object_from, string_from_text, array_from, text_exact, found_cases, object_in, ObjectAt, ObjectIn, map_has, Has, of_role, wanted_within, member_within, within-tree, Within, kind_of_class, kind_of_name, want_by_kind, is_array, ShapeFault, NoneOf, IsTree, list_of_items, entries_of, class_of_object, want_of_kind, member_want, want_of_name, asked, Scope, scope, Member, Object, no_shape_fault, stands, flat-has, kind_of_type, IsAccepted, has_keys, Preference, key_of, Placed, contests, selections_of_contest, objects, id_of, IsBounded, rising_list, selection_role, canonical_id, Sides, an_unused_id, a_text, an_id, a_list, an_object, no_entry, one_entry, Same, SameEntries, SameMembers, id_of_key, id_of_selection, array_of, normal_node_value, normal_content, normal_nodes, normal_node, normal_selection, by_key, by_name, normal_object_value, normal_object, normal_objects, normal_tree}
+use Rattle.erd_normal.proofs.Common.{◌≡◌, ℕ, zero, suc, Bool, true, false, List, map, Some, None, codes, Option, option_map, option_and_then, bytes_eq, sym, refl, ap, ◌∙◌, subst, Data, string, array, object, Items, no_items, item, Members, no_members, member, get_member, get_item, get, as_str, text_of_class, role_of_class, kind_of_member, is_required, Class, class, Family, family, Role, role, MemberKind, kind, entries_in, object_from, string_from_text, array_from, text_exact, found_cases, object_in, ObjectAt, ObjectIn, map_has, Has, of_role, wanted_within, member_within, within-tree, Within, kind_of_class, kind_of_name, want_by_kind, is_array, ShapeFault, NoneOf, IsTree, list_of_items, entries_of, class_of_object, want_of_kind, member_want, want_of_name, asked, Scope, scope, Member, Object, no_shape_fault, stands, flat-has, kind_of_type, IsAccepted, has_keys, Preference, key_of, Placed, contests, selections_of_contest, objects, id_of, IsBounded, rising_list, selection_role, canonical_id, Sides, an_unused_id, a_text, an_id, a_list, an_object, no_entry, one_entry, Same, SameEntries, SameMembers, id_of_key, id_of_selection, array_of, normal_node_value, normal_content, normal_nodes, normal_node, normal_selection, by_key, by_name, normal_object_value, normal_object, normal_objects, normal_tree}
 use Rattle.erd_normal.proofs.built.AskedMembers.{entry_asked}
 use Rattle.erd_normal.proofs.built.BuiltFrom.{Builder, BuiltObject}
 use Rattle.erd_normal.proofs.built.BuiltObjects.{built_node, built_object, built_selection, is_id, no_name, node_builder, object_builder, plain_builder}
-use Rattle.erd_normal.proofs.built.FamilyNames.{contest_of_selections, family_name, keyed_name}
 use Rattle.erd_normal.proofs.built.NormalGets.{class_of_object-object, get_object-id, get_selection-id, kind_of_family_id}
 use Rattle.erd_normal.proofs.built.NormalTrees.{normal_node-tree, normal_object-tree, normal_selection-tree}
 use Rattle.erd_normal.proofs.canonical.SelectionIds.{listed}
@@ -14,6 +13,7 @@ use Rattle.erd_normal.proofs.same.Merged.{merged}
 use Rattle.erd_normal.proofs.same.normal.NewIds.{NewId, of_contest, of_family, sides, stands_for}
 use Rattle.erd_normal.proofs.same.normal.NewReferences.{new_unused, style_unused}
 use Rattle.erd_normal.proofs.same.normal.SaidValues.{Said, aligned_said, is_simple_kind, said_member, said_unless, said_value}
+use Rattle.erd_normal.proofs.throughout.ThroughoutObjects.{IsOfContest, is_of_contest}
 
 -- ---- objects of a class
 
@@ -78,7 +78,6 @@ module _ (m : Sides) (t : Data) (clean : NoneOf (ShapeFault t)) (value_of : Buil
 -- of the families with keys, styles alone have no canonical `@id`
 style_alone : (f : Family) (i : ℕ) → has_keys f ≡ true → canonical_id f i ≡ None → f ≡ family.Style
 style_alone family.Style i keyed e = refl
-style_alone family.Selection i keyed e = cc
 style_alone f i keyed e = cc
 
 -- ---- kinds of members
@@ -96,22 +95,15 @@ is_object_kind k = is_simple_kind k
 
 selection_kind : (c : Class) (name : List ℕ) → bytes_eq name (codes "@type") ≡ false → is_id name ≡ false → role_of_class c ≡ selection_role → is_simple_kind (kind_of_member c name) ≡ true
 selection_kind class.CandidateSelection name other no_id r = kind_of_name (λ m. is_simple_kind m.kind) is_simple_kind class.CandidateSelection name other no_id refl (λ m h e. h) refl refl
-selection_kind class.BallotMeasureSelection name other no_id r = kind_of_name (λ m. is_simple_kind m.kind) is_simple_kind class.BallotMeasureSelection name other no_id refl (λ m h e. h) refl refl
-selection_kind class.PartySelection name other no_id r = kind_of_name (λ m. is_simple_kind m.kind) is_simple_kind class.PartySelection name other no_id refl (λ m h e. h) refl refl
-selection_kind c name other no_id r = cc
+selection_kind c name other no_id r = kind_of_name (λ m. is_simple_kind m.kind) is_simple_kind c name other no_id (cc) (λ m h e. h) refl refl
 
 node_kind : (c : Class) (name : List ℕ) → bytes_eq name (codes "@type") ≡ false → role_of_class c ≡ role.Content → is_node_kind (kind_of_member c name) ≡ true
 node_kind class.OrderedContest name other r = kind_of_class is_node_kind class.OrderedContest name other refl refl refl refl
-node_kind class.OrderedHeader name other r = kind_of_class is_node_kind class.OrderedHeader name other refl refl refl refl
-node_kind c name other r = cc
-
-object_rows : (c : Class) (f : Family) → role_of_class c ≡ role.OfFamily f → list_all (λ m. is_object_kind m.kind) (rows_of_class c) ≡ true
-object_rows class.ElectionReport f r = cc
-object_rows class.Election f r = cc
-object_rows c f r = refl
+node_kind c name other r = kind_of_class is_node_kind c name other (cc) (cc) refl refl
 
 object_kind : (c : Class) (f : Family) (name : List ℕ) → bytes_eq name (codes "@type") ≡ false → is_id name ≡ false → role_of_class c ≡ role.OfFamily f → is_object_kind (kind_of_member c name) ≡ true
-object_kind c f name other no_id r = kind_of_name (λ m. is_object_kind m.kind) is_object_kind c name other no_id (object_rows c f r) (λ m h e. h) refl refl
+object_kind class.Election f name other no_id r = cc
+object_kind c f name other no_id r = kind_of_name (λ m. is_object_kind m.kind) is_object_kind c name other no_id (cc) (λ m h e. h) refl refl
 
 module _ (π : Preference) (t : Data) (accepted : IsAccepted π t) (tree : IsTree t) (bounded : IsBounded t) where
   abbrev m : Sides
@@ -241,11 +233,7 @@ module _ (π : Preference) (t : Data) (accepted : IsAccepted π t) (tree : IsTre
 
   -- ---- objects of families
 
-  -- that the object is a contest of the report, and the value its selections
-  abbrev HoldsSelections : Placed → Data → Type 0
-  HoldsSelections contest d = Has (objects family.Contest t) contest × (get (codes "ContestSelection") contest.value ≡ Some d)
-
-  selections_said : (contest : Placed) (required : Bool) (d : Data) → HoldsSelections contest d → Within t (asked (Member (kind.Keyed family.Selection) required) d)
+  selections_said : (contest : Placed) (required : Bool) (d : Data) → IsOfContest t contest d → Within t (asked (Member (kind.Keyed family.Selection) required) d)
       → Same m (Some (Member (kind.Keyed family.Selection) required)) d (array_of (map (normal_selection π t contest.value) (rising_list (by_name π t) (entries_of d))))
   selections_said contest required d holds w =
       let ds = array_from d (wanted_within t clean (asked (Member (kind.Keyed family.Selection) required) d) w) in
@@ -255,20 +243,12 @@ module _ (π : Preference) (t : Data) (accepted : IsAccepted π t) (tree : IsTre
       let o = map_has (λ (o : Placed). o.value) (selections_of_contest contest) x (subst (λ xs. Has xs x) (sym values) h) in
       subst (λ y. Same m (Some (Object selection_role)) y (normal_selection π t contest.value y)) o.2 (selection_said contest o.0 holds.0 o.1)))
 
-  object_member : (o : Placed) (k : MemberKind) (required : Bool) (d : Data) → is_object_kind k ≡ true → (k ≡ kind.Keyed family.Selection → HoldsSelections o d) → Within t (asked (want_of_kind k required) d)
+  object_member : (o : Placed) (k : MemberKind) (required : Bool) (d : Data) → is_object_kind k ≡ true → (k ≡ kind.Keyed family.Selection → IsOfContest t o d) → Within t (asked (want_of_kind k required) d)
       → Said m (want_of_kind k required) d (normal_object_value π t o.value k d)
   object_member o (kind.Keyed family.Selection) required d is contest w = said_unless m (kind.Keyed family.Selection) required d _ refl (selections_said o required d (contest refl) w)
   object_member o kind.Content required d is contest w = said_unless m kind.Content required d (normal_content π t d) refl (content_said d required w)
   object_member o (kind.Keyed f) required d is contest w = cc
   object_member o k required d is contest w = said_value π t accepted tree bounded k required d is w
-
-  -- an object with a member of selections is a contest
-  holds_selections : (f : Family) (d : Placed) (o : ObjectIn t (role.OfFamily f) d.value) (name : List ℕ) (from : Data) → Has (objects f t) d → get_member name o.ms ≡ Some from
-      → kind_of_member o.class name ≡ kind.Keyed family.Selection → HoldsSelections d from
-  holds_selections f d o name from h stands is =
-      let named : name ≡ family_name family.Selection = keyed_name o.class name family.Selection is in
-      let contest : f ≡ family.Contest = contest_of_selections o.class f o.role (ap (kind_of_member o.class) (sym named) ∙ is) in
-      (subst (λ g. Has (objects g t) d) contest h, ap (get (codes "ContestSelection")) o.is_object ∙ ap (λ n. get_member n o.ms) (sym named) ∙ stands)
 
   object_type : (d : Data) → KeepsType (object_builder π t d) is_id
   object_type d = record { plain = refl; stays = λ v. refl }
@@ -280,7 +260,7 @@ module _ (π : Preference) (t : Data) (accepted : IsAccepted π t) (tree : IsTre
       (subst IsTree i.is_object whole) (normal_object-tree π t f o.value whole)
       (λ name is. subst (λ n. Aligned m (in_class (role.OfFamily f) i.class) n (get_member n i.ms) (get n (normal_object π t f o.value))) (sym (text_exact name (codes "@id") is)) at_id)
       (λ name from other no_id found inside. said_member m t (object_builder π t o.value) i.class name from inside
-      (λ required within. object_member o (kind_of_member i.class name) required from (object_kind i.class f name other no_id i.role) (holds_selections f o i name from h found) within) refl))
+      (λ required within. object_member o (kind_of_member i.class name) required from (object_kind i.class f name other no_id i.role) (is_of_contest t f o i name from h found) within) refl))
     where
       w : Within t (asked (Object (role.OfFamily f)) o.value)
       w = record { place = o.place; is = stands π t accepted f o h }

@@ -1,7 +1,6 @@
 -- The canonical tree says what the report says.
-use Rattle.erd_normal.proofs.Common.{◌≡◌, ℕ, Bool, true, false, List, map, if◌then◌else◌, Some, None, Option, sym, refl, ap, ◌∙◌, subst, Data, array, object, Members, get_member, get, is_envelope_name, kind_of_member, class, Family, role, MemberKind, kind, ObjectAt, Has, within-tree, Within, kind_of_class, ShapeFault, NoneOf, IsTree, list_of_items, entries_of, want_of_kind, asked, Member, Object, no_shape_fault, skeleton_of_shape, election_within, election_object, Skeleton, IsAccepted, has_keys, Preference, objects, IsBounded, rising_list, Sides, of_the_envelope, Same, SaysTheSame, array_of, normal_value, by_key, normal_election_value, normal_election, normal_report_value, normal_tree}
+use Rattle.erd_normal.proofs.Common.{◌≡◌, ℕ, Bool, true, false, List, map, if◌then◌else◌, Some, None, Option, sym, refl, subst, Data, array, object, Members, get_member, get, is_envelope_name, kind_of_member, class, Family, role, MemberKind, kind, ObjectAt, Has, within-tree, Within, kind_of_class, ShapeFault, NoneOf, IsTree, list_of_items, entries_of, want_of_kind, asked, Member, Object, no_shape_fault, skeleton_of_shape, election_within, election_object, Skeleton, IsAccepted, has_keys, Preference, objects, IsBounded, rising_list, Sides, of_the_envelope, Same, SaysTheSame, array_of, normal_value, by_key, normal_election_value, normal_election, normal_report_value, normal_tree}
 use Rattle.erd_normal.proofs.built.BuiltObjects.{built_election, built_report, election_builder, no_name}
-use Rattle.erd_normal.proofs.built.FamilyNames.{election_part, elections_name, family_name, keyed_name, report_part}
 use Rattle.erd_normal.proofs.built.NormalTrees.{normal_election-tree, normal_tree-tree}
 use Rattle.erd_normal.proofs.lists.Lists.{IsPart}
 use Rattle.erd_normal.proofs.same.Built.{set_built}
@@ -9,6 +8,7 @@ use Rattle.erd_normal.proofs.same.Lookups.{MayLack, not_both}
 use Rattle.erd_normal.proofs.same.normal.NewIds.{new_text, old_text, sides}
 use Rattle.erd_normal.proofs.same.normal.SaidObjects.{KeepsType, in_class, objects_said, said_object}
 use Rattle.erd_normal.proofs.same.normal.SaidValues.{Said, is_simple_kind, kept, said_member, said_unless, said_value}
+use Rattle.erd_normal.proofs.throughout.ThroughoutReports.{election_family, report_family, report_listed}
 
 -- a member of the election
 abbrev is_election_kind : MemberKind → Bool
@@ -52,15 +52,10 @@ module _ (π : Preference) (t : Data) (accepted : IsAccepted π t) (tree : IsTre
       (said_object m t clean (election_builder π t) no_name election_type role.Election class.Election this.0 (normal_election π t d) (built_election π t clean tree this.0 d this.1 this.2)
       (subst IsTree this.1 whole) (normal_election-tree π t d whole) (λ name is. cc)
       (λ name from other no found inside. said_member m t (election_builder π t) class.Election name from inside
-      (λ required within. election_member (kind_of_member class.Election name) required from (kind_of_class is_election_kind class.Election name other refl refl refl refl) (family name from found) within) refl))
+      (λ required within. election_member (kind_of_member class.Election name) required from (kind_of_class is_election_kind class.Election name other refl refl refl refl) (election_family t s d h this.0 this.1 name from found) within) refl))
     where
       whole : IsTree d
       whole = within-tree t (asked (Object role.Election) d) tree (election_within t s d h)
-
-      family : (name : List ℕ) (from : Data) → get_member name this.0 ≡ Some from → (f : Family) → kind_of_member class.Election name ≡ kind.Keyed f → IsPart (entries_of from) (map (λ o. o.value) (objects f t))
-      family name from stands f is =
-          let named : name ≡ family_name f = keyed_name class.Election name f is in
-          election_part t s d this.0 h this.1 f from (ap (kind_of_member class.Election) (sym named) ∙ is) (ap (λ n. get_member n this.0) (sym named) ∙ stands)
 
   elections_said : (required : Bool) (d : Data) → d ≡ array s.es → Same m (Some (Member kind.Elections required)) d (array_of (map (normal_election π t) (rising_list (by_key π) (entries_of d))))
   elections_said required d is =
@@ -94,19 +89,9 @@ module _ (π : Preference) (t : Data) (accepted : IsAccepted π t) (tree : IsTre
       (subst IsTree s.is_object tree) (normal_tree-tree π t tree)
       (λ name is. not_both (envelope_lacks t name (get_member name s.ms) is) (envelope_lacks (normal_tree π t) name (get name (normal_tree π t)) is))
       (λ name from other inside_envelope found inside. said_member m t (normal_report_value π t) class.ElectionReport name from inside
-      (λ required within. report_member name (kind_of_member class.ElectionReport name) required from (kind_of_class is_report_kind class.ElectionReport name other refl refl refl refl) inside_envelope (family name from found)
-      (listed name from found) within)
+      (λ required within. report_member name (kind_of_member class.ElectionReport name) required from (kind_of_class is_report_kind class.ElectionReport name other refl refl refl refl) inside_envelope (report_family t s name from found)
+      (report_listed t s name from found) within)
       (word_stays name from inside_envelope)))
-    where
-      family : (name : List ℕ) (from : Data) → get_member name s.ms ≡ Some from → (f : Family) → kind_of_member class.ElectionReport name ≡ kind.Keyed f → IsPart (entries_of from) (map (λ o. o.value) (objects f t))
-      family name from stands f is =
-          let named : name ≡ family_name f = keyed_name class.ElectionReport name f is in
-          report_part t s f from (ap (kind_of_member class.ElectionReport) (sym named) ∙ is) (ap (λ n. get_member n s.ms) (sym named) ∙ stands)
-
-      listed : (name : List ℕ) (from : Data) → get_member name s.ms ≡ Some from → kind_of_member class.ElectionReport name ≡ kind.Elections → from ≡ array s.es
-      listed name from stands is =
-          let x : Some from ≡ Some (array s.es) = sym stands ∙ ap (λ n. get_member n s.ms) (elections_name class.ElectionReport name is) ∙ s.listed in
-          let same : from ≡ array s.es = cc in same
 
   -- the canonical tree says what the report says
   pub normal_tree_says : SaysTheSame t (normal_tree π t)
