@@ -1,25 +1,18 @@
 -- The reports that say the same: what `SaysTheSame` holds of.
-pub mod Basics
 pub mod FamilyValues
-pub mod SharedIds
-pub mod Types
 pub mod Back
 pub mod FromAlike
 pub mod Lookups
 pub mod Steady
 pub mod Related
+pub mod Families
 pub mod Owners
 pub mod Examples
-pub mod Merged
 pub mod Lists
-pub mod Places
 pub mod CameFrom
 pub mod InTurn
 pub mod Labels
-pub mod Built
-pub mod LabelsBack
 pub mod IdsOfObjects
-pub mod Rearrangements
 pub mod means
 pub mod complete
 pub mod accepted

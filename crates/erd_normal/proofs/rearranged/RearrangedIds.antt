@@ -2,10 +2,9 @@
 use Rattle.erd_normal.proofs.Common.{◌≡◌, ℕ, true, List, Some, sym, ap, ◌∙◌, subst, true≢false, false_from_ne_true, IsDistinct, Data, Family, role, Has, Object, no_shape_fault, Has-Contains, option_map-Some, distinct_one, IsAccepted, Preference, objects, id_of, HasDistinctIds}
 use Rattle.erd_normal.proofs.lists.Matched.{IsEven, Matched, distinct_matched, matched_back}
 use Rattle.erd_normal.proofs.rearranged.AlikeChanges.{Alike}
-use Rattle.erd_normal.proofs.rearranged.RelatedMembers.{Related}
-use Rattle.erd_normal.proofs.rearranged.RelatedObjects.{family_matched, id_became}
+use Rattle.erd_normal.proofs.rearranged.AlikeParts.{Related, family_matched, id_became}
 use Rattle.erd_normal.proofs.same.FamilyValues.{family_values, object_values, not_before_itself, placed_value}
-use Rattle.erd_normal.proofs.same.SharedIds.{IsId, ids_distinct, one_family, by_one_id, id_of_both, have_one_id}
+use Rattle.erd_normal.proofs.same.IdsOfObjects.{IsId, ids_distinct, one_family, by_one_id, id_of_both, have_one_id}
 
 -- no two of the report's `@id`s become one
 abbrev pub TellsIds : (List ℕ → List ℕ) → Data → Type 0

@@ -3,17 +3,15 @@ use Rattle.erd_normal.proofs.Common.{◌≡◌, ℕ, true, false, ◌⊎◌, Lis
 use Rattle.erd_normal.proofs.lists.Matched.{Both, both}
 use Rattle.erd_normal.proofs.rearranged.AlikeChanges.{Alike, as_it_is, exchanged_alike, renamed_alike}
 use Rattle.erd_normal.proofs.rearranged.AlikeParts.{alike_member, alike_tree}
-use Rattle.erd_normal.proofs.same.FromAlike.{ComesBack, alike_same, alike_says}
-use Rattle.erd_normal.proofs.same.Lookups.{of_object}
-use Rattle.erd_normal.proofs.same.Places.{envelope_quiet, is_quiet, quiet_step}
-use Rattle.erd_normal.proofs.same.Types.{scope_same}
-use Rattle.erd_normal.proofs.same.accepted.AbsentMembers.{IsSound}
+use Rattle.erd_normal.proofs.same.FromAlike.{ComesBack, alike_same, alike_says, comes_back, texts_come_back, turned_back, covers, id_covered}
+use Rattle.erd_normal.proofs.same.Lookups.{of_object, scope_same}
+use Rattle.erd_normal.proofs.same.CameFrom.{envelope_quiet, is_quiet, quiet_step}
+use Rattle.erd_normal.proofs.same.accepted.RequiredMembers.{IsSound}
 use Rattle.erd_normal.proofs.same.accepted.AcceptedShape.{no_fault_at}
 use Rattle.erd_normal.proofs.same.accepted.AskedAgain.{AskedAgain, HasSoundMembers, again_from}
 use Rattle.erd_normal.proofs.rearranged.RearrangedIds.{alike_ids, TellsIds}
-use Rattle.erd_normal.proofs.same.Basics.{says_itself}
+use Rattle.erd_normal.proofs.same.Back.{says_itself}
 use Rattle.erd_normal.proofs.same.InTurn.{says_in_turn}
-use Rattle.erd_normal.proofs.same.Rearrangements.{comes_back, texts_come_back, turned_back, covers, id_covered}
 use Rattle.erd_normal.proofs.same.accepted.Accepted.{same_is_accepted}
 use Rattle.erd_normal.proofs.same.means.Meanings.{saying_the_same_means_the_same}
 use Rattle.erd_normal.proofs.same.Steady.{of_report}

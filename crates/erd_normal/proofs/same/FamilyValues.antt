@@ -1,7 +1,8 @@
 -- The values of a report's objects, family by family, without their places.
-use Rattle.erd_normal.proofs.Common.{◌≡◌, ℕ, false, List, map, codes, flat_map, bytes_eq, Less, Equal, sym, ap, ◌∙◌, subst, tied_itself, Data, kind_of_member, class, Family, family, kind, has_mapped, map_has, Has, entries_at, values-placed_entries, values-placed_flat, IsBefore, Placed, placed_entries, report_of, elections, contests, objects}
+use Rattle.erd_normal.proofs.Common.{◌≡◌, ℕ, false, List, map, codes, flat_map, bytes_eq, Less, Equal, sym, ap, ◌∙◌, subst, tied_itself, Data, kind_of_member, class, Family, family, kind, has_mapped, map_has, Has, entries_at, values-placed_entries, values-placed_flat, IsBefore, Placed, placed_entries, report_of, elections, contests, objects, Class, Role, MemberKind, role, is_in_envelope, role_of_class, report_class, election_class, contest_selections, is_envelope_name, refl}
 use Rattle.erd_tables.specs.Places.{place_cmp}
 use Rattle.erd_tables.proofs.PlaceOrder.{place_cmp_total}
+use Rattle.erd_normal.proofs.lists.Matched.{Matched, matched_flat}
 
 -- the values of the objects of a family
 abbrev pub family_values : Family → Data → List Data
@@ -57,3 +58,49 @@ pub record InElections (f : Family) (name : List ℕ) : Type 0 where
   pub other : bytes_eq name (codes "@type") ≡ false
   pub keyed : kind_of_member class.Election name ≡ kind.Keyed f
   pub are : (t : Data) → objects f t ≡ flat_map (placed_entries name) (elections t)
+
+-- ---- the objects of two reports whose arrays of objects are matched
+
+-- a member of this kind, outside the envelope
+abbrev pub IsOfKind : List ℕ → MemberKind → Class → Type 0
+IsOfKind name k c = (kind_of_member c name ≡ k) × (is_in_envelope c name ≡ false)
+
+-- an object that is not the report has no envelope
+pub outside : (r : Role) (c : Class) (name : List ℕ) → role_of_class c ≡ r → (r ≡ role.Report → ⊥) → is_in_envelope c name ≡ false
+outside r class.ElectionReport name is other = absurd (other (sym is))
+outside r c name is other = refl
+
+module _ (t u : Data) (R : Role → Data → Data → Type 0)
+    (array : (r : Role) (d e : Data) → R r d e → (f : Family) (name : List ℕ) → bytes_eq name (codes "@type") ≡ false → ((c : Class) → role_of_class c ≡ r → IsOfKind name (kind.Keyed f) c)
+    → Matched (R (role.OfFamily f)) (entries_at name d) (entries_at name e)) where
+  pub in_election : (d e : Data) → R role.Election d e → (f : Family) (name : List ℕ) → bytes_eq name (codes "@type") ≡ false → kind_of_member class.Election name ≡ kind.Keyed f
+      → Matched (R (role.OfFamily f)) (entries_at name d) (entries_at name e)
+  in_election d e related f name other keyed = array role.Election d e related f name other (λ c is. subst (IsOfKind name (kind.Keyed f)) (sym (election_class c is)) (keyed, refl))
+
+  -- the selections of contests that are related
+  pub chosen_matched : (x y : Data) → R (role.OfFamily family.Contest) x y → Matched (R (role.OfFamily family.Selection)) (entries_at (codes "ContestSelection") x) (entries_at (codes "ContestSelection") y)
+  chosen_matched x y r =
+      array (role.OfFamily family.Contest) x y r family.Selection (codes "ContestSelection") refl
+      (λ c is. (contest_selections c is, outside (role.OfFamily family.Contest) c (codes "ContestSelection") is (λ x. cc)))
+
+  module _ (root : R role.Report t u) where
+    pub in_report : (f : Family) (name : List ℕ) → bytes_eq name (codes "@type") ≡ false → is_envelope_name name ≡ false → kind_of_member class.ElectionReport name ≡ kind.Keyed f
+        → Matched (R (role.OfFamily f)) (entries_at name t) (entries_at name u)
+    in_report f name other apart keyed = array role.Report t u root f name other (λ c is. subst (IsOfKind name (kind.Keyed f)) (sym (report_class c is)) (keyed, apart))
+
+    module _ (elections : Matched (R role.Election) (entries_at (codes "Election") t) (entries_at (codes "Election") u)) where
+      in_elections : (f : Family) (name : List ℕ) → bytes_eq name (codes "@type") ≡ false → kind_of_member class.Election name ≡ kind.Keyed f
+          → Matched (R (role.OfFamily f)) (flat_map (entries_at name) (entries_at (codes "Election") t)) (flat_map (entries_at name) (entries_at (codes "Election") u))
+      in_elections f name other keyed = matched_flat (entries_at name) (entries_at name) (λ x y h r. in_election x y r f name other keyed) elections
+
+      pub families_matched : (f : Family) → Matched (R (role.OfFamily f)) (family_values f t) (family_values f u)
+      families_matched family.Unit = in_report family.Unit (codes "GpUnit") refl refl refl
+      families_matched family.Party = in_report family.Party (codes "Party") refl refl refl
+      families_matched family.Person = in_report family.Person (codes "Person") refl refl refl
+      families_matched family.Office = in_report family.Office (codes "Office") refl refl refl
+      families_matched family.Header = in_report family.Header (codes "Header") refl refl refl
+      families_matched family.Candidate = in_elections family.Candidate (codes "Candidate") refl refl
+      families_matched family.Contest = in_elections family.Contest (codes "Contest") refl refl
+      families_matched family.Style = in_elections family.Style (codes "BallotStyle") refl refl
+      families_matched family.Selection =
+          matched_flat (entries_at (codes "ContestSelection")) (entries_at (codes "ContestSelection")) (λ x y h r. chosen_matched x y r) (in_elections family.Contest (codes "Contest") refl refl)

@@ -2,7 +2,7 @@
 use Rattle.erd_normal.proofs.Common.{◌≡◌, ℕ, Bool, true, false, List, [], Some, None, Option, IsPermutation, sym, refl, ap, ◌∙◌, subst, IsPermutation-sym, IsPermutation-trans, Num, Data, null, boolean, number, string, array, object, Items, no_items, item, Members, no_members, member, role, is_reference, IsTree, list_of_items, scope_inside, want_of_name, entry_want, is_table_set, Scope, Want, Object, Reference, length-reordered, Reordered, is_id_text, SaysInTurn, Sides, StandsFor, IsUnused, an_empty_array, of_the_envelope, an_unused_id, not_asked, a_null, a_flag, a_number, a_text, an_id, a_list, a_set, an_object, no_entry, one_entry, no_member, in_both, left_only, right_only, MayBeAbsent, Same, SameEntries, SameMembers, true≢false}
 use Rattle.erd_normal.proofs.same.Back.{same_back, set_swapped, turned}
 use Rattle.erd_normal.proofs.same.CameFrom.{CameFrom, reference_came_from}
-use Rattle.erd_normal.proofs.same.Types.{scope_same}
+use Rattle.erd_normal.proofs.same.Lookups.{scope_same}
 use Rattle.erd_normal.proofs.lists.NumbersInOrder.{permuted_reordered}
 
 -- ---- what may be absent, along the relation

@@ -1,14 +1,16 @@
 -- The worst case of the names of selections: a label with translations. Labels that say the same have one text, with their translations
 -- in rising order.
-use Rattle.erd_normal.proofs.Common.{◌≡◌, ℕ, Bool, true, false, List, [], ◌∷◌, ◌++◌, map, Some, None, codes, Option, bytes_eq, Ordering, Greater, sym, refl, ap, ◌∙◌, subst, ap₂, nat_list_cmp_total, exact_bytes, option_map_or, match_ordering, get_member-put, Data, null, array, object, Members, no_members, member, put, get_member, items_of, comma_if, compact_text, items_text, members_text, kind_of_member, text_cmp, class, role, kind, text_exact, members_unique, put-trees, kind_of_unlisted_has, IsTree, AreMembers, entries_of, entries_at, class_of_object, want_of_name, Scope, scope, Member, reordered_map, Reordered, rising_list_map, rising_list, compact_cmp, with_rising_text, Sides, MayBeAbsent, Same, SameMembers}
+use Rattle.erd_normal.proofs.Common.{◌≡◌, ℕ, Bool, true, false, List, [], ◌∷◌, ◌++◌, map, Some, None, codes, Option, bytes_eq, Ordering, Greater, sym, refl, ap, ◌∙◌, subst, ap₂, nat_list_cmp_total, exact_bytes, option_map_or, match_ordering, get_member-put, Data, null, array, object, Members, no_members, member, put, get_member, items_of, comma_if, compact_text, items_text, members_text, kind_of_member, text_cmp, class, role, kind, text_exact, members_unique, put-trees, kind_of_unlisted_has, IsTree, AreMembers, entries_of, entries_at, class_of_object, want_of_name, Scope, scope, Member, reordered_map, Reordered, rising_list_map, rising_list, compact_cmp, with_rising_text, Sides, MayBeAbsent, Same, SameMembers, Items, list_of_items, Want, Object, IsPermutation-reordered, JsonMap, JsonSet, Label, untranslated, translated, json_set, label_beside_text, label_of, a_set, is_id_text, StandsFor, true≢false}
 use Rattle.erd_meaning.proofs.orders.Reordered.{no_entry}
 use Rattle.erd_normal.proofs.built.NormalGets.{put_elsewhere, put_twice}
 use Rattle.erd_normal.proofs.lists.Matched.{matched_equal}
 use Rattle.erd_normal.proofs.lists.NumbersInOrder.{rising-reordered}
-use Rattle.erd_normal.proofs.same.Lookups.{Aligned, both_there, not_both, MayLack, lookups, of_object}
+use Rattle.erd_normal.proofs.same.Lookups.{Aligned, both_there, not_both, MayLack, lookups, of_object, lacks_none, merged}
 use Rattle.erd_normal.proofs.same.Related.{entries_matched, lacking_empty}
-use Rattle.erd_normal.proofs.same.Steady.{is_steady, is_steady_kind, stays_one, steady_of_kind, steady_same, is_plain, is_plain_kind, plain_of_kind, AllPlain}
+use Rattle.erd_normal.proofs.same.Steady.{is_steady, is_steady_kind, stays_one, steady_of_kind, steady_same, is_plain, is_plain_kind, plain_of_kind, AllPlain, plain_entry, plain_no_id, plain_scope}
 use Rattle.erd_normal.proofs.throughout.InsideValues.{known_passes}
+use Rattle.erd_normal.proofs.same.Lists.{ApartBy, AreSound, itself, json_sets_reordered}
+use Rattle.erd_normal.proofs.same.Back.{same_self, entries_self}
 
 -- ---- texts of values in order
 
@@ -115,3 +117,59 @@ label_text m required ms e among left right h =
     let tree : AreMembers o.members = subst IsTree o.is_object right in
     text_of_members ms o.members left tree (label_members m ms o.members left tree (subst (λ c. SameMembers m (scope.Members role.Label c) ms o.members) among o.same))
     ∙ sym (ap (λ x. compact_text (with_rising_text x)) o.is_object)
+
+-- ---- completeness: labels of one class that mean the same say the same
+
+plain_text : (m : Sides) (w : Want) (s : List ℕ) → is_plain w ≡ true → is_id_text w ≡ true → StandsFor m s s
+plain_text m w s plain is = absurd (true≢false (sym is ∙ plain_no_id w plain))
+
+-- what is plain says what it says, whatever the functions of texts
+pub plain_self : (m : Sides) (o : Option Want) (d : Data) → AllPlain o → Same m o d d
+plain_self m = same_self m AllPlain (plain_text m) plain_entry plain_scope
+
+-- the parts of what a label means
+abbrev map_of : Label → JsonMap
+map_of (translated beside texts) = beside
+map_of (untranslated s) = λ name. None
+
+abbrev set_of : Label → JsonSet
+set_of (translated beside texts) = texts
+set_of (untranslated s) = λ d. false
+
+-- the translations of a label, as an accepted report has them
+pub record Translations (ms : Members) : Type 0 where
+  pub items : Items
+  pub stands : get_member (codes "Text") ms ≡ Some (array items)
+  pub sound : AreSound (list_of_items items)
+  pub apart : ApartBy itself (list_of_items items)
+
+module _ (m : Sides) where
+  -- equal members that are plain
+  pub equal_aligned : (s : Scope) (k : List ℕ) (o p : Option Data) → AllPlain (want_of_name s k) → o ≡ p → Aligned m s k o p
+  equal_aligned s k None p plain e = subst (Aligned m s k None) e (not_both (lacks_none m.left s k) (lacks_none m.right s k))
+  equal_aligned s k (Some d) p plain e = subst (Aligned m s k (Some d)) e (both_there (plain_self m (want_of_name s k) d plain))
+
+  texts_same : (ds es : Items) → Reordered (list_of_items ds) (list_of_items es) → Same m (Some (Member kind.Languages true)) (array ds) (array es)
+  texts_same ds es h =
+      a_set es refl (IsPermutation-reordered h) (entries_self m AllPlain (plain_text m) plain_entry plain_scope (Some (Object role.Language)) es refl)
+
+  pub labels_say : (ms ns : Members) → AreMembers ms → AreMembers ns → (left : Translations ms) (right : Translations ns) → get_member (codes "@type") ms ≡ get_member (codes "@type") ns
+      → label_of (object ms) ≡ label_of (object ns) → SameMembers m in_label ms ns
+  labels_say ms ns tree tree' left right types same = merged m in_label ms ns tree tree' (λ k. at k (bytes_eq k (codes "Text")) (bytes_eq k (codes "@type")) refl refl)
+    where
+      sets : json_set (list_of_items left.items) ≡ json_set (list_of_items right.items)
+      sets = let h = ap set_of same in rw (left.stands, right.stands) at h
+
+      at : (k : List ℕ) (a b : Bool) → bytes_eq k (codes "Text") ≡ a → bytes_eq k (codes "@type") ≡ b → Aligned m in_label k (get_member k ms) (get_member k ns)
+      at k true b is type =
+          let name : k ≡ codes "Text" = text_exact k (codes "Text") is in
+          subst (λ x. Aligned m in_label x (get_member x ms) (get_member x ns)) (sym name)
+          (rw (left.stands, right.stands) (both_there (texts_same left.items right.items (json_sets_reordered (list_of_items left.items) (list_of_items right.items) left.sound right.sound left.apart right.apart sets))))
+      at k false true is type =
+          let name : k ≡ codes "@type" = text_exact k (codes "@type") type in
+          equal_aligned in_label k (get_member k ms) (get_member k ns) (all_plain_beside k is)
+          (ap (λ x. get_member x ms) name ∙ types ∙ sym (ap (λ x. get_member x ns) name))
+      at k false false is type =
+          let h : label_beside_text (object ms) k ≡ label_beside_text (object ns) k = ap (λ l. map_of l k) same in
+          equal_aligned in_label k (get_member k ms) (get_member k ns) (all_plain_beside k is)
+          (rw (type, is) at h)

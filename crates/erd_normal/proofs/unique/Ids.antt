@@ -1,13 +1,16 @@
 -- Counterparts in canonical reports that mean the same have one `@id`, and so a text names one key in both.
-use Rattle.erd_normal.proofs.Common.{◌≡◌, ℕ, zero, suc, true, false, List, [], map, slice_get, Some, None, codes, Option, option_map, find, filter_map, option_and_then, bytes_eq, is_lt, Ordering, sym, refl, ap, ◌∙◌, subst, options_total, IsStrictlySortedBy, option_cmp, option_map_or, Data, get_member, as_str, is_required, Class, class, Family, family, role, kind, object_in, ObjectIn, position_of, has_at, Has, member_within, Within, want_by_kind, entries_of, entries_at, class_of_object, asked, Member, Object, no_shape_fault, Contains-Has, values-placed_entries, stands, contest_selections, one_named, has_id-Some, has_keys, key_cmp, Preference, key_of, rank_of, Placed, selections_of_contest, objects, id_of, has_id, rising_list, key_named, keys_named, keys_of_selection, is_write_in, order_of_selection, label_of_selection, selection_role, name_of, name_cmp, name_cmp_total, Key, canonical_id, canonical_selection_id, IsCanonical}
+use Rattle.erd_normal.proofs.Common.{◌≡◌, ℕ, zero, suc, true, false, List, [], map, slice_get, Some, None, codes, Option, option_map, find, filter_map, option_and_then, bytes_eq, is_lt, Ordering, sym, refl, ap, ◌∙◌, subst, options_total, IsStrictlySortedBy, option_cmp, option_map_or, Data, get_member, as_str, is_required, Class, class, Family, family, role, kind, object_in, ObjectIn, position_of, has_at, Has, member_within, Within, want_by_kind, entries_of, entries_at, class_of_object, asked, Member, Object, no_shape_fault, Contains-Has, values-placed_entries, stands, contest_selections, one_named, has_id-Some, has_keys, key_cmp, Preference, key_of, rank_of, Placed, selections_of_contest, objects, id_of, has_id, rising_list, key_named, keys_named, keys_of_selection, is_write_in, order_of_selection, label_of_selection, selection_role, name_of, name_cmp, name_cmp_total, Key, canonical_id, canonical_selection_id, IsCanonical, Bool, ◌∷◌, flat_map, same_Some, null, string, array, object, Items, no_items, item, no_members, member, items_of, text_of_class, families, At, Name, list_of_items-place, text_exact, text_itself, list_of_items-items_of, has_mapped, list_of_items, is_repeated, Reference, Has-Contains, flat-has, Sides, StandsFor, IsUnused}
 use Rattle.std.proofs.lemmas.Simd.{map-map}
 use Rattle.erd_normal.proofs.lists.Matched.{AtMostOne, Matched, apart_distinct, matched_count, matched_find, matched_mapped, one_if_apart, said_same, matched_rising, Paired, none, more}
 use Rattle.erd_normal.proofs.same.FamilyValues.{family_values, object_values}
 use Rattle.erd_normal.proofs.same.Related.{matched_within_both}
-use Rattle.erd_normal.proofs.same.SharedIds.{by_one_id, have_one_id, ids_distinct, owner_found}
+use Rattle.erd_normal.proofs.same.IdsOfObjects.{by_one_id, have_one_id, ids_distinct, owner_found, IsId}
 use Rattle.erd_normal.proofs.same.complete.Counterparts.{SelectionsAlike, alike_by_key, family_matched, name_at, selection_name, selections_matched}
-use Rattle.erd_normal.proofs.same.complete.Texts.{Counterpart, by_key, by_name}
+use Rattle.erd_normal.proofs.same.complete.Texts.{Counterpart, by_key, by_name, Couple, couple_back, couple_there, sides}
 use Rattle.erd_normal.proofs.same.complete.Sets.{MeanOne}
+use Rattle.erd_normal.proofs.lists.Lists.{is_family}
+use Rattle.erd_normal.proofs.same.complete.Objects.{AloneUnused}
+use Rattle.erd_tables.specs.declared.class.Family.TheVariants as family
 
 -- the fellow of an entry of a paired list
 fellow_at : {A B : Type 0} (R : A → B → Type 0) {xs : List A} {ys : List B} → Paired R xs ys → (i : ℕ) (x : A) → slice_get xs i ≡ Some x → (y : B) × (slice_get ys i ≡ Some y) × R x y
@@ -93,3 +96,58 @@ module _ (π : Preference) (t u : Data) (canonical : IsCanonical π t) (canonica
   pub one_name : (d : Data) → name_of π t d ≡ name_of π u d
   one_name d = λ i. option_map (λ c. record { class = c; keys = rising_list key_cmp (selection_keys c d i); write_in = is_write_in c d; order = order_of_selection d; label = label_of_selection c d; identifier = key_of π d })
       (class_of_object selection_role d)
+
+-- ---- what canonical form closes: texts that stand for one another are equal, and no `@id` may be absent
+
+-- ---- a report that refers to each object of another
+
+-- the `@id` of an object as a reference
+abbrev reference_to : Data → Data
+reference_to d = option_map_or string (id_of d) null
+
+abbrev references_to_all : Data → List Data
+references_to_all t = flat_map (λ f. map reference_to (family_values f t)) families
+
+-- a report with one unit, which is made of all that t has
+pub referring_to_all : Data → Data
+referring_to_all t =
+    object (member (codes "@type") (string (text_of_class class.ElectionReport)) (member (codes "GpUnit") (array (item
+    (object (member (codes "@type") (string (text_of_class class.ReportingUnit)) (member (codes "ComposingGpUnitIds") (array (items_of (references_to_all t))) no_members))) no_items)) no_members))
+
+pub all_used : (t : Data) (s : List ℕ) → IsId t s → IsUnused (referring_to_all t) s → ⊥
+unfolding referring_to_all
+all_used t s id unused =
+    let r : Has (references_to_all t) (reference_to id.value) =
+    flat-has (λ f. map reference_to (family_values f t)) families id.family (reference_to id.value) (Has-Contains families id.family (is_family id.family)) (has_mapped reference_to (family_values id.family t) id.value id.stands) in
+    let ds : Items = items_of (references_to_all t) in
+    let listed : Has (list_of_items ds) (string s) = subst (λ d. Has (list_of_items ds) d) (ap (λ o. option_map_or string o null) id.is) (subst (λ xs. Has xs (reference_to id.value)) (sym (list_of_items-items_of (references_to_all t))) r) in
+    let p = list_of_items-place ds (string s) listed in
+    unused (Name (codes "GpUnit") ∷ At 0 ∷ Name (codes "ComposingGpUnitIds") ∷ At p.0 ∷ []) (record { want = Reference family.Unit; value = string s; repeated = is_repeated ds p.0 (string s) }) (rw p.1) refl refl
+
+-- ---- two canonical reports
+
+module _ (π : Preference) (t u : Data) (canonical : IsCanonical π t) (canonical' : IsCanonical π u) (both : MeanOne π t u) where
+  -- the two reports, by functions of texts that leave each `@id` as it is, and with none of them unused
+  abbrev pub closed_sides : Sides
+  closed_sides = sides π t u both [] (referring_to_all t) (referring_to_all u)
+
+  one_couple : (c : Couple π t u) → c.text ≡ c.other_text
+  one_couple c = same_Some c.text c.other_text (sym c.is ∙ ids_alike π t u canonical canonical' both c.family c.one c.other c.one_stands c.other_stands c.related ∙ c.other_is)
+
+  other_than : (s s' : List ℕ) → bytes_eq s s' ≡ false → s ≡ s' → ⊥
+  other_than s s' e h = let x : true ≡ false = sym (text_itself s) ∙ ap (bytes_eq s) h ∙ e in cc
+
+  pub one_text : (s s' : List ℕ) → StandsFor closed_sides s s' → s ≡ s'
+  one_text s s' h = at (bytes_eq s []) refl (bytes_eq s' []) refl
+    where
+      at : (a : Bool) → bytes_eq s [] ≡ a → (b : Bool) → bytes_eq s' [] ≡ b → s ≡ s'
+      at true e true f = text_exact s [] e ∙ sym (text_exact s' [] f)
+      at false e b f = let c = couple_back π t u both [] s s' h.1 (other_than s [] e) in sym c.1 ∙ one_couple c.0 ∙ c.2
+      at true e false f = let c = couple_there π t u both [] s s' h.0 (other_than s' [] f) in sym c.1 ∙ one_couple c.0 ∙ c.2
+
+  -- an object has an `@id` if its counterpart has
+  pub none_alone : AloneUnused π t u (referring_to_all t) (referring_to_all u)
+  none_alone = record {
+    left = λ f o p a h k related is is'. let e : Some a ≡ None = sym is ∙ ids_alike π t u canonical canonical' both f o p h k related ∙ is' in cc;
+    right = λ f o p b h k related is is'. let e : Some b ≡ None = sym is' ∙ sym (ids_alike π t u canonical canonical' both f o p h k related) ∙ is in cc;
+  }

@@ -4,15 +4,12 @@ use Rattle.erd_normal.proofs.lists.BuiltLists.{listed_depth}
 use Rattle.erd_normal.proofs.lists.Matched.{Matched, matched_equal, paired_equal, matched_rising}
 use Rattle.erd_normal.proofs.same.Back.{entries_paired}
 use Rattle.erd_normal.proofs.same.FromAlike.{Stands, entry_stands, member_stands, stands_tree}
-use Rattle.erd_normal.proofs.same.IdsOfObjects.{asked_id, part_at, IsPart}
-use Rattle.erd_normal.proofs.same.Lookups.{Aligned, both_there, not_both, lookups}
+use Rattle.erd_normal.proofs.same.IdsOfObjects.{asked_id, part_at, IsPart, IsId}
+use Rattle.erd_normal.proofs.same.Lookups.{Aligned, both_there, not_both, lookups, scope_same}
 use Rattle.erd_normal.proofs.same.Related.{entries_matched, matched_within_both, paired_within_both}
-use Rattle.erd_normal.proofs.same.SharedIds.{IsId}
 use Rattle.erd_normal.proofs.same.Steady.{steady_same, of_report}
-use Rattle.erd_normal.proofs.same.Types.{scope_same}
 use Rattle.erd_normal.proofs.same.complete.Sets.{entry_key, MeanOne}
-use Rattle.erd_normal.proofs.unique.Closed.{all_used, closed_sides, one_text, referring_to_all}
-use Rattle.erd_normal.proofs.unique.Ids.{one_key, one_name}
+use Rattle.erd_normal.proofs.unique.Ids.{one_key, one_name, all_used, closed_sides, one_text, referring_to_all}
 use Rattle.erd_normal.proofs.throughout.ThroughoutReports.{of_envelope}
 
 -- ---- the envelopes of canonical reports are equal, member by member

@@ -3,7 +3,6 @@ use Rattle.erd_normal.proofs.Common.{◌≡◌, ℕ, Bool, true, false, List, []
 use Rattle.erd_normal.proofs.same.FromAlike.{Stands}
 use Rattle.erd_normal.proofs.same.complete.Objects.{all_says, classes_same, members_value, none_aligned, two_say, within_t, within_u}
 use Rattle.erd_normal.proofs.same.complete.Sets.{MeanOne, references_matched, TextsTied}
-use Rattle.erd_normal.proofs.unique.Closed.{none_alone, referring_to_all, closed_sides, one_text}
 use Rattle.erd_normal.proofs.unique.SameTrees.{same_equal, entries_equal, sets_equal}
 use Rattle.erd_normal.proofs.same.complete.Members.{leaves}
 use Rattle.erd_normal.proofs.lists.Matched.{paired_equal}
@@ -11,7 +10,7 @@ use Rattle.erd_normal.proofs.same.Back.{entries_paired}
 use Rattle.erd_normal.proofs.same.Related.{matched_within_both, paired_within_both}
 use Rattle.erd_normal.proofs.same.complete.Contents.{content_says}
 use Rattle.erd_normal.proofs.same.complete.Texts.{by_name, texts_tied}
-use Rattle.erd_normal.proofs.unique.Ids.{ids_alike}
+use Rattle.erd_normal.proofs.unique.Ids.{ids_alike, none_alone, referring_to_all, closed_sides, one_text}
 
 pub mean_one : (π : Preference) (t u : Data) → MeanAlike π t u → MeanOne π t u
 mean_one π t u alike = record { left_tree = alike.left_tree; right_tree = alike.right_tree; left = alike.left.accepted; right = alike.right.accepted; same = alike.same }

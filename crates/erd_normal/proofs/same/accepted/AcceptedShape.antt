@@ -1,12 +1,10 @@
 -- A report that says the same as an accepted one has no fault of shape, where its envelope has none.
 use Rattle.erd_normal.proofs.Common.{◌≡◌, ℕ, Bool, true, false, not, ◌&&◌, ◌⊎◌, List, length, is_none, IsSomeAnd, IsTrue, ◌==◌, Some, None, codes, Option, bytes_eq, sym, refl, ap, ◌∙◌, subst, inl, inr, true≢false, list_any, option_map_or, Data, string, array, object, Members, get_member, as_number, is_float, class_in_role, role, Reason, reason, MemberKind, kind, faultless, within-tree, Within, is_empty_array, lacks, has_kind, has_wanted_kind, names_wanted, is_wrong_class, wants_whole, is_outside, is_other_status, wants_entry, is_reference, is_shape_fault, ShapeFault, NoneOf, IsTree, list_of_items, scope_inside, is_elections, Asked, asked_at, Want, ClassText, Member, Object, Status, no_shape_fault, IsAccepted, Preference, HasSoundEnvelope, Sides, an_id, a_list, a_set, an_object, Same, SameMembers}
 use Rattle.erd_normal.proofs.lists.Matched.{matched_length}
-use Rattle.erd_normal.proofs.same.Lookups.{Aligned, both_there, not_both, MayLack, lookups}
+use Rattle.erd_normal.proofs.same.Lookups.{Aligned, both_there, not_both, MayLack, lookups, scope_same, text_same}
 use Rattle.erd_normal.proofs.same.Related.{entries_matched}
-use Rattle.erd_normal.proofs.same.Types.{scope_same, text_same}
-use Rattle.erd_normal.proofs.same.accepted.AbsentMembers.{IsSound}
 use Rattle.erd_normal.proofs.same.accepted.AskedAgain.{AskedAgain, asked_again, flag_clear}
-use Rattle.erd_normal.proofs.same.accepted.RequiredMembers.{required_stays}
+use Rattle.erd_normal.proofs.same.accepted.RequiredMembers.{required_stays, IsSound}
 
 -- ---- tests of values that say the same
 

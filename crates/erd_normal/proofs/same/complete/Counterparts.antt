@@ -1,5 +1,5 @@
 -- The objects of two accepted reports that mean the same are matched: elections by their keys, the objects of each family in each
-use Rattle.erd_normal.proofs.Common.{◌≡◌, ℕ, Bool, true, ◌⊎◌, List, [], ◌∷◌, map, Some, None, codes, Option, option_map, find, option_and_then, is_eq, sym, refl, ap, ◌∙◌, subst, inl, inr, tied_itself, same_Some, options_total, option_cmp, Data, array, no_items, get, Family, family, role, entries_in, object_in, ObjectIn, and_then-Some, has_mapped, Has-cases, Has, Within, entries_at, class_of_object, asked, Object, objects_distinct, elections_distinct, has-flat, held_key_in, no_shape_fault, no_identity_fault, find-Some, find-any, has_identifier, skeleton, values-placed_entries, election_stands, stands, flat-has, contest_selections, options_exact, equal_keys, equal_names, any-has, IsAccepted, has_keys, key_cmp, Preference, key_of, election_key_of, SelectionRecord, ObjectRecord, NameParts, Placed, placed_entries, report_of, elections, contests, selections_of_contest, objects, plain_member, selection_record, selection_map, member_value, member_of_class, object_record, record_in_election, placed_record, placed_with_key, records_of, name_of, name_cmp, key_cmp_total, name_cmp_total, Key}
+use Rattle.erd_normal.proofs.Common.{◌≡◌, ℕ, Bool, true, ◌⊎◌, List, [], ◌∷◌, map, Some, None, codes, Option, option_map, find, option_and_then, is_eq, sym, refl, ap, ◌∙◌, subst, inl, inr, tied_itself, same_Some, options_total, option_cmp, Data, array, no_items, get, Family, family, role, entries_in, object_in, ObjectIn, and_then-Some, has_mapped, Has-cases, Has, Within, entries_at, class_of_object, asked, Object, objects_distinct, elections_distinct, has-flat, held_key_in, no_shape_fault, no_identity_fault, find-Some, find-any, has_identifier, skeleton, values-placed_entries, election_stands, stands, flat-has, contest_selections, options_exact, equal_keys, equal_names, any-has, IsAccepted, has_keys, key_cmp, Preference, key_of, election_key_of, SelectionRecord, ObjectRecord, NameParts, Placed, placed_entries, report_of, elections, contests, selections_of_contest, objects, plain_member, selection_record, selection_map, member_value, member_of_class, object_record, record_in_election, placed_record, placed_with_key, records_of, name_of, name_cmp, key_cmp_total, name_cmp_total, Key, Ordering, IsTotalOrder}
 use Rattle.erd_meaning.proofs.meanings.WholeRecords.{apart_from_election, no_election_id}
 use Rattle.erd_normal.proofs.lists.Matched.{Matched, matched_back, matched_on, matched_within}
 use Rattle.erd_normal.proofs.same.Lists.{ApartBy, matched_by_keys}
@@ -127,23 +127,14 @@ key_at π o = key_of π o.value
 abbrev is_same_key : Option Key → Option Key → Bool
 is_same_key k l = is_eq (option_cmp key_cmp k l)
 
-key_itself : (k : Option Key) → is_same_key k k ≡ true
-key_itself k = ap is_eq (tied_itself (options_total key_cmp_total) k)
-
-equal_key : (k l : Option Key) → k ≡ l → is_same_key k l ≡ true
-equal_key k l e = ap (λ x. is_same_key k x) (sym e) ∙ key_itself k
-
 abbrev pub name_at : Preference → Data → Placed → Option NameParts
 name_at π t o = name_of π t o.value
 
 abbrev is_same_name : Option NameParts → Option NameParts → Bool
 is_same_name m n = is_eq (option_cmp name_cmp m n)
 
-name_itself : (n : Option NameParts) → is_same_name n n ≡ true
-name_itself n = ap is_eq (tied_itself (options_total name_cmp_total) n)
-
-equal_name : (m n : Option NameParts) → m ≡ n → is_same_name m n ≡ true
-equal_name m n e = ap (λ x. is_same_name m x) (sym e) ∙ name_itself m
+tied : {K : Type 0} (cmp : K → K → Ordering) → IsTotalOrder cmp → (k l : Option K) → k ≡ l → is_eq (option_cmp cmp k l) ≡ true
+tied cmp total k l e = ap (λ x. is_eq (option_cmp cmp k x)) (sym e) ∙ ap is_eq (tied_itself (options_total total) k)
 
 -- ---- one report
 
@@ -165,7 +156,7 @@ module _ (π : Preference) (t : Data) (accepted : IsAccepted π t) where
   elections_apart =
       apart_map (λ e. e.value) (key_of π) (elections t)
       (subst (ApartBy (key_of π)) (sym (values-placed_entries (codes "Election") (report_of t)))
-      (apart_by (λ d e. is_same_key (key_of π d) (key_of π e)) (key_of π) (entries_at (codes "Election") t) (λ d e i j same. equal_key (key_of π d) (key_of π e) same)
+      (apart_by (λ d e. is_same_key (key_of π d) (key_of π e)) (key_of π) (entries_at (codes "Election") t) (λ d e i j same. tied key_cmp key_cmp_total (key_of π d) (key_of π e) same)
       (elections_distinct π t (no_identity_fault π t accepted))))
 
   election_recorded : (e : Placed) → Has (elections t) e → (r : ObjectRecord) × (object_record π t role.Election e.value ≡ Some r)
@@ -179,12 +170,12 @@ module _ (π : Preference) (t : Data) (accepted : IsAccepted π t) where
 
     -- no two objects of a family have one key
     pub family_apart : ApartBy (key_at π) (objects f t)
-    family_apart = apart_by one_key (key_at π) (objects f t) (λ o p i j same. equal_key (key_at π o) (key_at π p) same) (objects_distinct π t (no_identity_fault π t accepted) f keyed)
+    family_apart = apart_by one_key (key_at π) (objects f t) (λ o p i j same. tied key_cmp key_cmp_total (key_at π o) (key_at π p) same) (objects_distinct π t (no_identity_fault π t accepted) f keyed)
 
     -- nor do two that one election holds
     held_apart : (name : List ℕ) → InElections f name → (e : Placed) → Has (elections t) e → ApartBy (key_at π) (placed_entries name e)
     held_apart name home e h =
-        apart_by one_key (key_at π) (placed_entries name e) (λ o p i j same. equal_key (key_at π o) (key_at π p) same)
+        apart_by one_key (key_at π) (placed_entries name e) (λ o p i j same. tied key_cmp key_cmp_total (key_at π o) (key_at π p) same)
         (part_distinct one_key (placed_entries name e) (objects f t) (subst (IsPart (placed_entries name e)) (sym (home.are t)) (part_flat (placed_entries name) (elections t) e h))
         (objects_distinct π t (no_identity_fault π t accepted) f keyed))
 
@@ -205,7 +196,7 @@ module _ (π : Preference) (t : Data) (accepted : IsAccepted π t) where
     -- no two selections of a contest have one name
     selections_apart : ApartBy (name_at π t) (selections_of_contest contest)
     selections_apart =
-        apart_by (λ o p. is_same_name (name_at π t o) (name_at π t p)) (name_at π t) (selections_of_contest contest) (λ o p i j same. equal_name (name_at π t o) (name_at π t p) same)
+        apart_by (λ o p. is_same_name (name_at π t o) (name_at π t p)) (name_at π t) (selections_of_contest contest) (λ o p i j same. tied name_cmp name_cmp_total (name_at π t o) (name_at π t p) same)
         (selections_distinct π t accepted contest c)
 
     selection_recorded : (o : Placed) → Has (selections_of_contest contest) o → (r : SelectionRecord) × (selection_record π t o.value ≡ Some r)
@@ -233,7 +224,7 @@ module _ (π : Preference) (t u : Data) (both : MeanOne π t u) where
   pub elections_matched : Matched (ElectionsAlike π t u) (elections t) (elections u)
   elections_matched =
       matched_within (ElectionsAlike π t u) (λ d e i r. record { key = r.0; record_same = r.1 })
-      (records_matched is_same_key (options_exact key_cmp equal_keys) key_itself (key_at π) (key_at π) (λ e. object_record π t role.Election e.value) (λ e. object_record π u role.Election e.value) (elections t) (elections u)
+      (records_matched is_same_key (options_exact key_cmp equal_keys) (λ k. tied key_cmp key_cmp_total k k refl) (key_at π) (key_at π) (λ e. object_record π t role.Election e.value) (λ e. object_record π u role.Election e.value) (elections t) (elections u)
       (elections_apart π t both.left) (elections_apart π u both.right) (election_recorded π t both.left) (election_recorded π u both.right)
       (λ e i. ap (λ m. m.elections (key_at π e)) both.same) (λ e i. ap (λ m. m.elections (key_at π e)) both.same))
 
@@ -248,7 +239,7 @@ module _ (π : Preference) (t u : Data) (both : MeanOne π t u) where
   family_matched f keyed =
       matched_within_both (ObjectsAlike π t u f)
       (λ o p i j r. let parts = records_apart π t u both.left both.right f o p i j r.1 in record { key = r.0; record_same = parts.0; election = parts.1 })
-      (records_matched is_same_key (options_exact key_cmp equal_keys) key_itself (key_at π) (key_at π) (placed_record π t f) (placed_record π u f) (objects f t) (objects f u)
+      (records_matched is_same_key (options_exact key_cmp equal_keys) (λ k. tied key_cmp key_cmp_total k k refl) (key_at π) (key_at π) (placed_record π t f) (placed_record π u f) (objects f t) (objects f u)
       (family_apart π t both.left f keyed) (family_apart π u both.right f keyed) (object_recorded π t both.left f keyed) (object_recorded π u both.right f keyed)
       (λ o i. let k = has_identifier π t (no_identity_fault π t both.left) f o keyed i in recorded_alike f keyed (key_at π o) k.0 k.1)
       (λ o i. let k = has_identifier π u (no_identity_fault π u both.right) f o keyed i in recorded_alike f keyed (key_at π o) k.0 k.1))
@@ -279,7 +270,7 @@ module _ (π : Preference) (t u : Data) (both : MeanOne π t u) where
       → Matched (SelectionsAlike π t u) (selections_of_contest o) (selections_of_contest p)
   selections_matched o p i j alike =
       matched_within (SelectionsAlike π t u) (λ x y h r. record { name = r.0; record_same = r.1 })
-      (records_matched is_same_name (options_exact name_cmp equal_names) name_itself (name_at π t) (name_at π u) (λ x. selection_record π t x.value) (λ x. selection_record π u x.value) (selections_of_contest o) (selections_of_contest p)
+      (records_matched is_same_name (options_exact name_cmp equal_names) (λ n. tied name_cmp name_cmp_total n n refl) (name_at π t) (name_at π u) (λ x. selection_record π t x.value) (λ x. selection_record π u x.value) (selections_of_contest o) (selections_of_contest p)
       (selections_apart π t both.left o i) (selections_apart π u both.right p j) (selection_recorded π t both.left o i) (selection_recorded π u both.right p j)
       (λ x h. let n = selection_name π t both.left o x i h in mapped_alike (name_at π t x) n.0 n.1) (λ y h. let n = selection_name π u both.right p y j h in mapped_alike (name_at π u y) n.0 n.1))
     where

@@ -1,11 +1,9 @@
 -- Objects of one class say the same if their `@id`s do, what their records leave out does, and the rest means the same.
 use Rattle.erd_normal.proofs.Common.{◌≡◌, ℕ, Bool, true, false, not, ◌&&◌, ◌||◌, ◌⊎◌, List, [], ◌∷◌, is_some, Some, None, codes, Option, option_map, option_and_then, bytes_eq, sym, refl, ap, ◌∙◌, subst, inl, inr, ⊎_elim, not-true, and_parts, list_all, list_any, Data, null, object, Members, get_member, role_of_class, family_of_role, family_of_class, rows_of_class, kind_of_member, is_required, Class, class, Family, family, Role, role, MemberKind, kind, text_exact, get_member-tree, ObjectAt, Has, member_within, Within, kind_of_name, want_unless_status, AreMembers, is_report_class, member_want, asked, scope, ClassText, Object, Status, no_shape_fault, has-any, IsAccepted, Preference, PlainValue, a_json, MemberValue, a_plain, plain_value, is_in_envelope, plain_member, member_value, Sides, an_object, Same, SameMembers}
-use Rattle.erd_normal.proofs.same.LabelsBack.{equal_aligned}
-use Rattle.erd_normal.proofs.same.Lookups.{Aligned}
-use Rattle.erd_normal.proofs.same.Merged.{merged}
+use Rattle.erd_normal.proofs.same.Labels.{equal_aligned}
+use Rattle.erd_normal.proofs.same.Lookups.{Aligned, asked_of_name, merged}
 use Rattle.erd_normal.proofs.same.complete.Sets.{TextsTied}
 use Rattle.erd_normal.proofs.same.complete.Values.{all_plain, means_itself, plain_aligned}
-use Rattle.erd_normal.proofs.same.Types.{asked_of_name}
 use Rattle.erd_normal.proofs.built.AskedMembers.{status_kind}
 
 -- ---- what records leave out

@@ -2,7 +2,7 @@
 use Rattle.erd_normal.proofs.Common.{◌≡◌, ℕ, Bool, true, false, List, [], ◌∷◌, map, is_some, if◌then◌else◌, Some, None, codes, Option, option_map, option_and_then, bytes_eq, sym, refl, ap, ◌∙◌, subst, ⊎_elim, Data, string, array, object, Members, get_member, as_str, role_of_class, family_of_class, kind_of_identity, kind_of_member, is_required, Class, class, Family, family, Role, role, kind, entries_in, string_from_text, object_in, is_filled_array, keyed_list, MayBeArray, ObjectAt, ObjectIn, Has-cases, Has, wanted_within, member_within, within-tree, Within, kind_of_id, is_word, want_by_kind, no_strange, entries_at, class_of_object, want_of_kind, want_of_name, asked, Scope, scope, Want, Member, Object, no_shape_fault, skeleton, values-placed_entries, election_stands, election_object, Skeleton, stands, flat-has, contest_selections, IsAccepted, has_keys, Preference, SelectionRecord, ObjectRecord, Placed, placed_entries, report_of, elections, contests, selections_of_contest, objects, id_of, is_in_envelope, plain_member, selection_record, member_of_class, object_record, selection_role, Sides, IsUnused, of_the_envelope, an_unused_id, an_id, Same}
 use Rattle.erd_normal.proofs.built.NormalGets.{kind_of_family_id}
 use Rattle.erd_normal.proofs.lists.Matched.{Matched, matched_mapped}
-use Rattle.erd_normal.proofs.same.Lookups.{Aligned, both_there, lacks_none, lacks_one, not_both}
+use Rattle.erd_normal.proofs.same.Lookups.{Aligned, both_there, lacks_none, lacks_one, not_both, asked_of_name}
 use Rattle.erd_normal.proofs.same.Related.{matched_within_both}
 use Rattle.erd_normal.proofs.same.complete.Contents.{sets_aligned}
 use Rattle.erd_normal.proofs.same.complete.Counterparts.{ElectionsAlike, ObjectsAlike, elections_matched, family_matched, held_matched, selections_matched}
@@ -11,7 +11,6 @@ use Rattle.erd_normal.proofs.same.complete.Texts.{Counterpart, by_key, by_name, 
 use Rattle.erd_normal.proofs.same.complete.Sets.{MeanOne}
 use Rattle.erd_normal.proofs.meaning.AlikeRecords.{class_of_record, members_in}
 use Rattle.erd_normal.proofs.same.FamilyValues.{InElections, InReport}
-use Rattle.erd_normal.proofs.same.Types.{asked_of_name}
 
 id_text : (π : Preference) (t : Data) → IsAccepted π t → (b : Bool) (r : Bool) (v : Data) → Within t (asked (want_of_kind (if b then kind.Identity else kind.StrangeIdentity) r) v) → Some v ≡ option_map string (as_str v)
 id_text π t accepted true r v w = let s = string_from_text v (wanted_within t (no_shape_fault π t accepted) (asked (Member kind.Identity r) v) w) in rw s.1

@@ -2,7 +2,7 @@
 use Rattle.erd_normal.proofs.Common.{◌≡◌, ℕ, suc, Bool, true, false, not, ◌||◌, List, [], length, ◌==◌, Some, None, codes, Option, option_and_then, sym, refl, ap, ◌∙◌, subst, arith, Data, string, array, object, Items, no_items, item, Members, get_member, text_of_class, role_of_class, Class, class, Family, role, reason, MemberKind, kind, array_from, get_member-tree, of_label, faultless, wanted_within, lacks_none, classed, member_within, Classed, Within, is_simple_class, no_strange, no_unknown, is_text, is_array, is_object, is_empty_array, IsTree, AreTrees, AreMembers, list_of_items, class_of_object, want_of_kind, want_of_name, asked, Scope, scope, Want, Carried, Member, Object, Reference, no_shape_fault, Reordered, IsAccepted, has_keys, Preference, Label, untranslated, Content, no_content, PlainValue, a_label, a_json_set, a_key, a_key_set, a_content, label_of, unless_empty, plain_value, Key, Sides, is_array_kind, a_text, an_object, no_entry, Same, SameEntries, SameMembers}
 use Rattle.erd_normal.proofs.lists.Matched.{Matched, matched_none}
 use Rattle.erd_normal.proofs.same.Back.{entries_paired, set_says, list_says}
-use Rattle.erd_normal.proofs.same.LabelsBack.{Translations, labels_say, plain_self}
+use Rattle.erd_normal.proofs.same.Labels.{Translations, labels_say, plain_self}
 use Rattle.erd_normal.proofs.same.Lookups.{Aligned, both_there, not_both, lacks_none as lacks_nothing}
 use Rattle.erd_normal.proofs.same.Lists.{json_sets_reordered}
 use Rattle.erd_normal.proofs.same.Steady.{AllPlain, is_plain}

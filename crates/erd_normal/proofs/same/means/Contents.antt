@@ -1,11 +1,11 @@
 -- The order of a ballot means the same in two reports that say the same, headers inside headers included.
-use Rattle.erd_normal.proofs.Common.{◌≡◌, ℕ, Bool, true, false, cond, ◌⊎◌, List, [], map, Some, None, codes, Option, option_and_then, bytes_eq, nat_cmp, is_eq, Ordering, Equal, unwrap_or, sym, refl, ap, ◌∙◌, subst, ap₂, inl, inr, is_eq-slice_cmp, slice_cmp, list_any, option_map_or, match_ordering, Data, array, object, Items, no_items, Members, member, get_member, get, as_str, kind_of_member, required_names, Class, class, Family, family, MemberKind, kind, text_exact, get_member-before, here, later, Has, of_role, wanted_within, lacks_none, text_from_equal, want_by_kind, is_object, names_wanted, AreMembers, list_of_items, entries_of, entries_at, text_at, scope_inside, member_want, want_of_name, entry_want, is_table_set, Scope, scope, Want, Carried, Member, Object, Reference, no_shape_fault, kind_of_type, Preference, Content, no_content, first_node, a_contest, a_header, if_carried, carried_members, class_of_node, is_header_class, contest_node, header_node, content_of, nodes_of, node_of, content_inside, is_in_envelope, key_named, name_named, Sides, a_list, a_set, an_object, no_entry, one_entry, no_member, in_both, left_only, right_only, MayBeAbsent, Same, SameEntries, SameMembers, fun_ext, not_asked}
+use Rattle.erd_normal.proofs.Common.{◌≡◌, ℕ, Bool, true, false, cond, ◌⊎◌, List, [], map, Some, None, codes, Option, option_and_then, bytes_eq, nat_cmp, is_eq, Ordering, Equal, unwrap_or, sym, refl, ap, ◌∙◌, subst, ap₂, inl, inr, is_eq-slice_cmp, slice_cmp, list_any, option_map_or, match_ordering, Data, array, object, Items, Members, member, get_member, get, as_str, kind_of_member, required_names, Class, class, Family, family, MemberKind, kind, text_exact, get_member-before, here, later, Has, of_role, wanted_within, lacks_none, text_from_equal, want_by_kind, is_object, names_wanted, AreMembers, list_of_items, entries_of, entries_at, text_at, scope_inside, member_want, want_of_name, entry_want, is_table_set, Scope, scope, Want, Carried, Member, Object, Reference, no_shape_fault, kind_of_type, Preference, Content, no_content, first_node, a_contest, a_header, if_carried, carried_members, class_of_node, is_header_class, contest_node, header_node, content_of, nodes_of, node_of, content_inside, is_in_envelope, key_named, name_named, Sides, a_list, a_set, an_object, no_entry, one_entry, no_member, in_both, left_only, right_only, MayBeAbsent, Same, SameEntries, SameMembers, fun_ext, not_asked}
 use Rattle.erd_normal.proofs.canonical.ChosenEntries.{list_name}
 use Rattle.erd_normal.proofs.same.complete.ContentNodes.{content_at, content_class, content_inside-get, inner_name}
 use Rattle.erd_normal.proofs.same.FromAlike.{Stands, entry_stands, stands_tree}
 use Rattle.erd_normal.proofs.same.Related.{Related}
 use Rattle.erd_normal.proofs.same.Steady.{is_steady_kind, is_plain}
-use Rattle.erd_normal.proofs.same.means.Members.{BothObjects, HaveMembers, MeansNothing, is_absent, is_empty, is_identity, is_outside, TwoReports, Told, both_told, none_told, absent_nothing, both_objects, member_there, nothing_empty, steady_nothing, told_plain}
+use Rattle.erd_normal.proofs.same.means.Members.{BothObjects, HaveMembers, TwoReports, Told, both_told, none_told, absent_nothing, both_objects, member_there, nothing_empty, steady_nothing, told_plain, nothing_cases}
 use Rattle.erd_normal.proofs.same.means.Names.{name_named_alike}
 use Rattle.erd_normal.proofs.same.means.References.{key_alike_text, said_in_turn}
 use Rattle.erd_tables.specs.declared.class.Role.TheVariants as role
@@ -37,13 +37,8 @@ none_inside π t ms e = content_inside-get π t ms ∙ ap (content_at π t) e
 
 absent_content : (π : Preference) (t : Data) (s : Scope) (k : List ℕ) (d : Data) → s ≡ scope.Members role.Content (Some class.OrderedHeader) → inner_name ≡ k → MayBeAbsent t s k d → content_of π t d ≡ no_content
 absent_content π t s k d is named h =
-    at (absent_nothing t role.Content class.OrderedHeader inner_name d refl (subst (λ z. MayBeAbsent t z inner_name d) is (subst (λ n. MayBeAbsent t s n d) (sym named) h)))
-  where
-    at : MeansNothing class.OrderedHeader inner_name (Some d) → content_of π t d ≡ no_content
-    at (is_absent e) = cc
-    at (is_empty listed e) = let one : d ≡ array no_items = cc in ap (content_of π t) one
-    at (is_identity e) = cc
-    at (is_outside e) = cc
+    nothing_cases (λ o. content_at π t o ≡ no_content) class.OrderedHeader inner_name (Some d) refl
+    (absent_nothing t role.Content class.OrderedHeader inner_name d refl (subst (λ z. MayBeAbsent t z inner_name d) is (subst (λ n. MayBeAbsent t s n d) (sym named) h))) (λ e. cc) refl (λ k. refl)
 
 -- what is asked of it
 inner_asked : (s : Scope) (k : List ℕ) → s ≡ scope.Members role.Content (Some class.OrderedHeader) → inner_name ≡ k → want_of_name s k ≡ Some (Member kind.Content false)

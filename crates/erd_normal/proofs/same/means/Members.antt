@@ -1,11 +1,10 @@
 -- What stands under a name in two related objects: values that are related, or nothing that means anything.
-use Rattle.erd_normal.proofs.Common.{◌≡◌, ℕ, true, false, List, [], length, Some, None, codes, Option, bytes_eq, sym, refl, ap, ◌∙◌, subst, arith, option_map_or, Data, array, object, Items, no_items, item, Members, get_member, get, role_of_class, kind_of_member, Class, class, Role, role, kind, Name, object_in, ObjectIn, Within-step, AsksObject, of_role, of_label, asked_inside_object, unrepeated, ShapeFault, NoneOf, IsTree, list_of_items, entries_of, class_of_object, scope_inside, member_want, entry_want, asked, scope, Want, Object, IsAccepted, Preference, unless_empty, is_in_envelope, Sides, is_array_kind, is_envelope, an_empty_array, of_the_envelope, an_unused_id, a_list, a_set, MayBeAbsent, Same, SameMembers}
+use Rattle.erd_normal.proofs.Common.{◌≡◌, ℕ, true, false, List, [], length, Some, None, codes, Option, bytes_eq, sym, refl, ap, ◌∙◌, subst, arith, option_map_or, Data, array, object, Items, no_items, item, Members, get_member, get, role_of_class, kind_of_member, Class, class, Role, role, kind, Name, object_in, ObjectIn, Within-step, AsksObject, of_role, of_label, asked_inside_object, unrepeated, ShapeFault, NoneOf, IsTree, list_of_items, entries_of, class_of_object, scope_inside, member_want, entry_want, asked, scope, Want, Object, IsAccepted, Preference, unless_empty, is_in_envelope, Sides, is_array_kind, is_envelope, an_empty_array, of_the_envelope, an_unused_id, a_list, a_set, MayBeAbsent, Same, SameMembers, true≢false}
 use Rattle.erd_normal.proofs.lists.Matched.{Matched, matched_length, matched_none}
 use Rattle.erd_normal.proofs.same.FromAlike.{Stands, entry_stands, stands_tree}
-use Rattle.erd_normal.proofs.same.Lookups.{Aligned, both_there, not_both, MayLack, lookups, of_object}
+use Rattle.erd_normal.proofs.same.Lookups.{Aligned, both_there, not_both, MayLack, lookups, of_object, class_same, asked_of_name}
 use Rattle.erd_normal.proofs.same.Related.{Related, entries_matched, matched_within_both}
 use Rattle.erd_normal.proofs.same.Steady.{is_steady_kind, steady_same, is_plain, steady_no_array}
-use Rattle.erd_normal.proofs.same.Types.{class_same, asked_of_name}
 use Rattle.erd_normal.proofs.same.accepted.RequiredMembers.{member_of}
 
 -- two trees that say the same, the left one an accepted report
@@ -39,19 +38,22 @@ lacking_nothing : (t : Data) (r : Role) (c : Class) (name : List ℕ) (o : Optio
 lacking_nothing t r c name None other h = is_absent refl
 lacking_nothing t r c name (Some d) other h = absent_nothing t r c name d other (h.each d refl)
 
+-- outside the envelope, and where it is no `@id`, it is absent or an empty array
+pub nothing_cases : (Q : Option Data → Type 0) (c : Class) (name : List ℕ) (o : Option Data) → is_in_envelope c name ≡ false → MeansNothing c name o → (kind_of_member c name ≡ kind.Identity → Q o) → Q None
+    → (is_array_kind (kind_of_member c name) ≡ true → Q (Some (array no_items))) → Q o
+nothing_cases Q c name o inside (is_absent e) identity absent empty = subst Q (sym e) absent
+nothing_cases Q c name o inside (is_empty k e) identity absent empty = subst Q (sym e) (empty k)
+nothing_cases Q c name o inside (is_identity e) identity absent empty = identity e
+nothing_cases Q c name o inside (is_outside e) identity absent empty = absurd (true≢false (sym e ∙ inside))
+
 -- a steady member means something, if it stands there
 pub steady_nothing : (c : Class) (name : List ℕ) (o : Option Data) → is_steady_kind (kind_of_member c name) ≡ true → is_in_envelope c name ≡ false → MeansNothing c name o → o ≡ None
-steady_nothing c name o steady inside (is_absent e) = e
-steady_nothing c name o steady inside (is_empty k e) = absurd (steady_no_array (kind_of_member c name) steady k)
-steady_nothing c name o steady inside (is_identity e) = let g : false ≡ true = sym (ap is_steady_kind e) ∙ steady in cc
-steady_nothing c name o steady inside (is_outside e) = let g : true ≡ false = sym e ∙ inside in cc
+steady_nothing c name o steady inside h =
+    nothing_cases (λ x. x ≡ None) c name o inside h (λ e. absurd (true≢false (sym steady ∙ ap is_steady_kind e))) refl (λ k. absurd (steady_no_array (kind_of_member c name) steady k))
 
 -- what means nothing has no entries
 pub nothing_empty : (c : Class) (name : List ℕ) (o : Option Data) → is_array_kind (kind_of_member c name) ≡ true → is_in_envelope c name ≡ false → MeansNothing c name o → option_map_or entries_of o [] ≡ []
-nothing_empty c name o listed inside (is_absent e) = ap (λ x. option_map_or entries_of x []) e
-nothing_empty c name o listed inside (is_empty k e) = ap (λ x. option_map_or entries_of x []) e
-nothing_empty c name o listed inside (is_identity e) = let g : true ≡ false = sym listed ∙ ap is_array_kind e in cc
-nothing_empty c name o listed inside (is_outside e) = let g : true ≡ false = sym e ∙ inside in cc
+nothing_empty c name o listed inside h = nothing_cases (λ x. option_map_or entries_of x [] ≡ []) c name o inside h (λ e. absurd (true≢false (sym listed ∙ ap is_array_kind e))) refl (λ k. refl)
 
 -- ---- entries of values
 
@@ -123,6 +125,7 @@ module _ (m : Sides) where
     pub role : role_of_class class ≡ r
     pub left : class_of_object r d ≡ Some class
     pub right : class_of_object r e ≡ Some class
+    pub aligned : (name : List ℕ) → Aligned m (scope.Members r (Some class)) name (get name d) (get name e)
     pub members : HaveMembers class d e
 
   module _ (left_tree : IsTree m.left) (right_tree : IsTree m.right) where
@@ -144,6 +147,9 @@ module _ (m : Sides) where
           role = o.role;
           left = ap (class_of_object r) o.is_object ∙ o.at.among;
           right = ap (class_of_object r) p.is_object ∙ sym (class_same m r o.ms p.members same) ∙ o.at.among;
+          aligned = λ name. subst (λ x. Aligned m (scope.Members r (Some o.class)) name (get name x) (get name e)) (sym o.is_object)
+              (subst (λ x. Aligned m (scope.Members r (Some o.class)) name (get_member name o.ms) (get name x)) (sym p.is_object)
+              (lookups m name same (stands_tree m.left (Object r) (object o.ms) left_tree rel.left) (stands_tree m.right (Object r) (object p.members) right_tree (subst (Stands m.right (Object r)) p.is_object rel.right))));
           members = subst (λ x. HaveMembers o.class x e) (sym o.is_object)
               (subst (HaveMembers o.class (object o.ms)) (sym p.is_object)
               (both_members (Object r) r o.class o.ms p.members of_role o.at.among p.same rel.left (subst (Stands m.right (Object r)) p.is_object rel.right)));

@@ -1,14 +1,12 @@
 -- Objects that say the same have one record.
 use Rattle.erd_normal.proofs.Common.{◌≡◌, ℕ, Bool, true, false, cond, ◌&&◌, List, Some, None, codes, Option, option_and_then, bytes_eq, sym, refl, ap, ◌∙◌, subst, Data, array, no_items, get, kind_of_member, is_required, Class, family, role, MemberKind, kind, text_exact, want_unless_status, entries_of, want_of_kind, is_report_class, member_want, Want, Carried, Member, Object, Reference, Status, no_shape_fault, kind_of_type, Preference, a_json, a_label, a_json_set, a_key, a_key_set, a_content, plain_value, is_in_envelope, plain_member, selection_record, selection_role, Sides, is_array_kind}
 use Rattle.erd_normal.proofs.lists.Matched.{matched_equal}
-use Rattle.erd_normal.proofs.meaning.AlikeRecords.{nothing_of, record_alike}
-use Rattle.erd_normal.proofs.meaning.RisingMeanings.{json_set-reordered}
+use Rattle.erd_normal.proofs.meaning.AlikeRecords.{nothing_of, record_alike, json_set-reordered}
 use Rattle.erd_normal.proofs.same.Related.{Related}
 use Rattle.erd_normal.proofs.same.Steady.{steady_same, is_plain}
 use Rattle.erd_normal.proofs.same.means.Contents.{content_alike}
-use Rattle.erd_normal.proofs.same.means.Labels.{label_alike}
-use Rattle.erd_normal.proofs.same.means.Members.{BothObjects, HaveMembers, MeansNothing, is_absent, is_empty, is_identity, is_outside, TwoReports, Told, both_told, none_told, both_objects, related_entries_of, unless_empty_same}
-use Rattle.erd_normal.proofs.same.means.References.{key_alike, keys_set_alike}
+use Rattle.erd_normal.proofs.same.means.Members.{BothObjects, HaveMembers, MeansNothing, TwoReports, Told, both_told, none_told, both_objects, related_entries_of, unless_empty_same, nothing_cases}
+use Rattle.erd_normal.proofs.same.means.References.{key_alike, keys_set_alike, label_alike}
 use Rattle.erd_normal.proofs.built.AskedMembers.{status_kind}
 
 -- ---- what means nothing
@@ -18,11 +16,9 @@ empty_means_nothing π t kind.Content is = refl
 empty_means_nothing π t k is = cc
 
 nothing_meant : (π : Preference) (t : Data) (c : Class) (name : List ℕ) (o : Option Data) → is_in_envelope c name ≡ false → MeansNothing c name o → option_and_then (plain_value π t (kind_of_member c name)) o ≡ None
-nothing_meant π t c name o inside (is_absent e) = ap (option_and_then (plain_value π t (kind_of_member c name))) e
-nothing_meant π t c name o inside (is_empty listed e) =
-    ap (option_and_then (plain_value π t (kind_of_member c name))) e ∙ empty_means_nothing π t (kind_of_member c name) listed
-nothing_meant π t c name o inside (is_identity e) = ap (λ k. option_and_then (plain_value π t k) o) e ∙ nothing_of (plain_value π t kind.Identity) o (λ x. refl)
-nothing_meant π t c name o inside (is_outside e) = let g : true ≡ false = sym e ∙ inside in cc
+nothing_meant π t c name o inside h =
+    nothing_cases (λ x. option_and_then (plain_value π t (kind_of_member c name)) x ≡ None) c name o inside h
+    (λ e. ap (λ k. option_and_then (plain_value π t k) o) e ∙ nothing_of (plain_value π t kind.Identity) o (λ x. refl)) refl (λ k. empty_means_nothing π t (kind_of_member c name) k)
 
 module _ (m : Sides) (π : Preference) (g : TwoReports m π) where
   -- ---- values

@@ -1,13 +1,16 @@
--- References of two reports that say the same name objects with one key.
-use Rattle.erd_normal.proofs.Common.{◌≡◌, ℕ, List, [], ◌∷◌, map, Some, Option, option_and_then, unwrap_or, refl, ap, ◌∙◌, subst, ap₂, Data, string, Items, as_str, Family, here, later, Has, wanted_within, list_of_items, Want, Reference, no_shape_fault, key_cmp, Preference, key_set, rising_list, key_named, keys_named, IsUsed, Sides, StandsFor, an_id, no_entry, one_entry, Same, SameEntries, string_from_text, sym, a_text, a_set}
-use Rattle.erd_normal.proofs.lists.Matched.{Matched, paired_kept}
+-- References and labels of two reports that say the same mean the same.
+use Rattle.erd_normal.proofs.Common.{◌≡◌, ℕ, List, [], ◌∷◌, map, Some, Option, option_and_then, unwrap_or, refl, ap, ◌∙◌, subst, ap₂, Data, string, Items, as_str, Family, here, later, Has, wanted_within, list_of_items, Want, Reference, no_shape_fault, key_cmp, Preference, key_set, rising_list, key_named, keys_named, IsUsed, Sides, StandsFor, an_id, no_entry, one_entry, Same, SameEntries, string_from_text, sym, a_text, a_set, Bool, true, false, cond, ◌||◌, None, codes, bytes_eq, array, object, Members, get, compact_text, kind_of_member, is_required, class, role, kind, of_label, unrepeated, classed, Classed, entries_at, class_of_object, scope_inside, Member, Object, Reordered, translated, label_of, with_rising_text, a_list, an_object, SameMembers, fun_ext}
+use Rattle.erd_normal.proofs.lists.Matched.{Matched, paired_kept, matched_equal}
 use Rattle.erd_normal.proofs.lists.NumbersInOrder.{rising_keys_named-reordered}
-use Rattle.erd_normal.proofs.meaning.RisingMeanings.{keys_named-reordered}
-use Rattle.erd_normal.proofs.same.FromAlike.{Stands}
+use Rattle.erd_normal.proofs.meaning.AlikeRecords.{keys_named-reordered, json_set-reordered}
+use Rattle.erd_normal.proofs.same.FromAlike.{Stands, stands_tree}
 use Rattle.erd_normal.proofs.same.Owners.{keys_named_same}
 use Rattle.erd_normal.proofs.same.Related.{Related}
-use Rattle.erd_normal.proofs.same.means.Members.{TwoReports}
+use Rattle.erd_normal.proofs.same.means.Members.{TwoReports, HaveMembers, both_members, told_entries, told_plain}
 use Rattle.erd_normal.proofs.same.InTurn.{id_text}
+use Rattle.erd_normal.proofs.same.Labels.{label_text, plain_beside, steady_beside}
+use Rattle.erd_normal.proofs.same.Steady.{steady_same, plain_of_kind}
+use Rattle.erd_normal.proofs.built.AskedMembers.{label_class}
 
 -- a reference is in use
 pub used : (t : Data) (f : Family) (d : Data) (s : List ℕ) → Stands t (Reference f) d → d ≡ string s → IsUsed t s
@@ -59,3 +62,60 @@ module _ (m : Sides) (π : Preference) (g : TwoReports m π) where
       let o = id_text m s.0 r.same refl s.1 in
       ap (λ x. key_named π m.left f (unwrap_or (as_str x) [])) s.1 ∙ named_alike f s.0 o.other o.pair (used m.left f d s.0 r.left s.1) (used m.right f e o.other r.right o.is)
       ∙ sym (ap (λ x. key_named π m.right f (unwrap_or (as_str x) [])) o.is)
+
+-- ---- labels that say the same mean the same, and have one text with their translations in rising order
+
+module _ (m : Sides) where
+  -- labels of the class
+  same_beside : (d e : Data) → HaveMembers m class.InternationalizedText d e → (k : List ℕ) → bytes_eq k (codes "@type") ≡ false → bytes_eq k (codes "Text") ≡ false → get k d ≡ get k e
+  same_beside d e h k typed text =
+      let c = class.InternationalizedText in
+      told_plain m c k (get k d) (get k e) (plain_of_kind (kind_of_member c k) (is_required c k) (plain_beside k typed text)) (steady_beside k typed text) refl (h k typed)
+
+  same_translations : (d e : Data) → HaveMembers m class.InternationalizedText d e → Reordered (entries_at (codes "Text") d) (entries_at (codes "Text") e)
+  same_translations d e h =
+      matched_equal (λ x y r. steady_same m r.same refl)
+      (told_entries m class.InternationalizedText (codes "Text") (Member kind.Languages true) (Object role.Language) (get (codes "Text") d) (get (codes "Text") e) refl refl refl refl (h (codes "Text") refl))
+
+  meaning_of_members : (ms ns : Members) → HaveMembers m class.InternationalizedText (object ms) (object ns) → label_of (object ms) ≡ label_of (object ns)
+  meaning_of_members ms ns h =
+      ap₂ translated (fun_ext (λ k. at k (bytes_eq k (codes "@type")) refl (bytes_eq k (codes "Text")) refl)) (json_set-reordered (same_translations (object ms) (object ns) h))
+    where
+      at : (k : List ℕ) (a : Bool) → bytes_eq k (codes "@type") ≡ a → (b : Bool) → bytes_eq k (codes "Text") ≡ b → cond (a || b) None (get k (object ms)) ≡ cond (a || b) None (get k (object ns))
+      at k true typed b text = refl
+      at k false typed true text = refl
+      at k false typed false text = same_beside (object ms) (object ns) h k typed text
+
+module _ (m : Sides) (π : Preference) (g : TwoReports m π) where
+  among : (required : Bool) (ms : Members) → Stands m.left (Member kind.Label required) (object ms) → class_of_object role.Label (object ms) ≡ Some class.InternationalizedText
+  among required ms l =
+      let w : Want = Member kind.Label required in
+      let c : Classed role.Label (object ms) = classed m.left (no_shape_fault π m.left g.accepted) w role.Label (object ms) of_label refl (unrepeated m.left (no_shape_fault π m.left g.accepted) w (object ms) l.repeated refl l.inside) in
+      c.among ∙ ap Some (label_class c.class c.role)
+
+  members_of : (required : Bool) (ms ns : Members) → SameMembers m (scope_inside (Member kind.Label required) (object ms)) ms ns → Stands m.left (Member kind.Label required) (object ms)
+      → Stands m.right (Member kind.Label required) (object ns) → HaveMembers m class.InternationalizedText (object ms) (object ns)
+  members_of required ms ns h l r =
+      both_members m g.left_tree g.right_tree (Member kind.Label required) role.Label class.InternationalizedText ms ns of_label (among required ms l) h l r
+
+  label_at : (required : Bool) {d e : Data} → Same m (Some (Member kind.Label required)) d e → Stands m.left (Member kind.Label required) d → Stands m.right (Member kind.Label required) e → label_of d ≡ label_of e
+  label_at required (an_object {ms = ms} {ns = ns} h) l r = meaning_of_members m ms ns (members_of required ms ns h l r)
+  label_at required (an_id is h) l r = cc
+  label_at required (a_set fs is p h) l r = cc
+  label_at required h l r = refl
+
+  pub label_alike : (required : Bool) (d e : Data) → Related m (Member kind.Label required) d e → label_of d ≡ label_of e
+  label_alike required d e r = label_at required r.same r.left r.right
+
+  text_at : (required : Bool) {d e : Data} → Same m (Some (Member kind.Label required)) d e → Stands m.left (Member kind.Label required) d → Stands m.right (Member kind.Label required) e
+      → compact_text (with_rising_text d) ≡ compact_text (with_rising_text e)
+  text_at required (a_list {ds = ds} is h) l r = let x = wanted_within m.left (no_shape_fault π m.left g.accepted) (record { want = Member kind.Label required; value = array ds; repeated = l.repeated }) l.inside in cc
+  text_at required (an_object {ms = ms} {ns = ns} h) l r =
+      label_text m required ms (object ns) (among required ms l) (stands_tree m.left (Member kind.Label required) (object ms) g.left_tree l)
+      (stands_tree m.right (Member kind.Label required) (object ns) g.right_tree r) (an_object h)
+  text_at required (an_id is h) l r = cc
+  text_at required (a_set fs is p h) l r = cc
+  text_at required h l r = refl
+
+  pub label_text_alike : (required : Bool) (d e : Data) → Related m (Member kind.Label required) d e → compact_text (with_rising_text d) ≡ compact_text (with_rising_text e)
+  label_text_alike required d e r = text_at required r.same r.left r.right

@@ -7,12 +7,9 @@ use Rattle.erd_normal.proofs.built.NormalGets.{class_of_object-object, get_objec
 use Rattle.erd_normal.proofs.built.NormalTrees.{normal_node-tree, normal_object-tree, normal_selection-tree}
 use Rattle.erd_normal.proofs.canonical.SelectionIds.{listed}
 use Rattle.erd_normal.proofs.lists.Lists.{IsPart, part_has}
-use Rattle.erd_normal.proofs.same.Built.{set_built}
-use Rattle.erd_normal.proofs.same.Lookups.{Aligned, both_there, not_both, lacks_none, lacks_one}
-use Rattle.erd_normal.proofs.same.Merged.{merged}
-use Rattle.erd_normal.proofs.same.normal.NewIds.{NewId, of_contest, of_family, sides, stands_for}
-use Rattle.erd_normal.proofs.same.normal.NewReferences.{new_unused, style_unused}
-use Rattle.erd_normal.proofs.same.normal.SaidValues.{Said, aligned_said, is_simple_kind, said_member, said_unless, said_value}
+use Rattle.erd_normal.proofs.same.Lookups.{Aligned, both_there, not_both, lacks_none, lacks_one, merged}
+use Rattle.erd_normal.proofs.same.normal.NewIds.{NewId, of_contest, of_family, sides, stands_for, new_unused, style_unused}
+use Rattle.erd_normal.proofs.same.normal.SaidValues.{Said, aligned_said, is_simple_kind, said_member, said_unless, said_value, set_built}
 use Rattle.erd_normal.proofs.throughout.ThroughoutObjects.{IsOfContest, is_of_contest}
 
 -- ---- objects of a class

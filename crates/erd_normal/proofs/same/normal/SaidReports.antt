@@ -3,11 +3,10 @@ use Rattle.erd_normal.proofs.Common.{◌≡◌, ℕ, Bool, true, false, List, ma
 use Rattle.erd_normal.proofs.built.BuiltObjects.{built_election, built_report, election_builder, no_name}
 use Rattle.erd_normal.proofs.built.NormalTrees.{normal_election-tree, normal_tree-tree}
 use Rattle.erd_normal.proofs.lists.Lists.{IsPart}
-use Rattle.erd_normal.proofs.same.Built.{set_built}
 use Rattle.erd_normal.proofs.same.Lookups.{MayLack, not_both}
 use Rattle.erd_normal.proofs.same.normal.NewIds.{new_text, old_text, sides}
 use Rattle.erd_normal.proofs.same.normal.SaidObjects.{KeepsType, in_class, objects_said, said_object}
-use Rattle.erd_normal.proofs.same.normal.SaidValues.{Said, is_simple_kind, kept, said_member, said_unless, said_value}
+use Rattle.erd_normal.proofs.same.normal.SaidValues.{Said, is_simple_kind, kept, said_member, said_unless, said_value, set_built}
 use Rattle.erd_normal.proofs.throughout.ThroughoutReports.{election_family, report_family, report_listed}
 
 -- a member of the election

@@ -1,5 +1,5 @@
 -- What is built of the value of a member without objects says what the value says, and where nothing is built of it, it is an empty array.
-use Rattle.erd_normal.proofs.Common.{◌≡◌, ℕ, Bool, true, false, ◌&&◌, List, [], ◌∷◌, map, if◌then◌else◌, Some, None, codes, Option, bytes_eq, Ordering, sym, refl, ap, ◌∙◌, subst, map-id, not-false, Data, string, array, object, Items, no_items, item, Members, put, get_member, kind_of_member, is_required, Class, Family, family, role, reason, MemberKind, kind, array_from, text_exact, all-Has, faultless, wanted_within, within-tree, Within, want_unless_status, is_empty_array, IsTree, list_of_items, entries_of, entries_at, text_of, want_of_kind, is_report_class, member_want, want_of_name, entry_want, is_table_set, asked, Scope, scope, Want, Carried, Member, Object, Reference, Status, no_shape_fault, IsAccepted, Preference, IsBounded, rising_list, compact_cmp, with_rising_text, Sides, is_array_kind, an_empty_array, a_text, an_id, an_object, Same, SameMembers, normal_id, normal_reference, reference_cmp, normal_selection_reference, unless_no_entry, array_of, normal_value, is_array}
+use Rattle.erd_normal.proofs.Common.{◌≡◌, ℕ, Bool, true, false, ◌&&◌, List, [], ◌∷◌, map, if◌then◌else◌, Some, None, codes, Option, bytes_eq, Ordering, sym, refl, ap, ◌∙◌, subst, map-id, not-false, Data, string, array, object, Items, no_items, item, Members, put, get_member, kind_of_member, is_required, Class, Family, family, role, reason, MemberKind, kind, array_from, text_exact, all-Has, faultless, wanted_within, within-tree, Within, want_unless_status, is_empty_array, IsTree, list_of_items, entries_of, entries_at, text_of, want_of_kind, is_report_class, member_want, want_of_name, entry_want, is_table_set, asked, Scope, scope, Want, Carried, Member, Object, Reference, Status, no_shape_fault, IsAccepted, Preference, IsBounded, rising_list, compact_cmp, with_rising_text, Sides, is_array_kind, an_empty_array, a_text, an_id, an_object, Same, SameMembers, normal_id, normal_reference, reference_cmp, normal_selection_reference, unless_no_entry, array_of, normal_value, is_array, IsPermutation, items_of, list_of_items-items_of, here, later, Has, reordered_back, reordered_rising, reordered-has, permuted_rising, a_list, a_set, SameEntries}
 use Rattle.erd_normal.proofs.built.AskedMembers.{entries_asked, status_kind}
 use Rattle.erd_normal.proofs.built.BuiltFrom.{Builder}
 use Rattle.erd_normal.proofs.built.NormalEntries.{no_entry}
@@ -7,14 +7,34 @@ use Rattle.erd_normal.proofs.built.NormalGets.{get_label-other}
 use Rattle.erd_normal.proofs.built.NormalTrees.{with_rising_text-tree}
 use Rattle.erd_normal.proofs.same.IdsOfObjects.{Refers, reference_refers, references_refer}
 use Rattle.erd_normal.proofs.throughout.ThroughoutMembers.{BuiltLabel, built_label, is_prefixed, is_plain_kind}
-use Rattle.erd_normal.proofs.same.Built.{list_built, set_built}
-use Rattle.erd_normal.proofs.same.Labels.{in_label, all_plain_beside}
-use Rattle.erd_normal.proofs.same.LabelsBack.{plain_self}
-use Rattle.erd_normal.proofs.same.Lookups.{Aligned, both_there, not_both, lacks_none, lacks_one}
-use Rattle.erd_normal.proofs.same.Merged.{merged}
-use Rattle.erd_normal.proofs.same.normal.NewIds.{sides}
-use Rattle.erd_normal.proofs.same.normal.NewReferences.{pair_of, renamed_reference, renamed_selection}
+use Rattle.erd_normal.proofs.same.Labels.{in_label, all_plain_beside, plain_self}
+use Rattle.erd_normal.proofs.same.Lookups.{Aligned, both_there, not_both, lacks_none, lacks_one, merged}
+use Rattle.erd_normal.proofs.same.normal.NewIds.{sides, pair_of, renamed_reference, renamed_selection}
 use Rattle.erd_normal.proofs.same.Steady.{AllPlain}
+use Rattle.erd_normal.proofs.lists.Matched.{Paired, none, more}
+use Rattle.erd_normal.proofs.lists.BuiltLists.{items_again}
+use Rattle.erd_normal.proofs.same.Back.{paired_entries}
+
+module _ (m : Sides) (w : Want) (g : Data → Data) where
+  -- what is built of each of these says the same
+  abbrev EachSame : List Data → Type 0
+  EachSame ds = (x : Data) → Has ds x → Same m (entry_want w) x (g x)
+
+  built_entries : (xs : List Data) → EachSame xs → Paired (Same m (entry_want w)) xs (map g xs)
+  built_entries [] each = none
+  built_entries (x ∷ xs) each = more (each x here) (built_entries xs (λ y i. each y (later i)))
+
+  pub set_built : (cmp : Data → Data → Ordering) (ds : Items) → is_table_set w ≡ true → EachSame (list_of_items ds) → Same m (Some w) (array ds) (array_of (map g (rising_list cmp (list_of_items ds))))
+  set_built cmp ds is each =
+      let xs = rising_list cmp (list_of_items ds) in
+      a_set (items_of xs) is (subst (IsPermutation (list_of_items ds)) (sym (list_of_items-items_of xs)) (permuted_rising cmp (list_of_items ds)))
+      (paired_entries m (entry_want w) (built_entries xs (λ x i. each x (reordered-has x (reordered_back (reordered_rising cmp (list_of_items ds))) i))))
+
+  pub list_built : (ds : Items) → is_table_set w ≡ false → EachSame (list_of_items ds) → Same m (Some w) (array ds) (array_of (map g (list_of_items ds)))
+  list_built ds is each =
+      a_list is (subst (λ x. SameEntries m (entry_want w) x (items_of (map g (list_of_items ds)))) (items_again ds) (paired_entries m (entry_want w) (built_entries (list_of_items ds) each)))
+
+-- ---- what is built of the value of a member without objects
 
 -- ---- what is built of a value
 
