@@ -1,5 +1,5 @@
 -- Each reference of the right report comes from one of the left report that it stands for.
-use Rattle.erd_normal.proofs.Common.{◌≡◌, ℕ, Bool, true, ◌&&◌, ◌⊎◌, List, [], ◌∷◌, Some, None, Option, option_map, option_and_then, sym, refl, ap, ◌∙◌, subst, inl, inr, Data, array, object, Items, Members, get_member, get_item, role, Step, At, Name, list_of_items-place, Within-step, Within-root, within-tree, Within, is_reference, IsTree, list_of_items, scope_inside, want_of_name, entry_want, is_compared_set, Asked, asked, is_repeated, asked_of_member, asked_inside, asked_from, asked_at, Want, Object, Sides, a_list, a_set, an_object, Same, SameMembers, MayBeAbsent, false, no_items, class, MemberKind, kind, member_want, asked_of_entry, Scope, scope, Member, Reference, is_envelope, an_empty_array, of_the_envelope, an_unused_id, option_map_or}
+use Rattle.erd_normal.proofs.Common.{◌≡◌, ℕ, Bool, true, ◌&&◌, ◌⊎◌, List, [], ◌∷◌, Some, None, Option, option_map, option_and_then, sym, refl, ap, ◌∙◌, subst, inl, inr, Data, array, object, Items, Members, get_member, get_item, role, Step, At, Name, list_of_items-place, Within-step, Within-root, within-tree, Within, is_reference, IsTree, list_of_items, scope_inside, want_of_name, entry_want, is_compared_set, Asked, asked, is_repeated, asked_of_member, asked_inside, asked_from, asked_at, Want, Object, Sides, a_list, a_set, an_object, Same, SameMembers, MayBeAbsent, false, no_items, class, MemberKind, kind, member_want, asked_of_entry, Scope, scope, Member, Reference, is_envelope, an_empty_array, of_the_envelope, an_unused_id, option_map_or, ⊎_elim}
 use Rattle.erd_normal.proofs.lists.Matched.{Matched, matched_back}
 use Rattle.erd_normal.proofs.same.Lists.{entry_has}
 use Rattle.erd_normal.proofs.same.Lookups.{Aligned, both_there, not_both, lookups, MayLack, scope_same}
@@ -169,28 +169,19 @@ module _ (m : Sides) (t u : Data) (left_tree : IsTree t) (right_tree : IsTree u)
     next : (b x : Asked) (s : Step) → Within u b → P b → (CameFrom m t b × First b) ⊎ Inside Q b → asked_inside b.want b.value s ≡ Some x → (CameFrom m t x × First x) ⊎ Inside Q x
     next b x s inside p (inr all) found = inr (λ ss c e. all (s ∷ ss) c (ap (option_and_then (λ y. asked_from y ss)) found ∙ e))
     next b x s inside p (inl from) found =
-        at (one_step from.0.of b.value s from.0.inside (subst (λ w. Same m (Some w) from.0.of.value b.value) (sym from.0.want) from.0.same) (within-tree u b right_tree inside) (alone b inside p from.0) x
+        ⊎_elim (λ f. inl (f, first b x s inside from.0 found)) inr
+        (one_step from.0.of b.value s from.0.inside (subst (λ w. Same m (Some w) from.0.of.value b.value) (sym from.0.want) from.0.same) (within-tree u b right_tree inside) (alone b inside p from.0) x
         (ap (λ w. asked_inside w b.value s) from.0.want ∙ found))
-      where
-        at : OneStep x → (CameFrom m t x × First x) ⊎ Inside Q x
-        at (inl f) = inl (f, first b x s inside from.0 found)
-        at (inr all) = inr all
 
     pub came_along : (b : Asked) (ss : List Step) (c : Asked) → Within u b → P b → CameFrom m t b → First b → asked_from b ss ≡ Some c → (CameFrom m t c × First c) ⊎ Q c
     came_along b ss c inside p from here e =
-        at (along (λ x. Within u x × P x × ((CameFrom m t x × First x) ⊎ Inside Q x)) (λ x y s h found. (Within-step u x y s h.0 found, keeps x y s h.1 found, next x y s h.0 h.1 h.2 found)) b ss c (inside, p, inl (from, here)) e).2
-      where
-        at : (CameFrom m t c × First c) ⊎ Inside Q c → (CameFrom m t c × First c) ⊎ Q c
-        at (inl f) = inl f
-        at (inr all) = inr (all [] c refl)
+        ⊎_elim inl (λ all. inr (all [] c refl))
+        (along (λ x. Within u x × P x × ((CameFrom m t x × First x) ⊎ Inside Q x)) (λ x y s h found. (Within-step u x y s h.0 found, keeps x y s h.1 found, next x y s h.0 h.1 h.2 found)) b ss c (inside, p, inl (from, here)) e).2
 
 -- each reference of the right report
 pub reference_came_from : (m : Sides) (t u : Data) → IsTree t → IsTree u → Same m (Some (Object role.Report)) t u → (p : List Step) (c : Asked) → asked_at u p ≡ Some c → is_reference c.want ≡ true → CameFrom m t c
 reference_came_from m t u left_tree right_tree same p c e is =
-    at (came_along m t u left_tree right_tree (λ x. is_reference x.want ≡ true → ⊥) (λ x. Unit {0}) (λ x. Unit {0}) (λ b x s h found. tt)
+    ⊎_elim (λ from. from.0) (λ none. absurd (none is))
+    (came_along m t u left_tree right_tree (λ x. is_reference x.want ≡ true → ⊥) (λ x. Unit {0}) (λ x. Unit {0}) (λ b x s h found. tt)
     (λ b inside h from ms ns n v f value here scopes lacks there asks may. no_reference_absent m.right (scope_inside from.of.want (object ms)) n v f may asks) (λ b x s inside from found. tt)
     (asked (Object role.Report) u) p c (Within-root u) tt (record { of = asked (Object role.Report) t; inside = Within-root t; want = refl; same = same }) tt e)
-  where
-    at : (CameFrom m t c × Unit {0}) ⊎ (is_reference c.want ≡ true → ⊥) → CameFrom m t c
-    at (inl from) = from.0
-    at (inr none) = absurd (none is)

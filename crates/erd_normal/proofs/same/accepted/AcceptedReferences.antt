@@ -56,25 +56,20 @@ module _ (m : Sides) (left_tree : IsTree m.left) (right_tree : IsTree m.right) (
     (root : Related m (Object role.Report) m.left m.right) where
   -- ---- each reference
 
-  -- a reference of the left report, and the one that stands for it in the right one
-  record RefersToo (f : Family) (d e : Data) : Type 0 where
-    id : List ℕ
-    text : d ≡ string id
-    other : List ℕ
-    other_text : e ≡ string other
-    pair : StandsFor m id other
-    left_used : IsUsed m.left id
-    right_used : IsUsed m.right other
-    target : Data
-    owned : owner m.left f id ≡ Some target
-    right_target : Data
-    right_owned : owner m.right f other ≡ Some right_target
-    related : Related m (Object (role.OfFamily f)) target right_target
-
   record Owned (f : Family) (other : List ℕ) (o : Data) : Type 0 where
     object : Data
     named : owner m.right f other ≡ Some object
     related : Related m (Object (role.OfFamily f)) o object
+
+  -- a reference of the left report, and the one that stands for it in the right one
+  record RefersToo (f : Family) (d e : Data) : Type 0 where
+    id : List ℕ
+    text : d ≡ string id
+    other : OtherText m id e
+    left_used : IsUsed m.left id
+    right_used : IsUsed m.right other.other
+    target : Data
+    kin : Owned f other.other target
 
   owned_too : (f : Family) (id other : List ℕ) (o : Data) → StandsFor m id other → IsUsed m.left id → IsUsed m.right other → owner m.left f id ≡ Some o → Owned f other o
   owned_too f id other o pair left right e = at (owner m.left f id) (owner m.right f other) e refl (owners_related m left_tree right_tree π accepted root f id other pair left right)
@@ -94,21 +89,7 @@ module _ (m : Sides) (left_tree : IsTree m.left) (right_tree : IsTree m.right) (
       let o = id_text m x.0 r.same refl x.1 in
       let left = used m.left f d x.0 r.left x.1 in
       let right = used m.right f e o.other r.right o.is in
-      let y = owned_too f x.0 o.other x.2.0 o.pair left right x.2.1 in
-      record {
-        id = x.0;
-        text = x.1;
-        other = o.other;
-        other_text = o.is;
-        pair = o.pair;
-        left_used = left;
-        right_used = right;
-        target = x.2.0;
-        owned = x.2.1;
-        right_target = y.object;
-        right_owned = y.named;
-        related = y.related;
-      }
+      record { id = x.0; text = x.1; other = o; left_used = left; right_used = right; target = x.2.0; kin = owned_too f x.0 o.other x.2.0 o.pair left right x.2.1 }
 
   -- what is asked again, as two values that are related
   related_again : (b : Asked) (w : Want) → b.want ≡ w → Within m.right b → (from : AskedAgain m b) → Related m w from.of.value b.value
@@ -121,9 +102,9 @@ module _ (m : Sides) (left_tree : IsTree m.left) (right_tree : IsTree m.right) (
   reference_sound : (b : Asked) (f : Family) → b.want ≡ Reference f → Within m.right b → AskedAgain m b → (r : Reason) → is_reference_fault m.right b r ≡ false
   reference_sound b f is inside from r =
       let s = refers_too f from.of.value b.value (related_again b (Reference f) is inside from) in
-      let here = (names_sound m.right f s.other s.right_target b.repeated from.first s.right_owned).sound r in
+      let here = (names_sound m.right f s.other.other s.kin.object b.repeated from.first s.kin.named).sound r in
       subst (λ w. is_reference_fault m.right (record { want = w; value = b.value; repeated = b.repeated }) r ≡ false) (sym is)
-      (subst (λ v. is_reference_fault m.right (record { want = Reference f; value = v; repeated = b.repeated }) r ≡ false) (sym s.other_text) here)
+      (subst (λ v. is_reference_fault m.right (record { want = Reference f; value = v; repeated = b.repeated }) r ≡ false) (sym s.other.is) here)
 
   -- what is asked for in a reference or in a ballot is asked again
   again : (b : Asked) → is_lone b.want ≡ false → AskedAgain m b ⊎ IsSound b → AskedAgain m b
@@ -203,12 +184,12 @@ module _ (m : Sides) (left_tree : IsTree m.left) (right_tree : IsTree m.right) (
         let s : RefersToo family.Selection x.0 y = refers_too family.Selection x.0 y x.2 in
         let chosen : IsChosen π m.left accepted o.ms o.at.inside here x.0 =
         all-Has (IsChosen π m.left accepted o.ms o.at.inside here) (entries_at list_name (object o.ms)) x.0 (entries_chosen π m.left accepted o.ms o.at.inside here) (subst (λ z. Has (entries_at list_name z) x.0) o.is_object x.1) in
-        let inside : is_selection_in kin.object s.other ≡ true =
-        sym (chosen_too s.id s.other contest.2.2.0 kin.object s.pair s.left_used s.right_used kin.related)
+        let inside : is_selection_in kin.object s.other.other ≡ true =
+        sym (chosen_too s.id s.other.other contest.2.2.0 kin.object s.other.pair s.left_used s.right_used kin.related)
         ∙ sym (ap (λ z. is_selection_in contest.2.2.0 (text_of z)) s.text) ∙ chosen.1 in
-        ap (is_other_selection m.right e (Reference family.Selection)) s.other_text
-        ∙ ap (λ z. is_some (owner m.right family.Selection s.other) && option_map_or (λ c. not (is_selection_in c s.other)) z false) named
-        ∙ ap (λ b. is_some (owner m.right family.Selection s.other) && not b) inside ∙ and_no (is_some (owner m.right family.Selection s.other))
+        ap (is_other_selection m.right e (Reference family.Selection)) s.other.is
+        ∙ ap (λ z. is_some (owner m.right family.Selection s.other.other) && option_map_or (λ c. not (is_selection_in c s.other.other)) z false) named
+        ∙ ap (λ b. is_some (owner m.right family.Selection s.other.other) && not b) inside ∙ and_no (is_some (owner m.right family.Selection s.other.other))
 
     list_sound : IsListSound m.right e
     list_sound = all_by_entry (λ y. is_other_selection m.right e (Reference family.Selection) y ≡ false) (entries_at list_name e) entry_of_contest

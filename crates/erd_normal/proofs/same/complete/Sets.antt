@@ -1,5 +1,5 @@
 -- Sets that mean the same say the same: references that name one set of keys, and JSON values.
-use Rattle.erd_normal.proofs.Common.{◌≡◌, ℕ, Bool, true, false, ◌&&◌, ◌⊎◌, List, [], ◌∷◌, Some, None, Option, filter_map, option_and_then, is_eq, sym, refl, ap, ◌∙◌, subst, ap₂, inl, inr, true≢false, tied_itself, Equal-is, IsDistinct, cons_option, list_any, Data, string, array, Items, get_item, as_str, role_of_class, Class, Family, family, Role, MemberKind, kind, At, string_from_text, list_of_items-place, list_of_items-tree, text_itself, here, later, Has-cases, all-Has, Has, Within-step, wanted_within, unrepeated, Within, is_simple_class, entry_itself, IsTree, AreTrees, is_same_json, list_of_items, entry_want, is_compared_set, asked, is_repeated, Member, Object, Reference, no_shape_fault, unrepeated_reference, resolves, unrepeated_distinct, any-has, has-any, IsAccepted, has_keys, key_cmp, Preference, key_of, is_selection_in, owner, key_set, meaning, key_named, keys_named, name_named, key_cmp_total, key_cmp_exact, Key, Sides, StandsFor, an_id, Same}
+use Rattle.erd_normal.proofs.Common.{◌≡◌, ℕ, Bool, true, false, ◌&&◌, ◌⊎◌, List, [], ◌∷◌, Some, None, Option, filter_map, option_and_then, is_eq, sym, refl, ap, ◌∙◌, subst, ap₂, true≢false, tied_itself, Equal-is, IsDistinct, cons_option, list_any, Data, string, array, Items, get_item, as_str, role_of_class, Class, Family, family, Role, MemberKind, kind, At, string_from_text, list_of_items-place, list_of_items-tree, text_itself, here, later, Has-cases, all-Has, Has, Within-step, wanted_within, unrepeated, Within, is_simple_class, entry_itself, IsTree, AreTrees, is_same_json, list_of_items, entry_want, is_compared_set, asked, is_repeated, Member, Object, Reference, no_shape_fault, unrepeated_reference, resolves, unrepeated_distinct, any-has, has-any, IsAccepted, has_keys, key_cmp, Preference, key_of, is_selection_in, owner, key_set, meaning, key_named, keys_named, name_named, key_cmp_total, key_cmp_exact, Key, Sides, StandsFor, an_id, Same, ⊎_elim}
 use Rattle.erd_normal.proofs.canonical.DistinctSets.{first_reference, first_value, names_accepted}
 use Rattle.erd_normal.proofs.lists.Matched.{Matched, Paired, none, more}
 use Rattle.erd_normal.proofs.same.Lists.{ApartBy, matched_by_keys, AreSound, itself}
@@ -45,11 +45,7 @@ kept_has {A} {K} key k (y ∷ ys) h = at (key y) refl h (kept_has key k ys)
   where
     at : (o : Option K) → key y ≡ o → Has (cons_option o (filter_map key ys)) k → (Has (filter_map key ys) k → (x : A) × Has ys x × (key x ≡ Some k)) → (x : A) × Has (y ∷ ys) x × (key x ≡ Some k)
     at None is i rest = let r = rest i in (r.0, later r.1, r.2)
-    at (Some l) is i rest = on (Has-cases l k (filter_map key ys) i)
-      where
-        on : (l ≡ k) ⊎ Has (filter_map key ys) k → (x : A) × Has (y ∷ ys) x × (key x ≡ Some k)
-        on (inl e) = (y, here, is ∙ ap Some e)
-        on (inr j) = let r = rest j in (r.0, later r.1, r.2)
+    at (Some l) is i rest = ⊎_elim (λ e. (y, here, is ∙ ap Some e)) (λ j. let r = rest j in (r.0, later r.1, r.2)) (Has-cases l k (filter_map key ys) i)
 
 pub paired_self : {A : Type 0} {R : A → A → Type 0} (xs : List A) → ((x : A) → R x x) → Paired R xs xs
 paired_self [] each = none

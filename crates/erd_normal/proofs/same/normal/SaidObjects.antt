@@ -26,12 +26,8 @@ type_aligned : (m : Sides) (r : Role) (c : Class) (s : List ℕ) (o p : Option D
 type_aligned m r c s o p is its =
     subst (λ x. Aligned m (in_class r c) (codes "@type") x p) (sym is) (subst (Aligned m (in_class r c) (codes "@type") (Some (string s))) (sym its) (both_there (a_text refl)))
 
--- what gives the values of members keeps `@type`
-pub record KeepsType (value_of : Builder) (special : List ℕ → Bool) : Type 0 where
-  pub plain : special (codes "@type") ≡ false
-  pub stays : (v : Data) → value_of (codes "@type") kind.ClassText v ≡ Some v
-
-module _ (m : Sides) (t : Data) (clean : NoneOf (ShapeFault t)) (value_of : Builder) (special : List ℕ → Bool) (keeps : KeepsType value_of special) (r : Role) (c : Class) (ms : Members) (d : Data) (o : BuiltObject t value_of special r c ms d) where
+module _ (m : Sides) (t : Data) (clean : NoneOf (ShapeFault t)) (value_of : Builder) (special : List ℕ → Bool) (plain : special (codes "@type") ≡ false)
+    (stays : (v : Data) → value_of (codes "@type") kind.ClassText v ≡ Some v) (r : Role) (c : Class) (ms : Members) (d : Data) (o : BuiltObject t value_of special r c ms d) where
   abbrev AlignedAt : List ℕ → Type 0
   AlignedAt name = Aligned m (in_class r c) name (get_member name ms) (get name d)
 
@@ -39,8 +35,8 @@ module _ (m : Sides) (t : Data) (clean : NoneOf (ShapeFault t)) (value_of : Buil
   at_type =
       let typed = o.at.typed in
       type_aligned m r c (text_of_class c) (get_member (codes "@type") ms) (get (codes "@type") d) typed
-      (o.gets (codes "@type") keeps.plain ∙ ap (λ k. option_and_then (value_of (codes "@type") k) (get_member (codes "@type") ms)) (kind_of_type c)
-      ∙ ap (option_and_then (value_of (codes "@type") kind.ClassText)) typed ∙ keeps.stays (string (text_of_class c)))
+      (o.gets (codes "@type") plain ∙ ap (λ k. option_and_then (value_of (codes "@type") k) (get_member (codes "@type") ms)) (kind_of_type c)
+      ∙ ap (option_and_then (value_of (codes "@type") kind.ClassText)) typed ∙ stays (string (text_of_class c)))
 
   at_other : (name : List ℕ) → bytes_eq name (codes "@type") ≡ false → (found : Option Data) → get_member name ms ≡ found
       → ((from : Data) → get_member name ms ≡ Some from → Within t (asked (member_want c name) from) → Said m (member_want c name) from (value_of name (kind_of_member c name) from))
@@ -152,14 +148,11 @@ module _ (π : Preference) (t : Data) (accepted : IsAccepted π t) (tree : IsTre
 
   -- ---- selections
 
-  plain_type : KeepsType (plain_builder π t) is_id
-  plain_type = record { plain = refl; stays = λ v. refl }
-
   pub selection_said : (contest o : Placed) → Has (objects family.Contest t) contest → Has (selections_of_contest contest) o
       → Same m (Some (Object selection_role)) o.value (normal_selection π t contest.value o.value)
   selection_said contest o of_report of_c =
       subst (λ x. Same m (Some (Object selection_role)) x (normal_selection π t contest.value o.value)) (sym i.is_object)
-      (said_object m t clean (plain_builder π t) is_id plain_type selection_role i.class i.ms (normal_selection π t contest.value o.value) (built_selection π t clean tree contest.value o.value i)
+      (said_object m t clean (plain_builder π t) is_id refl (λ v. refl) selection_role i.class i.ms (normal_selection π t contest.value o.value) (built_selection π t clean tree contest.value o.value i)
       (subst IsTree i.is_object whole) (normal_selection-tree π t contest.value o.value whole)
       (λ name is. subst (λ n. Aligned m (in_class selection_role i.class) n (get_member n i.ms) (get n (normal_selection π t contest.value o.value))) (sym (text_exact name (codes "@id") is)) at_id)
       (λ name from other no_id found inside. said_member m t (plain_builder π t) i.class name from inside
@@ -183,9 +176,6 @@ module _ (π : Preference) (t : Data) (accepted : IsAccepted π t) (tree : IsTre
 
   -- ---- the order of a ballot
 
-  node_type : KeepsType (node_builder π t) no_name
-  node_type = record { plain = refl; stays = λ v. refl }
-
   -- what is built of a value as a list of contests and headers says the same
   abbrev IsContentSaid : Data → Type 0
   IsContentSaid d = (required : Bool) → Within t (asked (Member kind.Content required) d) → Same m (Some (Member kind.Content required)) d (normal_content π t d)
@@ -198,7 +188,7 @@ module _ (π : Preference) (t : Data) (accepted : IsAccepted π t) (tree : IsTre
   node_with : (ms : Members) → Within t (asked (Object role.Content) (object ms)) → ((name : List ℕ) (d : Data) → get_member name ms ≡ Some d → IsContentSaid d)
       → Same m (Some (Object role.Content)) (object ms) (normal_node π t (object ms))
   node_with ms w contents =
-      said_object m t clean (node_builder π t) no_name node_type role.Content o.class ms (normal_node π t (object ms)) (built_node π t clean tree o.class ms here) whole (normal_node-tree π t (object ms) whole) (λ name is. cc)
+      said_object m t clean (node_builder π t) no_name refl (λ v. refl) role.Content o.class ms (normal_node π t (object ms)) (built_node π t clean tree o.class ms here) whole (normal_node-tree π t (object ms) whole) (λ name is. cc)
       (λ name from other no found inside. said_member m t (node_builder π t) o.class name from inside
       (λ required within. node_member (kind_of_member o.class name) required from (node_kind o.class name other o.role) (contents name from found) within) refl)
     where
@@ -247,13 +237,10 @@ module _ (π : Preference) (t : Data) (accepted : IsAccepted π t) (tree : IsTre
   object_member o (kind.Keyed f) required d is contest w = cc
   object_member o k required d is contest w = said_value π t accepted tree bounded k required d is w
 
-  object_type : (d : Data) → KeepsType (object_builder π t d) is_id
-  object_type d = record { plain = refl; stays = λ v. refl }
-
   object_said : (f : Family) → has_keys f ≡ true → (o : Placed) → Has (objects f t) o → Same m (Some (Object (role.OfFamily f))) o.value (normal_object π t f o.value)
   object_said f keyed o h =
       subst (λ x. Same m (Some (Object (role.OfFamily f))) x (normal_object π t f o.value)) (sym i.is_object)
-      (said_object m t clean (object_builder π t o.value) is_id (object_type o.value) (role.OfFamily f) i.class i.ms (normal_object π t f o.value) (built_object π t clean tree f o.value i)
+      (said_object m t clean (object_builder π t o.value) is_id refl (λ v. refl) (role.OfFamily f) i.class i.ms (normal_object π t f o.value) (built_object π t clean tree f o.value i)
       (subst IsTree i.is_object whole) (normal_object-tree π t f o.value whole)
       (λ name is. subst (λ n. Aligned m (in_class (role.OfFamily f) i.class) n (get_member n i.ms) (get n (normal_object π t f o.value))) (sym (text_exact name (codes "@id") is)) at_id)
       (λ name from other no_id found inside. said_member m t (object_builder π t o.value) i.class name from inside

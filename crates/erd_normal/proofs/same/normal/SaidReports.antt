@@ -5,7 +5,7 @@ use Rattle.erd_normal.proofs.built.NormalTrees.{normal_election-tree, normal_tre
 use Rattle.erd_normal.proofs.lists.Lists.{IsPart}
 use Rattle.erd_normal.proofs.same.Lookups.{MayLack, not_both}
 use Rattle.erd_normal.proofs.same.normal.NewIds.{new_text, old_text, sides}
-use Rattle.erd_normal.proofs.same.normal.SaidObjects.{KeepsType, in_class, objects_said, said_object}
+use Rattle.erd_normal.proofs.same.normal.SaidObjects.{in_class, objects_said, said_object}
 use Rattle.erd_normal.proofs.same.normal.SaidValues.{Said, is_simple_kind, kept, said_member, said_unless, said_value, set_built}
 use Rattle.erd_normal.proofs.throughout.ThroughoutReports.{election_family, report_family, report_listed}
 
@@ -36,9 +36,6 @@ module _ (π : Preference) (t : Data) (accepted : IsAccepted π t) (tree : IsTre
 
   -- ---- the elections
 
-  election_type : KeepsType (election_builder π t) no_name
-  election_type = record { plain = refl; stays = λ v. refl }
-
   election_member : (k : MemberKind) (required : Bool) (d : Data) → is_election_kind k ≡ true → ((f : Family) → k ≡ kind.Keyed f → IsPart (entries_of d) (map (λ o. o.value) (objects f t)))
       → Within t (asked (want_of_kind k required) d) → Said m (want_of_kind k required) d (normal_election_value π t k d)
   election_member (kind.Keyed f) required d is held w = said_unless m (kind.Keyed f) required d _ refl (objects_said π t accepted tree bounded f is required d (held f refl) w)
@@ -48,7 +45,7 @@ module _ (π : Preference) (t : Data) (accepted : IsAccepted π t) (tree : IsTre
       → Same m (Some (Object role.Election)) d (normal_election π t d)
   election_with d h this =
       subst (λ x. Same m (Some (Object role.Election)) x (normal_election π t d)) (sym this.1)
-      (said_object m t clean (election_builder π t) no_name election_type role.Election class.Election this.0 (normal_election π t d) (built_election π t clean tree this.0 d this.1 this.2)
+      (said_object m t clean (election_builder π t) no_name refl (λ v. refl) role.Election class.Election this.0 (normal_election π t d) (built_election π t clean tree this.0 d this.1 this.2)
       (subst IsTree this.1 whole) (normal_election-tree π t d whole) (λ name is. cc)
       (λ name from other no found inside. said_member m t (election_builder π t) class.Election name from inside
       (λ required within. election_member (kind_of_member class.Election name) required from (kind_of_class is_election_kind class.Election name other refl refl refl refl) (election_family t s d h this.0 this.1 name from found) within) refl))
@@ -62,9 +59,6 @@ module _ (π : Preference) (t : Data) (accepted : IsAccepted π t) (tree : IsTre
       (set_built m (Member kind.Elections required) (normal_election π t) (by_key π) s.es refl (λ x h. election_with x h (election_object t clean x (election_within t s x h))))
 
   -- ---- the report
-
-  report_type : KeepsType (normal_report_value π t) is_envelope_name
-  report_type = record { plain = refl; stays = λ v. refl }
 
   outside : (name : List ℕ) (k : MemberKind) (required : Bool) (d : Data) → is_simple_kind k ≡ true → (b : Bool) → b ≡ false → Within t (asked (want_of_kind k required) d)
       → Said m (want_of_kind k required) d (if b then None else normal_value π t k d)
@@ -84,7 +78,7 @@ module _ (π : Preference) (t : Data) (accepted : IsAccepted π t) (tree : IsTre
   pub report_said : Same m (Some (Object role.Report)) t (normal_tree π t)
   report_said =
       subst (λ x. Same m (Some (Object role.Report)) x (normal_tree π t)) (sym s.is_object)
-      (said_object m t clean (normal_report_value π t) is_envelope_name report_type role.Report class.ElectionReport s.ms (normal_tree π t) (built_report π t clean tree s)
+      (said_object m t clean (normal_report_value π t) is_envelope_name refl (λ v. refl) role.Report class.ElectionReport s.ms (normal_tree π t) (built_report π t clean tree s)
       (subst IsTree s.is_object tree) (normal_tree-tree π t tree)
       (λ name is. not_both (envelope_lacks t name (get_member name s.ms) is) (envelope_lacks (normal_tree π t) name (get name (normal_tree π t)) is))
       (λ name from other inside_envelope found inside. said_member m t (normal_report_value π t) class.ElectionReport name from inside
