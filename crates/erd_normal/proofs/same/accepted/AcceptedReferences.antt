@@ -1,5 +1,5 @@
 -- A report that says the same as an accepted one has no fault of references, where its envelope has no fault of shape.
-use Rattle.erd_normal.proofs.Common.{◌≡◌, ℕ, Bool, true, false, not, ◌&&◌, ◌⊎◌, List, [], is_some, IsSomeAnd, IsTrue, Some, None, codes, Option, option_and_then, bytes_eq, unwrap_or, sym, refl, ap, ◌∙◌, subst, inl, inr, true≢false, option_map_or, Data, string, object, get_member, as_str, kind_of_member, class, Family, family, role, Reason, reason, kind, Step, ObjectIn, all_by_entry, all-Has, Has, Within, is_reference, NoneOf, IsTree, entries_at, text_of, text_at, member_want, Asked, asked, asked_at, Want, Member, Object, Reference, no_shape_fault, IsAccepted, Preference, is_unresolved, is_of_other_family, is_reference_fault, is_selection_in, is_other_selection, ReferenceFault, has_id, owner, class_of_node, HasSoundEnvelope, IsUsed, Sides, StandsFor, Same, Class, get, is_in_envelope, same_Some, object_in, unrepeated, is_none, families, any-has, is_owned, Has-Contains}
+use Rattle.erd_normal.proofs.Common.{◌≡◌, ℕ, Bool, true, false, not, ◌&&◌, ◌⊎◌, List, [], is_some, Some, None, codes, Option, option_and_then, bytes_eq, unwrap_or, sym, refl, ap, ◌∙◌, subst, inl, inr, true≢false, option_map_or, Data, string, object, get_member, as_str, kind_of_member, class, Family, family, role, Reason, reason, kind, Step, ObjectIn, all_by_entry, all-Has, Has, Within, is_reference, NoneOf, IsTree, entries_at, text_of, text_at, member_want, Asked, asked, asked_at, Want, Member, Object, Reference, no_shape_fault, IsAccepted, Preference, is_unresolved, is_of_other_family, is_reference_fault, is_selection_in, is_other_selection, ReferenceFault, has_id, owner, class_of_node, HasSoundEnvelope, IsUsed, Sides, StandsFor, Same, Class, get, is_in_envelope, same_Some, object_in, unrepeated, is_none, families, any-has, is_owned, Has-Contains}
 use Rattle.erd_normal.proofs.canonical.ChosenEntries.{IsChosen, contest_named, entries_chosen, list_name}
 use Rattle.erd_normal.proofs.same.IdsOfObjects.{Refers, reference_refers}
 use Rattle.erd_normal.proofs.same.accepted.ListedSelections.{IsListSound, IsListed, none_elsewhere}
@@ -9,7 +9,7 @@ use Rattle.erd_normal.proofs.same.Owners.{has_same, ids_alike, owners_related}
 use Rattle.erd_normal.proofs.same.Related.{Related}
 use Rattle.erd_normal.proofs.same.Families.{selections_matched}
 use Rattle.erd_normal.proofs.same.accepted.RequiredMembers.{IsSound, is_lone}
-use Rattle.erd_normal.proofs.same.accepted.AskedAgain.{AskedAgain, asked_again, none_repeated}
+use Rattle.erd_normal.proofs.same.accepted.AskedAgain.{AskedAgain, asked_again, none_repeated, none_asked}
 use Rattle.erd_normal.proofs.same.means.References.{used}
 use Rattle.erd_normal.proofs.same.means.Members.{BothObjects, Told, both_told, none_told, both_objects, steady_nothing, told_entries}
 use Rattle.erd_normal.proofs.same.Steady.{is_steady_kind}
@@ -201,13 +201,6 @@ module _ (m : Sides) (left_tree : IsTree m.left) (right_tree : IsTree m.right) (
 
   -- ---- the report
 
-  by_asked : (p : List Step) (r : Reason) → IsSomeAnd (asked_at m.right p) (λ a. IsTrue (is_reference_fault m.right a r)) → ⊥
-  by_asked p r h = at (asked_at m.right p) refl h
-    where
-      at : (o : Option Asked) → asked_at m.right p ≡ o → IsSomeAnd o (λ a. IsTrue (is_reference_fault m.right a r)) → ⊥
-      at None is h = h
-      at (Some b) is h = true≢false (sym h ∙ sound_asked p b is r)
-
   pub same_references : NoneOf (ReferenceFault m.right)
   same_references p reason.SelectionOfOtherContest h = none_elsewhere m.right listed p h
-  same_references p r h = by_asked p r h
+  same_references p r h = none_asked m.right (λ b. is_reference_fault m.right b r) p (λ b is. sound_asked p b is r) h

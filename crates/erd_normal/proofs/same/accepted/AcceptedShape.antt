@@ -1,9 +1,9 @@
 -- A report that says the same as an accepted one has no fault of shape, where its envelope has none.
-use Rattle.erd_normal.proofs.Common.{◌≡◌, ℕ, Bool, true, false, not, ◌&&◌, ◌⊎◌, List, length, is_none, IsSomeAnd, IsTrue, ◌==◌, Some, None, codes, Option, bytes_eq, sym, refl, ap, ◌∙◌, subst, inl, inr, true≢false, list_any, option_map_or, Data, string, array, object, Members, get_member, as_number, is_float, class_in_role, role, Reason, reason, MemberKind, kind, faultless, within-tree, Within, is_empty_array, lacks, has_kind, has_wanted_kind, names_wanted, is_wrong_class, wants_whole, is_outside, is_other_status, wants_entry, is_reference, is_shape_fault, ShapeFault, NoneOf, IsTree, list_of_items, scope_inside, is_elections, Asked, asked_at, Want, ClassText, Member, Object, Status, no_shape_fault, IsAccepted, Preference, HasSoundEnvelope, Sides, an_id, a_list, a_set, an_object, Same, SameMembers}
+use Rattle.erd_normal.proofs.Common.{◌≡◌, ℕ, Bool, true, false, not, ◌&&◌, ◌⊎◌, List, length, is_none, ◌==◌, Some, codes, Option, bytes_eq, sym, refl, ap, ◌∙◌, subst, list_any, option_map_or, Data, string, array, object, Members, get_member, as_number, is_float, class_in_role, role, Reason, reason, MemberKind, kind, faultless, within-tree, Within, is_empty_array, lacks, has_kind, has_wanted_kind, names_wanted, is_wrong_class, wants_whole, is_outside, is_other_status, wants_entry, is_reference, is_shape_fault, ShapeFault, NoneOf, IsTree, list_of_items, scope_inside, is_elections, Asked, Want, ClassText, Member, Object, Status, no_shape_fault, IsAccepted, Preference, HasSoundEnvelope, Sides, an_id, a_list, a_set, an_object, Same, SameMembers, ⊎_elim}
 use Rattle.erd_normal.proofs.lists.Matched.{matched_length}
 use Rattle.erd_normal.proofs.same.Lookups.{Aligned, both_there, not_both, MayLack, lookups, scope_same, text_same}
 use Rattle.erd_normal.proofs.same.Related.{entries_matched}
-use Rattle.erd_normal.proofs.same.accepted.AskedAgain.{AskedAgain, asked_again, flag_clear}
+use Rattle.erd_normal.proofs.same.accepted.AskedAgain.{AskedAgain, asked_again, flag_clear, none_asked}
 use Rattle.erd_normal.proofs.same.accepted.RequiredMembers.{required_stays, IsSound}
 
 -- ---- tests of values that say the same
@@ -112,13 +112,6 @@ module _ (m : Sides) (left_tree : IsTree m.left) (right_tree : IsTree m.right) (
 
   -- no value of the right report has a fault of shape
   pub same_shape : HasSoundEnvelope m.right → Same m (Some (Object role.Report)) m.left m.right → NoneOf (ShapeFault m.right)
-  same_shape sound same p r h = at (asked_at m.right p) refl h
-    where
-      no_fault : (b : Asked) → Within m.right b → AskedAgain m b ⊎ IsSound b → is_shape_fault b r ≡ false
-      no_fault b inside (inl from) = no_fault_at b r inside from
-      no_fault b inside (inr alone) = alone.no_fault r
-
-      at : (o : Option Asked) → asked_at m.right p ≡ o → IsSomeAnd o (λ a. IsTrue (is_shape_fault a r)) → ⊥
-      at None is h = h
-      at (Some b) is h =
-          true≢false (sym h ∙ no_fault b (record { place = p; is = is }) (asked_again m left_tree right_tree π accepted sound same p b is))
+  same_shape sound same p r =
+      none_asked m.right (λ b. is_shape_fault b r) p (λ b is.
+      ⊎_elim (no_fault_at b r (record { place = p; is = is })) (λ (alone : IsSound b). alone.no_fault r) (asked_again m left_tree right_tree π accepted sound same p b is))

@@ -1,5 +1,5 @@
 -- All that is asked in the right report is asked in the left one of a value that says the same and repeats no other, or has no fault of shape.
-use Rattle.erd_normal.proofs.Common.{◌≡◌, ℕ, Bool, true, false, not, ◌&&◌, ◌⊎◌, List, [], ◌∷◌, IsSomeAnd, IsTrue, Some, Option, option_map, option_and_then, bytes_eq, sym, refl, ap, ◌∙◌, subst, ap₂, inl, inr, false_from_ne_true, Data, string, array, object, Items, Members, get_member, get_item, Family, role, reason, kind, Step, At, Name, string_from_text, list_of_items-place, list_of_items-tree, text_itself, is_same_exact, Has, Within-step, Within-root, not_within, faultless, wanted_within, within-tree, Within, is_reference, is_shape_fault, IsTree, is_same_json, list_of_items, scope_inside, want_of_name, entry_want, is_compared_set, Asked, asked, is_repeated, asked_of_member, asked_inside, asked_from, asked_at, Want, Member, Object, Reference, no_shape_fault, no_reference_fault, unrepeated_distinct, reordered-has, IsAccepted, Preference, is_reference_fault, HasSoundEnvelope, Sides, is_envelope, Same}
+use Rattle.erd_normal.proofs.Common.{◌≡◌, ℕ, Bool, true, false, not, ◌&&◌, ◌⊎◌, List, [], ◌∷◌, IsSomeAnd, IsTrue, Some, Option, option_map, option_and_then, bytes_eq, sym, refl, ap, ◌∙◌, subst, ap₂, inl, inr, false_from_ne_true, Data, string, array, object, Items, Members, get_member, get_item, Family, role, reason, kind, Step, At, Name, string_from_text, list_of_items-place, list_of_items-tree, text_itself, is_same_exact, Has, Within-step, Within-root, not_within, faultless, wanted_within, within-tree, Within, is_reference, is_shape_fault, IsTree, is_same_json, list_of_items, scope_inside, want_of_name, entry_want, is_compared_set, Asked, asked, is_repeated, asked_of_member, asked_inside, asked_from, asked_at, Want, Member, Object, Reference, no_shape_fault, no_reference_fault, unrepeated_distinct, reordered-has, IsAccepted, Preference, is_reference_fault, HasSoundEnvelope, Sides, is_envelope, Same, ⊎_elim, true≢false, None}
 use Rattle.erd_normal.proofs.same.IdsOfObjects.{IsPart, part_at}
 use Rattle.erd_normal.proofs.same.accepted.RequiredMembers.{IsSoundInside, quiet_lone, IsSound, absent_sound}
 use Rattle.erd_normal.proofs.lists.Matched.{Matched, distinct-paired, distinct-reordered}
@@ -50,6 +50,14 @@ abbrev pub HasSoundMembers : Asked → Type 0
 HasSoundMembers b =
     (ns : Members) (n : List ℕ) (v : Want) (f : Data) → b.value ≡ object ns → want_of_name (scope_inside b.want (object ns)) n ≡ Some v → get_member n ns ≡ Some f
     → is_envelope (scope_inside b.want (object ns)) n ≡ true → IsSoundInside (asked v f)
+
+-- a fault that nothing has stands at no place
+pub none_asked : (u : Data) (test : Asked → Bool) (p : List Step) → ((b : Asked) → asked_at u p ≡ Some b → test b ≡ false) → IsSomeAnd (asked_at u p) (λ a. IsTrue (test a)) → ⊥
+none_asked u test p none = at (asked_at u p) refl
+  where
+    at : (o : Option Asked) → asked_at u p ≡ o → IsSomeAnd o (λ a. IsTrue (test a)) → ⊥
+    at None is h = h
+    at (Some b) is h = true≢false (sym h ∙ none b is)
 
 -- ---- nothing is repeated in an accepted report
 
@@ -165,7 +173,8 @@ module _ (m : Sides) (left_tree : IsTree m.left) (right_tree : IsTree m.right) (
   module _ (P : Asked → Type 0) (keeps : (b x : Asked) (s : Step) → P b → asked_inside b.want b.value s ≡ Some x → P x) (envelope : (b : Asked) → Within m.right b → P b → HasSoundMembers b) where
     pub again_from : (ss : List Step) (b : Asked) → Within m.right b → P b → AskedAgain m b → (c : Asked) → asked_from b ss ≡ Some c → AskedAgain m c ⊎ IsSound c
     again_from ss b inside p from c e =
-        at (came_along m m.left m.right left_tree right_tree IsSound P (λ x. x.repeated ≡ false) keeps
+        ⊎_elim (λ (f : CameFrom m m.left c × (c.repeated ≡ false)). inl (record { of = f.0.of; inside = f.0.inside; want = f.0.want; same = f.0.same; first = f.1 })) inr
+        (came_along m m.left m.right left_tree right_tree IsSound P (λ x. x.repeated ≡ false) keeps
         (λ b inside p from ms ns n v f value here scopes lacks there asks may.
         let known : scope_inside b.want (object ns) ≡ scope_inside from.of.want (object ms) = sym (scopes ∙ ap (λ w. scope_inside w (object ns)) from.want) in
         absent_sound m.left m.right (no_shape_fault π m.left accepted) from.of ms n from.inside value lacks v f asks
@@ -174,10 +183,6 @@ module _ (m : Sides) (left_tree : IsTree m.left) (right_tree : IsTree m.right) (
         first_step from.of b.value s from.inside (subst (λ w. Same m (Some w) from.of.value b.value) (sym from.want) from.same) (within-tree m.right b right_tree inside) x
         (ap (λ w. asked_inside w b.value s) from.want ∙ found))
         b ss c inside p (record { of = from.of; inside = from.inside; want = from.want; same = from.same }) from.first e)
-      where
-        at : (CameFrom m m.left c × (c.repeated ≡ false)) ⊎ IsSound c → AskedAgain m c ⊎ IsSound c
-        at (inl f) = inl (record { of = f.0.of; inside = f.0.inside; want = f.0.want; same = f.0.same; first = f.1 })
-        at (inr sound) = inr sound
 
   pub asked_again : HasSoundEnvelope m.right → Same m (Some (Object role.Report)) m.left m.right → (p : List Step) (c : Asked) → asked_at m.right p ≡ Some c → AskedAgain m c ⊎ IsSound c
   asked_again sound same p c e =

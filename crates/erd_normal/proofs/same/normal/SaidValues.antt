@@ -1,5 +1,5 @@
 -- What is built of the value of a member without objects says what the value says, and where nothing is built of it, it is an empty array.
-use Rattle.erd_normal.proofs.Common.{◌≡◌, ℕ, Bool, true, false, ◌&&◌, List, [], ◌∷◌, map, if◌then◌else◌, Some, None, codes, Option, bytes_eq, Ordering, sym, refl, ap, ◌∙◌, subst, map-id, not-false, Data, string, array, object, Items, no_items, item, Members, put, get_member, kind_of_member, is_required, Class, Family, family, role, reason, MemberKind, kind, array_from, text_exact, all-Has, faultless, wanted_within, within-tree, Within, want_unless_status, is_empty_array, IsTree, list_of_items, entries_of, entries_at, text_of, want_of_kind, is_report_class, member_want, want_of_name, entry_want, is_table_set, asked, Scope, scope, Want, Carried, Member, Object, Reference, Status, no_shape_fault, IsAccepted, Preference, IsBounded, rising_list, compact_cmp, with_rising_text, Sides, is_array_kind, an_empty_array, a_text, an_id, an_object, Same, SameMembers, normal_id, normal_reference, reference_cmp, normal_selection_reference, unless_no_entry, array_of, normal_value, is_array, IsPermutation, items_of, list_of_items-items_of, here, later, Has, reordered_back, reordered_rising, reordered-has, permuted_rising, a_list, a_set, SameEntries}
+use Rattle.erd_normal.proofs.Common.{◌≡◌, ℕ, Bool, true, false, ◌&&◌, List, [], ◌∷◌, map, if◌then◌else◌, Some, None, codes, Option, bytes_eq, Ordering, sym, refl, ap, ◌∙◌, subst, map-id, not-false, Data, string, array, object, Items, no_items, item, Members, put, get_member, kind_of_member, is_required, Class, Family, family, role, reason, MemberKind, kind, text_exact, all-Has, faultless, wanted_within, within-tree, Within, want_unless_status, is_empty_array, IsTree, list_of_items, entries_of, entries_at, text_of, want_of_kind, is_report_class, member_want, want_of_name, entry_want, is_table_set, asked, Scope, scope, Want, Carried, Member, Object, Reference, Status, no_shape_fault, IsAccepted, Preference, IsBounded, rising_list, compact_cmp, with_rising_text, Sides, is_array_kind, an_empty_array, a_text, an_id, an_object, Same, SameMembers, normal_id, normal_reference, reference_cmp, normal_selection_reference, unless_no_entry, array_of, normal_value, is_array, IsPermutation, items_of, list_of_items-items_of, here, later, Has, reordered_back, reordered_rising, reordered-has, permuted_rising, a_list, a_set, SameEntries}
 use Rattle.erd_normal.proofs.built.AskedMembers.{entries_asked, status_kind}
 use Rattle.erd_normal.proofs.built.BuiltFrom.{Builder}
 use Rattle.erd_normal.proofs.built.NormalEntries.{no_entry}
@@ -138,38 +138,34 @@ module _ (π : Preference) (t : Data) (accepted : IsAccepted π t) (tree : IsTre
       subst (λ x. Same m (Some (Reference family.Selection)) x (normal_selection_reference π t d)) (sym r.1)
       (an_id refl (pair_of π t accepted tree bounded r.0 (text_of (normal_selection_reference π t d)) (renamed_selection π t accepted tree bounded d r)))
 
-  -- the value is an array
-  pub with_array : (w : Want) (d : Data) (f : Data → Data) → (d' : (ds : Items) × (d ≡ array ds)) → Within t (asked w d) → ((ds : Items) → Within t (asked w (array ds)) → Same m (Some w) (array ds) (f (array ds))) → Same m (Some w) d (f d)
-  with_array w d f ds inside each = subst (λ x. Same m (Some w) x (f x)) (sym ds.1) (each ds.0 (subst (λ x. Within t (asked w x)) ds.1 inside))
-
-  references : (f : Family) → is_prefixed f ≡ true → (required : Bool) (d : Data) → Within t (asked (Member (kind.Many f) required) d)
+  references : (f : Family) → is_prefixed f ≡ true → (required : Bool) (d : Data) → is_array d ≡ true → Within t (asked (Member (kind.Many f) required) d)
       → Same m (Some (Member (kind.Many f) required)) d (array_of (map (normal_reference π t f) (rising_list (reference_cmp π t f) (entries_of d))))
-  references f named required d w =
-      with_array (Member (kind.Many f) required) d (λ x. array_of (map (normal_reference π t f) (rising_list (reference_cmp π t f) (entries_of x))))
-      (array_from d (wanted_within t (no_shape_fault π t accepted) (asked (Member (kind.Many f) required) d) w)) w
-      (λ ds inside. set_built m (Member (kind.Many f) required) (normal_reference π t f) (reference_cmp π t f) ds refl
-      (λ x h. reference_said f named x (all-Has (Refers t f) (list_of_items ds) x (references_refer π t accepted f required ds inside) h)))
+  references f named required (array ds) is w =
+      set_built m (Member (kind.Many f) required) (normal_reference π t f) (reference_cmp π t f) ds refl
+      (λ x h. reference_said f named x (all-Has (Refers t f) (list_of_items ds) x (references_refer π t accepted f required ds w) h))
+  references f named required d is w = cc
 
   -- identifiers or translations
   rising_said : (w : Want) (d : Data) → is_array d ≡ true → is_table_set w ≡ true → AllPlain (entry_want w) → Same m (Some w) d (array_of (rising_list compact_cmp (entries_of d)))
   rising_said w (array ds) is set plain = set_kept m w compact_cmp ds set (λ x. plain_self m (entry_want w) x plain)
   rising_said w d is set plain = cc
 
-  ordered : (required : Bool) (d : Data) → Within t (asked (Member kind.Ordered required) d) → Same m (Some (Member kind.Ordered required)) d (array_of (map (normal_selection_reference π t) (entries_of d)))
-  ordered required d w =
-      with_array (Member kind.Ordered required) d (λ x. array_of (map (normal_selection_reference π t) (entries_of x)))
-      (array_from d (wanted_within t (no_shape_fault π t accepted) (asked (Member kind.Ordered required) d) w)) w
-      (λ ds inside. list_built m (Member kind.Ordered required) (normal_selection_reference π t) ds refl
+  ordered : (required : Bool) (d : Data) → is_array d ≡ true → Within t (asked (Member kind.Ordered required) d)
+      → Same m (Some (Member kind.Ordered required)) d (array_of (map (normal_selection_reference π t) (entries_of d)))
+  ordered required (array ds) is w =
+      list_built m (Member kind.Ordered required) (normal_selection_reference π t) ds refl
       (λ x h. selection_reference x (reference_refers π t accepted family.Selection x
-      (all-Has (λ e. Within t (asked (Reference family.Selection) e)) (list_of_items ds) x (entries_asked t (Member kind.Ordered required) (Reference family.Selection) ds refl refl inside) h))))
+      (all-Has (λ e. Within t (asked (Reference family.Selection) e)) (list_of_items ds) x (entries_asked t (Member kind.Ordered required) (Reference family.Selection) ds refl refl w) h)))
+  ordered required d is w = cc
 
   pub said_value : (k : MemberKind) (required : Bool) (d : Data) → is_simple_kind k ≡ true → Within t (asked (want_of_kind k required) d) → Said m (want_of_kind k required) d (normal_value π t k d)
   said_value kind.Label required d simple w = kept (label required d w)
   said_value (kind.One f) required d simple w = kept (reference_said f simple d (reference_refers π t accepted f d w))
-  said_value (kind.Many f) required d simple w = said_unless m (kind.Many f) required d _ refl (references f simple required d w)
+  said_value (kind.Many f) required d simple w = said_unless m (kind.Many f) required d _ refl
+      (references f simple required d (wanted_within t (no_shape_fault π t accepted) (asked (Member (kind.Many f) required) d) w) w)
   said_value kind.Identifiers required d simple w = said_unless m kind.Identifiers required d _ refl (rising_said (Member kind.Identifiers required) d (wanted_within t (no_shape_fault π t accepted) (asked (Member kind.Identifiers required) d) w) refl refl)
   said_value kind.Languages required d simple w = said_unless m kind.Languages required d _ refl (rising_said (Member kind.Languages required) d (wanted_within t (no_shape_fault π t accepted) (asked (Member kind.Languages required) d) w) refl refl)
-  said_value kind.Ordered required d simple w = said_unless m kind.Ordered required d _ refl (ordered required d w)
+  said_value kind.Ordered required d simple w = said_unless m kind.Ordered required d _ refl (ordered required d (wanted_within t (no_shape_fault π t accepted) (asked (Member kind.Ordered required) d) w) w)
   said_value kind.Identity required d simple w = cc
   said_value kind.Outside required d simple w = dropped kind.Outside required refl refl (empty_is d (not-false (is_empty_array d) (faultless t (no_shape_fault π t accepted) (asked (Member kind.Outside required) d) reason.OutsideProfile w)))
   said_value (kind.Keyed f) required d simple w = cc
