@@ -1,10 +1,10 @@
 -- The rising keys of two reports in a part, walked in step by rank.
-use Rattle.erd_compare.proofs.Common.{◌≡◌, ℕ, ◌+◌, ◌<◌, List, ◌∷◌, length, drop, slice_get, Some, None, Option, option_map, option_copied, sym, ap, ◌∙◌, subst, ap₂, Bor, length-map, slice_get-map, slice_get_within, Data, view, Role, KeyPosition, Judged, Preference, meaning, rising_positions, Key, record_at, DifferAtKey, role_of_part, keys_in_role, key_in_role, rising_in_role, shared_at, TellsAtPositions, TellsLeast, TellsNext, How, Part}
+use Rattle.erd_compare.proofs.Common.{◌≡◌, ℕ, ◌+◌, ◌<◌, List, ◌∷◌, length, drop, slice_get, Some, None, Option, option_map, option_copied, sym, ap, ◌∙◌, subst, ap₂, Bor, length-map, slice_get_within, view, Role, Judged, meaning, rising_positions, KeyPosition, Key, record_at, DifferAtKey, role_of_part, keys_in_role, key_in_role, rising_in_role, shared_at, TellsAtPositions, TellsLeast, TellsNext, How, Part}
 use Rattle.erd_compare.specs.code.RisingParts.{AreRising}
 use Rattle.erd_compare.specs.declared.first.tables.KeyedDifference.{KeyedDifference}
 use Rattle.erd_compare.specs.declared.first.tables.Rising.{Rising}
 use Rattle.erd_compare.proofs.least_difference.KeyWalks.{AreLeft, both_differ, both_heads, both_same, part_ranked, told_next}
-use Rattle.erd_compare.proofs.least_difference.RisingKeys.{entries, entry_keys, key_there}
+use Rattle.erd_compare.proofs.least_difference.RisingKeys.{entries, key_at, key_there}
 use Rattle.erd_compare.proofs.least_difference.SharedRanks.{HaveShared, found_shared, none_found}
 
 module _ (a b : Judged) (p : Part) (rising : Rising) (h : AreRising a b p rising) where
@@ -61,13 +61,10 @@ module _ (a b : Judged) (p : Part) (rising : Rising) (h : AreRising a b p rising
       pub low_there : n < length rising.ones.now
       low_there = subst (λ m. n < m) (sym (ap length h.ones ∙ length-map ones (λ (e : KeyPosition). e.1))) (slice_get_within ones n both.one both.here)
 
-    key_at : (π : Preference) (t : Data) → slice_get (rising_in_role π t role) n ≡ option_map (λ e. e.0) (slice_get (entries π t role) n)
-    key_at π t = ap (λ ks. slice_get ks n) (sym (entry_keys π t role)) ∙ slice_get-map (λ (e : KeyPosition). e.0) (entries π t role) n
-
     -- they have no key in common there
     pub none_there : shared_here n ≡ None → (x : Option KeyedDifference)
         → TellsNext (slice_get (rising_in_role a.prefer (view a.tree) role) n) (slice_get (rising_in_role b.prefer (view b.tree) role) n) x → IsLeast x
     none_there is x told =
         told_next a.prefer b.prefer (view a.tree) (view b.tree) p h.left h.right ones others n x left (none_found a b role h.left (part_ranked p) rising.common.now h.common n (exact n None is))
-        (subst (λ o. TellsNext o (option_map (λ e. e.0) (slice_get others n)) x) (key_at a.prefer (view a.tree))
-        (subst (λ o. TellsNext (slice_get (rising_in_role a.prefer (view a.tree) role) n) o x) (key_at b.prefer (view b.tree)) told))
+        (subst (λ o. TellsNext o (option_map (λ e. e.0) (slice_get others n)) x) (key_at a.prefer (view a.tree) role n)
+        (subst (λ o. TellsNext (slice_get (rising_in_role a.prefer (view a.tree) role) n) o x) (key_at b.prefer (view b.tree) role n) told))

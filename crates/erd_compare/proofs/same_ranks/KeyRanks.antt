@@ -1,7 +1,8 @@
 -- The common ranks of the keys of two reports: equal ranks for equal keys.
-use Rattle.erd_compare.proofs.Common.{◌≡◌, ℕ, true, List, ◌++◌, ◌==◌, slice_get, Some, None, Option, option_map, sym, refl, ap, ◌∙◌, true≢false, Decides-eqb, slice_get-map, option_eq, Data, view, Role, Judged, Preference, rank_in_keys, Key, place_of, common_rank, rank_of_key, AreCommonRanks, common_ranks_in, AreAllCommonRanks, Decides, keys_in_role, is_ranked, rising_in_role, HasKeyAt, IsComparable, on_side, AreCommonByRank, CommonRanks, Side, Left, Right}
+use Rattle.erd_compare.proofs.Common.{◌≡◌, ℕ, true, List, ◌++◌, ◌==◌, slice_get, Some, Option, option_map, sym, ap, ◌∙◌, slice_get-map, Data, view, Role, Judged, Preference, rank_in_keys, option_eq, Key, place_of, common_rank, rank_of_key, AreCommonRanks, common_ranks_in, AreAllCommonRanks, Decides, keys_in_role, is_ranked, rising_in_role, HasKeyAt, IsComparable, on_side, AreCommonByRank, CommonRanks, Side, Left, Right}
 use Rattle.erd_meaning.proofs.orders.DistinctEntries.{place_of as place_in}
 use Rattle.erd_compare.proofs.least_difference.RisingKeys.{all_rise, at_rank, keys_rise}
+use Rattle.erd_compare.proofs.same_values.EqualOptions.{options_decide}
 use Rattle.erd_compare.proofs.same_ranks.KeyPlaces.{Stands, one_place, place_first, place_there, stands_first, stands_second}
 
 module _ (a b : Judged) (r : Role) where
@@ -48,14 +49,7 @@ module _ (a b : Judged) (r : Role) where
 
   -- equal ranks are those of equal keys
   pub ranks_decide : (o q : Option Key) → IsKnown o → IsKnown q → Decides (option_eq ◌==◌ (option_map (rank_of_key a b r) o) (option_map (rank_of_key a b r) q)) o q
-  ranks_decide None None mine its = (λ h. refl, λ e. refl)
-  ranks_decide None (Some l) mine its = (λ h. absurd (true≢false (sym h)), λ e. cc)
-  ranks_decide (Some k) None mine its = (λ h. absurd (true≢false (sym h)), λ e. cc)
-  ranks_decide (Some k) (Some l) mine its =
-      let one = Decides-eqb (rank_of_key a b r k) (rank_of_key a b r l) in (
-        λ h. ap Some (one_rank k l (mine k refl) (its l refl) (one.0 h)),
-        λ e. let same : k ≡ l = cc in one.1 (ap (rank_of_key a b r) same),
-      )
+  ranks_decide o q mine its = options_decide (rank_of_key a b r) o q (λ k l e g. one_rank k l (mine k e) (its l g))
 
 -- ---- on a side
 
