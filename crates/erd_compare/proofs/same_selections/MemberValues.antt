@@ -1,5 +1,5 @@
 -- What members mean: the selections of a contest, and all others, which mean what they do by themselves.
-use Rattle.erd_compare.proofs.Common.{◌≡◌, ℕ, Bool, false, not, List, is_some, IfSome, IfOk, Some, None, Ok, Err, Option, Result, option_map, sym, refl, ap, ◌∙◌, subst, Bor, fun_ext, Data, array, no_items, item, view, Value, family, MemberKind, kind, entries_of, Preference, PlainValue, MemberValue, a_plain, NameParts, selection_map, member_value, SelectionRecord, a_selection_map, Decides, IsWholeTree, MemberMap, TellsLeastName, is_selections, if_filled, selections_meant}
+use Rattle.erd_compare.proofs.Common.{◌≡◌, ℕ, Bool, false, not, List, is_some, IfSome, IfOk, Some, None, Ok, Err, Option, Result, option_map, sym, refl, ap, ◌∙◌, subst, Bor, fun_ext, Data, array, no_items, item, view, Value, kind_of_member, Class, family, MemberKind, kind, entries_of, Judged, Preference, PlainValue, MemberValue, a_plain, NameParts, selection_map, member_value, SelectionRecord, a_selection_map, Decides, IsWholeTree, MemberMap, TellsLeastName, plain_found, member_found, is_selections, if_filled, selections_meant}
 
 -- ---- selections
 
@@ -62,7 +62,13 @@ plain_maps-Decide p q None told = (λ h. fun_ext (λ k. one_plain (p k) (q k) (a
 plain_maps-Decide p q (Some name) told = (λ h. cc, λ same. absurd (told.differ (ap (λ (m : List ℕ → Option PlainValue). option_map a_plain (m name)) same)))
 
 -- members of a kind other than selections mean the same exactly if they do so by themselves
-pub other_kind-Decides : (π ρ : Preference) (answer : Bool) (t u : Data) (k : MemberKind) (found other : Option Data) (p q : Option PlainValue) → is_selections k ≡ false
+other_kind : (π ρ : Preference) (answer : Bool) (t u : Data) (k : MemberKind) (found other : Option Data) (p q : Option PlainValue) → is_selections k ≡ false
     → Decides answer p q → Decides answer (member_value π t k found p) (member_value ρ u k other q)
-other_kind-Decides π ρ answer t u (kind.Keyed family.Selection) found other p q is h = cc
-other_kind-Decides π ρ answer t u k found other p q is h = plain-Decides answer p q h
+other_kind π ρ answer t u (kind.Keyed family.Selection) found other p q is h = cc
+other_kind π ρ answer t u k found other p q is h = plain-Decides answer p q h
+
+pub other_member : {E : Type 0} (a b : Judged) (c : Class) (name : List ℕ) (found other : Option Data) (r : Result Bool E) → is_selections (kind_of_member c name) ≡ false
+    → IfOk r (λ answer. Decides answer (plain_found a.prefer (view a.tree) c name found) (plain_found b.prefer (view b.tree) c name other))
+    → IfOk r (λ answer. Decides answer (member_found a.prefer (view a.tree) c name found) (member_found b.prefer (view b.tree) c name other))
+other_member a b c name found other (Ok answer) is h = other_kind a.prefer b.prefer answer (view a.tree) (view b.tree) (kind_of_member c name) found other _ _ is h
+other_member a b c name found other (Err e) is h = tt
