@@ -38,12 +38,6 @@ module _ (a b : Judged) (r : Role) where
   abbrev pub IsKnown : Option Key → Type 0
   IsKnown o = (k : Key) → o ≡ Some k → Stands (Some k) both_keys
 
-  known_left : (i : ℕ) (k : Option Key) → HasKeyAt a.prefer (view a.tree) r i k → Stands k both_keys
-  known_left i k h = stands_first k keys_left keys_right (place_in k keys_left (all_rise a.prefer (view a.tree) r i k h))
-
-  known_right : (i : ℕ) (k : Option Key) → HasKeyAt b.prefer (view b.tree) r i k → Stands k both_keys
-  known_right i k h = stands_second k keys_left keys_right (place_in k keys_right (all_rise b.prefer (view b.tree) r i k h))
-
   pub one_rank : (k l : Key) → Stands (Some k) both_keys → Stands (Some l) both_keys → rank_of_key a b r k ≡ rank_of_key a b r l → k ≡ l
   one_rank k l mine its e = let same : Some k ≡ Some l = one_place (Some k) (Some l) both_keys mine its e in cc
 
@@ -61,8 +55,8 @@ module _ (a b : Judged) where
   tree_on side = view (on_side side a b).tree
 
   pub known_on : (side : Side) (r : Role) (i : ℕ) (k : Option Key) → HasKeyAt (prefer_on side) (tree_on side) r i k → Stands k (both_keys a b r)
-  known_on Left r i k h = known_left a b r i k h
-  known_on Right r i k h = known_right a b r i k h
+  known_on Left r i k h = stands_first k (keys_left a b r) (keys_right a b r) (place_in k (keys_left a b r) (all_rise a.prefer (view a.tree) r i k h))
+  known_on Right r i k h = stands_second k (keys_left a b r) (keys_right a b r) (place_in k (keys_right a b r) (all_rise b.prefer (view b.tree) r i k h))
 
   -- the common rank of a key by its rank
   module _ (common : CommonRanks) (are : AreAllCommonRanks a b common) (c : IsComparable a.prefer (view a.tree)) (d : IsComparable b.prefer (view b.tree)) where

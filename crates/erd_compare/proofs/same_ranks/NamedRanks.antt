@@ -41,16 +41,12 @@ named_stands π t f id k keyed e =
     (place.0, record { object = o.0; stands = place.1; key = kept π f o.0.value keyed ∙ (ap (key_of π) o.2 ∙ key) }))
 
 module _ (a b : Judged) (side : Side) where
-  -- a key that a reference names is known
-  pub named_known : (f : Family) (id : List ℕ) → has_keys f ≡ true → IsKnown a b (role.OfFamily f) (key_named (on_side side a b).prefer (view (on_side side a b).tree) f id)
-  named_known f id keyed k e =
-      let stands = named_stands (on_side side a b).prefer (view (on_side side a b).tree) f id k keyed e in
-      known_on a b side (role.OfFamily f) stands.0 (Some k) stands.1
-
-  -- so has one that a value names
+  -- a key that a value names is known
   pub value_known : (f : Family) (text : Option (List ℕ)) → has_keys f ≡ true → IsKnown a b (role.OfFamily f) (option_and_then (key_named (on_side side a b).prefer (view (on_side side a b).tree) f) text)
   value_known f None keyed k e = cc
-  value_known f (Some id) keyed k e = named_known f id keyed k e
+  value_known f (Some id) keyed k e =
+      let stands = named_stands (on_side side a b).prefer (view (on_side side a b).tree) f id k keyed e in
+      known_on a b side (role.OfFamily f) stands.0 (Some k) stands.1
 
   -- and the key of an election that holds an object
   pub holder_known : (r : Role) (i : ℕ) → IsKnown a b role.Election (holder_key_in (on_side side a b).prefer r (view (on_side side a b).tree) i)
