@@ -4,6 +4,7 @@ pub use Rattle.erd_check.proofs.Common.{◌↔◌, Num, unsigned, negative, floa
 unfoldable pub use Rattle.erd_meaning.proofs.Common.{IsDistinct, serde_json_on_literals}
 pub use Rattle.std.proofs.Common.{◌*◌, eqb, drop-cons}
 pub use Rattle.std.proofs.lemmas.List.{drop_all}
+pub use Rattle.std.proofs.lemmas.Map.Text.{is_eq-slice_cmp}
 pub use Rattle.std.proofs.lemmas.Option.{option_and_then_some}
 pub use Rattle.std.specs.Cmp.{nat_cmp_is, unsigned_ties}
 pub use Rattle.std.specs.List.{dedup}
@@ -22,7 +23,7 @@ pub use Rattle.erd_meaning.proofs.meanings.WholeMeanings.{same_but_one, same_obj
 pub use Rattle.erd_meaning.proofs.meanings.WholeRecords.{absent_plain, absent_member, same_at_other_names, no_election_id, other_than_election}
 pub use Rattle.erd_meaning.proofs.orders.DistinctEntries.{distinct_from_one_place}
 pub use Rattle.erd_meaning.proofs.orders.EqualNames.{options_exact, equal_keys}
-pub use Rattle.erd_meaning.proofs.orders.RisingOrders.{greater_turned, all_rising, rising_strictly, stands_at_rank}
+pub use Rattle.erd_meaning.proofs.orders.RisingOrders.{greater_turned, less_turned, all_rising, rising_strictly, stands_at_rank}
 pub use Rattle.erd_meaning.proofs.selections.PositionedKeys.{KeyPosition, positioned_made, positioned_keys, all_positioned, rising_positioned}
 pub use Rattle.erd_meaning.specs.Lookups.{rising_election_keys}
 pub use Rattle.erd_meaning.specs.Meaning.{JsonMap, JsonSet, KeySet, translated, a_content, SelectionRecord, a_selection_map, Meaning}

@@ -31,12 +31,11 @@ module _ (a b : Judged) where
 
   one_keys : (r : Role) (ks ls : List Key) → AllByRecursion (λ k. Stands (Some k) (both_keys a b r)) ks → AllByRecursion (λ k. Stands (Some k) (both_keys a b r)) ls → map (rank_of_key a b r) ks ≡ map (rank_of_key a b r) ls → ks ≡ ls
   one_keys r [] [] mine its e = refl
-  one_keys r [] (l ∷ ls) mine its e = cc
-  one_keys r (k ∷ ks) [] mine its e = cc
   one_keys r (k ∷ ks) (l ∷ ls) mine its e =
       let first : rank_of_key a b r k ≡ rank_of_key a b r l = cc in
       let later : map (rank_of_key a b r) ks ≡ map (rank_of_key a b r) ls = cc in
       ap₂ ◌∷◌ (one_rank a b r k l mine.0 its.0 first) (one_keys r ks ls mine.1 its.1 later)
+  one_keys r ks ls mine its e = cc
 
   -- names that differ in their keys alone
   one_name : (m n : NameParts) → without_keys m ≡ without_keys n → m.keys ≡ n.keys → m ≡ n

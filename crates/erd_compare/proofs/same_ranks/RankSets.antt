@@ -1,9 +1,9 @@
 -- The common ranks of the keys that references name are put into a set one after another, and two such sets are equal if and
 -- only if the sets of the keys are.
-use Rattle.erd_compare.proofs.Common.{◌≡◌, ℕ, Bool, true, false, ◌||◌, List, [], ◌∷◌, map, ◌==◌, Some, None, Option, option_map, IsPermutation, IsSorted, filter_map, option_and_then, nat_cmp, is_eq, Ordering, Equal, sym, refl, ap, ◌∙◌, subst, ap₂, inl, inr, fun_ext, and_parts, and_from, Decides-eqb, tied_itself, nat_cmp_total, CmpEqualImpliesEq, exact_unsigned, IsTotalOrder, both_ways, unsigned_ties, cons_option, dedup, list_any, Data, as_str, view, Value, Family, Role, role, In, In-map, In-map_from, In-from_contains, contains_from_In, Judged, has_keys, key_cmp, KeySet, key_set, key_named, keys_named, key_cmp_total, key_cmp_exact, Key, rank_of_key, Decides, on_side, rank_with_id, list_of_ranks, rank_set, IsRankSet, Side}
+use Rattle.erd_compare.proofs.Common.{◌≡◌, ℕ, Bool, true, List, [], ◌∷◌, map, ◌==◌, Some, None, Option, option_map, IsPermutation, IsSorted, filter_map, option_and_then, nat_cmp, is_eq, Ordering, sym, refl, ap, ◌∙◌, subst, ap₂, inl, inr, fun_ext, tied_itself, nat_cmp_total, CmpEqualImpliesEq, exact_unsigned, Equal-is, IsTotalOrder, both_ways, cons_option, list_any, Data, as_str, view, Value, Family, Role, role, In, In-map, In-map_from, any_at, In-from_contains, contains_from_In, Judged, has_keys, key_cmp, key_named, keys_named, key_cmp_total, key_cmp_exact, unsigned_ties, dedup, KeySet, key_set, Key, rank_of_key, Decides, on_side, rank_with_id, list_of_ranks, rank_set, IsRankSet, Side}
 use Rattle.std.proofs.lemmas.List.Kept.{Contains-dedup_nat, Contains-from_dedup, IsStrictlySortedBy-dedup}
 use Rattle.std.proofs.lemmas.List.Sorted.{list_any-IsPermutation}
-use Rattle.std.specs.Cmp.Lexicographic.{pointwise}
+use Rattle.std.proofs.lemmas.Map.Views.{Contains-from_any}
 use Rattle.erd_meaning.proofs.orders.Sets.{set_unique}
 use Rattle.erd_compare.proofs.same_ranks.KeyRanks.{both_keys, one_rank}
 use Rattle.erd_compare.proofs.same_ranks.KeyPlaces.{Stands}
@@ -27,26 +27,11 @@ module _ (a b : Judged) (side : Side) (f : Family) where
 -- ---- what is in a list
 
 module _ {K : Type 0} (cmp : K → K → Ordering) (total : IsTotalOrder cmp) (exact : CmpEqualImpliesEq cmp) where
-  or_later : (p q : Bool) → q ≡ true → p || q ≡ true
-  or_later true q h = refl
-  or_later false q h = h
-
-  or_first : (p q : Bool) → p ≡ true → p || q ≡ true
-  or_first true q h = refl
-  or_first false q h = cc
-
   any_from_in : (k : K) (ks : List K) → In k ks → list_any (λ l. is_eq (cmp l k)) ks ≡ true
-  any_from_in k [] inside = absurd inside
-  any_from_in k (l ∷ ls) (inl e) = or_first (is_eq (cmp l k)) (list_any (λ x. is_eq (cmp x k)) ls) (subst (λ x. is_eq (cmp x k) ≡ true) (sym e) (ap is_eq (tied_itself total k)))
-  any_from_in k (l ∷ ls) (inr inside) = or_later (is_eq (cmp l k)) (list_any (λ x. is_eq (cmp x k)) ls) (any_from_in k ls inside)
+  any_from_in k ks inside = any_at (λ l. is_eq (cmp l k)) k ks inside (ap is_eq (tied_itself total k))
 
   in_from_any : (k : K) (ks : List K) → list_any (λ l. is_eq (cmp l k)) ks ≡ true → In k ks
-  in_from_any k [] h = cc
-  in_from_any k (l ∷ ls) h = at (cmp l k) refl h (in_from_any k ls)
-    where
-      at : (o : Ordering) → cmp l k ≡ o → is_eq o || list_any (λ x. is_eq (cmp x k)) ls ≡ true → (list_any (λ x. is_eq (cmp x k)) ls ≡ true → In k ls) → In k (l ∷ ls)
-      at Equal is h rest = inl (exact l k is)
-      at d is h rest = inr (rest h)
+  in_from_any k ks h = In-from_contains k ks (Contains-from_any {eq = λ q l. is_eq (cmp l q)} (λ q l e. sym (exact l q ((Equal-is (cmp l q)).0 e))) k ks h)
 
 -- ranks that were sorted, each of them once
 pub sorted_once : (ns sorted once : List ℕ) → IsPermutation ns sorted → IsSorted nat_cmp sorted → once ≡ dedup ◌==◌ sorted → IsRankSet ns once
@@ -117,19 +102,3 @@ module _ (a b : Judged) (side : Side) (f : Family) (keyed : has_keys f ≡ true)
       at None is inside rest = rest inside
       at (Some x) is (inl e) rest = subst IsKnownKey e (value_known a b side f (as_str d) keyed x is)
       at (Some x) is (inr inside) rest = rest inside
-
--- ---- numbers one by one
-
--- lists of numbers are equal exactly if their numbers are, one after another
-pub each_decide : (xs ys : List ℕ) → Decides (pointwise ◌==◌ xs ys) xs ys
-each_decide [] [] = (λ h. refl, λ e. refl)
-each_decide [] (y ∷ ys) = (λ h. cc, λ e. cc)
-each_decide (x ∷ xs) [] = (λ h. cc, λ e. cc)
-each_decide (x ∷ xs) (y ∷ ys) =
-    let rest = each_decide xs ys in (
-      λ h. let both = and_parts (x == y) (pointwise ◌==◌ xs ys) h in ap₂ ◌∷◌ ((Decides-eqb x y).0 both.0) (rest.0 both.1),
-      λ e.
-          let first : x ≡ y = cc in
-          let later : xs ≡ ys = cc in
-          and_from (x == y) (pointwise ◌==◌ xs ys) ((Decides-eqb x y).1 first) (rest.1 later),
-    )

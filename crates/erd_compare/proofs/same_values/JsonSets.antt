@@ -1,9 +1,9 @@
 -- Two lists are the same set of values exactly if each value of either is in the other.
-use Rattle.erd_compare.proofs.Common.{◌≡◌, Bool, true, false, ◌&&◌, List, [], ◌∷◌, sym, refl, ap, ◌∙◌, subst, fun_ext, and_parts, and_from, both_ways, list_all, Data, here, later, all-Has, Has, is_same_json, json_set, Decides, IsWholeTree}
+use Rattle.erd_compare.proofs.Common.{◌≡◌, Bool, true, false, ◌&&◌, List, [], ◌∷◌, map, sym, refl, ap, ◌∙◌, subst, fun_ext, and_parts, and_from, both_ways, AllByRecursion, list_all, Data, view, Value, here, later, all-Has, Has, is_same_json, json_set, Decides, IsWholeTree}
 use Rattle.erd_check.specs.ValueSets.{StandsFor, values_in}
 use Rattle.erd_check.specs.declared.value_set.ValueSet.{ValueSet}
 use Rattle.erd_meaning.proofs.orders.Sets.{any-has, has-any}
-use Rattle.erd_compare.proofs.whole_trees.WholeTrees.{AreWholeTrees, whole_tree-exact, whole_tree-itself}
+use Rattle.erd_compare.proofs.whole_trees.WholeTrees.{AreWholeTrees, whole_tree-exact, whole_tree-itself, whole_trees-views}
 
 -- ---- tests
 
@@ -51,6 +51,12 @@ json_set-Decides ds es left right = (forward, λ same. and_from (list_all (json_
     forward h =
         let both = and_parts (list_all (json_set es) ds) (list_all (json_set ds) es) h in
         fun_ext (λ d. both_ways (json_set ds d) (json_set es d) (within ds es d (λ e. entry_in ds es e left right both.0)) (within es ds d (λ e. entry_in es ds e right left both.1)))
+
+-- the same of values, by an answer
+pub values_decide : (vs ws : List Value) (answer : Bool) → AllByRecursion (λ v. IsWholeTree (view v)) vs → AllByRecursion (λ v. IsWholeTree (view v)) ws
+    → list_all (json_set (map view ws)) (map view vs) && list_all (json_set (map view vs)) (map view ws) ≡ answer → Decides answer (json_set (map view vs)) (json_set (map view ws))
+values_decide vs ws answer left right is =
+    subst (λ b. Decides b (json_set (map view vs)) (json_set (map view ws))) is (json_set-Decides (map view vs) (map view ws) (whole_trees-views vs left) (whole_trees-views ws right))
 
 -- a set that stands for values has what they have
 pub stands_for : (ds : List Data) (s : ValueSet) → StandsFor ds s → json_set (values_in s) ≡ json_set ds

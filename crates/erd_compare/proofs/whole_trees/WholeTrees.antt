@@ -1,5 +1,5 @@
 -- Whole trees: their members and entries are whole trees, and equality as JSON decides equality on them.
-use Rattle.erd_compare.proofs.Common.{◌≡◌, ℕ, zero, suc, ◌+◌, ◌<◌, true, false, ◌&&◌, List, [], ◌∷◌, ◌++◌, map, length, get_or, pos, IfSome, Some, None, codes, Option, option_map, flat_map, sym, refl, subst, arith, Bor, and_from, or_parts, Decides-int_eq, AllByRecursion, option_map_or, Num, unsigned, negative, float, Data, null, boolean, number, string, array, object, Items, no_items, item, Members, no_members, member, get, is_float, view, has_float, items_have_float, members_have_float, Value, Family, family, text_itself, flag_itself, is_same_exact, get_member-tree, all-Has, Has, IsTree, AreTrees, same_number, is_same_json, are_same_items, are_same_members, list_of_items, entries_of, entries_at, Placed, placed_from, placed_entries, report_of, elections, contests, objects, Decides, IsWholeTree, IsPairOf, MemberPair}
+use Rattle.erd_compare.proofs.Common.{◌≡◌, ℕ, zero, suc, ◌+◌, ◌<◌, true, false, ◌&&◌, List, [], ◌∷◌, ◌++◌, map, length, get_or, pos, IfSome, Some, None, codes, Option, option_map, flat_map, sym, refl, subst, arith, Bor, and_from, or_parts, Decides-int_eq, AllByRecursion, option_map_or, Data, null, boolean, string, array, object, Items, no_items, item, Members, no_members, member, get, view, has_float, items_have_float, members_have_float, Value, Family, family, all-Has, Has, IsTree, is_same_json, list_of_items, entries_of, entries_at, Placed, placed_from, placed_entries, report_of, elections, contests, objects, Num, unsigned, negative, float, number, is_float, AreTrees, same_number, are_same_items, are_same_members, text_itself, flag_itself, is_same_exact, get_member-tree, Decides, IsWholeTree, IsPairOf, MemberPair}
 use Rattle.erd_tables.specs.declared.place.Step.{Step}
 use Rattle.erd_tables.specs.declared.place.Step.TheVariants.{Name}
 use Rattle.erd_meaning.proofs.selections.WholeParts.{whole_get}
@@ -150,12 +150,12 @@ whole_contest t p h among = whole_inside (codes "Contest") (elections t) p (λ q
 
 -- each object of a family
 pub whole_object : (t : Data) (f : Family) → IsWholeTree t → (o : Placed) → Has (objects f t) o → IsWholeTree o.value
+whole_object t family.Candidate h o among = whole_inside (codes "Candidate") (elections t) o (λ p. whole_election t p h) among
+whole_object t family.Contest h o among = whole_contest t o h among
+whole_object t family.Style h o among = whole_inside (codes "BallotStyle") (elections t) o (λ p. whole_election t p h) among
+whole_object t family.Selection h o among = whole_inside (codes "ContestSelection") (contests t) o (λ p. whole_contest t p h) among
 whole_object t family.Unit h o among = whole_entries (codes "GpUnit") (report_of t) o h among
 whole_object t family.Party h o among = whole_entries (codes "Party") (report_of t) o h among
 whole_object t family.Person h o among = whole_entries (codes "Person") (report_of t) o h among
 whole_object t family.Office h o among = whole_entries (codes "Office") (report_of t) o h among
 whole_object t family.Header h o among = whole_entries (codes "Header") (report_of t) o h among
-whole_object t family.Candidate h o among = whole_inside (codes "Candidate") (elections t) o (λ p. whole_election t p h) among
-whole_object t family.Contest h o among = whole_contest t o h among
-whole_object t family.Style h o among = whole_inside (codes "BallotStyle") (elections t) o (λ p. whole_election t p h) among
-whole_object t family.Selection h o among = whole_inside (codes "ContestSelection") (contests t) o (λ p. whole_contest t p h) among
