@@ -7,7 +7,6 @@ pub mod NormalGets
 pub mod NormalReports
 pub mod NormalObjects
 pub mod LeastKeys
-pub mod ContentParts
 pub mod NormalEntries
 pub mod BuiltFrom
 pub mod BuiltObjects

@@ -1,23 +1,5 @@
 -- Members that are put one after another, in the order of their names, stand in that order.
-use Rattle.erd_normal.proofs.Common.{◌≡◌, ℕ, Bool, true, false, ◌||◌, List, ◌∷◌, string_bytes, Less, sym, refl, ap, ◌∙◌, nat_list_cmp_total, ⊤, AllByRecursion, ordering_reverse, Entry, Data, Members, no_members, member, put, view, members_view, has_float, members_have_float, text_cmp, names}
-
--- ---- whole numbers
-
-first_whole : (k : List ℕ) (d : Data) (ms : Members) → members_have_float (member k d ms) ≡ false → has_float d ≡ false
-first_whole k d ms h = at (has_float d) h
-  where
-    at : (b : Bool) → b || members_have_float ms ≡ false → b ≡ false
-    at true e = e
-    at false e = refl
-
-later_whole : (k : List ℕ) (d : Data) (ms : Members) → members_have_float (member k d ms) ≡ false → members_have_float ms ≡ false
-later_whole k d ms h = at (has_float d) h
-  where
-    at : (b : Bool) → b || members_have_float ms ≡ false → members_have_float ms ≡ false
-    at true e = cc
-    at false e = e
-
--- ---- one after another
+use Rattle.erd_normal.proofs.Common.{◌≡◌, ℕ, false, List, ◌∷◌, Less, sym, refl, ap, ◌∙◌, or_parts, nat_list_cmp_total, AllByRecursion, ordering_reverse, Data, Members, no_members, member, put, view, members_view, has_float, members_have_float, text_cmp, names, ⊤, Entry}
 
 -- members, and then others
 abbrev pub joined : Members → Members → Members
@@ -63,7 +45,7 @@ none_below (member k d ns) = (tt, none_below ns)
 
 -- what is left is whole, and so are the first and those after it
 pub whole_first : (left rest : List Entry) (e : Entry) → left ≡ e ∷ rest → members_have_float (members_view left) ≡ false → has_float (view e.1) ≡ false
-whole_first left rest e split h = first_whole (string_bytes e.0) (view e.1) (members_view rest) (ap (λ es. members_have_float (members_view es)) (sym split) ∙ h)
+whole_first left rest e split h = (or_parts (has_float (view e.1)) (members_have_float (members_view rest)) (ap (λ es. members_have_float (members_view es)) (sym split) ∙ h)).0
 
 pub whole_rest : (left rest : List Entry) (e : Entry) → left ≡ e ∷ rest → members_have_float (members_view left) ≡ false → members_have_float (members_view rest) ≡ false
-whole_rest left rest e split h = later_whole (string_bytes e.0) (view e.1) (members_view rest) (ap (λ es. members_have_float (members_view es)) (sym split) ∙ h)
+whole_rest left rest e split h = (or_parts (has_float (view e.1)) (members_have_float (members_view rest)) (ap (λ es. members_have_float (members_view es)) (sym split) ∙ h)).1

@@ -1,5 +1,5 @@
 -- Whole reports that are rearrangements of one another, and changes that are refused.
-use Rattle.erd_normal.proofs.Common.{◌≡◌, ℕ, zero, suc, Bool, true, false, not, ◌&&◌, List, [], ◌∷◌, ◌++◌, map, length, if◌then◌else◌, ◌==◌, slice_get, Some, None, codes, Contains, Option, option_map, bytes_eq, unwrap_or, sym, refl, ap, true≢false, arith, lit<, not-true, and_parts, or_parts, bytes_eq-Decides, AllByRecursion, IsDistinct, list_all, list_any, option_map_or, serde_json_on_literals, Data, families, family, Step, At, Name, tree_of, small_ballot, small_ballot_canonical, one_unit, Placed, report_of, objects, id_of, Renaming, Change, a_renaming, an_exchange, IsRearrangement, IsRenaming}
+use Rattle.erd_normal.proofs.Common.{◌≡◌, ℕ, zero, suc, Bool, true, false, not, ◌&&◌, List, [], ◌∷◌, ◌++◌, map, length, if◌then◌else◌, ◌==◌, slice_get, Some, None, codes, Contains, Option, option_map, bytes_eq, unwrap_or, sym, refl, ap, true≢false, arith, lit<, not-true, and_parts, or_parts, bytes_eq-Decides, AllByRecursion, list_all, list_any, option_map_or, Data, families, family, Step, At, Name, tree_of, small_ballot, small_ballot_canonical, one_unit, Placed, report_of, objects, id_of, IsDistinct, serde_json_on_literals, Renaming, Change, a_renaming, an_exchange, IsRearrangement, IsRenaming}
 use Rattle.std.proofs.lemmas.Map.Views.{Contains-from_any}
 use Rattle.erd_normal.proofs.examples.EqualTrees.{equal_trees}
 use Rattle.erd_normal.proofs.lists.Lists.{passed, is_family}
@@ -103,7 +103,7 @@ unfolding serde_json_on_literals
 exchanged_units = ((refl, lit< tt, lit< tt), refl)
 
 -- the names of the canonical form
-abbrev canonical_names : Renaming
+abbrev pub canonical_names : Renaming
 canonical_names =
     (codes "a1", codes "gp1") ∷ (codes "a2", codes "gp2") ∷ (codes "a3", codes "pa1") ∷ (codes "a4", codes "hd1") ∷ (codes "a5", codes "ca1") ∷ (codes "a6", codes "ca2") ∷ (codes "a7", codes "ca3")
     ∷ (codes "a8", codes "co1") ∷ (codes "a9", codes "cs1-2") ∷ (codes "a10", codes "cs1-3") ∷ (codes "a11", codes "cs1-1") ∷ (codes "a12", codes "co2") ∷ (codes "a13", codes "cs2-2") ∷ (codes "a14", codes "cs2-1")

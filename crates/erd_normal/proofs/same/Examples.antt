@@ -1,19 +1,12 @@
 -- The small ballot and its canonical form.
-use Rattle.erd_normal.proofs.Common.{ℕ, List, [], ◌∷◌, ◌++◌, codes, refl, serde_json_on_literals, read_is_tree, tree_of, small_ballot_with, small_ballot, small_ballot_canonical, Renaming, replaced_text, SaysTheSame}
+use Rattle.erd_normal.proofs.Common.{ℕ, List, [], ◌∷◌, ◌++◌, codes, refl, tree_of, small_ballot_with, small_ballot, small_ballot_canonical, serde_json_on_literals, read_is_tree, Renaming, replaced_text, SaysTheSame}
 use Rattle.erd_check.proofs.Reports.{contest_node, header_node}
 use Rattle.erd_check.proofs.WholeExamples.{small_ballot_is_faultless}
 use Rattle.erd_normal.proofs.same.Decided.{tested_says}
 use Rattle.erd_normal.proofs.same.Differ.{differ_unrelated}
 use Rattle.erd_normal.proofs.same.Rearrangements.{turned_back}
-use Rattle.erd_normal.proofs.examples.RearrangedExamples.{edited}
+use Rattle.erd_normal.proofs.examples.RearrangedExamples.{canonical_names, edited}
 use Rattle.erd_normal.proofs.same.Basics.{as_it_is}
-
--- the names of the canonical form
-abbrev canonical_names : Renaming
-canonical_names =
-    (codes "a1", codes "gp1") ∷ (codes "a2", codes "gp2") ∷ (codes "a3", codes "pa1") ∷ (codes "a4", codes "hd1") ∷ (codes "a5", codes "ca1") ∷ (codes "a6", codes "ca2") ∷ (codes "a7", codes "ca3")
-    ∷ (codes "a8", codes "co1") ∷ (codes "a9", codes "cs1-2") ∷ (codes "a10", codes "cs1-3") ∷ (codes "a11", codes "cs1-1") ∷ (codes "a12", codes "co2") ∷ (codes "a13", codes "cs2-2") ∷ (codes "a14", codes "cs2-1")
-    ∷ (codes "a16", codes "pe1") ∷ (codes "a17", codes "of1") ∷ []
 
 pub canonical_says : SaysTheSame (tree_of small_ballot) (tree_of small_ballot_canonical)
 unfolding serde_json_on_literals

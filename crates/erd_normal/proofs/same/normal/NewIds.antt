@@ -1,12 +1,10 @@
 -- The canonical `@id` of each object of a report. It tells objects apart, and two functions lead from the `@id` texts of the report
 -- to the canonical ones and back.
-use Rattle.erd_normal.proofs.Common.{◌≡◌, ℕ, ◌+◌, ◌^◌, ◌<◌, true, List, [], ◌∷◌, ◌++◌, map, length, is_some, Some, None, decimal, Option, option_map, find, flat_map, bytes_eq, is_eq, Equal, unwrap_or, sym, refl, ap, ◌∙◌, subst, ⊎_elim, arith, tied_back, length-map, same_Some, options_total, IsDistinct, option_map_or, eq_by_cmp, Data, Family, family, text_exact, text_itself, has_mapped, map_has, here, later, all-Has, Has, values_distinct, has-append, has-flat, no_identity_fault, find-any, append-has, has-append_left, flat-has, one_object, has_id-Some, has_id-from, distinct_one, any-has, IsAccepted, has_keys, Preference, key_of, rank_of, Placed, contests, selections_of_contest, objects, id_of, has_id, IsBounded, name_of, key_cmp_total, name_cmp_total, id_prefix, canonical_id, Sides, StandsFor, id_of_key, rank_of_name, id_of_selection, by_key, by_name, normal_tree}
-use Rattle.erd_normal.proofs.canonical.Bounds.{few_selections}
-use Rattle.erd_normal.proofs.canonical.CanonicalIds.{canonical_id_exact, selection_id_apart}
+use Rattle.erd_normal.proofs.Common.{◌≡◌, ℕ, ◌+◌, ◌^◌, ◌<◌, true, List, [], ◌∷◌, ◌++◌, map, length, is_some, Some, None, Option, option_map, find, flat_map, bytes_eq, is_eq, Equal, unwrap_or, sym, refl, ap, ◌∙◌, subst, ⊎_elim, arith, tied_back, length-map, same_Some, options_total, option_map_or, eq_by_cmp, Data, Family, family, has_mapped, here, later, all-Has, Has, IsAccepted, has_keys, Preference, key_of, rank_of, Placed, contests, selections_of_contest, objects, id_of, has_id, IsBounded, name_of, key_cmp_total, name_cmp_total, IsDistinct, decimal, text_exact, text_itself, map_has, values_distinct, has-append, has-flat, no_identity_fault, find-any, append-has, has-append_left, flat-has, one_object, has_id-Some, has_id-from, distinct_one, any-has, id_prefix, canonical_id, Sides, StandsFor, id_of_key, rank_of_name, id_of_selection, by_key, by_name, normal_tree}
+use Rattle.erd_normal.proofs.canonical.CanonicalIds.{few_selections, canonical_id_exact, selection_id_apart, canonical_selection_id_exact}
 use Rattle.erd_normal.proofs.canonical.ContestSelections.{one_contest}
 use Rattle.erd_normal.proofs.canonical.RisingReports.{selection_values_distinct, by_key_total, by_name_total}
 use Rattle.erd_normal.proofs.canonical.SelectionIds.{listed, selection_values}
-use Rattle.erd_normal.proofs.canonical.SelectionTexts.{canonical_selection_id_exact}
 use Rattle.erd_normal.proofs.lists.KeyedRanks.{rank_exact, rank_low}
 use Rattle.erd_normal.proofs.throughout.ThroughoutMembers.{is_prefixed}
 use Rattle.erd_normal.proofs.same.complete.Texts.{no_keys, one_family}
