@@ -1,6 +1,5 @@
 -- The tree that is built, part by part: what stands under each name, that it is a tree, and how deep it nests.
 pub mod NormalMembers
-pub mod BuiltMembers
 pub mod NormalTrees
 pub mod NormalDepths
 pub mod NormalGets

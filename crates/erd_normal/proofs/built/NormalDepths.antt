@@ -39,9 +39,6 @@ in_envelope-depth : (d : Data) → IsNoDeeper (in_envelope d) d
 in_envelope-depth (object ms) = omega (arith, with_envelope-depth ms)
 in_envelope-depth d = omega arith
 
-no_deeper-trans : (a b c : Data) → IsNoDeeper a b → IsNoDeeper b c → IsNoDeeper a c
-no_deeper-trans a b c h k = omega arith
-
 module _ (π : Preference) (t : Data) (clean : NoneOf (ShapeFault t)) (tree : IsTree t) where
   -- ---- members
 
@@ -156,8 +153,7 @@ module _ (π : Preference) (t : Data) (clean : NoneOf (ShapeFault t)) (tree : Is
   pub normal_selection-depth : (contest d : Data) → Within t (asked (Object selection_role) d) → IsNoDeeper (normal_selection π t contest d) d
   normal_selection-depth contest d w =
       let inside : Data = normal_object_with (λ name k v. normal_value π t k v) (class_of_object selection_role d) d in
-      no_deeper-trans (normal_selection π t contest d) inside d (with_id-depth (Some (id_of_selection π t contest d)) inside)
-      (normal_object_with-depth (λ name k v. normal_value π t k v) selection_role d w (λ name k e a. normal_value-depth k e a))
+      omega (arith, with_id-depth (Some (id_of_selection π t contest d)) inside, normal_object_with-depth (λ name k v. normal_value π t k v) selection_role d w (λ name k e a. normal_value-depth k e a))
 
   pub normal_object_value-depth : (o : Data) (k : MemberKind) (d : Data) → AskedAs t k d → NoneDeeper d (normal_object_value π t o k d)
   normal_object_value-depth o (kind.Keyed family.Selection) d a =
@@ -170,8 +166,7 @@ module _ (π : Preference) (t : Data) (clean : NoneOf (ShapeFault t)) (tree : Is
   pub normal_object-depth : (f : Family) (d : Data) → Within t (asked (Object (role.OfFamily f)) d) → IsNoDeeper (normal_object π t f d) d
   normal_object-depth f d w =
       let inside : Data = normal_object_with (λ name k v. normal_object_value π t d k v) (class_of_object (role.OfFamily f) d) d in
-      no_deeper-trans (normal_object π t f d) inside d (with_id-depth (id_of_key π t f (key_of π d)) inside)
-      (normal_object_with-depth (λ name k v. normal_object_value π t d k v) (role.OfFamily f) d w (λ name k e a. normal_object_value-depth d k e a))
+      omega (arith, with_id-depth (id_of_key π t f (key_of π d)) inside, normal_object_with-depth (λ name k v. normal_object_value π t d k v) (role.OfFamily f) d w (λ name k e a. normal_object_value-depth d k e a))
 
   pub normal_objects-depth : (f : Family) (r : Bool) (d : Data) → Within t (asked (Member (kind.Keyed f) r) d) → IsNoDeeper (normal_objects π t f (entries_of d)) d
   normal_objects-depth f r d w =
@@ -202,5 +197,4 @@ module _ (π : Preference) (t : Data) (clean : NoneOf (ShapeFault t)) (tree : Is
   pub normal_tree-depth : IsNoDeeper (normal_tree π t) t
   normal_tree-depth =
       let inside : Data = normal_object_with (normal_report_value π t) (class_of_object role.Report t) t in
-      no_deeper-trans (normal_tree π t) inside t (in_envelope-depth inside)
-      (normal_object_with-depth (normal_report_value π t) role.Report t (Within-root t) normal_report_value-depth)
+      omega (arith, in_envelope-depth inside, normal_object_with-depth (normal_report_value π t) role.Report t (Within-root t) normal_report_value-depth)

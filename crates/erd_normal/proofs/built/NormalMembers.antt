@@ -45,12 +45,11 @@ depth_of_each : (value : List ℕ → Data → Option Data) (ms : Members) → A
     → ((name : List ℕ) (d v : Data) → get_member name ms ≡ Some d → value name d ≡ Some v → depth v ≤ depth d) → members_depth (each_member value ms) ≤ members_depth ms
 depth_of_each value no_members rise each = omega arith
 depth_of_each value (member l d ms) rise each =
-    at (value l d) refl (depth_of_each value ms rise.2 (λ name e v found. each name e v (get_member-later l name d e ms rise found)))
-  where
-    at : (r : Option Data) → value l d ≡ r → members_depth (each_member value ms) ≤ members_depth ms
-        → members_depth (option_map_or (λ v. member l v (each_member value ms)) r (each_member value ms)) ≤ max (depth d) (members_depth ms)
-    at None given h = omega arith
-    at (Some v) given h = let low : depth v ≤ depth d = each l d v (get_member-first l d ms) given in omega arith
+    let h = depth_of_each value ms rise.2 (λ name e v found. each name e v (get_member-later l name d e ms rise found)) in
+    (elim (value l d) as (λ r. value l d ≡ r → members_depth (option_map_or (λ v. member l v (each_member value ms)) r (each_member value ms)) ≤ max (depth d) (members_depth ms)) [
+      | None ↦ λ given. omega (arith, h)
+      | Some v ↦ λ given. omega (arith, h, each l d v (get_member-first l d ms) given)
+    ]) refl
 
 -- ---- of an object of a class
 

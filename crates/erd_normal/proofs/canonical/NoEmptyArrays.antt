@@ -1,5 +1,5 @@
 -- No array of the table is empty in the report that is built.
-use Rattle.erd_normal.proofs.Common.{◌≡◌, suc, Bool, true, false, List, map, length, ◌==◌, Some, refl, ap, ◌∙◌, length-map, Data, array, object, Items, no_items, item, reason, MemberKind, kind, faultless, wanted_within, Within, ShapeFault, NoneOf, IsTree, list_of_items, entries_of, Asked, asked, Want, Member, Preference, rising_list, compact_cmp, with_rising_text, is_array, is_empty_array, unrepeated, no_strange, no_unknown, length-rising, kind_wanted, HasNoEmptyArray, normal_reference, reference_cmp, normal_selection_reference, array_of, normal_content, normal_nodes, normal_selection, by_key, by_name, normal_object, normal_election, normal_tree}
+use Rattle.erd_normal.proofs.Common.{◌≡◌, suc, Bool, true, false, List, map, length, ◌==◌, Some, refl, ap, ◌∙◌, length-map, Data, array, Items, no_items, item, reason, MemberKind, kind, faultless, wanted_within, Within, ShapeFault, NoneOf, IsTree, list_of_items, entries_of, Asked, asked, Want, Member, Preference, rising_list, compact_cmp, with_rising_text, is_array, is_empty_array, unrepeated, no_strange, no_unknown, length-rising, kind_wanted, HasNoEmptyArray, normal_reference, reference_cmp, normal_selection_reference, array_of, normal_content, normal_nodes, normal_selection, by_key, by_name, normal_object, normal_election, normal_tree}
 use Rattle.erd_normal.proofs.lists.BuiltLists.{as_empty}
 use Rattle.erd_normal.proofs.throughout.ThroughoutMembers.{HoldsOfMembers}
 use Rattle.erd_normal.proofs.throughout.ThroughoutObjects.{HoldsOfObjects}

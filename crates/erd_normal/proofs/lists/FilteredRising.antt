@@ -28,14 +28,10 @@ module _ {A : Type 0} {cmp : A → A → Ordering} (order : IsTotalOrder cmp) wh
       lower false true new old is more = ap (λ zs. y ∷ zs) more
       lower false false new old is more = more
 
-      higher : (a : Bool) (zs : List A) → AllByRecursion (λ z. is_lt (cmp z x) ≡ false) zs → cond a (x ∷ zs) zs ≡ cond a (with_inserted cmp x zs) zs
-      higher true zs all = sym (stands_first x zs all)
-      higher false zs all = refl
-
       at : (low : Bool) → is_lt (cmp y x) ≡ low → filter q (with_inserted cmp x ys) ≡ cond (q x) (with_inserted cmp x (filter q ys)) (filter q ys)
           → filter q (cond low (y ∷ with_inserted cmp x ys) (x ∷ (y ∷ ys))) ≡ cond (q x) (with_inserted cmp x (filter q (y ∷ ys))) (filter q (y ∷ ys))
       at true is more = lower (q x) (q y) (filter q (with_inserted cmp x ys)) (filter q ys) is more
-      at false is more = higher (q x) (filter q (y ∷ ys)) (all_by_entry (λ z. is_lt (cmp z x) ≡ false) (filter q (y ∷ ys)) (λ z h. all-Has (λ z. is_lt (cmp z x) ≡ false) (y ∷ ys) z (is, none_below x y ys is rise.0) (kept_has q (y ∷ ys) z h)))
+      at false is more = ap (λ zs. cond (q x) zs (filter q (y ∷ ys))) (sym (stands_first x (filter q (y ∷ ys)) (all_by_entry (λ z. is_lt (cmp z x) ≡ false) (filter q (y ∷ ys)) (λ z h. all-Has (λ z. is_lt (cmp z x) ≡ false) (y ∷ ys) z (is, none_below x y ys is rise.0) (kept_has q (y ∷ ys) z h)))))
 
   pub filter_rising : (q : A → Bool) (xs : List A) → filter q (rising_list cmp xs) ≡ rising_list cmp (filter q xs)
   filter_rising q [] = refl

@@ -1,5 +1,5 @@
 -- The tree as it is written is the tree that is built for an accepted report.
-use Rattle.erd_normal.proofs.Common.{◌≡◌, ℕ, zero, suc, ◌+◌, true, List, [], ◌∷◌, map, slice_get, Some, codes, filter, flat_map, sym, refl, ap, ◌∙◌, subst, ap₂, arith, option_cmp, option_map_or, Data, array, object, Members, no_members, member, get_member, get, role_of_class, kind_of_member, Class, class, Family, family, Role, role, MemberKind, kind, entries_in, object_in, ObjectIn, In, has_at, here, Has, Within, IsTree, list_of_items, entries_of, entries_at, class_of_object, asked, IsAccepted, has_keys, key_cmp, Preference, key_of, Placed, placed_entries, report_of, elections, objects, rising_list, AreMembers, get_member-first, within-tree, get_member-later, Object, no_shape_fault, skeleton, values-placed_entries, election_entries, election_stands, election_object, Skeleton, stands as standing, rising_list_map, In-from_has, rising_objects, rising_elections, objects_in_part, id_of_key, unless_no_entry, array_of, normal_members, normal_object_with, with_id, normal_selection, by_key, by_name, normal_object_value, normal_object, normal_election_value, normal_election, normal_report_value, in_envelope, normal_tree, map_from, written_selection, written_in_contest, written_object_value, written_object, written_objects, written_election_value, written_election, written_elections, written_report_value}
+use Rattle.erd_normal.proofs.Common.{◌≡◌, ℕ, zero, suc, ◌+◌, true, List, [], ◌∷◌, map, slice_get, Some, codes, filter, flat_map, sym, refl, ap, ◌∙◌, subst, ap₂, arith, option_cmp, option_map_or, Data, array, object, Members, no_members, member, get_member, get, role_of_class, kind_of_member, Class, class, Family, family, Role, role, MemberKind, kind, entries_in, object_in, ObjectIn, In, has_at, Has, Within, IsTree, list_of_items, entries_of, entries_at, class_of_object, asked, IsAccepted, has_keys, key_cmp, Preference, key_of, Placed, placed_entries, report_of, elections, objects, rising_list, AreMembers, get_member-first, within-tree, get_member-later, Object, no_shape_fault, skeleton, values-placed_entries, election_entries, election_stands, election_object, Skeleton, stands as standing, rising_list_map, In-from_has, rising_objects, rising_elections, objects_in_part, id_of_key, unless_no_entry, array_of, normal_members, normal_object_with, with_id, normal_selection, by_key, by_name, normal_object_value, normal_object, normal_election_value, normal_election, normal_report_value, in_envelope, normal_tree, map_from, written_selection, written_in_contest, written_object_value, written_object, written_objects, written_election_value, written_election, written_elections, written_report_value}
 use Rattle.erd_normal.proofs.built.BuiltFrom.{Builder}
 use Rattle.erd_normal.proofs.built.FamilyNames.{contest_of_selections, elections_name, family_name, keyed_name, report_objects}
 use Rattle.erd_normal.proofs.canonical.RisingReports.{selection_ranks}

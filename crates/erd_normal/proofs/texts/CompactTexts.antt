@@ -91,22 +91,19 @@ sign_is d r h = refl
 same_sign : (d e : Data) (r q : List ℕ) → HasFittingNumbers d → HasFittingNumbers e → compact_text d ++ r ≡ compact_text e ++ q → sign_of d ≡ sign_of e
 same_sign d e r q h k same = sym (sign_is d r h) ∙ ap sign_of_text same ∙ sign_is e q k
 
-unlike : (m n : ℕ) → (m == n) ≡ false → m ≡ n → ⊥
-unlike = eqb-false
-
 no_bracket : (d : Data) → sign_of d ≡ 93 → ⊥
-no_bracket null e = unlike 110 93 refl e
-no_bracket d e = unlike (sign_of d) 93 refl e
+no_bracket null e = eqb-false 110 93 refl e
+no_bracket d e = eqb-false (sign_of d) 93 refl e
 
 -- a value does not begin with a closing bracket
 not_over : (later : Bool) (d : Data) (ds : Items) (r q : List ℕ) → HasFittingNumbers d → 93 ∷ r ≡ items_text later (item d ds) ++ q → ⊥
-not_over true d ds r q h e = unlike 93 44 refl (ap first_byte e)
+not_over true d ds r q h e = eqb-false 93 44 refl (ap first_byte e)
 not_over false d ds r q h e =
     no_bracket d (sym (ap sign_of_text (e ∙ append_assoc (compact_text d) (items_text true ds) q) ∙ sign_is d (items_text true ds ++ q) h))
 
 no_more_members : (later : Bool) (k : List ℕ) (d : Data) (ms : Members) (r q : List ℕ) → 125 ∷ r ≡ members_text later (member k d ms) ++ q → ⊥
-no_more_members true k d ms r q e = unlike 125 44 refl (ap first_byte e)
-no_more_members false k d ms r q e = unlike 125 34 refl (ap first_byte e)
+no_more_members true k d ms r q e = eqb-false 125 44 refl (ap first_byte e)
+no_more_members false k d ms r q e = eqb-false 125 34 refl (ap first_byte e)
 
 -- ---- values
 
@@ -122,22 +119,16 @@ members_ended : (ms : Members) (r : List ℕ) → is_ended (members_text true ms
 members_ended no_members r = refl
 members_ended (member k d ms) r = refl
 
-numbers_exact : (m n : Num) (r q : List ℕ) → IsFittingNumber m → IsFittingNumber n → is_ended r ≡ true → is_ended q ≡ true → number_text m ++ r ≡ number_text n ++ q → (number m ≡ number n) × (r ≡ q)
-numbers_exact m n r q h k e g same =
-    let x = run_exact (number_text m) (number_text n) r q (number_in m h).0 (number_in n k).0 e g same in
-    (ap number (number_exact m n h k x.0), x.1)
-
-differ : (d e : Data) (r q : List ℕ) → HasFittingNumbers d → HasFittingNumbers e → (sign_of d ≡ sign_of e → ⊥) → compact_text d ++ r ≡ compact_text e ++ q → (d ≡ e) × (r ≡ q)
-differ d e r q h k other same = absurd (other (same_sign d e r q h k same))
-
 mutual
   value_exact : (d e : Data) (r q : List ℕ) → HasFittingNumbers d → HasFittingNumbers e → is_ended r ≡ true → is_ended q ≡ true → compact_text d ++ r ≡ compact_text e ++ q → (d ≡ e) × (r ≡ q)
   value_exact null null r q h k f g same = (refl, ap (drop 4) same)
   value_exact (boolean true) (boolean true) r q h k f g same = (refl, ap (drop 4) same)
   value_exact (boolean false) (boolean false) r q h k f g same = (refl, ap (drop 5) same)
-  value_exact (boolean true) (boolean false) r q h k f g same = absurd (unlike 116 102 refl (ap first_byte same))
-  value_exact (boolean false) (boolean true) r q h k f g same = absurd (unlike 102 116 refl (ap first_byte same))
-  value_exact (number m) (number n) r q h k f g same = numbers_exact m n r q h k f g same
+  value_exact (boolean true) (boolean false) r q h k f g same = absurd (eqb-false 116 102 refl (ap first_byte same))
+  value_exact (boolean false) (boolean true) r q h k f g same = absurd (eqb-false 102 116 refl (ap first_byte same))
+  value_exact (number m) (number n) r q h k f g same =
+      let x = run_exact (number_text m) (number_text n) r q (number_in m h).0 (number_in n k).0 f g same in
+      (ap number (number_exact m n h k x.0), x.1)
   value_exact (string s) (string t) r q h k f g same = let x = string_exact s t r q same in (ap string x.0, x.1)
   value_exact (array ds) (array es) r q h k f g same =
       let rest : items_text false ds ++ r ≡ items_text false es ++ q = ap (drop 1) same in
@@ -147,7 +138,7 @@ mutual
       let rest : members_text false ms ++ r ≡ members_text false ns ++ q = ap (drop 1) same in
       let x = members_exact false ms ns r q h k rest in
       (ap object x.0, x.1)
-  value_exact d e r q h k f g same = differ d e r q h k (λ s. unlike (sign_of d) (sign_of e) refl s) same
+  value_exact d e r q h k f g same = absurd (eqb-false (sign_of d) (sign_of e) refl (same_sign d e r q h k same))
 
   items_exact : (later : Bool) (ds es : Items) (r q : List ℕ) → ItemsHaveFittingNumbers ds → ItemsHaveFittingNumbers es → items_text later ds ++ r ≡ items_text later es ++ q → (ds ≡ es) × (r ≡ q)
   items_exact later no_items no_items r q h k same = (refl, ap (drop 1) same)

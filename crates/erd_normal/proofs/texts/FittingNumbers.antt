@@ -1,13 +1,8 @@
 -- What stands in a value whose numbers fit has numbers that fit.
-use Rattle.erd_normal.proofs.Common.{◌≡◌, ℕ, zero, suc, ◌^◌, ◌<◌, List, [], ◌∷◌, Some, None, Option, Less, Equal, Greater, refl, subst, arith, AllByRecursion, option_map_or, match_ordering, Data, Items, no_items, item, Members, no_members, member, put, get_member, get_item, text_cmp, In, In-all, all_weakened, Within, IsTree, list_of_items, Asked, Preference, AreMembers, get_member-first, found_cases, get_member-tree, put-trees, within-holds, get_member-later, HasFittingNumbers, ItemsHaveFittingNumbers, MembersHaveFittingNumbers, array_of, normal_tree}
-use Rattle.erd_normal.proofs.lists.BuiltLists.{array_of-tree, trees_listed, all_both}
+use Rattle.erd_normal.proofs.Common.{◌≡◌, ℕ, ◌^◌, ◌<◌, List, [], ◌∷◌, Some, None, Option, Less, Equal, Greater, refl, ap, ◌∙◌, subst, arith, AllByRecursion, option_map_or, match_ordering, Data, Items, no_items, item, Members, no_members, member, put, get_member, get_item, text_cmp, In, In-all, all_weakened, Within, IsTree, list_of_items, Asked, Preference, AreMembers, get_member-first, found_cases, get_member-tree, put-trees, within-holds, get_member-later, HasFittingNumbers, ItemsHaveFittingNumbers, MembersHaveFittingNumbers, array_of, normal_tree}
+use Rattle.erd_normal.proofs.lists.BuiltLists.{entry_holds, items_again, array_of-tree, trees_listed, all_both}
 use Rattle.erd_normal.proofs.built.NormalMembers.{each_member, trees_of_each}
 use Rattle.erd_normal.proofs.built.NormalTrees.{IsPartwise, normal_tree-holds}
-
-pub get_item-fitting : (i : ℕ) (v : Data) (ds : Items) → ItemsHaveFittingNumbers ds → get_item i ds ≡ Some v → HasFittingNumbers v
-get_item-fitting i v no_items h e = cc
-get_item-fitting zero v (item d ds) h e = let same : d ≡ v = cc in subst HasFittingNumbers same h.0
-get_item-fitting (suc i) v (item d ds) h e = get_item-fitting i v ds h.1 e
 
 pub get_member-fitting : (k : List ℕ) (v : Data) (ms : Members) → MembersHaveFittingNumbers ms → get_member k ms ≡ Some v → HasFittingNumbers v
 get_member-fitting k v no_members h e = cc
@@ -16,6 +11,9 @@ get_member-fitting k v (member l d ms) h e = found_cases k l v d ms e (λ name s
 listed-fit : (ds : Items) → ItemsHaveFittingNumbers ds → AllByRecursion HasFittingNumbers (list_of_items ds)
 listed-fit no_items fit = tt
 listed-fit (item d ds) fit = (fit.0, listed-fit ds fit.1)
+
+get_item-fitting : (i : ℕ) (v : Data) (ds : Items) → ItemsHaveFittingNumbers ds → get_item i ds ≡ Some v → HasFittingNumbers v
+get_item-fitting i v ds h e = entry_holds HasFittingNumbers (list_of_items ds) i v (listed-fit ds h) (ap (get_item i) (items_again ds) ∙ e)
 
 -- an entry of an array
 pub entry-fitting : (ds : Items) (d : Data) → ItemsHaveFittingNumbers ds → In d (list_of_items ds) → HasFittingNumbers d

@@ -1,5 +1,5 @@
 -- What stands in a report that has no fraction has none.
-use Rattle.erd_normal.proofs.Common.{◌≡◌, ℕ, ◌<◌, false, List, [], ◌∷◌, map, length, get_or, slice_get, Some, None, option_map, Ordering, sym, refl, ap, ◌∙◌, or_parts, slice_get-map, slice_get_read, AllByRecursion, option_map_or, Data, array, object, get_item, get, items_of, view, items_view, has_float, items_have_float, Value, Family, role, has_at, Within, list_of_items, entries_of, entries_at, Asked, asked, IsAccepted, Preference, Placed, elections, objects, rising_list, all_at, within-holds, Object, option_map-Some, skeleton, election_stands, stands, all_rising}
+use Rattle.erd_normal.proofs.Common.{◌≡◌, ℕ, ◌<◌, false, List, [], ◌∷◌, map, length, get_or, slice_get, Some, None, option_map, Ordering, sym, refl, ap, ◌∙◌, or_parts, slice_get-map, slice_get_read, AllByRecursion, option_map_or, Data, array, object, get_item, get, items_of, view, items_view, members_view, has_float, items_have_float, members_have_float, Value, Family, role, has_at, Within, list_of_items, entries_of, entries_at, Asked, asked, IsAccepted, Preference, Placed, elections, objects, rising_list, Entry, all_at, within-holds, Object, option_map-Some, skeleton, election_stands, stands, all_rising}
 use Rattle.erd_meaning.proofs.selections.WholeParts.{whole_get}
 use Rattle.erd_normal.proofs.lists.BuiltLists.{entry_holds, items_again}
 
@@ -37,6 +37,13 @@ entry_whole name d whole i e at = all_at (λ d. has_float d ≡ false) (entries_
 from_all_whole : (ds : List Data) → AllByRecursion (λ d. has_float d ≡ false) ds → items_have_float (items_of ds) ≡ false
 from_all_whole [] h = refl
 from_all_whole (d ∷ ds) h = rw (h.0, from_all_whole ds h.1) refl
+
+-- members that are left have none, and so the first and those after it
+pub whole_first : (left rest : List Entry) (e : Entry) → left ≡ e ∷ rest → members_have_float (members_view left) ≡ false → has_float (view e.1) ≡ false
+whole_first left rest e split h = (or_parts (has_float (view e.1)) (members_have_float (members_view rest)) (ap (λ es. members_have_float (members_view es)) (sym split) ∙ h)).0
+
+pub whole_rest : (left rest : List Entry) (e : Entry) → left ≡ e ∷ rest → members_have_float (members_view left) ≡ false → members_have_float (members_view rest) ≡ false
+whole_rest left rest e split h = (or_parts (has_float (view e.1)) (members_have_float (members_view rest)) (ap (λ es. members_have_float (members_view es)) (sym split) ∙ h)).1
 
 -- in rising order
 pub whole_rising : (cmp : Data → Data → Ordering) (ds : List Data) → items_have_float (items_of ds) ≡ false → items_have_float (items_of (rising_list cmp ds)) ≡ false
