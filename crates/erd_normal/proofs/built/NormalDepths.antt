@@ -91,15 +91,14 @@ module _ (π : Preference) (t : Data) (clean : NoneOf (ShapeFault t)) (tree : Is
 
   -- an array of what is built of the entries of an array, after they are put in order
   built_depth : (d : Data) (w v : Want) → is_array d ≡ true → entry_want w ≡ Some v → is_compared_set w ≡ false → Within t (asked w d)
-      → (arrange : List Data → List Data) → ((P : Data → Type 0) (xs : List Data) → AllByRecursion P xs → AllByRecursion P (arrange xs))
-      → (f : Data → Data) → ((e : Data) → Within t (asked v e) → IsNoDeeper (f e) e) → IsNoDeeper (array_of (map f (arrange (entries_of d)))) d
-  built_depth (array ds) w v is want apart inside arrange keeps f each =
-      array_depth (array ds) (map f (arrange (list_of_items ds))) refl
-      (λ n low. all_map (λ e. Within t (asked v e) × (depth e ≤ n)) (λ e. depth e ≤ n) f (arrange (list_of_items ds))
+      → (cmp : Data → Data → Ordering) (f : Data → Data) → ((e : Data) → Within t (asked v e) → IsNoDeeper (f e) e) → IsNoDeeper (array_of (map f (rising_list cmp (entries_of d)))) d
+  built_depth (array ds) w v is want apart inside cmp f each =
+      array_depth (array ds) (map f (rising_list cmp (list_of_items ds))) refl
+      (λ n low. all_map (λ e. Within t (asked v e) × (depth e ≤ n)) (λ e. depth e ≤ n) f (rising_list cmp (list_of_items ds))
       (λ e h. let here : depth (f e) ≤ depth e = each e h.0 in let there : depth e ≤ n = h.1 in omega arith)
-      (keeps (λ e. Within t (asked v e) × (depth e ≤ n)) (list_of_items ds)
+      (all_rising (λ e. Within t (asked v e) × (depth e ≤ n)) cmp (list_of_items ds)
       (all_both (λ e. Within t (asked v e)) (λ e. depth e ≤ n) (list_of_items ds) (entries_asked t w v ds want apart inside) low)))
-  built_depth _ w v is want apart inside arrange keeps f each = cc
+  built_depth _ w v is want apart inside cmp f each = cc
 
   -- ---- the order of a ballot
 
@@ -159,7 +158,7 @@ module _ (π : Preference) (t : Data) (clean : NoneOf (ShapeFault t)) (tree : Is
   normal_object_value-depth o (kind.Keyed family.Selection) d a =
       unless_no_entry-holds (λ v. IsNoDeeper v d) d (array_of (map (normal_selection π t o) (rising_list (by_name π t) (entries_of d))))
       (built_depth d (Member (kind.Keyed family.Selection) a.0) (Object selection_role) (wanted_within t clean (asked (Member (kind.Keyed family.Selection) a.0) d) a.1) refl refl a.1
-      (rising_list (by_name π t)) (λ P xs all. all_rising P (by_name π t) xs all) (normal_selection π t o) (normal_selection-depth o))
+      (by_name π t) (normal_selection π t o) (normal_selection-depth o))
   normal_object_value-depth o kind.Content d a = unless_no_entry-holds (λ v. IsNoDeeper v d) d (normal_content π t d) (normal_content-depth d a.0 a.1)
   normal_object_value-depth o k d a = normal_value-depth k d a
 
@@ -168,13 +167,10 @@ module _ (π : Preference) (t : Data) (clean : NoneOf (ShapeFault t)) (tree : Is
       let inside : Data = normal_object_with (λ name k v. normal_object_value π t d k v) (class_of_object (role.OfFamily f) d) d in
       omega (arith, with_id-depth (id_of_key π t f (key_of π d)) inside, normal_object_with-depth (λ name k v. normal_object_value π t d k v) (role.OfFamily f) d w (λ name k e a. normal_object_value-depth d k e a))
 
-  pub normal_objects-depth : (f : Family) (r : Bool) (d : Data) → Within t (asked (Member (kind.Keyed f) r) d) → IsNoDeeper (normal_objects π t f (entries_of d)) d
-  normal_objects-depth f r d w =
-      built_depth d (Member (kind.Keyed f) r) (Object (role.OfFamily f)) (wanted_within t clean (asked (Member (kind.Keyed f) r) d) w) refl refl w
-      (rising_list (by_key π)) (λ P xs all. all_rising P (by_key π) xs all) (normal_object π t f) (normal_object-depth f)
-
   keyed_depth : (f : Family) (d : Data) → AskedAs t (kind.Keyed f) d → NoneDeeper d (unless_no_entry d (normal_objects π t f (entries_of d)))
-  keyed_depth f d a = unless_no_entry-holds (λ v. IsNoDeeper v d) d (normal_objects π t f (entries_of d)) (normal_objects-depth f a.0 d a.1)
+  keyed_depth f d a =
+      unless_no_entry-holds (λ v. IsNoDeeper v d) d (normal_objects π t f (entries_of d))
+      (built_depth d (Member (kind.Keyed f) a.0) (Object (role.OfFamily f)) (wanted_within t clean (asked (Member (kind.Keyed f) a.0) d) a.1) refl refl a.1 (by_key π) (normal_object π t f) (normal_object-depth f))
 
   -- ---- the election and the report
 
@@ -190,7 +186,7 @@ module _ (π : Preference) (t : Data) (clean : NoneOf (ShapeFault t)) (tree : Is
   normal_report_value-depth name (kind.Keyed f) d a = keyed_depth f d a
   normal_report_value-depth name kind.Elections d a =
       built_depth d (Member kind.Elections a.0) (Object role.Election) (wanted_within t clean (asked (Member kind.Elections a.0) d) a.1) refl refl a.1
-      (rising_list (by_key π)) (λ P xs all. all_rising P (by_key π) xs all) (normal_election π t) normal_election-depth
+      (by_key π) (normal_election π t) normal_election-depth
   normal_report_value-depth name k d a = elim (is_envelope_name name) as (λ b. NoneDeeper d (if b then None else normal_value π t k d)) [ true ↦ tt | false ↦ normal_value-depth k d a ]
 
   -- what is built of a report is nested no deeper

@@ -1,5 +1,5 @@
 -- The small ballot and its canonical form.
-use Rattle.erd_normal.proofs.Common.{ℕ, List, [], ◌∷◌, ◌++◌, codes, refl, tree_of, small_ballot_with, small_ballot, small_ballot_canonical, serde_json_on_literals, read_is_tree, Renaming, replaced_text, SaysTheSame}
+use Rattle.erd_normal.proofs.Common.{ℕ, List, ◌++◌, codes, refl, tree_of, small_ballot_with, small_ballot, small_ballot_canonical, serde_json_on_literals, read_is_tree, replaced_text, SaysTheSame}
 use Rattle.erd_check.proofs.Reports.{contest_node, header_node}
 use Rattle.erd_check.proofs.WholeExamples.{small_ballot_is_faultless}
 use Rattle.erd_normal.proofs.same.Decided.{tested_says}
