@@ -25,7 +25,7 @@ pub use Rattle.erd_tables.specs.Rows.{envelope_rows}
 pub use Rattle.erd_tables.specs.Table.{is_envelope_name}
 pub use Rattle.erd_check.proofs.Deciding.{is_tree, before_later, before_all, faults_found}
 pub use Rattle.erd_check.proofs.Entries.{object_from, string_from_text, list_of_items-tree}
-pub use Rattle.erd_check.proofs.Exact.{text_exact, text_itself, same_flag_exact, is_same_exact}
+pub use Rattle.erd_check.proofs.Exact.{text_exact, text_itself, is_same_exact}
 pub use Rattle.erd_check.proofs.Lists.{list_of_items-items_of}
 pub use Rattle.erd_check.proofs.Members.{get_member-before, get_member-first, found_cases, members_unique, get_member-tree, get_member-depth}
 pub use Rattle.erd_check.proofs.Options.{and_then-Some}
@@ -53,7 +53,7 @@ pub use Rattle.erd_meaning.proofs.accepted.Standing.{stands, append-has, has-app
 pub use Rattle.erd_meaning.proofs.examples.RecordExamples.{local_key, members_of}
 pub use Rattle.erd_meaning.proofs.finding.OneObject.{in_at, at_low, with_part, one_id}
 pub use Rattle.erd_meaning.proofs.meanings.SelectionKinds.{kind_of_type, is_selections, selections_kind, selections_name, selections_family, class_role}
-pub use Rattle.erd_meaning.proofs.meanings.WholeMeanings.{same_members, same_object, absent_carried, absent_beside, AgreeAt, same_at_every_key, AreAmong, no_record, value_with_key, same_at_key, ObjectsAgreeButOne, SameMember, same_at_key_with, HaveKeys, keys_of_family, same_family, selection_with_name, SelectionsAgreeButOne, same_at_name, HaveNames, names_of_selections, same_selections, same_sole_election, same_meaning}
+pub use Rattle.erd_meaning.proofs.meanings.WholeMeanings.{same_meaning}
 pub use Rattle.erd_meaning.proofs.orders.DistinctEntries.{place_of, distinct_from_one_place, distinct_map, distinct_one, unrepeated_distinct, unrepeated_by_cmp}
 pub use Rattle.erd_meaning.proofs.orders.EqualNames.{options_exact, equal_keys, equal_names}
 pub use Rattle.erd_meaning.proofs.orders.Reordered.{one_kept, two_exchanged, in_turn, reordered_self, reordered_back, reordered_map, reordered_after, reordered_before, reordered_flat, reordered_rising, reordered_swap, whole-reordered, any-reordered, any_filter_map-reordered, length-reordered, count-reordered, all-reordered, reordered-has, Reordered}

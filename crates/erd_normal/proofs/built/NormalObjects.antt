@@ -1,5 +1,6 @@
 -- The objects of each family in the report that is built: those of the report, each built.
-use Rattle.erd_normal.proofs.Common.{◌≡◌, ℕ, true, false, List, map, Some, codes, flat_map, sym, refl, ap, ◌∙◌, subst, Data, is_envelope_name, kind_of_member, Class, class, Family, family, role, kind, Has, within-tree, Within, ShapeFault, NoneOf, IsTree, list_of_items, entries_at, class_of_object, asked, Object, skeleton_of_shape, values-placed_entries, values-placed_flat, election_entries, values_in_elections, election_within, election_object, Skeleton, contest_selections, class_role, reordered_map, reordered_rising, has_keys, Preference, placed_entries, report_of, elections, objects, rising_list, normal_selection, by_key, by_name, normal_object, normal_election, normal_tree}
+use Rattle.erd_normal.proofs.Common.{◌≡◌, ℕ, true, false, List, map, Some, codes, flat_map, sym, refl, ap, ◌∙◌, subst, Data, kind_of_member, Class, class, Family, family, role, kind, Has, Within, ShapeFault, NoneOf, IsTree, list_of_items, entries_at, class_of_object, asked, has_keys, Preference, placed_entries, report_of, elections, objects, rising_list, is_envelope_name, within-tree, Object, skeleton_of_shape, values-placed_entries, values-placed_flat, election_entries, values_in_elections, election_within, election_object, Skeleton, contest_selections, class_role, reordered_map, reordered_rising, normal_selection, by_key, by_name, normal_object, normal_election, normal_tree}
+use Rattle.erd_normal.proofs.built.FamilyNames.{family_name}
 use Rattle.erd_normal.proofs.built.NormalEntries.{entries_of_election, entries_of_elections, entries_of_report, entries_of_selections}
 use Rattle.erd_normal.proofs.lists.Matched.{Matched, matched_flat, matched_map, matched_then}
 
@@ -68,12 +69,8 @@ module _ (π : Preference) (t : Data) (clean : NoneOf (ShapeFault t)) (tree : Is
 
   -- the objects of one of the first eight families are built, each of one
   pub objects_matched : (f : Family) → has_keys f ≡ true → Matched (IsBuilt π t f) (values_of f t) (values_of f (normal_tree π t))
-  objects_matched family.Unit k = in_report family.Unit (codes "GpUnit") refl refl
-  objects_matched family.Party k = in_report family.Party (codes "Party") refl refl
-  objects_matched family.Person k = in_report family.Person (codes "Person") refl refl
-  objects_matched family.Office k = in_report family.Office (codes "Office") refl refl
-  objects_matched family.Header k = in_report family.Header (codes "Header") refl refl
   objects_matched family.Candidate k = in_elections (skeleton_of_shape t clean) family.Candidate (codes "Candidate") refl
   objects_matched family.Contest k = in_elections (skeleton_of_shape t clean) family.Contest (codes "Contest") refl
   objects_matched family.Style k = in_elections (skeleton_of_shape t clean) family.Style (codes "BallotStyle") refl
   objects_matched family.Selection k = cc
+  objects_matched f k = in_report f (family_name f) refl refl

@@ -1,8 +1,10 @@
 -- What is built of references names objects with their keys, and what is built of selections has their names, where it stands
 -- in the report that is built.
-use Rattle.erd_normal.proofs.Common.{◌≡◌, true, false, List, [], ◌∷◌, map, option_and_then, sym, refl, ap, ◌∙◌, subst, ap₂, Data, as_str, Family, family, map_has, here, later, Has, IsTree, text_of, Object, Reference, stands, flat-has, IsAccepted, Preference, Placed, contests, selections_of_contest, objects, IsBounded, key_named, selection_role, name_of, keys_referred, Sides, normal_reference, normal_selection, normal_tree}
+use Rattle.erd_normal.proofs.Common.{◌≡◌, true, false, List, map, option_and_then, sym, ap, ◌∙◌, subst, Data, as_str, Family, family, has_mapped, Has, IsTree, Reference, IsAccepted, Preference, Placed, contests, selections_of_contest, objects, IsBounded, key_named, selection_role, name_of, map_has, text_of, Object, stands, flat-has, keys_referred, Sides, normal_reference, normal_selection, normal_tree}
 use Rattle.erd_normal.proofs.built.NormalTrees.{normal_tree-tree}
 use Rattle.erd_normal.proofs.canonical.SelectionIds.{listed, selection_values}
+use Rattle.erd_normal.proofs.lists.BuiltLists.{maps_agree}
+use Rattle.erd_normal.proofs.lists.StableRising.{map_after}
 use Rattle.erd_normal.proofs.same.FromAlike.{Stands}
 use Rattle.erd_normal.proofs.same.IdsOfObjects.{Refers}
 use Rattle.erd_normal.proofs.same.means.Meanings.{two_reports}
@@ -38,9 +40,9 @@ module _ (π : Preference) (t : Data) (accepted : IsAccepted π t) (tree : IsTre
   pub keys_named_kept : (f : Family) → is_prefixed f ≡ true → (ds : List Data) → ((d : Data) → Has ds d → IsReference f d)
       → ((e : Data) → Has (map (normal_reference π t f) ds) e → Stands (normal_tree π t) (Reference f) e)
       → keys_referred π (normal_tree π t) f (map (normal_reference π t f) ds) ≡ map (λ d. key_named π t f (text_of d)) ds
-  keys_named_kept f named [] left right = refl
-  keys_named_kept f named (d ∷ ds) left right =
-      ap₂ (λ k ks. k ∷ ks) (key_kept f named d (left d here) (right (normal_reference π t f d) here)) (keys_named_kept f named ds (λ x h. left x (later h)) (λ x h. right x (later h)))
+  keys_named_kept f named ds left right =
+      sym (map_after (normal_reference π t f) (λ r. option_and_then (key_named π (normal_tree π t) f) (as_str r)) ds)
+      ∙ maps_agree _ (λ d. key_named π t f (text_of d)) ds (λ d h. key_kept f named d (left d h) (right (normal_reference π t f d) (has_mapped (normal_reference π t f) ds d h)))
 
   -- ---- selections
 
@@ -68,6 +70,6 @@ module _ (π : Preference) (t : Data) (accepted : IsAccepted π t) (tree : IsTre
     pub names_kept : (ds : List Data) → ((d : Data) → Has ds d → Has (selection_values contest) d)
         → ((e : Data) → Has (map (normal_selection π t contest.value) ds) e → Stands (normal_tree π t) (Object selection_role) e)
         → map (name_of π (normal_tree π t)) (map (normal_selection π t contest.value) ds) ≡ map (name_of π t) ds
-    names_kept [] left right = refl
-    names_kept (d ∷ ds) left right =
-        ap₂ (λ n ns. n ∷ ns) (name_kept d (left d here) (right (normal_selection π t contest.value d) here)) (names_kept ds (λ x h. left x (later h)) (λ x h. right x (later h)))
+    names_kept ds left right =
+        sym (map_after (normal_selection π t contest.value) (name_of π (normal_tree π t)) ds)
+        ∙ maps_agree _ (name_of π t) ds (λ d h. name_kept d (left d h) (right (normal_selection π t contest.value d) (has_mapped (normal_selection π t contest.value) ds d h)))

@@ -1,5 +1,5 @@
 -- The objects of each family in the report that is built have the keys of those of the report, and each has the `@id` of the rank of its key.
-use Rattle.erd_normal.proofs.Common.{◌≡◌, ℕ, ◌+◌, ◌^◌, ◌<◌, true, List, map, length, slice_get, Some, codes, Option, option_map, is_eq, is_lt, Equal, sym, refl, ap, ◌∙◌, subst, ap₂, arith, tied_back, length-map, slice_get-map, options_total, AllByRecursion, IsDistinct, option_cmp, eq_by_cmp, Data, Class, Family, family, role, object_in, ObjectIn, has_mapped, map_has, all_at, all_by_entry, all-Has, Has, within-tree, Within, IsTree, entries_at, class_of_object, asked, Object, values_distinct, no_shape_fault, no_identity_fault, Has-Contains, option_map-Some, values-placed_entries, stands, flat-has, distinct_one, all_rising, rank_map, IsAccepted, has_keys, key_cmp, Preference, key_of, rank_of, Placed, contests, selections_of_contest, objects, id_of, rising_list, key_cmp_total, Key, canonical_id, canonical_selection_id, HasCanonicalIds, normal_selection, by_key, by_name, normal_object, normal_tree}
+use Rattle.erd_normal.proofs.Common.{◌≡◌, ℕ, ◌+◌, ◌^◌, ◌<◌, true, List, map, length, slice_get, Some, codes, Option, option_map, is_eq, is_lt, Equal, sym, refl, ap, ◌∙◌, subst, ap₂, arith, tied_back, length-map, slice_get-map, options_total, AllByRecursion, option_cmp, eq_by_cmp, Data, Class, Family, family, role, object_in, ObjectIn, has_mapped, all-Has, Has, Within, IsTree, entries_at, class_of_object, asked, IsAccepted, has_keys, key_cmp, Preference, key_of, rank_of, Placed, contests, selections_of_contest, objects, id_of, rising_list, key_cmp_total, IsDistinct, map_has, all_at, all_by_entry, within-tree, Object, values_distinct, no_shape_fault, no_identity_fault, Has-Contains, option_map-Some, values-placed_entries, stands, flat-has, distinct_one, all_rising, rank_map, Key, canonical_id, canonical_selection_id, HasCanonicalIds, normal_selection, by_key, by_name, normal_object, normal_tree}
 use Rattle.erd_normal.proofs.lists.BuiltLists.{all_map}
 use Rattle.erd_normal.proofs.lists.KeyedRanks.{rank_exact, rank_low}
 use Rattle.erd_normal.proofs.lists.Matched.{Matched, distinct_matched, even_order, matched_back, matched_count, matched_length, matched_within}
@@ -84,30 +84,30 @@ module _ (π : Preference) (t : Data) (accepted : IsAccepted π t) (tree : IsTre
 
 -- ---- the selections in the report that is built have canonical ids, by the rank of their contest and their own
 
+-- the selections of a contest, without their places
+abbrev pub selection_values : Placed → List Data
+selection_values contest = entries_at (codes "ContestSelection") contest.value
+
+pub listed : (contest : Placed) → map (λ o. o.value) (selections_of_contest contest) ≡ selection_values contest
+listed contest = values-placed_entries (codes "ContestSelection") contest
+
 module _ (π : Preference) (t : Data) (accepted : IsAccepted π t) (tree : IsTree t) where
   module _ (contest : Placed) (of_report : Has (objects family.Contest t) contest) where
-    -- the selections of the contest
-    abbrev selections : List Data
-    selections = entries_at (codes "ContestSelection") contest.value
-
     in_report : (o : Placed) → Has (selections_of_contest contest) o → Has (objects family.Selection t) o
     in_report o h = flat-has selections_of_contest (contests t) contest o of_report h
 
-    listed : map (λ o. o.value) (selections_of_contest contest) ≡ selections
-    listed = values-placed_entries (codes "ContestSelection") contest
-
-    pub selections_classed : AllByRecursion (IsClassed family.Selection) selections
+    pub selections_classed : AllByRecursion (IsClassed family.Selection) (selection_values contest)
     selections_classed =
-        subst (AllByRecursion (IsClassed family.Selection)) listed
+        subst (AllByRecursion (IsClassed family.Selection)) (listed contest)
         (all_map (λ o. IsClassed family.Selection o.value) (IsClassed family.Selection) (λ o. o.value) (selections_of_contest contest) (λ o h. h)
         (all_by_entry (λ o. IsClassed family.Selection o.value) (selections_of_contest contest) (λ o h. object_classed π t accepted tree family.Selection o (in_report o h))))
 
-    pub built_selection : (j : ℕ) (d : Data) → slice_get (map (normal_selection π t contest.value) (rising_list (by_name π t) selections)) j ≡ Some d
+    pub built_selection : (j : ℕ) (d : Data) → slice_get (map (normal_selection π t contest.value) (rising_list (by_name π t) (selection_values contest))) j ≡ Some d
         → id_of d ≡ Some (canonical_selection_id (rank_of π t family.Contest (key_of π contest.value)) j)
     built_selection j d at =
-        let es : List Data = rising_list (by_name π t) selections in
+        let es : List Data = rising_list (by_name π t) (selection_values contest) in
         let e = option_map-Some (normal_selection π t contest.value) (slice_get es j) d (sym (slice_get-map (normal_selection π t contest.value) es j) ∙ at) in
-        let k : IsClassed family.Selection e.0 = all_at (IsClassed family.Selection) es j e.0 (all_rising (IsClassed family.Selection) (by_name π t) selections selections_classed) e.1 in
+        let k : IsClassed family.Selection e.0 = all_at (IsClassed family.Selection) es j e.0 (all_rising (IsClassed family.Selection) (by_name π t) (selection_values contest) selections_classed) e.1 in
         ap id_of (sym e.2) ∙ id_of_built_selection π t contest.value k.0 e.0 k.2 k.1
         ∙ ap (λ n. Some (canonical_selection_id (rank_of π t family.Contest (key_of π contest.value)) n)) (selection_ranks π t accepted contest of_report j e.0 e.1)
 

@@ -1,20 +1,13 @@
 -- An `@id` names at most one selection of the report that is built, and a reference to a selection is built to the canonical
 -- `@id` of the one that it names.
-use Rattle.erd_normal.proofs.Common.{◌≡◌, ℕ, ◌+◌, ◌^◌, ◌<◌, List, [], map, length, slice_get, Some, codes, sym, refl, ap, ◌∙◌, arith, length-map, same_Some, slice_get_within, option_map_or, Data, family, position_of, Has, IsTree, entries_at, text_of, values-placed_entries, length-rising, IsAccepted, Preference, Placed, selections_of_contest, objects, id_of, owner, IsBounded, rising_list, id_of_selection, selection_with, normal_selection_reference, normal_selection, by_name, normal_object, normal_tree}
-use Rattle.erd_normal.proofs.canonical.Bounds.{few_selections}
+use Rattle.erd_normal.proofs.Common.{◌≡◌, ℕ, ◌+◌, ◌^◌, ◌<◌, List, [], map, length, slice_get, Some, codes, sym, refl, ap, ◌∙◌, arith, length-map, same_Some, slice_get_within, option_map_or, Data, family, position_of, Has, IsTree, entries_at, IsAccepted, Preference, Placed, selections_of_contest, objects, id_of, owner, IsBounded, rising_list, text_of, length-rising, id_of_selection, selection_with, normal_selection_reference, normal_selection, by_name, normal_object, normal_tree}
+use Rattle.erd_normal.proofs.canonical.CanonicalIds.{few_selections, canonical_selection_id_exact}
 use Rattle.erd_normal.proofs.lists.FoundInParts.{FoundSelection, owner_found}
+pub use Rattle.erd_normal.proofs.canonical.NormalKeys.{listed, selection_values}
 use Rattle.erd_normal.proofs.canonical.NormalKeys.{IsClassed, object_classed, object_from, one_ranked_built, rank_counted, selection_ids}
 use Rattle.erd_normal.proofs.built.NormalObjects.{selections_built}
-use Rattle.erd_normal.proofs.canonical.SelectionTexts.{canonical_selection_id_exact}
 
 -- ---- what stands in the report that is built
-
--- the selections of a contest, without their places
-abbrev pub selection_values : Placed → List Data
-selection_values contest = entries_at (codes "ContestSelection") contest.value
-
-pub listed : (contest : Placed) → map (λ o. o.value) (selections_of_contest contest) ≡ selection_values contest
-listed contest = values-placed_entries (codes "ContestSelection") contest
 
 counted : (contest : Placed) → length (selections_of_contest contest) ≡ length (selection_values contest)
 counted contest = sym (length-map (selections_of_contest contest) (λ o. o.value)) ∙ ap length (listed contest)

@@ -1,5 +1,5 @@
 -- Each set of the table rises in the report that is built.
-use Rattle.erd_normal.proofs.Common.{◌≡◌, Bool, true, false, List, [], ◌∷◌, map, Some, codes, sym, refl, ap, ◌∙◌, subst, ap₂, AllByRecursion, IsStrictlySortedBy, option_cmp, option_map_or, Data, array, get, class, Family, family, role, MemberKind, kind, array_from, list_of_items-items_of, all_by_entry, all-Has, Has, wanted_within, within-tree, Within, ShapeFault, NoneOf, HasFittingNumbers, IsTree, list_of_items, entries_of, entries_at, text_of, class_of_object, entry_want, Asked, asked, Want, Member, Object, Reference, no_shape_fault, skeleton_of_shape, election_entries, Skeleton, all_rising, has_rising, IsAccepted, has_keys, key_cmp, Preference, key_of, Placed, objects, IsBounded, rising_list, compact_cmp, key_named, selection_role, name_of, name_cmp, kind_wanted, keys_of, keys_referred, RisesAs, AreSetsInOrder, reference_cmp, array_of, normal_selection, by_key, by_name, normal_object, normal_objects, normal_election, normal_tree}
+use Rattle.erd_normal.proofs.Common.{◌≡◌, Bool, true, false, List, [], map, Some, codes, sym, refl, ap, ◌∙◌, subst, AllByRecursion, option_cmp, option_map_or, Data, array, get, role_of_class, Class, class, Family, family, Role, role, MemberKind, kind, array_from, all-Has, Has, wanted_within, Within, ShapeFault, NoneOf, IsTree, list_of_items, entries_of, entries_at, class_of_object, entry_want, is_compared_set, Asked, asked, Want, Member, Reference, IsAccepted, has_keys, key_cmp, Preference, key_of, Placed, objects, IsBounded, rising_list, compact_cmp, key_named, selection_role, name_of, name_cmp, is_array, IsStrictlySortedBy, list_of_items-items_of, all_by_entry, within-tree, is_simple_class, HasFittingNumbers, text_of, Object, no_shape_fault, skeleton_of_shape, election_entries, Skeleton, all_rising, has_rising, kind_wanted, keys_of, keys_referred, RisesAs, AreSetsInOrder, reference_cmp, array_of, normal_selection, by_key, by_name, normal_object, normal_objects, normal_election, normal_tree}
 use Rattle.erd_normal.proofs.texts.FittingNumbers.{within-fitting}
 use Rattle.erd_normal.proofs.built.LeastKeys.{key_of_election, key_of_object}
 use Rattle.erd_normal.proofs.built.NormalObjects.{election_classed}
@@ -8,7 +8,10 @@ use Rattle.erd_normal.proofs.canonical.KeptNames.{keys_named_kept, names_kept}
 use Rattle.erd_normal.proofs.canonical.SelectionIds.{selection_values}
 use Rattle.erd_normal.proofs.same.FromAlike.{Stands, entry_stands}
 use Rattle.erd_normal.proofs.lists.Lists.{IsPart, part_has}
-use Rattle.erd_normal.proofs.canonical.RisingReports.{elections_rise, identifiers_rise, languages_rise, objects_rise, references_rise, selections_rise}
+use Rattle.erd_normal.proofs.canonical.RisingReports.{elections_rise, objects_rise, references_rise, selections_rise, values_rise}
+use Rattle.erd_normal.proofs.same.complete.Values.{identifier_simple, language_simple}
+use Rattle.erd_normal.proofs.lists.BuiltLists.{maps_agree}
+use Rattle.erd_normal.proofs.lists.StableRising.{map_after}
 use Rattle.erd_normal.proofs.same.IdsOfObjects.{Refers, references_refer}
 use Rattle.erd_normal.proofs.same.normal.NewIds.{prefixed_keys}
 use Rattle.erd_normal.proofs.throughout.ThroughoutMembers.{HoldsOfMembers, built_references, is_prefixed}
@@ -63,8 +66,8 @@ module _ (π : Preference) (t : Data) (accepted : IsAccepted π t) (tree : IsTre
   s = skeleton_of_shape t clean
 
   keys_kept : (f : Family) (ds : List Data) → AllByRecursion (IsClassed f) ds → keys_of π (map (normal_object π t f) ds) ≡ keys_of π ds
-  keys_kept f [] all = refl
-  keys_kept f (d ∷ ds) all = ap₂ (λ k ks. k ∷ ks) (key_of_object π π t f all.0.0 d all.0.2 all.0.1) (keys_kept f ds all.1)
+  keys_kept f ds all =
+      sym (map_after (normal_object π t f) (key_of π) ds) ∙ maps_agree (λ d. key_of π (normal_object π t f d)) (key_of π) ds (λ d h. let k = all-Has (IsClassed f) ds d all h in key_of_object π π t f k.0 d k.2 k.1)
 
   objects_rising : (f : Family) → has_keys f ≡ true → (ds : List Data) → IsPart ds (map (λ o. o.value) (objects f t)) → RisesAs π (normal_tree π t) (kind.Keyed f) (entries_of (normal_objects π t f ds))
   objects_rising f keyed ds part =
@@ -76,8 +79,8 @@ module _ (π : Preference) (t : Data) (accepted : IsAccepted π t) (tree : IsTre
 
   -- what is built of the elections has their keys
   election_keys_kept : (ds : List Data) → AllByRecursion IsElection ds → keys_of π (map (normal_election π t) ds) ≡ keys_of π ds
-  election_keys_kept [] all = refl
-  election_keys_kept (d ∷ ds) all = ap₂ (λ k ks. k ∷ ks) (key_of_election π π t clean tree d all.0.1 all.0.0) (election_keys_kept ds all.1)
+  election_keys_kept ds all =
+      sym (map_after (normal_election π t) (key_of π) ds) ∙ maps_agree (λ d. key_of π (normal_election π t d)) (key_of π) ds (λ d h. let k = all-Has IsElection ds d all h in key_of_election π π t clean tree d k.1 k.0)
 
   elections_rising : (ds : List Data) → ds ≡ entries_at (codes "Election") t
       → IsStrictlySortedBy (option_cmp key_cmp) (keys_of π (map (normal_election π t) (rising_list (by_key π) ds)))
@@ -86,19 +89,15 @@ module _ (π : Preference) (t : Data) (accepted : IsAccepted π t) (tree : IsTre
       subst (IsStrictlySortedBy (option_cmp key_cmp)) (sym (election_keys_kept (rising_list (by_key π) ds) (all_rising IsElection (by_key π) ds classed)))
       (subst (λ xs. IsStrictlySortedBy (option_cmp key_cmp) (map (key_of π) (rising_list (by_key π) xs))) (sym is) (elections_rise π t accepted))
 
-  identifiers_rising : HasFittingNumbers t → (required : Bool) (d : Data) → Within t (asked (Member kind.Identifiers required) d) → IsStrictlySortedBy compact_cmp (rising_list compact_cmp (entries_of d))
-  identifiers_rising fits required d w =
-      let ds = array_from d (wanted_within t (no_shape_fault π t accepted) (asked (Member kind.Identifiers required) d) w) in
-      let inside : Within t (asked (Member kind.Identifiers required) (array ds.0)) = subst (λ x. Within t (asked (Member kind.Identifiers required) x)) ds.1 w in
-      subst (λ x. IsStrictlySortedBy compact_cmp (rising_list compact_cmp (entries_of x))) (sym ds.1)
-      (identifiers_rise π t accepted required ds.0 inside (within-tree t (asked (Member kind.Identifiers required) (array ds.0)) tree inside) (within-fitting t (asked (Member kind.Identifiers required) (array ds.0)) fits inside))
-
-  languages_rising : HasFittingNumbers t → (required : Bool) (d : Data) → Within t (asked (Member kind.Languages required) d) → IsStrictlySortedBy compact_cmp (rising_list compact_cmp (entries_of d))
-  languages_rising fits required d w =
-      let ds = array_from d (wanted_within t (no_shape_fault π t accepted) (asked (Member kind.Languages required) d) w) in
-      let inside : Within t (asked (Member kind.Languages required) (array ds.0)) = subst (λ x. Within t (asked (Member kind.Languages required) x)) ds.1 w in
-      subst (λ x. IsStrictlySortedBy compact_cmp (rising_list compact_cmp (entries_of x))) (sym ds.1)
-      (languages_rise π t accepted required ds.0 inside (within-tree t (asked (Member kind.Languages required) (array ds.0)) tree inside) (within-fitting t (asked (Member kind.Languages required) (array ds.0)) fits inside))
+  -- the array of values that is built
+  values_rising : HasFittingNumbers t → (k : MemberKind) (required : Bool) (o : Role) → entry_want (Member k required) ≡ Some (Object o) → is_compared_set (Member k required) ≡ true → ((c : Class) → role_of_class c ≡ o → is_simple_class c ≡ true)
+      → (d : Data) → is_array d ≡ true → Within t (asked (Member k required) d) → IsStrictlySortedBy compact_cmp (entries_of (array_of (rising_list compact_cmp (entries_of d))))
+  values_rising fits k required o entries compared simple d is w =
+      let ds = array_from d is in
+      let inside : Within t (asked (Member k required) (array ds.0)) = subst (λ x. Within t (asked (Member k required) x)) ds.1 w in
+      subst (IsStrictlySortedBy compact_cmp) (sym (list_of_items-items_of (rising_list compact_cmp (entries_of d))))
+      (subst (λ x. IsStrictlySortedBy compact_cmp (rising_list compact_cmp (entries_of x))) (sym ds.1)
+      (values_rise π t accepted k required o entries compared simple ds.0 inside (within-tree t (asked (Member k required) (array ds.0)) tree inside) (within-fitting t (asked (Member k required) (array ds.0)) fits inside)))
 
   module _ (bounded : IsBounded t) where
     references_rising : (f : Family) → is_prefixed f ≡ true → (required : Bool) (d : Data) → Within t (asked (Member (kind.Many f) required) d)
@@ -149,10 +148,10 @@ module _ (π : Preference) (t : Data) (accepted : IsAccepted π t) (tree : IsTre
     many_entry = λ f named required d w i e found. record { rises = λ k h x. cc };
     identifiers = λ required d w full.
         rising_value π u kind.Identifiers required (array_of (rising_list compact_cmp (entries_of d)))
-        (subst (IsStrictlySortedBy compact_cmp) (sym (list_of_items-items_of (rising_list compact_cmp (entries_of d)))) (identifiers_rising π t accepted tree fits required d w));
+        (values_rising π t accepted tree fits kind.Identifiers required role.Identifier refl refl identifier_simple d (wanted_within t (no_shape_fault π t accepted) (asked (Member kind.Identifiers required) d) w) w);
     languages = λ required d w full.
         rising_value π u kind.Languages required (array_of (rising_list compact_cmp (entries_of d)))
-        (subst (IsStrictlySortedBy compact_cmp) (sym (list_of_items-items_of (rising_list compact_cmp (entries_of d)))) (languages_rising π t accepted tree fits required d w));
+        (values_rising π t accepted tree fits kind.Languages required role.Language refl refl language_simple d (wanted_within t (no_shape_fault π t accepted) (asked (Member kind.Languages required) d) w) w);
     ordered = λ required d w full. rising_value π u kind.Ordered required _ tt;
     ordered_entry = λ e w. record { rises = λ k h x. cc };
   }

@@ -1,5 +1,5 @@
 -- Lists whose elements each pass a test, and the list of families.
-use Rattle.erd_normal.proofs.Common.{◌≡◌, ℕ, zero, suc, ◌+◌, Bool, true, false, ◌&&◌, List, [], ◌∷◌, ◌++◌, slice_get, Some, Contains, flat_map, sym, refl, ap, ◌∙◌, subst, append_assoc, append-nil, arith, lit<, and_parts, IsDistinct, list_all, families, family_number, Family, family, all_by_entry, here, later, all-Has, Has, append-has, has-append_left}
+use Rattle.erd_normal.proofs.Common.{◌≡◌, zero, suc, Bool, true, false, List, [], ◌∷◌, ◌++◌, Contains, flat_map, sym, refl, ap, ◌∙◌, subst, append_assoc, append-nil, arith, lit<, and_parts, list_all, families, family_number, Family, family, here, later, all-Has, Has, IsDistinct, all_by_entry, append-has, has-append_left}
 
 -- ---- entries of a list that stand one after another
 
@@ -48,23 +48,3 @@ passed test (y ∷ ys) x h (suc k, low, is) = passed test ys x (and_parts (test 
 pub is_family : (f : Family) → Contains families f
 is_family family.Unit = (0, lit< tt, refl)
 is_family f = (family_number f, lit< tt, refl)
-
--- each element passes the test with its position, counted from one on
-abbrev pub all_from : {A : Type 0} → (ℕ → A → Bool) → ℕ → List A → Bool
-all_from test i [] = true
-all_from test i (x ∷ xs) = test i x && all_from test (i + 1) xs
-
-passed_from : {A : Type 0} (test : ℕ → A → Bool) (n : ℕ) (xs : List A) (i : ℕ) (x : A) → all_from test n xs ≡ true → slice_get xs i ≡ Some x → test (n + i) x ≡ true
-passed_from test n [] i x h is = absurd (cc is)
-passed_from test n (y ∷ ys) zero x h is =
-    let same : y ≡ x = cc in
-    let at : n ≡ n + 0 = omega arith in
-    subst (λ z. test (n + 0) z ≡ true) same (subst (λ m. test m y ≡ true) at (and_parts (test n y) _ h).0)
-passed_from test n (y ∷ ys) (suc i) x h is =
-    let at : (n + 1) + i ≡ n + suc i = omega arith in
-    subst (λ m. test m x ≡ true) at (passed_from test (n + 1) ys i x (and_parts (test n y) _ h).1 is)
-
--- counted from zero on
-pub passed_at : {A : Type 0} (test : ℕ → A → Bool) (xs : List A) (i : ℕ) (x : A) → all_from test 0 xs ≡ true → slice_get xs i ≡ Some x → test i x ≡ true
-passed_at test xs i x h is =
-    let at : 0 + i ≡ i = omega arith in subst (λ m. test m x ≡ true) at (passed_from test 0 xs i x h is)

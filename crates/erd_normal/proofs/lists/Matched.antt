@@ -1,5 +1,5 @@
 -- Lists whose entries are related one by one, but for their order.
-use Rattle.erd_normal.proofs.Common.{◌≡◌, suc, ◌≤◌, Bool, true, false, cond, ◌||◌, List, [], ◌∷◌, ◌++◌, map, length, Some, None, filter, Option, find, flat_map, filter_map, option_and_then, is_eq, Ordering, Less, Equal, sym, refl, ap, ◌∙◌, subst, ap₂, true≢false, arith, false_from_ne_true, on_total, IsTotalOrder, AllByRecursion, IsDistinct, cons_option, list_any, IsStrictlySortedBy, eq_by_cmp, ordering_reverse, has_mapped, all_by_entry, all_weakened, here, later, all-Has, rising_unique, Has, one_kept, two_exchanged, in_turn, reordered_self, reordered_back, reordered_map, reordered_after, reordered_before, reordered_flat, any-reordered, length-reordered, count-reordered, all-reordered, reordered-has, Reordered}
+use Rattle.erd_normal.proofs.Common.{◌≡◌, suc, ◌≤◌, Bool, true, false, cond, ◌||◌, List, [], ◌∷◌, ◌++◌, map, length, Some, None, filter, Option, find, flat_map, filter_map, option_and_then, is_eq, Ordering, Less, Equal, sym, refl, ap, ◌∙◌, subst, ap₂, true≢false, arith, false_from_ne_true, on_total, IsTotalOrder, AllByRecursion, cons_option, list_any, eq_by_cmp, ordering_reverse, has_mapped, all_weakened, here, later, all-Has, rising_unique, Has, IsDistinct, IsStrictlySortedBy, all_by_entry, one_kept, two_exchanged, in_turn, reordered_self, reordered_back, reordered_map, reordered_after, reordered_before, reordered_flat, any-reordered, length-reordered, count-reordered, all-reordered, reordered-has, Reordered}
 use Rattle.erd_meaning.proofs.orders.Reordered.{no_entry}
 use Rattle.erd_normal.proofs.lists.FoundInParts.{AreApart}
 
@@ -107,19 +107,17 @@ nothing_kept test (x ∷ xs) h = ap (λ b. cond b (x ∷ filter test xs) (filter
 
 pub one_if_apart : {A : Type 0} (test : A → Bool) (xs : List A) → AreApart test xs → AtMostOne test xs
 one_if_apart test [] h = record { few = omega arith }
-one_if_apart {A} test (x ∷ xs) h = at (test x) refl (one_if_apart test xs h.1)
-  where
-    at : (b : Bool) → test x ≡ b → AtMostOne test xs → AtMostOne test (x ∷ xs)
-    at true is few =
-        record { few = let e : filter test (x ∷ xs) ≡ x ∷ [] = rw (is, nothing_kept test xs (h.0 is)) refl in let l = ap length e in omega arith }
-    at false is few = record { few = let e : filter test (x ∷ xs) ≡ filter test xs = rw is refl in let l = ap length e in let f = few.few in omega arith }
+one_if_apart test (x ∷ xs) h = record {
+  few = (elim (test x) as (λ b. test x ≡ b → length (cond b (x ∷ filter test xs) (filter test xs)) ≤ 1) [
+    | true ↦ λ is. rw (nothing_kept test xs (h.0 is)) (omega arith)
+    | false ↦ λ is. (one_if_apart test xs h.1).few
+  ]) refl;
+}
 
 rest_few : {A : Type 0} (test : A → Bool) (x : A) (xs : List A) → AtMostOne test (x ∷ xs) → AtMostOne test xs
-rest_few {A} test x xs h = at (test x) refl
-  where
-    at : (b : Bool) → test x ≡ b → AtMostOne test xs
-    at true is = record { few = let e : filter test (x ∷ xs) ≡ x ∷ filter test xs = rw is refl in let l = ap length e in let f = h.few in omega arith }
-    at false is = record { few = let e : filter test (x ∷ xs) ≡ filter test xs = rw is refl in let l = ap length e in let f = h.few in omega arith }
+rest_few test x xs h = record {
+  few = (elim (test x) as (λ b. length (cond b (x ∷ filter test xs) (filter test xs)) ≤ 1 → length (filter test xs) ≤ 1) [ true ↦ λ l. omega arith | false ↦ λ l. l ]) h.few;
+}
 
 not_both : {A : Type 0} (test : A → Bool) (x y : A) (xs : List A) → AtMostOne test (x ∷ (y ∷ xs)) → test x ≡ true → test y ≡ true → ⊥
 not_both test x y xs h p q =
@@ -131,9 +129,7 @@ either_first {A} test x y xs h = at (test x) (test y) refl refl
   where
     at : (a b : Bool) → test x ≡ a → test y ≡ b → cond (test x) (Some x) (cond (test y) (Some y) (find test xs)) ≡ cond (test y) (Some y) (cond (test x) (Some x) (find test xs))
     at true true p q = absurd (not_both test x y xs h p q)
-    at true false p q = rw (p, q) refl
-    at false true p q = rw (p, q) refl
-    at false false p q = rw (p, q) refl
+    at a b p q = rw (p, q) refl
 
 pub find-reordered : {A : Type 0} (test : A → Bool) {xs ys : List A} → Reordered xs ys → AtMostOne test xs → find test xs ≡ find test ys
 find-reordered test no_entry few = refl
@@ -157,23 +153,14 @@ said_same f g same (Some x) None h = elim h [ ]
 module _ {A B : Type 0} {R : A → B → Type 0} (test : A → Bool) (test' : B → Bool) (same : (x : A) (y : B) → R x y → test x ≡ test' y) where
   pub paired_find : {xs : List A} {ys : List B} → Paired R xs ys → Both R (find test xs) (find test' ys)
   paired_find none = neither
-  paired_find (more {x = x} {y = y} {xs = xs} {ys = ys} r rest) = at (test x) (test' y) (same x y r) (paired_find rest)
-    where
-      at : (a b : Bool) → a ≡ b → Both R (find test xs) (find test' ys) → Both R (cond a (Some x) (find test xs)) (cond b (Some y) (find test' ys))
-      at true true e h = both r
-      at true false e h = cc
-      at false true e h = cc
-      at false false e h = h
+  paired_find (more {x = x} {y = y} {xs = xs} {ys = ys} r rest) =
+      rw (same x y r) (elim (test' y) as (λ b. Both R (cond b (Some x) (find test xs)) (cond b (Some y) (find test' ys))) [ true ↦ both r | false ↦ paired_find rest ])
 
   pub paired_count : {xs : List A} {ys : List B} → Paired R xs ys → length (filter test xs) ≡ length (filter test' ys)
   paired_count none = refl
-  paired_count (more {x = x} {y = y} {xs = xs} {ys = ys} r rest) = at (test x) (test' y) (same x y r) (paired_count rest)
-    where
-      at : (a b : Bool) → a ≡ b → length (filter test xs) ≡ length (filter test' ys) → length (cond a (x ∷ filter test xs) (filter test xs)) ≡ length (cond b (y ∷ filter test' ys) (filter test' ys))
-      at true true e h = ap suc h
-      at true false e h = cc
-      at false true e h = cc
-      at false false e h = h
+  paired_count (more {x = x} {y = y} {xs = xs} {ys = ys} r rest) =
+      rw (same x y r)
+      (elim (test' y) as (λ b. length (cond b (x ∷ filter test xs) (filter test xs)) ≡ length (cond b (y ∷ filter test' ys) (filter test' ys))) [ true ↦ ap suc (paired_count rest) | false ↦ paired_count rest ])
 
   pub matched_find : {xs : List A} {ys : List B} → Matched R xs ys → AtMostOne test xs → Both R (find test xs) (find test' ys)
   matched_find {xs = xs} m few =

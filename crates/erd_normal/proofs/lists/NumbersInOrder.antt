@@ -1,5 +1,6 @@
 -- Numbers that never fall along an order: when they are sorted, they are those of the values in that order.
-use Rattle.erd_normal.proofs.Common.{◌≡◌, ℕ, ◌<◌, ◌≤◌, Bool, true, false, cond, List, [], ◌∷◌, map, length, Some, None, filter, Option, IsPermutation, IsSorted, filter_map, option_and_then, nat_cmp, is_lt, is_gt, Ordering, Less, Equal, Greater, sym, refl, ap, ◌∙◌, subst, arith, ranked, nat_cmp_total, by_ranked, CmpEqualImpliesEq, exact_unsigned, IsTotalOrder, alike_right, AllByRecursion, cons_option, SwapsInRange, apply_swaps, ordering_reverse, Data, as_str, Family, less, in_turn, reordered_self, reordered_back, reordered_map, reordered_rising, reordered_swap, whole-reordered, length-reordered, Reordered, rising_from_sort, inserted_exchange, NeverFalls, rising_never_falls, key_cmp, Preference, with_inserted, rising_list, key_named, keys_named, key_cmp_total, key_cmp_exact}
+use Rattle.erd_normal.proofs.Common.{◌≡◌, ℕ, ◌<◌, ◌≤◌, true, false, cond, List, [], ◌∷◌, map, length, Some, None, filter, Option, IsPermutation, IsSorted, filter_map, option_and_then, nat_cmp, is_lt, is_gt, Ordering, Less, Equal, Greater, sym, refl, ap, ◌∙◌, subst, arith, nat_cmp_total, CmpEqualImpliesEq, exact_unsigned, IsTotalOrder, AllByRecursion, cons_option, ordering_reverse, Data, as_str, Family, less, key_cmp, Preference, with_inserted, rising_list, key_named, keys_named, key_cmp_total, key_cmp_exact, ranked, by_ranked, alike_right, SwapsInRange, apply_swaps, in_turn, reordered_self, reordered_back, reordered_map, reordered_rising, reordered_swap, whole-reordered, length-reordered, Reordered, rising_from_sort, inserted_exchange, NeverFalls, rising_never_falls}
+use Rattle.erd_meaning.proofs.orders.Counted.{no_fewer}
 use Rattle.erd_normal.proofs.lists.BuiltLists.{all_map}
 
 -- ---- a list in the order of an exact comparison is the same, in whichever order its entries came
@@ -88,15 +89,6 @@ module _ {K X : Type 0} {cmp : K → K → Ordering} (order : IsTotalOrder cmp) 
   below_too_at k l x Equal is low below = ap is_lt (sym (alike_right order k l (key x) is)) ∙ below
   below_too_at k l x Greater is low below = cc
 
-  more_at : (p q : Bool) (x : X) (xs ys : List X) → (p ≡ true → q ≡ true) → length xs ≤ length ys → length (cond p (x ∷ xs) xs) ≤ length (cond q (x ∷ ys) ys)
-  more_at true true x xs ys too low = omega arith
-  more_at true false x xs ys too low = let h : false ≡ true = too refl in cc
-  more_at false true x xs ys too low = omega arith
-  more_at false false x xs ys too low = low
-
   -- how many have lesser keys never falls along the order of keys
   pub ranks_climb : (k l : K) (xs : List X) → is_gt (cmp k l) ≡ false → length (filter (λ x. is_lt (cmp (key x) k)) xs) ≤ length (filter (λ x. is_lt (cmp (key x) l)) xs)
-  ranks_climb k l [] low = omega arith
-  ranks_climb k l (x ∷ xs) low =
-      more_at (is_lt (cmp (key x) k)) (is_lt (cmp (key x) l)) x (filter (λ x. is_lt (cmp (key x) k)) xs) (filter (λ x. is_lt (cmp (key x) l)) xs)
-      (below_too_at k l x (cmp k l) refl low) (ranks_climb k l xs low)
+  ranks_climb k l xs low = no_fewer (λ x. is_lt (cmp (key x) k)) (λ x. is_lt (cmp (key x) l)) (λ x. below_too_at k l x (cmp k l) refl low) xs

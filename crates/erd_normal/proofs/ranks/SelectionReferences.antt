@@ -1,8 +1,8 @@
 -- What a reference to a selection becomes, by the ranks of the selection and its contest.
-use Rattle.erd_normal.proofs.Common.{◌≡◌, ℕ, true, false, List, [], ◌==◌, slice_get, Some, None, codes, Option, option_map, find, option_and_then, sym, refl, ap, ◌∙◌, subst, ap₂, true≢false, slice_get-map, option_map_or, Data, string, family_number, Family, family, Has, entries_at, find-Some, option_map-Some, stands, flat-has, one_object, has_id-Some, owner_is, in_at, with_part, place_of, In-from_has, has_from_In, IsAccepted, Preference, key_of, key_in, rank_of, id_in, selection_in, FindsId, NameParts, Placed, contests, selections_of_contest, objects, numbered_selections, id_of, has_id, name_of, canonical_selection_id, rank_of_name, id_of_selection, contest_with, selection_with, normal_selection_reference, AreSelectionRanks}
+use Rattle.erd_normal.proofs.Common.{◌≡◌, ℕ, true, false, List, [], ◌==◌, slice_get, Some, None, codes, Option, option_map, find, option_and_then, sym, refl, ap, ◌∙◌, subst, ap₂, slice_get-map, option_map_or, Data, string, family_number, Family, family, Has, entries_at, IsAccepted, Preference, key_of, key_in, rank_of, id_in, selection_in, FindsId, NameParts, Placed, contests, selections_of_contest, objects, numbered_selections, id_of, has_id, name_of, find-Some, option_map-Some, stands, flat-has, one_object, has_id-Some, owner_is, in_at, with_part, place_of, In-from_has, has_from_In, canonical_selection_id, rank_of_name, id_of_selection, contest_with, selection_with, normal_selection_reference, AreSelectionRanks}
 use Rattle.erd_meaning.proofs.selections.NamesTold.{Numbered}
 use Rattle.erd_meaning.proofs.selections.NumberedSelections.{OfContest, of_its_contest, placed_of_contests}
-use Rattle.erd_meaning.proofs.identity.ObjectFamilies.{family_exact, itself}
+use Rattle.erd_meaning.proofs.identity.ObjectFamilies.{family_exact}
 use Rattle.erd_normal.proofs.canonical.ContestSelections.{one_contest}
 use Rattle.erd_normal.proofs.lists.FoundInParts.{FoundSelection, owner_found}
 use Rattle.erd_normal.proofs.meaning.AlikeRecords.{has_name}
@@ -61,8 +61,14 @@ module _ (π : Preference) (t : Data) (id : List ℕ) where
       }
 
   -- no selection has it
-  unnamed : ((i : ℕ) → id_in family.Selection t i ≡ Some id → ⊥) → string [] ≡ normal_selection_reference π t (string id)
-  unnamed none = at (contest_with t id) refl
+  pub unselected : ((i : ℕ) → id_in family.Selection t i ≡ Some id → ⊥) → string [] ≡ normal_selection_reference π t (string id)
+  unselected none =
+      (elim (contest_with t id) as (λ c. contest_with t id ≡ c → string [] ≡ string (option_map_or (λ (c : Placed). option_map_or (λ (o : Placed). id_of_selection π t c.value o.value) (selection_with id c) []) c [])) [
+        | None ↦ λ is. refl
+        | Some c ↦ λ is.
+            let found = find-Some (λ (c : Placed). option_map_or (λ (o : Placed). true) (find (λ o. has_id id o.value) (selections_of_contest c)) false) (contests t) c is in
+            absurd (inside c found.0 (find (λ o. has_id id o.value) (selections_of_contest c)) refl found.1)
+      ]) refl
     where
       inside : (c : Placed) → Has (contests t) c → (o : Option Placed) → find (λ o. has_id id o.value) (selections_of_contest c) ≡ o → option_map_or (λ o. true) o false ≡ true → ⊥
       inside c of_report None is h = cc
@@ -70,13 +76,6 @@ module _ (π : Preference) (t : Data) (id : List ℕ) where
           let found = find-Some (λ (o : Placed). has_id id o.value) (selections_of_contest c) o is in
           let place = place_of o (objects family.Selection t) (In-from_has o (objects family.Selection t) (flat-has selections_of_contest (contests t) c o of_report found.0)) in
           none place.0 (ap (option_and_then (λ (o : Placed). id_of o.value)) place.1 ∙ has_id-Some id o.value found.1)
-
-      at : (c : Option Placed) → contest_with t id ≡ c
-          → string [] ≡ string (option_map_or (λ (c : Placed). option_map_or (λ (o : Placed). id_of_selection π t c.value o.value) (selection_with id c) []) c [])
-      at None is = refl
-      at (Some c) is =
-          let found = find-Some (λ (c : Placed). option_map_or (λ (o : Placed). true) (find (λ o. has_id id o.value) (selections_of_contest c)) false) (contests t) c is in
-          absurd (inside c found.0 (find (λ o. has_id id o.value) (selections_of_contest c)) refl found.1)
 
 -- what is looked up where a selection is found
 module _ (π : Preference) (t : Data) (id : List ℕ) (i : ℕ) (s : SelectionAt π t id i) where
@@ -97,16 +96,3 @@ pub selection_found : (t : Data) (id : List ℕ) (g : Family) (i : ℕ) → Find
 selection_found t id g i finds same =
     let one : g ≡ family.Selection = family_exact g family.Selection same in
     (finds family.Selection i).0 (ap (λ h. Some (h, i)) one)
-
--- an object of another family is found
-pub selection_elsewhere : (π : Preference) (t : Data) (id : List ℕ) (g : Family) (i : ℕ) → FindsId t id (Some (g, i)) → (family_number g == family_number family.Selection) ≡ false
-    → string [] ≡ normal_selection_reference π t (string id)
-selection_elsewhere π t id g i finds other = unnamed π t id (λ j e.
-    let same : Some (g, i) ≡ Some (family.Selection, j) = (finds family.Selection j).1 e in
-    let one : g ≡ family.Selection = ap (λ o. option_map_or (λ (x : Family × ℕ). x.0) o g) same in
-    let equal : (family_number g == family_number family.Selection) ≡ true = subst (λ h. (family_number g == family_number h) ≡ true) one (itself (family_number g)) in
-    true≢false (sym equal ∙ other))
-
--- no object is found
-pub selection_nowhere : (π : Preference) (t : Data) (id : List ℕ) → FindsId t id None → string [] ≡ normal_selection_reference π t (string id)
-selection_nowhere π t id finds = unnamed π t id (λ j e. let none : None ≡ Some (family.Selection, j) = (finds family.Selection j).1 e in cc)
