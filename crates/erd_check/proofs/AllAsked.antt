@@ -1,5 +1,5 @@
 -- All that is asked in a tree, with its places, as a list: what holds of each of the list holds at each place.
-use Rattle.erd_check.proofs.Common.{◌≡◌, ℕ, zero, suc, ◌+◌, Bool, true, false, ◌&&◌, List, [], ◌∷◌, ◌++◌, length, take, Some, None, Option, option_map, option_and_then, nat_cmp, Ordering, Equal, sym, refl, ap, subst, inl, inr, append_assoc, append-nil, add-zero, zero-add, and_parts, slice_cmp, list_all, list_any, option_map_or, match_ordering, Data, null, boolean, number, string, array, object, Items, no_items, item, Members, no_members, member, get_member, get_item, Report, Step, At, Name, is_same_json, list_of_items, scope_inside, want_of_name, entry_want, is_compared_set, Asked, asked_of_member, asked_of_entry, asked_from, asked_at, asked_with, Scope, Want, Object}
+use Rattle.erd_check.proofs.Common.{◌≡◌, ℕ, zero, suc, ◌+◌, Bool, true, false, ◌&&◌, List, [], ◌∷◌, ◌++◌, length, take, Some, None, Option, option_map, option_and_then, nat_cmp, Ordering, Equal, sym, refl, ap, subst, inl, inr, append_assoc, append-nil, add-zero, zero-add, and_parts, slice_cmp, list_all, list_any, option_map_or, match_ordering, Data, array, object, Items, no_items, item, Members, no_members, member, get_member, get_item, Report, Step, At, Name, is_same_json, list_of_items, scope_inside, want_of_name, entry_want, is_compared_set, Asked, asked_of_member, asked_of_entry, asked_from, asked_at, asked_with, Scope, Want, Object}
 use Rattle.erd_check.proofs.Steps.{text_from_equal, next_index}
 use Rattle.erd_check.proofs.Order.{In, In-append_left, In-append_right}
 
@@ -89,16 +89,11 @@ none_there q b (Some v) h = cc
 mutual
   listed_from : (p : List Step) (w : Want) (repeated : Bool) (d : Data) (q : List Step) (b : Asked) → asked_from (asked_with w repeated d) q ≡ Some b → Listed p q b (all_asked_from p w repeated d)
   listed_from p w repeated d [] b h = listed_itself p w repeated d b h
-  listed_from p w repeated null (s ∷ q) b h = cc
-  listed_from p w repeated (boolean f) (s ∷ q) b h = cc
-  listed_from p w repeated (number n) (s ∷ q) b h = cc
-  listed_from p w repeated (string t) (s ∷ q) b h = cc
-  listed_from p w repeated (array ds) (Name n ∷ q) b h = cc
   listed_from p w repeated (array ds) (At i ∷ q) b h =
       inr (listed_entry p w ds i q b (entry_want w) (λ v e. listed_items p v (is_compared_set w) [] ds i q b e) h)
-  listed_from p w repeated (object ms) (At i ∷ q) b h = cc
   listed_from p w repeated (object ms) (Name n ∷ q) b h =
       inr (listed_members p (scope_inside w (object ms)) ms n q b h)
+  listed_from p w repeated d (s ∷ q) b h = cc
 
   listed_items : (p : List Step) (w : Want) (is_set : Bool) (earlier : List Data) (ds : Items) (i : ℕ) (q : List Step) (b : Asked) → item_asked w is_set earlier ds i q ≡ Some b
       → Listed p (At (length earlier + i) ∷ q) b (all_asked_items p w is_set earlier ds)

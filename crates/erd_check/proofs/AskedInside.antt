@@ -1,8 +1,8 @@
 -- All that is asked in a tree, as a list: each of the list is asked at its place, and the places rise.
-use Rattle.erd_check.proofs.Common.{◌≡◌, ℕ, suc, ◌+◌, ◌<◌, Bool, false, ◌&&◌, List, [], ◌∷◌, ◌++◌, length, take, IfSome, Some, None, Option, nat_cmp, Ordering, Less, Greater, sym, refl, ap, ◌∙◌, subst, inl, inr, append_assoc, append-nil, add-zero, zero-add, arith, nat_list_cmp_total, slice_cmp, AllByRecursion, list_any, IsStrictlySortedBy, option_map_or, ordering_reverse, Data, array, object, Items, no_items, item, Members, no_members, member, get_member, get_item, steps_less, start_less, Report, Step, At, Name, is_same_json, list_of_items, names, IsInOrder, AreItemsInOrder, AreMembersInOrder, scope_inside, want_of_name, entry_want, is_compared_set, Asked, asked_from, asked_at, asked_with, Scope, Want, Object}
+use Rattle.erd_check.proofs.Common.{◌≡◌, ℕ, suc, ◌+◌, ◌<◌, Bool, false, ◌&&◌, List, [], ◌∷◌, ◌++◌, length, take, IfSome, Some, None, Option, nat_cmp, Ordering, Less, Greater, sym, refl, ap, ◌∙◌, subst, inl, inr, append_assoc, append-nil, add-zero, zero-add, arith, nat_list_cmp_total, slice_cmp, AllByRecursion, list_any, IsStrictlySortedBy, option_map_or, ordering_reverse, Data, array, object, Items, no_items, item, Members, no_members, member, get_member, get_item, steps_less, start_less, Report, Step, At, Name, is_same_json, list_of_items, names, IsInOrder, AreItemsInOrder, AreMembersInOrder, scope_inside, want_of_name, entry_want, is_compared_set, Asked, asked_from, asked_at, asked_with, Scope, Want, Object, tied_itself}
 use Rattle.erd_tables.specs.Places.{place_cmp}
 use Rattle.erd_check.proofs.AllAsked.{AskedPlace, all_asked_from, all_asked_items, all_asked_members, all_asked}
-use Rattle.erd_check.proofs.Steps.{next_index, same_text, found_all, at_less}
+use Rattle.erd_check.proofs.Steps.{next_index, found_all, at_less}
 use Rattle.erd_check.proofs.Order.{In, In-append, all_from_In, sorted_append}
 
 -- the one place stands before the other
@@ -95,7 +95,7 @@ first_member p s k d ms x (Some v) e from order h =
       want = v;
       value = d;
       wanted = e;
-      found = rw (same_text k);
+      found = rw (tied_itself nat_list_cmp_total k);
       rest = b.rest;
       place = b.place ∙ append_assoc p (Name k ∷ []) b.rest;
       there = b.there;

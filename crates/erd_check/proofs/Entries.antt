@@ -20,17 +20,12 @@ array_from _ e = cc
 
 pub list_of_items_exact : (ds es : Items) → list_of_items ds ≡ list_of_items es → ds ≡ es
 list_of_items_exact no_items no_items e = refl
-list_of_items_exact no_items (item d ds) e = cc
-list_of_items_exact (item d ds) no_items e = cc
 list_of_items_exact (item d ds) (item f es) e = let h : list_of_items ds ≡ list_of_items es = cc in let g : d ≡ f = cc in ap₂ item g (list_of_items_exact ds es h)
+list_of_items_exact ds es e = cc
 
 pub list_of_items-place : (ds : Items) (d : Data) → Has (list_of_items ds) d → (i : ℕ) × (get_item i ds ≡ Some d)
 list_of_items-place no_items d h = elim h [ ]
-list_of_items-place (item e ds) d h = at (Has-cases e d (list_of_items ds) h) (list_of_items-place ds d)
-  where
-    at : (e ≡ d) ⊎ Has (list_of_items ds) d → (Has (list_of_items ds) d → (i : ℕ) × (get_item i ds ≡ Some d)) → (i : ℕ) × (get_item i (item e ds) ≡ Some d)
-    at (inl s) k = (zero, ap Some s)
-    at (inr h) k = (suc (k h).0, (k h).1)
+list_of_items-place (item e ds) d h = elim (Has-cases e d (list_of_items ds) h) [ inl s ↦ (zero, ap Some s) | inr k ↦ let r = list_of_items-place ds d k in (suc r.0, r.1) ]
 
 pub list_of_items-tree : (ds : Items) (d : Data) → AreTrees ds → Has (list_of_items ds) d → IsTree d
 list_of_items-tree no_items d tree h = elim h [ ]

@@ -1,5 +1,5 @@
 -- What stands at the places of a report whose shape has no fault.
-use Rattle.erd_check.proofs.Common.{◌≡◌, ℕ, Bool, true, false, not, ◌&&◌, List, [], ◌∷◌, ◌++◌, is_none, IsSomeAnd, IsTrue, Some, None, codes, Option, option_map, option_and_then, bytes_eq, sym, refl, ap, ◌∙◌, subst, append_assoc, not-false, and_from, false_from_ne_true, list_any, Data, string, array, object, Items, Members, get_member, get_item, get, text_of_class, role_of_class, class_in_role, Class, Role, role, Reason, reason, kind, Step, At, Name, is_object, has_wanted_kind, names_wanted, is_reference, is_shape_fault, ShapeFault, NoneOf, IsTree, class_of_object, scope_inside, member_want, want_of_name, entry_want, is_compared_set, Asked, asked, is_repeated, asked_inside, asked_from, asked_at, Want, ClassText, Member, Object}
+use Rattle.erd_check.proofs.Common.{◌≡◌, ℕ, Bool, true, false, not, ◌&&◌, List, [], ◌∷◌, ◌++◌, is_none, IsSomeAnd, IsTrue, Some, None, codes, Option, option_map, option_and_then, bytes_eq, sym, refl, ap, ◌∙◌, subst, append_assoc, not-false, and_from, false_from_ne_true, list_any, Data, string, array, object, Items, Members, get_member, get_item, get, text_of_class, role_of_class, class_in_role, Class, Role, role, Reason, reason, kind, Step, At, Name, is_object, has_wanted_kind, names_wanted, is_reference, is_shape_fault, ShapeFault, NoneOf, IsTree, class_of_object, scope_inside, member_want, want_of_name, entry_want, is_compared_set, Asked, asked, is_repeated, asked_inside, asked_from, asked_at, Want, ClassText, Member, Object, arith}
 use Rattle.erd_tables.proofs.Roles.{class_in_role_named}
 use Rattle.erd_check.proofs.Entries.{object_from, string_from_text, get_item-tree}
 use Rattle.erd_check.proofs.Members.{get_member-tree}
@@ -13,8 +13,7 @@ asked_from-step : (a : Asked) (p : List Step) (s : Step) → asked_from a (p ++ 
 asked_from-step a [] s = asked_from-one (asked_inside a.want a.value s)
   where
     asked_from-one : (o : Option Asked) → option_and_then (λ b. asked_from b []) o ≡ o
-    asked_from-one None = refl
-    asked_from-one (Some b) = refl
+    asked_from-one o = grind arith
 asked_from-step a (r ∷ p) s = onward (asked_inside a.want a.value r) (λ b. asked_from-step b p s)
   where
     onward : (o : Option Asked) → ((b : Asked) → asked_from b (p ++ s ∷ []) ≡ option_and_then (λ c. asked_inside c.want c.value s) (asked_from b p))

@@ -1,6 +1,6 @@
 -- What is asked of the values of a report, and of a value that gives no reason: its number is whole and in range, and an array of which nothing is asked
 -- inside is empty.
-use Rattle.erd_check.proofs.Common.{◌≡◌, ℕ, suc, Bool, true, false, cond, not, ◌&&◌, ◌||◌, List, length, ◌==◌, Some, None, codes, Option, bytes_eq, sym, refl, ap, ◌∙◌, arith, list_all, Num, Data, number, array, Items, no_items, item, is_float, rows_of_class, is_reference_name, kind_of_identity, kind_of_member, is_required, Class, class, family, Role, role, Reason, reason, MemberKind, kind, is_empty_array, wants_whole, is_shape_fault, list_of_items, want_of_kind, is_report_class, member_want, carried_want, want_of_name, entry_want, asked_with, IsAskedInRange, scope, Want, Carried, ClassText, Member, Object, Reference, Status}
+use Rattle.erd_check.proofs.Common.{◌≡◌, ℕ, suc, Bool, true, false, not, ◌&&◌, ◌||◌, List, length, ◌==◌, Some, None, codes, Option, bytes_eq, sym, refl, ap, ◌∙◌, arith, list_all, Num, Data, number, array, Items, no_items, item, is_float, rows_of_class, is_reference_name, kind_of_identity, kind_of_member, is_required, Class, class, family, Role, role, Reason, reason, MemberKind, kind, is_empty_array, wants_whole, is_shape_fault, list_of_items, want_of_kind, is_report_class, member_want, carried_want, want_of_name, entry_want, asked_with, IsAskedInRange, scope, Want, Carried, ClassText, Member, Object, Reference, Status, inl, inr, cases_Bool, cond_both}
 use Rattle.erd_check.specs.Numbers.{IsFittingNumber}
 use Rattle.erd_check.proofs.TableKinds.{kind_of_class}
 
@@ -39,25 +39,18 @@ sought_kind kind.ClassText required e = cc
 sought_kind k required e = refl
 
 sought_member : (c : Class) (name : List ℕ) → bytes_eq name (codes "@type") ≡ false → is_sought (member_want c name) ≡ true
-sought_member c name other = at (is_report_class c && bytes_eq name (codes "Status"))
-  where
-    at : (b : Bool) → is_sought (cond b Status (want_of_kind (kind_of_member c name) (is_required c name))) ≡ true
-    at true = refl
-    at false = sought_kind (kind_of_member c name) (is_required c name) (kind_of_class is_untyped c name other (untyped_rows c) (untyped_identity c) refl refl)
+sought_member c name other =
+    cond_both (is_report_class c && bytes_eq name (codes "Status")) Status (want_of_kind (kind_of_member c name) (is_required c name)) (λ w. is_sought w ≡ true) (λ is. refl)
+    (λ is. sought_kind (kind_of_member c name) (is_required c name) (kind_of_class is_untyped c name other (untyped_rows c) (untyped_identity c) refl refl))
 
 pub sought_named : (r : Role) (c : Class) (name : List ℕ) → Sought (want_of_name (scope.Members r (Some c)) name)
-sought_named r c name = at (bytes_eq name (codes "@type")) refl
-  where
-    at : (b : Bool) → bytes_eq name (codes "@type") ≡ b → Sought (want_of_name (scope.Members r (Some c)) name)
-    at true is = record { want = ClassText r; is = rw is; sought = refl }
-    at false is = record { want = member_want c name; is = rw is; sought = sought_member c name is }
+sought_named r c name = elim (cases_Bool (bytes_eq name (codes "@type"))) [
+  | inl is ↦ record { want = ClassText r; is = rw is; sought = refl }
+  | inr is ↦ record { want = member_want c name; is = rw is; sought = sought_member c name is }
+]
 
 pub sought_carried : (name : List ℕ) → Sought (want_of_name scope.Carried name)
-sought_carried name = record { want = carried_want name; is = refl; sought = at (bytes_eq name (codes "@id") || is_reference_name name) }
-  where
-    at : (b : Bool) → is_sought (cond b (Member kind.StrangeIdentity false) Carried) ≡ true
-    at true = refl
-    at false = refl
+sought_carried name = record { want = carried_want name; is = refl; sought = cond_both (bytes_eq name (codes "@id") || is_reference_name name) (Member kind.StrangeIdentity false) Carried (λ w. is_sought w ≡ true) (λ is. refl) (λ is. refl) }
 
 pub sought_entry : (w v : Want) → entry_want w ≡ Some v → is_sought v ≡ true
 sought_entry (Member (kind.Many f) required) v e = let h : Reference f ≡ v = cc in ap is_sought (sym h)

@@ -1,10 +1,9 @@
 -- What kinds the table has for a class.
-use Rattle.erd_check.proofs.Common.{◌≡◌, ℕ, Bool, true, false, cond, ◌&&◌, List, [], ◌∷◌, codes, bytes_eq, unwrap_or, sym, refl, ap, ◌∙◌, and_parts, list_all, Row, rows_of_class, kind_in_rows, is_reference_name, kind_of_identity, kind_of_unlisted, kind_of_member, is_required, Class, class, MemberKind, kind, want_of_kind, is_report_class, member_want}
+use Rattle.erd_check.proofs.Common.{◌≡◌, ℕ, Bool, true, false, cond, ◌&&◌, List, [], ◌∷◌, codes, bytes_eq, unwrap_or, sym, refl, ap, ◌∙◌, and_parts, list_all, Row, rows_of_class, kind_in_rows, is_reference_name, kind_of_identity, kind_of_unlisted, kind_of_member, is_required, Class, class, MemberKind, kind, want_of_kind, is_report_class, member_want, inl, inr, cases_Bool, arith}
 use Rattle.erd_check.proofs.Exact.{text_exact}
 
 cond_keeps : {A : Type 0} (P : A → Bool) (b : Bool) (x y : A) → P x ≡ true → P y ≡ true → P (cond b x y) ≡ true
-cond_keeps P true x y h k = h
-cond_keeps P false x y h k = k
+cond_keeps P b x y h k = grind arith
 
 -- what holds of the kinds of unlisted names holds of one
 pub kind_of_unlisted_has : (P : MemberKind → Bool) (c : Class) (name : List ℕ) → bytes_eq name (codes "@type") ≡ false
@@ -17,11 +16,9 @@ kind_of_unlisted_has P c name other id reference carried =
 kind_or : (Q : Row → Bool) (P : MemberKind → Bool) (other : MemberKind) (name : List ℕ) (ms : List Row) → list_all Q ms ≡ true → ((m : Row) → Q m ≡ true → bytes_eq name m.name ≡ true → P m.kind ≡ true) → P other ≡ true
     → P (unwrap_or (kind_in_rows ms name) other) ≡ true
 kind_or Q P other name [] h each k = k
-kind_or Q P other name (m ∷ ms) h each k = at (bytes_eq name m.name) refl (kind_or Q P other name ms (and_parts (Q m) _ h).1 each k)
-  where
-    at : (b : Bool) → bytes_eq name m.name ≡ b → P (unwrap_or (kind_in_rows ms name) other) ≡ true → P (unwrap_or (kind_in_rows (m ∷ ms) name) other) ≡ true
-    at true is r = rw is (each m (and_parts (Q m) _ h).0 is)
-    at false is r = rw is r
+kind_or Q P other name (m ∷ ms) h each k =
+    let both = and_parts (Q m) _ h in
+    elim (cases_Bool (bytes_eq name m.name)) [ inl is ↦ rw is (each m both.0 is) | inr is ↦ rw is (kind_or Q P other name ms both.1 each k) ]
 
 -- what holds of each kind in a class's rows, and of the kinds of unlisted names, holds of a member's kind
 pub kind_of_class : (P : MemberKind → Bool) (c : Class) (name : List ℕ) → bytes_eq name (codes "@type") ≡ false → list_all (λ m. P m.kind) (rows_of_class c) ≡ true
@@ -57,11 +54,7 @@ status_word class.ElectionReport name k e h is =
 status_word c name k e h is = cc
 
 pub want_by_kind : (c : Class) (name : List ℕ) (k : MemberKind) → kind_of_member c name ≡ k → is_word k ≡ false → member_want c name ≡ want_of_kind k (is_required c name)
-want_by_kind c name k e h = at (is_report_class c && bytes_eq name (codes "Status")) refl
-  where
-    at : (b : Bool) → (is_report_class c && bytes_eq name (codes "Status")) ≡ b → member_want c name ≡ want_of_kind k (is_required c name)
-    at true is = absurd (status_word c name k e h is)
-    at false is = rw (is, e)
+want_by_kind c name k e h = elim (cases_Bool (is_report_class c && bytes_eq name (codes "Status"))) [ inl is ↦ absurd (status_word c name k e h is) | inr is ↦ rw (is, e) ]
 
 pub want_unless_status : (c : Class) (name : List ℕ) → (is_report_class c && bytes_eq name (codes "Status")) ≡ false → member_want c name ≡ want_of_kind (kind_of_member c name) (is_required c name)
 want_unless_status c name is = rw is

@@ -1,19 +1,12 @@
 -- What the references of an accepted report name.
-use Rattle.erd_meaning.proofs.Common.{◌≡◌, ℕ, zero, suc, Bool, true, false, not, ◌&&◌, List, [], ◌∷◌, ◌++◌, is_some, is_none, IsTrue, Some, None, codes, Contains, Option, option_map, find, option_and_then, sym, refl, ap, ◌∙◌, subst, arith, false_from_ne_true, true_from_ne_false, list_any, Data, string, Family, family, role, reason, Step, At, Name, here, later, Has, not_within, Within, NoneOf, text_at, Asked, asked, asked_at, Reference, IsAccepted, has_keys, Preference, key_of, IdentityFault, is_reference_fault, is_selection_in, Placed, objects, has_id, owner, is_owned, key_named, Key}
+use Rattle.erd_meaning.proofs.Common.{◌≡◌, ℕ, zero, suc, Bool, true, false, not, ◌&&◌, List, [], ◌∷◌, ◌++◌, is_some, is_none, IsTrue, Some, None, codes, Contains, Option, find, option_and_then, sym, refl, ap, ◌∙◌, subst, arith, false_from_ne_true, true_from_ne_false, list_any, Data, string, Family, family, role, reason, Step, At, Name, here, later, Has, not_within, Within, NoneOf, text_at, Asked, asked, asked_at, Reference, IsAccepted, has_keys, Preference, key_of, IdentityFault, is_reference_fault, is_selection_in, Placed, objects, has_id, owner, is_owned, key_named, Key, inl, inr, cases_Bool, option_map-Some, some_from}
 use Rattle.erd_meaning.proofs.accepted.Phases.{no_reference_fault, no_identity_fault}
 
 found_either : (some any : Bool) → not any ≡ false → (not some && any) ≡ false → some ≡ true
-found_either true any h k = refl
-found_either false true h k = cc
-found_either false false h k = cc
-
-some_from : {A : Type 0} (o : Option A) → is_some o ≡ true → (x : A) × (o ≡ Some x)
-some_from None h = cc
-some_from (Some x) h = (x, refl)
+found_either some any h k = grind arith
 
 none_not : {A : Type 0} (o : Option A) → is_none o ≡ not (is_some o)
-none_not None = refl
-none_not (Some x) = refl
+none_not o = grind arith
 
 -- a reference names an object of its family
 pub owned : (π : Preference) (t : Data) → IsAccepted π t → (f : Family) (r : List ℕ) → Within t (asked (Reference f) (string r)) → (o : Data) × (owner t f r ≡ Some o)
@@ -48,19 +41,14 @@ selected π t accepted a contest w names i r e =
 -- what is found passes, and stands in the list
 pub find-Some : {A : Type 0} (test : A → Bool) (xs : List A) (x : A) → find test xs ≡ Some x → Has xs x × (test x ≡ true)
 find-Some test [] x e = cc
-find-Some {A} test (y ∷ ys) x e = at (test y) refl (find-Some test ys x)
-  where
-    at : (b : Bool) → test y ≡ b → (find test ys ≡ Some x → Has ys x × (test x ≡ true)) → Has (y ∷ ys) x × (test x ≡ true)
-    at true is h = let f : Some y ≡ Some x = rw is at e in let g : y ≡ x = cc in (subst (λ z. Has (y ∷ ys) z) g here, subst (λ z. test z ≡ true) g is)
-    at false is h = let r = h (rw is at e) in (later r.0, r.1)
+find-Some test (y ∷ ys) x e = elim (cases_Bool (test y)) [
+  | inl is ↦ let f : Some y ≡ Some x = rw is at e in let g : y ≡ x = cc in (subst (λ z. Has (y ∷ ys) z) g here, subst (λ z. test z ≡ true) g is)
+  | inr is ↦ let r = find-Some test ys x (rw is at e) in (later r.0, r.1)
+]
 
 pub find-any : {A : Type 0} (test : A → Bool) (xs : List A) → list_any test xs ≡ true → (x : A) × (find test xs ≡ Some x) × (test x ≡ true) × Has xs x
 find-any test [] e = cc
-find-any {A} test (x ∷ xs) e = at (test x) refl (find-any test xs)
-  where
-    at : (b : Bool) → test x ≡ b → (list_any test xs ≡ true → (y : A) × (find test xs ≡ Some y) × (test y ≡ true) × Has xs y) → (y : A) × (find test (x ∷ xs) ≡ Some y) × (test y ≡ true) × Has (x ∷ xs) y
-    at true is h = (x, rw is, is, here)
-    at false is h = let r = h (rw is at e) in (r.0, rw is r.1, r.2, later r.3)
+find-any test (x ∷ xs) e = elim (cases_Bool (test x)) [ inl is ↦ (x, rw is, is, here) | inr is ↦ let r = find-any test xs (rw is at e) in (r.0, rw is r.1, r.2, later r.3) ]
 
 pub Contains-Has : {A : Type 0} (xs : List A) (x : A) → Has xs x → Contains xs x
 Contains-Has xs x (here {xs = ys}) = (0, omega arith, refl)
@@ -70,10 +58,6 @@ pub Has-Contains : {A : Type 0} (xs : List A) (x : A) → Contains xs x → Has 
 Has-Contains [] x (k, low, e) = absurd (omega (arith, low))
 Has-Contains (y ∷ ys) x (zero, low, e) = subst (Has (y ∷ ys)) e here
 Has-Contains (y ∷ ys) x (suc k, low, e) = later (Has-Contains ys x (k, omega (arith, low), e))
-
-pub option_map-Some : {A B : Type 0} (f : A → B) (o : Option A) (y : B) → option_map f o ≡ Some y → (x : A) × (o ≡ Some x) × (f x ≡ y)
-option_map-Some f None y e = cc
-option_map-Some f (Some x) y e = (x, refl, cc)
 
 -- an object of a family that is named by keys has one
 pub has_identifier : (π : Preference) (t : Data) → NoneOf (IdentityFault π t) → (f : Family) (o : Placed) → has_keys f ≡ true → Has (objects f t) o → (k : Key) × (key_of π o.value ≡ Some k)

@@ -1,8 +1,9 @@
 -- Each object stands at its place, and no two have one `@id`.
-use Rattle.erd_meaning.proofs.Common.{◌≡◌, ℕ, ◌+◌, true, false, List, [], ◌∷◌, ◌++◌, Some, None, codes, Option, option_map, find, flat_map, bytes_eq, Ordering, Less, Equal, Greater, sym, refl, ap, ◌∙◌, subst, arith, option_map_or, ordering_reverse, Data, array, object, Members, get_member, place_cmp_total, place_cmp_exact, role_of_class, place_cmp, kind_of_member, is_required, Class, class, Family, family, Role, role, reason, kind, At, Name, entries_in, object_in, is_absent, is_filled_array, keyed_list, MayBeArray, ObjectAt, ObjectIn, here, later, Has, asked_at-step, asked_inside_object, Within, want_by_kind, ShapeFault, NoneOf, entries_at, asked, asked_at, Want, Member, IsAccepted, has_keys, Preference, key_of, IsBefore, NameParts, Placed, placed_from, placed_entries, report_of, elections, contests, selections_of_contest, objects, id_of, has_id, owner, name_of, Key}
+use Rattle.erd_meaning.proofs.Common.{◌≡◌, ℕ, ◌+◌, true, false, List, [], ◌∷◌, ◌++◌, Some, None, codes, Option, option_map, find, flat_map, bytes_eq, Ordering, Less, Equal, Greater, sym, refl, ap, ◌∙◌, subst, arith, option_map_or, ordering_reverse, Data, array, object, Members, get_member, place_cmp_total, place_cmp_exact, role_of_class, place_cmp, kind_of_member, is_required, Class, class, Family, family, Role, role, reason, kind, At, Name, entries_in, object_in, is_absent, is_filled_array, keyed_list, MayBeArray, ObjectAt, ObjectIn, here, later, Has, asked_at-step, asked_inside_object, Within, want_by_kind, ShapeFault, NoneOf, entries_at, asked, asked_at, Want, Member, IsAccepted, has_keys, Preference, key_of, IsBefore, NameParts, Placed, placed_from, placed_entries, report_of, elections, contests, selections_of_contest, objects, id_of, has_id, owner, name_of, Key, option_map-Some}
 use Rattle.erd_check.specs.declared.want.Want.TheVariants.{Object}
 use Rattle.erd_check.proofs.Exact.{text_exact, text_itself}
-use Rattle.erd_meaning.proofs.accepted.References.{Contains-Has, find-Some, find-any, option_map-Some}
+use Rattle.erd_meaning.proofs.accepted.References.{Contains-Has, find-Some, find-any}
+use Rattle.erd_meaning.proofs.identity.IdentityFaults.{repeats_id, repeats_key}
 use Rattle.erd_meaning.proofs.accepted.HeldObjects.{HeldObject, has-flat, held_object}
 use Rattle.erd_meaning.proofs.accepted.Skeleton.{Skeleton, election_object, election_stands, placed_index, skeleton_of_shape}
 use Rattle.erd_meaning.proofs.orders.Sets.{any-has}
@@ -108,19 +109,7 @@ one_placed π t accepted f g o p h k before after = at (place_cmp o.place p.plac
 
 -- a later object has not the `@id` of an earlier one
 no_second_id : (π : Preference) (t : Data) → IsAccepted π t → (f g : Family) (o p : Placed) (r : List ℕ) → Has (objects f t) o → Has (objects g t) p → id_of o.value ≡ Some r → id_of p.value ≡ Some r → ¬ IsBefore o p
-no_second_id π t accepted f g o p r h k e l is = no_identity_fault π t accepted (p.place ++ Name (codes "@id") ∷ []) reason.DuplicateId (record {
-  family = g;
-  later = p;
-  later_stands = Contains-Has (objects g t) p k;
-  place = refl;
-  earlier_family = f;
-  earlier = o;
-  earlier_stands = Contains-Has (objects f t) o h;
-  before = is;
-  id = r;
-  later_id = l;
-  earlier_id = e;
-})
+no_second_id π t accepted f g o p r h k e l is = no_identity_fault π t accepted (p.place ++ Name (codes "@id") ∷ []) reason.DuplicateId (repeats_id t g f p o r (Contains-Has (objects g t) p k) (Contains-Has (objects f t) o h) is l e)
 
 -- two objects with one `@id` are one
 pub one_object : (π : Preference) (t : Data) → IsAccepted π t → (f g : Family) (o p : Placed) (r : List ℕ) → Has (objects f t) o → Has (objects g t) p → id_of o.value ≡ Some r → id_of p.value ≡ Some r → o ≡ p
@@ -129,19 +118,7 @@ one_object π t accepted f g o p r h k e l =
 
 -- a later object of a family has not the key of an earlier one
 no_twin : (π : Preference) (t : Data) → IsAccepted π t → (f : Family) (o p : Placed) (k : Key) → has_keys f ≡ true → Has (objects f t) o → Has (objects f t) p → key_of π o.value ≡ Some k → key_of π p.value ≡ Some k → ¬ IsBefore o p
-no_twin π t accepted f o p k keyed h i e l is = no_identity_fault π t accepted p.place reason.TwinIdentifier (record {
-  role = role.OfFamily f;
-  keyed = keyed;
-  later = p;
-  later_stands = Contains-Has (objects f t) p i;
-  place = refl;
-  earlier = o;
-  earlier_stands = Contains-Has (objects f t) o h;
-  before = is;
-  key = k;
-  later_key = l;
-  earlier_key = e;
-})
+no_twin π t accepted f o p k keyed h i e l is = no_identity_fault π t accepted p.place reason.TwinIdentifier (repeats_key π t (role.OfFamily f) p o k keyed (Contains-Has (objects f t) p i) (Contains-Has (objects f t) o h) is l e)
 
 -- two objects of a family with one key are one
 pub one_keyed : (π : Preference) (t : Data) → IsAccepted π t → (f : Family) (o p : Placed) (k : Key) → has_keys f ≡ true → Has (objects f t) o → Has (objects f t) p → key_of π o.value ≡ Some k → key_of π p.value ≡ Some k → o ≡ p

@@ -1,8 +1,7 @@
 -- Faults of identity, of references and of selections, as facts on small trees, by computation.
-use Rattle.erd_meaning.proofs.Common.{◌≡◌, ℕ, true, false, [], ◌∷◌, slice_get, Some, None, codes, option_and_then, unwrap_or, refl, lit<, serde_json_on_literals, Data, boolean, class, Family, DuplicateId, NoIdentifier, SelectionOfOtherContest, TwinIdentifier, TwinSelection, WrongFamily, At, Name, tree_of, asked, Reference, IdentityFault, ReferenceFault, SelectionFault, a_json, Placed, report_of, elections, objects, selection_record, name_in_class, name_of}
+use Rattle.erd_meaning.proofs.Common.{◌≡◌, ℕ, true, false, [], ◌∷◌, slice_get, Some, None, codes, option_and_then, unwrap_or, refl, lit<, serde_json_on_literals, Data, boolean, class, Family, DuplicateId, NoIdentifier, SelectionOfOtherContest, TwinIdentifier, TwinSelection, WrongFamily, At, Name, tree_of, asked, Reference, IdentityFault, ReferenceFault, SelectionFault, a_json, Placed, report_of, elections, objects, selection_record, name_in_class, name_of, role}
 use Rattle.erd_check.specs.declared.want.Want.TheVariants.{Object}
 use Rattle.erd_tables.specs.declared.class.Family.TheVariants as family
-use Rattle.erd_tables.specs.declared.class.Role.TheVariants as role
 
 -- the object at this position of its family
 abbrev pub object_at : Data → Family → ℕ → Placed

@@ -58,9 +58,8 @@ inside_each name n (e ∷ es) =
 
 mapped_same : (a : Option Placed) (b : Option ℕ) → option_map holder a ≡ option_map Some b → b ≡ option_and_then holder a
 mapped_same None None e = refl
-mapped_same None (Some n) e = cc
-mapped_same (Some o) None e = cc
 mapped_same (Some o) (Some n) e = let same : holder o ≡ Some n = cc in sym same
+mapped_same o n e = cc
 
 held_inside : (name : List ℕ) (t : Data) (ns : List ℕ) (i : ℕ) → ns ≡ held_from name 0 (entries_at (codes "Election") t)
     → slice_get ns i ≡ option_and_then holder (slice_get (flat_map (placed_entries name) (elections t)) i)

@@ -1,5 +1,5 @@
 -- What is found by a key or by an `@id` is what has it.
-use Rattle.erd_meaning.proofs.Common.{◌≡◌, ℕ, true, List, map, slice_get, Some, None, Option, option_map, position, option_and_then, is_eq, sym, refl, ap, ◌∙◌, subst, ap₂, and_parts, and_from, tied_itself, same_Some, some_pair_parts, bytes_eq-Decides, Data, view, Value, family_number, Family, In, In-filter, NoneOf, Preference, IdentityFault, key_in, id_in, FindsKey, FindsId, rank, number_at, number_of_id, number_of_key, is_of_family, those_of, is_keyed, keeps_id, Kept, kept_objects, same_key, same_id, key_cmp_total, IsResolved, NumberedName, shown, Key, Object}
+use Rattle.erd_meaning.proofs.Common.{◌≡◌, ℕ, true, List, map, slice_get, Some, None, Option, option_map, position, option_and_then, is_eq, sym, refl, ap, ◌∙◌, subst, ap₂, and_parts, and_from, tied_itself, same_Some, some_pair_parts, bytes_eq-Decides, Data, view, Value, family_number, Family, In, In-filter, NoneOf, Preference, IdentityFault, key_in, id_in, FindsKey, FindsId, rank, number_at, number_of_id, number_of_key, is_of_family, those_of, is_keyed, keeps_id, Kept, kept_objects, same_key, same_id, key_cmp_total, IsResolved, NumberedName, shown, Key, Object, and_then-Some}
 use Rattle.erd_meaning.specs.code.OwnIds.{HaveOwnIds}
 use Rattle.erd_meaning.proofs.finding.OneObject.{hit, in_at, missed, one_id, one_key}
 use Rattle.erd_meaning.proofs.identity.IdentityFaults.{same_id_from, same_key_from}
@@ -15,13 +15,10 @@ record Standing (ks : List Kept) (f : Family) (part : Kept → Type 0) : Type 0 
 
 standing : {A : Type 0} (g : Kept → Option A) (ks : List Kept) (f : Family) (i : ℕ) (a : A)
     → option_and_then g (slice_get (those_of f ks) i) ≡ Some a → Standing ks f (λ k. g k ≡ Some a)
-standing {A} g ks f i a e = at (slice_get (those_of f ks) i) refl e
-  where
-    at : (o : Option Kept) → slice_get (those_of f ks) i ≡ o → option_and_then g o ≡ Some a → Standing ks f (λ k. g k ≡ Some a)
-    at None is h = cc
-    at (Some k) is h =
-        let both = In-filter (is_of_family f) k ks (in_at (those_of f ks) i k is) in
-        record { one = k; there = both.0; family = both.1; has = h }
+standing g ks f i a e =
+    let r = and_then-Some g (slice_get (those_of f ks) i) a e in
+    let both = In-filter (is_of_family f) r.0 ks (in_at (those_of f ks) i r.0 r.1) in
+    record { one = r.0; there = both.0; family = both.1; has = r.2 }
 
 -- ---- by a key
 

@@ -1,5 +1,5 @@
 -- Objects by family and position: those that are kept of a report, and those of the definition.
-use Rattle.erd_meaning.proofs.Common.{◌≡◌, ℕ, zero, suc, ◌^◌, ◌<◌, ◌≤◌, Bool, true, false, cond, List, [], ◌∷◌, map, length, take, slice_get, Some, count_by, Option, option_map, option_and_then, refl, ap, ◌∙◌, arith, length-map, Data, view, Value, Family, Preference, Placed, objects, IsBounded, rank, is_of_family, those_of, Kept, kept, Met, an_object, an_election, Located, located, all_located, objects_among, kept_objects, IsResolved, NumberedName, shown, Object}
+use Rattle.erd_meaning.proofs.Common.{◌≡◌, ℕ, zero, suc, ◌^◌, ◌<◌, ◌≤◌, Bool, true, false, cond, List, [], ◌∷◌, map, length, slice_get, Some, count_by, Option, option_map, option_and_then, refl, ap, ◌∙◌, arith, length-map, Data, view, Value, Family, Preference, Placed, objects, IsBounded, rank, is_of_family, those_of, Kept, kept, Met, an_object, an_election, Located, located, all_located, objects_among, kept_objects, IsResolved, NumberedName, shown, Object, inl, inr, cases_Bool}
 use Rattle.std.proofs.lemmas.List.Sums.{count_by-le-length, length-filter}
 use Rattle.erd_meaning.proofs.identity.ObjectFamilies.{is_object_of, objects_met, pick}
 
@@ -81,8 +81,4 @@ value_at π v os ns f i r = ap (λ (ks : List Kept). option_map (λ k. k.value) 
 pub ranked : (f : Family) (ks : List Kept) (n : ℕ) (k : Kept) → slice_get ks n ≡ Some k → is_of_family f k ≡ true → slice_get (those_of f ks) (rank f ks n) ≡ Some k
 ranked f [] n k e t = cc
 ranked f (l ∷ ks) zero k e t = let same : l ≡ k = cc in rw same (rw t refl)
-ranked f (l ∷ ks) (suc n) k e t = at (is_of_family f l) (those_of f ks) (those_of f (take n ks)) (ranked f ks n k e t)
-  where
-    at : (b : Bool) (ls js : List Kept) → slice_get ls (length js) ≡ Some k → slice_get (cond b (l ∷ ls) ls) (length (cond b (l ∷ js) js)) ≡ Some k
-    at true ls js h = h
-    at false ls js h = h
+ranked f (l ∷ ks) (suc n) k e t = elim (cases_Bool (is_of_family f l)) [ inl is ↦ rw is (ranked f ks n k e t) | inr is ↦ rw is (ranked f ks n k e t) ]

@@ -1,5 +1,5 @@
 -- A set whose keys have numbers answers as the list of its keys.
-use Rattle.erd_meaning.proofs.Common.{◌≡◌, ℕ, ◌+◌, Bool, true, false, cond, not, ◌&&◌, ◌||◌, List, [], ◌∷◌, ◌++◌, map, ◌==◌, Some, None, Option, position, sym, refl, ap, ◌∙◌, ap₂, position_from-zero, HashWrites, list_any, position_from, position_or_len, insert_key, salted_number, keys_in, AreNumbered, Salted}
+use Rattle.erd_meaning.proofs.Common.{◌≡◌, ℕ, ◌+◌, Bool, true, cond, not, ◌&&◌, ◌||◌, List, [], ◌∷◌, ◌++◌, ◌==◌, Some, position, sym, refl, ap, ◌∙◌, ap₂, position_from-zero, HashWrites, list_any, position_from, position_or_len, insert_key, salted_number, keys_in, AreNumbered, Salted, cond_both, inl, inr, cases_Bool}
 use Rattle.erd_meaning.specs.declared.keys.salt.Salt.{Salt}
 use Rattle.erd_meaning.proofs.finding.SaltedTests.{number_implied}
 
@@ -52,15 +52,7 @@ module _ {K : Type 0} (writes : K → HashWrites) (salt : Salt) where
       inserted_index = place_numbered s.number (same s.key) (λ l e. is ∙ ap (λ ws. salted_number salt ws) (alike k l e)) keys all
 
       pub inserted_numbered : AreNumbered writes salt (insert_key same_salted keys s)
-      inserted_numbered = at (list_any (same_salted s) keys)
-        where
-          at : (b : Bool) → AreNumbered writes salt (cond b keys (keys ++ s ∷ []))
-          at true = all
-          at false = numbered_push keys s all is
+      inserted_numbered = cond_both (list_any (same_salted s) keys) keys (keys ++ s ∷ []) (AreNumbered writes salt) (λ _. all) (λ _. numbered_push keys s all is)
 
       pub inserted_keys : keys_in (insert_key same_salted keys s) ≡ insert_key same (keys_in keys) s.key
-      inserted_keys = at (list_any (same_salted s) keys) ∙ ap (λ b. cond b (keys_in keys) (keys_in keys ++ s.key ∷ [])) inserted_any
-        where
-          at : (b : Bool) → keys_in (cond b keys (keys ++ s ∷ [])) ≡ cond b (keys_in keys) (keys_in keys ++ s.key ∷ [])
-          at true = refl
-          at false = keys_push keys s
+      inserted_keys = elim (cases_Bool (list_any (same_salted s) keys)) [ inl is ↦ rw (is, ← inserted_any, is) refl | inr is ↦ rw (is, ← inserted_any, is) (keys_push keys s) ]

@@ -1,5 +1,5 @@
 -- Where no object has the `@id` of another, the first object with an `@id`, if it is of the family, is the first of the family.
-use Rattle.erd_meaning.proofs.Common.{◌≡◌, ℕ, Bool, true, false, cond, ◌&&◌, List, [], ◌∷◌, ◌==◌, Some, None, Option, find, option_and_then, sym, refl, ap, ◌∙◌, inl, inr, and-false, Data, family_number, Family, In, In-filter_kept, NoneOf, Preference, IdentityFault, id_in, is_of_family, those_of, keeps_id, object_among, Kept, kept_objects}
+use Rattle.erd_meaning.proofs.Common.{◌≡◌, ℕ, Bool, true, false, cond, ◌&&◌, List, [], ◌∷◌, ◌==◌, Some, None, Option, find, option_and_then, sym, refl, ap, ◌∙◌, inl, inr, Data, family_number, Family, In, In-filter_kept, NoneOf, Preference, IdentityFault, id_in, is_of_family, those_of, keeps_id, object_among, Kept, kept_objects, and_left, and_right, cases_Bool}
 use Rattle.erd_meaning.proofs.finding.Lookups.{kept_part}
 use Rattle.erd_meaning.proofs.finding.OneObject.{one_id}
 use Rattle.erd_meaning.proofs.identity.IdentityFaults.{same_id_from}
@@ -21,13 +21,10 @@ if_of_family f k = cond (is_of_family f k) (Some k) None
 
 none_of_family : (f : Family) (p : Kept → Bool) (k : Kept) (ks : List Kept) → OfOneFamily p (k ∷ ks) → p k ≡ true → is_of_family f k ≡ false
     → find (λ j. is_of_family f j && p j) ks ≡ None
-none_of_family f p k ks one e other = none_passes (λ j. is_of_family f j && p j) ks (λ j i. at j i (p j) refl)
-  where
-    at : (j : Kept) → In j ks → (b : Bool) → p j ≡ b → (is_of_family f j && p j) ≡ false
-    at j i true h =
-        let not_of : is_of_family f j ≡ false = ap (λ g. family_number g == family_number f) (one j k (inr i) (inl refl) h e) ∙ other in
-        ap (λ b. b && p j) not_of
-    at j i false h = ap (λ b. is_of_family f j && b) h ∙ and-false (is_of_family f j)
+none_of_family f p k ks one e other = none_passes (λ j. is_of_family f j && p j) ks (λ j i. elim (cases_Bool (p j)) [
+  | inl h ↦ and_left (is_of_family f j) (p j) (ap (λ g. family_number g == family_number f) (one j k (inr i) (inl refl) h e) ∙ other)
+  | inr h ↦ and_right (is_of_family f j) (p j) h
+])
 
 only_family : (f : Family) (p : Kept → Bool) (ks : List Kept) → OfOneFamily p ks → option_and_then (if_of_family f) (find p ks) ≡ find (λ k. is_of_family f k && p k) ks
 unfolding if_of_family

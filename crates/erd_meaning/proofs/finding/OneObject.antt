@@ -1,6 +1,6 @@
 -- What names an object names one object: by its key in its family, by its `@id` in the report.
-use Rattle.erd_meaning.proofs.Common.{◌≡◌, ℕ, zero, suc, ◌+◌, ◌<◌, Bool, true, false, cond, ◌⊎◌, List, [], ◌∷◌, length, slice_get, Some, None, Option, option_map, position, option_and_then, Ordering, Less, sym, refl, ap, ◌∙◌, subst, inl, inr, arith, cases_order, position_from-zero, slice_get-map, position_from, IsStrictlySortedBy, Data, place_cmp, Family, role, DuplicateId, TwinIdentifier, In, contains_from_In, In-all, sorted_filter, NoneOf, Preference, key_of_family_object, IdentityFault, key_in, id_in, Placed, objects, id_of, Met, an_object, an_election, Located, located_one, located, all_located, Key}
-use Rattle.erd_meaning.proofs.identity.IdentityFaults.{kept_keyed}
+use Rattle.erd_meaning.proofs.Common.{◌≡◌, ℕ, zero, suc, ◌+◌, ◌<◌, Bool, true, ◌⊎◌, List, [], ◌∷◌, length, slice_get, Some, None, Option, option_map, position, option_and_then, Ordering, Less, sym, refl, ap, ◌∙◌, subst, inl, inr, arith, cases_order, position_from-zero, slice_get-map, position_from, IsStrictlySortedBy, Data, place_cmp, Family, role, DuplicateId, TwinIdentifier, In, contains_from_In, In-all, IsStrictlySortedBy-filter, NoneOf, Preference, key_of_family_object, IdentityFault, key_in, id_in, Placed, objects, id_of, Met, an_object, an_election, Located, located_one, located, all_located, Key, cases_Bool, and_then-Some}
+use Rattle.erd_meaning.proofs.identity.IdentityFaults.{kept_keyed, repeats_key, repeats_id}
 use Rattle.erd_meaning.proofs.identity.MetSources.{is_met}
 use Rattle.erd_meaning.proofs.identity.ObjectFamilies.{is_of, objects_met}
 use Rattle.erd_meaning.proofs.identity.ObjectPlaces.{AreApart, all_parted, apart, id_place}
@@ -48,17 +48,13 @@ pub record ObjectIn (f : Family) (t : Data) (i : ℕ) : Type 0 where
 
 pub with_part : {A : Type 0} (g : Placed → Option A) (f : Family) (t : Data) (i : ℕ) (a : A) → option_and_then g (slice_get (objects f t) i) ≡ Some a
     → (o : ObjectIn f t i) × (g o.one ≡ Some a)
-with_part {A} g f t i a e = from (slice_get (objects f t) i) refl e
-  where
-    from : (o : Option Placed) → slice_get (objects f t) i ≡ o → option_and_then g o ≡ Some a → (o : ObjectIn f t i) × (g o.one ≡ Some a)
-    from None is h = cc
-    from (Some o) is h = (record { one = o; at = is }, h)
+with_part g f t i a e = let r = and_then-Some g (slice_get (objects f t) i) a e in (record { one = r.0; at = r.1 }, r.2)
 
 pub object_in : (f : Family) (t : Data) (i : ℕ) (o : ObjectIn f t i) → In o.one (objects f t)
 object_in f t i o = in_at (objects f t) i o.one o.at
 
 pub family_apart : (π : Preference) (f : Family) (t : Data) → AreApart (located π f (objects f t))
-family_apart π f t = subst AreApart (objects_met π f t) (sorted_filter (is_of f) apart (all_located π t) (all_parted π t))
+family_apart π f t = subst AreApart (objects_met π f t) (IsStrictlySortedBy-filter apart (is_of f) (all_located π t) (all_parted π t))
 
 located_at : (π : Preference) (f : Family) (t : Data) (i : ℕ) (o : ObjectIn f t i) → slice_get (located π f (objects f t)) i ≡ Some (located_one π f o.one)
 located_at π f t i o = slice_get-map (located_one π f) (objects f t) i ∙ ap (option_map (located_one π f)) o.at
@@ -75,19 +71,8 @@ two_keys : (π : Preference) (t : Data) (f : Family) (key : Key) (i j : ℕ) (a 
 two_keys π t f key i j a b none l e g =
     let mine = kept_keyed π f a.one.value key e in
     let its = kept_keyed π f b.one.value key g in
-    none b.one.place TwinIdentifier (record {
-      role = role.OfFamily f;
-      keyed = mine.0;
-      later = b.one;
-      later_stands = contains_from_In b.one (objects f t) (object_in f t j b);
-      place = refl;
-      earlier = a.one;
-      earlier_stands = contains_from_In a.one (objects f t) (object_in f t i a);
-      before = before_in π f t i j a b l;
-      key = key;
-      later_key = its.1;
-      earlier_key = mine.1;
-    })
+    none b.one.place TwinIdentifier (repeats_key π t (role.OfFamily f) b.one a.one key mine.0 (contains_from_In b.one (objects f t) (object_in f t j b)) (contains_from_In a.one (objects f t) (object_in f t i a))
+    (before_in π f t i j a b l) its.1 mine.1)
 
 pub one_key : (π : Preference) (t : Data) (f : Family) (key : Key) (i j : ℕ) → NoneOf (IdentityFault π t) → key_in π f t i ≡ Some key → key_in π f t j ≡ Some key → i ≡ j
 one_key π t f key i j none e g =
@@ -104,19 +89,8 @@ one_key π t f key i j none e g =
 two_ids : (π : Preference) (t : Data) (id : List ℕ) (f g : Family) (i j : ℕ) (a : ObjectIn f t i) (b : ObjectIn g t j) → NoneOf (IdentityFault π t)
     → apart (located_one π f a.one) (located_one π g b.one) ≡ Less → id_of a.one.value ≡ Some id → id_of b.one.value ≡ Some id → ⊥
 two_ids π t id f g i j a b none l d e =
-    none (id_place b.one.place) DuplicateId (record {
-      family = g;
-      later = b.one;
-      later_stands = contains_from_In b.one (objects g t) (object_in g t j b);
-      place = refl;
-      earlier_family = f;
-      earlier = a.one;
-      earlier_stands = contains_from_In a.one (objects f t) (object_in f t i a);
-      before = before_apart (located_one π f a.one) (located_one π g b.one) l;
-      id = id;
-      later_id = e;
-      earlier_id = d;
-    })
+    none (id_place b.one.place) DuplicateId (repeats_id t g f b.one a.one id (contains_from_In b.one (objects g t) (object_in g t j b)) (contains_from_In a.one (objects f t) (object_in f t i a))
+    (before_apart (located_one π f a.one) (located_one π g b.one) l) e d)
 
 same_position : (π : Preference) (t : Data) (f : Family) (i j : ℕ) (a : ObjectIn f t i) (b : ObjectIn f t j) → a.one.place ≡ b.one.place → i ≡ j
 same_position π t f i j a b e = elim (cases_order i j) [
@@ -165,15 +139,13 @@ record HitFrom {A : Type 0} (p : A → Bool) (i : ℕ) (xs : List A) (n : ℕ) :
 
 hit_from : {A : Type 0} (p : A → Bool) (i : ℕ) (xs : List A) (n : ℕ) → position_from p i xs ≡ Some n → HitFrom p i xs n
 hit_from p i [] n e = cc
-hit_from p i (x ∷ xs) n e = at (p x) refl e (hit_from p (i + 1) xs n)
-  where
-    at : (b : Bool) → p x ≡ b → cond b (Some i) (position_from p (i + 1) xs) ≡ Some n → (position_from p (i + 1) xs ≡ Some n → HitFrom p (i + 1) xs n)
-        → HitFrom p i (x ∷ xs) n
-    at true is h more = let same : i ≡ n = cc in record { after = 0; is = omega arith; hit = record { one = x; at = refl; passes = is } }
-    at false is h more =
-        let found = more h in
-        let place : n ≡ i + 1 + found.after = found.is in
-        record { after = suc found.after; is = omega arith; hit = record { one = found.hit.one; at = found.hit.at; passes = found.hit.passes } }
+hit_from p i (x ∷ xs) n e = elim (cases_Bool (p x)) [
+  | inl is ↦ let h : Some i ≡ Some n = rw is at e in let same : i ≡ n = cc in record { after = 0; is = omega arith; hit = record { one = x; at = refl; passes = is } }
+  | inr is ↦
+      let found = hit_from p (i + 1) xs n (rw is at e) in
+      let place : n ≡ i + 1 + found.after = found.is in
+      record { after = suc found.after; is = omega arith; hit = record { one = found.hit.one; at = found.hit.at; passes = found.hit.passes } }
+]
 
 pub hit : {A : Type 0} (p : A → Bool) (xs : List A) (n : ℕ) → position p xs ≡ Some n → Hit p xs n
 hit p xs n e =
@@ -185,11 +157,8 @@ hit p xs n e =
 missed_from : {A : Type 0} (p : A → Bool) (i : ℕ) (xs : List A) (x : A) → position_from p i xs ≡ None → In x xs → p x ≡ true → ⊥
 missed_from p i [] x e h t = absurd h
 missed_from p i (y ∷ xs) x e (inl same) t = let passes : p y ≡ true = ap p same ∙ t in let h : Some i ≡ None = rw passes at e in cc
-missed_from p i (y ∷ xs) x e (inr h) t = at (p y) e (λ g. missed_from p (i + 1) xs x g h t)
-  where
-    at : (b : Bool) → cond b (Some i) (position_from p (i + 1) xs) ≡ None → (position_from p (i + 1) xs ≡ None → ⊥) → ⊥
-    at true g more = cc
-    at false g more = more g
+missed_from p i (y ∷ xs) x e (inr h) t =
+    elim (cases_Bool (p y)) [ inl is ↦ (let g : Some i ≡ None = rw is at e in cc) | inr is ↦ missed_from p (i + 1) xs x (rw is at e) h t ]
 
 pub missed : {A : Type 0} (p : A → Bool) (xs : List A) (x : A) → position p xs ≡ None → In x xs → p x ≡ true → ⊥
 missed p xs x e h t = missed_from p 0 xs x (sym (position_from-zero p xs) ∙ e) h t

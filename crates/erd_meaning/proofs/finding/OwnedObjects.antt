@@ -1,12 +1,10 @@
 -- What an `@id` names is the object that is found by it, if it is of the family that is asked for.
-use Rattle.erd_meaning.proofs.Common.{◌≡◌, ℕ, true, false, List, ◌∷◌, ◌==◌, slice_get, Some, None, Option, option_and_then, sym, refl, ap, ◌∙◌, subst, true≢false, some_pair_parts, Data, family_number, Family, position_of, has_at, Has, id_in, FindsId, Placed, objects, id_of, has_id, owner_at}
+use Rattle.erd_meaning.proofs.Common.{◌≡◌, ℕ, true, false, List, ◌==◌, slice_get, Some, None, Option, option_and_then, sym, refl, ap, ◌∙◌, subst, true≢false, some_pair_parts, Data, family_number, Family, position_of, has_at, Has, id_in, FindsId, Placed, objects, id_of, has_id, owner_at}
 use Rattle.erd_meaning.proofs.identity.ObjectFamilies.{family_exact, itself}
 use Rattle.erd_meaning.proofs.finding.OneObject.{with_part}
 use Rattle.erd_meaning.proofs.accepted.References.{find-any, find-Some}
 use Rattle.erd_meaning.proofs.orders.Sets.{any-has}
 use Rattle.erd_meaning.proofs.accepted.Standing.{has_id-from, has_id-Some}
-
--- ---- positions in lists
 
 -- ---- the object that has the `@id`
 

@@ -1,5 +1,5 @@
 -- What the indexes answer, once an object was added at the end.
-use Rattle.erd_meaning.proofs.Common.{◌≡◌, ℕ, zero, suc, ◌+◌, ◌<◌, Bool, true, false, cond, List, [], ◌∷◌, ◌++◌, length, is_some, slice_get, Some, None, Option, option_map, position, option_and_then, sym, refl, ap, ◌∙◌, subst, append_assoc, append-nil, arith, append_snoc, take-append_seam, position_from-zero, take-append-le, length_push, slice_get_within, position_from, lookup, option_or, Family, family, with_place, places_from, rank, number_at, number_of_id, number_of_key, contests_noted, contests_before, is_of_family, those_of, is_keyed, keeps_id, Kept, Key}
+use Rattle.erd_meaning.proofs.Common.{◌≡◌, ℕ, zero, suc, ◌+◌, ◌<◌, Bool, true, false, cond, List, [], ◌∷◌, ◌++◌, length, is_some, slice_get, Some, None, Option, option_map, position, option_and_then, sym, refl, ap, ◌∙◌, subst, append_assoc, append-nil, arith, append_snoc, take-append_seam, position_from-zero, take-append-le, length_push, slice_get_within, position_from, lookup, option_or, Family, family, with_place, places_from, rank, number_at, number_of_id, number_of_key, contests_noted, contests_before, is_of_family, those_of, is_keyed, keeps_id, Kept, Key, inl, inr, cases_Bool}
 use Rattle.erd_meaning.proofs.finding.OneObject.{hit}
 
 -- ---- lists
@@ -7,33 +7,20 @@ use Rattle.erd_meaning.proofs.finding.OneObject.{hit}
 -- what is looked up among entries, and one more
 pub lookup_push : {K X : Type 0} (test : K → Bool) (es : List (K × X)) (k : K) (x : X) → lookup test (es ++ (k, x) ∷ []) ≡ option_or (lookup test es) (cond (test k) (Some x) None)
 lookup_push test [] k x = refl
-lookup_push test (e ∷ es) k x = at (test e.0) (lookup_push test es k x)
-  where
-    at : (b : Bool) → lookup test (es ++ (k, x) ∷ []) ≡ option_or (lookup test es) (cond (test k) (Some x) None)
-        → cond b (Some e.1) (lookup test (es ++ (k, x) ∷ [])) ≡ option_or (cond b (Some e.1) (lookup test es)) (cond (test k) (Some x) None)
-    at true h = refl
-    at false h = h
+lookup_push test (e ∷ es) k x = elim (cases_Bool (test e.0)) [ inl is ↦ rw is refl | inr is ↦ rw is (lookup_push test es k x) ]
 
 position_from_push : {X : Type 0} (p : X → Bool) (i : ℕ) (xs : List X) (x : X)
     → position_from p i (xs ++ x ∷ []) ≡ option_or (position_from p i xs) (cond (p x) (Some (i + length xs)) None)
 position_from_push p i [] x = let none : i + 0 ≡ i = omega arith in ap (λ n. cond (p x) (Some n) None) (sym none)
-position_from_push p i (y ∷ xs) x = at (p y) (position_from_push p (i + 1) xs x ∙ ap (λ n. option_or (position_from p (i + 1) xs) (cond (p x) (Some n) None)) next)
-  where
-    next : i + 1 + length xs ≡ i + length (y ∷ xs)
-    next = omega arith
-
-    at : (b : Bool) → position_from p (i + 1) (xs ++ x ∷ []) ≡ option_or (position_from p (i + 1) xs) (cond (p x) (Some (i + length (y ∷ xs))) None)
-        → cond b (Some i) (position_from p (i + 1) (xs ++ x ∷ [])) ≡ option_or (cond b (Some i) (position_from p (i + 1) xs)) (cond (p x) (Some (i + length (y ∷ xs))) None)
-    at true h = refl
-    at false h = h
+position_from_push p i (y ∷ xs) x =
+    let next : i + 1 + length xs ≡ i + length (y ∷ xs) = omega arith in
+    elim (cases_Bool (p y)) [ inl is ↦ rw is refl | inr is ↦ rw is (position_from_push p (i + 1) xs x ∙ ap (λ n. option_or (position_from p (i + 1) xs) (cond (p x) (Some n) None)) next) ]
 
 pub position_push : {X : Type 0} (p : X → Bool) (xs : List X) (x : X) → position p (xs ++ x ∷ []) ≡ option_or (position p xs) (cond (p x) (Some (length xs)) None)
 position_push p xs x =
+    let none : 0 + length xs ≡ length xs = omega arith in
     position_from-zero p (xs ++ x ∷ []) ∙ position_from_push p 0 xs x ∙ ap (λ n. option_or (position_from p 0 xs) (cond (p x) (Some n) None)) none
     ∙ ap (λ o. option_or o (cond (p x) (Some (length xs)) None)) (sym (position_from-zero p xs))
-  where
-    none : 0 + length xs ≡ length xs
-    none = omega arith
 
 get_earlier : {X : Type 0} (xs : List X) (y x : X) (i : ℕ) → slice_get xs i ≡ Some x → slice_get (xs ++ y ∷ []) i ≡ Some x
 get_earlier [] y x i e = cc
@@ -46,14 +33,11 @@ get_last (x ∷ xs) ys y = get_last xs ys y
 
 -- what was there stays
 pub or_known : {X : Type 0} (o : Option X) (x : X) (b : Bool) → (b ≡ true → is_some o ≡ true) → o ≡ option_or o (cond b (Some x) None)
-or_known (Some y) x b known = refl
-or_known None x true known = let h : false ≡ true = known refl in cc
-or_known None x false known = refl
+or_known o x b known = grind arith
 
 -- where nothing is found
 pub none_found : {X : Type 0} (o : Option X) → false ≡ is_some o → o ≡ None
-none_found None e = refl
-none_found (Some x) e = cc
+none_found o e = grind arith
 
 -- ---- the places of a family
 
@@ -75,12 +59,7 @@ places_push f n (l ∷ ks) k = at (is_of_family f l) (is_of_family f k) (places_
 -- there are as many as objects
 pub places_length : (f : Family) (n : ℕ) (ks : List Kept) → length (places_from f n ks) ≡ length (those_of f ks)
 places_length f n [] = refl
-places_length f n (k ∷ ks) = at (is_of_family f k) (places_length f (n + 1) ks)
-  where
-    at : (b : Bool) → length (places_from f (n + 1) ks) ≡ length (those_of f ks)
-        → length (cond b (n ∷ places_from f (n + 1) ks) (places_from f (n + 1) ks)) ≡ length (cond b (k ∷ those_of f ks) (those_of f ks))
-    at true h = ap suc h
-    at false h = h
+places_length f n (k ∷ ks) = elim (cases_Bool (is_of_family f k)) [ inl is ↦ rw is (ap suc (places_length f (n + 1) ks)) | inr is ↦ rw is (places_length f (n + 1) ks) ]
 
 -- and there the objects stand
 places_after : (f : Family) (js ks : List Kept) (i : ℕ) → option_and_then (slice_get (js ++ ks)) (slice_get (places_from f (length js) ks) i) ≡ slice_get (those_of f ks) i

@@ -1,5 +1,5 @@
 -- The objects of a family are those that the walk meets of it, in the same order.
-use Rattle.erd_meaning.proofs.Common.{◌≡◌, ℕ, Bool, true, false, cond, List, [], ◌∷◌, ◌++◌, ◌==◌, Some, codes, filter, Option, find, flat_map, sym, refl, ap, ◌∙◌, subst, ap₂, append_assoc, append-nil, Decides-eqb, filter-append, Data, families, family_number, Family, family, Preference, Placed, placed_entries, report_of, elections, selections_of_contest, objects, has_several, Met, an_object, an_election, Located, located_one, located, contest_located, election_located, shared_located, all_located}
+use Rattle.erd_meaning.proofs.Common.{◌≡◌, ℕ, Bool, true, false, cond, List, [], ◌∷◌, ◌++◌, ◌==◌, Some, codes, filter, Option, find, flat_map, sym, refl, ap, ◌∙◌, subst, ap₂, append-nil, Decides-eqb, filter-append, Data, families, family_number, Family, family, Preference, Placed, placed_entries, report_of, elections, selections_of_contest, objects, has_several, Met, an_object, an_election, Located, located_one, located, contest_located, election_located, shared_located, all_located, flat_map-append, fun_ext, map-append}
 
 -- what is met is an object of the family
 abbrev pub is_object_of : Family → Met → Bool
@@ -27,17 +27,9 @@ passed π f g e (o ∷ os) = rw e (passed π f g e os)
 pick-append : (f : Family) (xs ys us vs : List Located) → pick f xs ≡ us → pick f ys ≡ vs → pick f (xs ++ ys) ≡ us ++ vs
 pick-append f xs ys us vs a b = filter-append (is_of f) xs ys ∙ ap₂ ◌++◌ a b
 
-pub located-append : (π : Preference) (f : Family) (xs ys : List Placed) → located π f (xs ++ ys) ≡ located π f xs ++ located π f ys
-located-append π f [] ys = refl
-located-append π f (x ∷ xs) ys = ap (λ zs. located_one π f x ∷ zs) (located-append π f xs ys)
-
 none-flat : (h : Placed → List Placed) → ((o : Placed) → h o ≡ []) → (os : List Placed) → flat_map h os ≡ []
 none-flat h none [] = refl
 none-flat h none (o ∷ os) = ap₂ ◌++◌ (none o) (none-flat h none os)
-
-flat-append : (h : Placed → List Placed) (xs ys : List Placed) → flat_map h (xs ++ ys) ≡ flat_map h xs ++ flat_map h ys
-flat-append h [] ys = refl
-flat-append h (x ∷ xs) ys = ap (λ zs. h x ++ zs) (flat-append h xs ys) ∙ sym (append_assoc (h x) (flat_map h xs) (flat_map h ys))
 
 each-flat : (xs : List Placed) → flat_map (λ (o : Placed). o ∷ []) xs ≡ xs
 each-flat [] = refl
@@ -48,7 +40,7 @@ pick-flat : (π : Preference) (f : Family) (h : Placed → List Located) (k : Pl
 pick-flat π f h k each [] = refl
 pick-flat π f h k each (o ∷ os) =
     pick-append f (h o) (flat_map h os) (located π f (k o)) (located π f (flat_map k os)) (each o) (pick-flat π f h k each os)
-    ∙ sym (located-append π f (k o) (flat_map k os))
+    ∙ sym (map-append (located_one π f) (k o) (flat_map k os))
 
 -- ---- inside a contest, an election, the report
 
@@ -96,7 +88,7 @@ pick_array : (π : Preference) (f g : Family) (os : List Placed) → pick f (loc
 pick_array π f g os = pick_at π f g (family_number g == family_number f) refl os
 
 pick_both : (π : Preference) (f : Family) (xs ys : List Located) (os ps : List Placed) → pick f xs ≡ located π f os → pick f ys ≡ located π f ps → pick f (xs ++ ys) ≡ located π f (os ++ ps)
-pick_both π f xs ys os ps a b = pick-append f xs ys (located π f os) (located π f ps) a b ∙ sym (located-append π f os ps)
+pick_both π f xs ys os ps a b = pick-append f xs ys (located π f os) (located π f ps) a b ∙ sym (map-append (located_one π f) os ps)
 
 -- ---- elections and the report
 
@@ -139,10 +131,6 @@ in_shared π f r =
     (pick_both π f (located π family.Office offices) from_parties (if_of f family.Office offices) parties_on (pick_array π f family.Office offices)
     (pick_both π f (located π family.Party parties) (located π family.Person persons) (if_of f family.Party parties) (if_of f family.Person persons) (pick_array π f family.Party parties) (pick_array π f family.Person persons))))
 
-flat_same : (h k : Placed → List Placed) → ((o : Placed) → h o ≡ k o) → (os : List Placed) → flat_map h os ≡ flat_map k os
-flat_same h k each [] = refl
-flat_same h k each (o ∷ os) = ap₂ ◌++◌ (each o) (flat_same h k each os)
-
 no_election : (f : Family) (t : Data) → ((e : Placed) → of_election f e ≡ []) → flat_map (of_election f) (elections t) ≡ []
 no_election f t none = none-flat (of_election f) none (elections t)
 
@@ -155,14 +143,14 @@ shared_alone f t os none is = ap (λ xs. xs ++ of_shared f (report_of t)) (no_el
 election_alone : (f : Family) (t : Data) (k : Placed → List Placed) → ((e : Placed) → of_election f e ≡ k e) → of_shared f (report_of t) ≡ []
     → flat_map (of_election f) (elections t) ++ of_shared f (report_of t) ≡ flat_map k (elections t)
 election_alone f t k each none =
-    ap (λ xs. flat_map (of_election f) (elections t) ++ xs) none ∙ append-nil (flat_map (of_election f) (elections t)) ∙ flat_same (of_election f) k each (elections t)
+    ap (λ xs. flat_map (of_election f) (elections t) ++ xs) none ∙ append-nil (flat_map (of_election f) (elections t)) ∙ ap (λ (h : Placed → List Placed). flat_map h (elections t)) (fun_ext each)
 
 no_contest : (f : Family) → ((o : Placed) → of_contest f o ≡ []) → (e : Placed) → of_contests f (placed_entries (codes "Contest") e) ≡ []
 no_contest f none e = none-flat (of_contest f) none (placed_entries (codes "Contest") e)
 
 nested_flat : (h k : Placed → List Placed) (os : List Placed) → flat_map (λ o. flat_map h (k o)) os ≡ flat_map h (flat_map k os)
 nested_flat h k [] = refl
-nested_flat h k (o ∷ os) = ap (λ xs. flat_map h (k o) ++ xs) (nested_flat h k os) ∙ sym (flat-append h (k o) (flat_map k os))
+nested_flat h k (o ∷ os) = ap (λ xs. flat_map h (k o) ++ xs) (nested_flat h k os) ∙ sym (flat_map-append h (k o) (flat_map k os))
 
 objects_are : (f : Family) (t : Data) → flat_map (of_election f) (elections t) ++ of_shared f (report_of t) ≡ objects f t
 objects_are family.Person t = shared_alone family.Person t _ (no_contest family.Person (λ o. refl)) refl

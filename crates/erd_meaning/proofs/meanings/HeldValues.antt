@@ -22,8 +22,7 @@ abbrev pub held_by : Preference → List ℕ → Data → List Held
 held_by π name e = map (λ d. (key_of π e, d)) (entries_at name e)
 
 pub mapped_then : {A B C : Type 0} (g : B → Option C) (f : A → B) (o : Option A) → option_and_then g (option_map f o) ≡ option_and_then (λ x. g (f x)) o
-mapped_then g f None = refl
-mapped_then g f (Some x) = refl
+mapped_then g f o = grind arith
 
 module _ (π : Preference) (t : Data) where
   election_key_found : (i : ℕ) (e : Data) → slice_get (entries_at (codes "Election") t) i ≡ Some e → election_key_in π t i ≡ key_of π e

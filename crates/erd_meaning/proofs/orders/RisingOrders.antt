@@ -1,5 +1,6 @@
 -- A list in rising order: what goes in, that it rises, and that the position of an entry is its rank.
-use Rattle.erd_meaning.proofs.Common.{◌≡◌, ℕ, zero, suc, Bool, true, false, cond, List, [], ◌∷◌, map, length, slice_get, Some, filter, is_eq, is_lt, is_gt, Ordering, Less, Equal, Greater, sym, refl, ap, ◌∙◌, subst, inl, inr, upto, tied_itself, tied_back, on_total, CmpEqualImpliesEq, IsTotalOrder, AllByRecursion, IsDistinct, IsStrictlySortedBy, eq_by_cmp, ordering_reverse, ⊤, less, In, all_from_In, In-all, with_inserted, rising_list}
+use Rattle.erd_meaning.proofs.Common.{◌≡◌, ℕ, zero, suc, Bool, true, false, cond, List, [], ◌∷◌, map, length, slice_get, Some, filter, is_eq, is_lt, is_gt, Ordering, Less, Equal, Greater, sym, refl, ap, ◌∙◌, subst, inl, inr, tied_itself, tied_back, on_total, CmpEqualImpliesEq, IsTotalOrder, AllByRecursion, IsDistinct, IsStrictlySortedBy, eq_by_cmp, ordering_reverse, ⊤, less, In, all_from_In, In-all, with_inserted, rising_list, arith, all_weakened}
+use Rattle.erd_meaning.proofs.orders.RisingLists.{Rises, list_rises}
 use Rattle.erd_meaning.proofs.orders.RisingSets.{In-inserted, In-rising, rising-In}
 use Rattle.erd_meaning.proofs.finding.OneObject.{in_at}
 use Rattle.erd_meaning.proofs.orders.Counted.{count-rising, count_map}
@@ -108,29 +109,19 @@ module _ {A : Type 0} {cmp : A → A → Ordering} (order : IsTotalOrder cmp) wh
 
   -- ---- lists that don't fall
 
-  inserted_no_fall_at : (x y : A) (ys : List A) (o : Ordering) → cmp y x ≡ o → NeverFalls cmp (y ∷ ys) → NeverFalls cmp (with_inserted cmp x ys)
-      → NeverFalls cmp (cond (is_lt o) (y ∷ with_inserted cmp x ys) (x ∷ (y ∷ ys)))
-  inserted_no_fall_at x y ys Less is rise more =
-      let below : (z : A) → In z (with_inserted cmp x ys) → is_gt (cmp y z) ≡ false = λ z i. elim (In-inserted cmp x z ys i) [
-        | inl e ↦ subst (λ w. is_gt (cmp y w) ≡ false) e (ap is_gt is)
-        | inr k ↦ In-all (λ w. is_gt (cmp y w) ≡ false) z ys rise.0 k
-      ] in
-      (all_from_In (λ z. is_gt (cmp y z) ≡ false) (with_inserted cmp x ys) below, more)
-  inserted_no_fall_at x y ys Equal is rise more =
-      let first : is_gt (cmp x y) ≡ false = ap is_gt (tied_back order y x is) in
-      ((first, all_from_In (λ z. is_gt (cmp x z) ≡ false) ys (λ z i. upto order x y z first (In-all (λ w. is_gt (cmp y w) ≡ false) z ys rise.0 i))), rise)
-  inserted_no_fall_at x y ys Greater is rise more =
-      let first : is_gt (cmp x y) ≡ false = ap is_gt (greater_turned order y x is) in
-      ((first, all_from_In (λ z. is_gt (cmp x z) ≡ false) ys (λ z i. upto order x y z first (In-all (λ w. is_gt (cmp y w) ≡ false) z ys rise.0 i))), rise)
-
-  inserted_no_fall : (x : A) (ys : List A) → NeverFalls cmp ys → NeverFalls cmp (with_inserted cmp x ys)
-  inserted_no_fall x [] rise = (tt, tt)
-  inserted_no_fall x (y ∷ ys) rise = inserted_no_fall_at x y ys (cmp y x) refl rise (inserted_no_fall x ys rise.1)
+  falls_never : (xs : List A) → Rises cmp order xs → NeverFalls cmp xs
+  falls_never [] h = tt
+  falls_never (x ∷ xs) h = (
+    all_weakened (λ y. is_lt (cmp y x) ≡ false) (λ y. is_gt (cmp x y) ≡ false) xs (λ y e. ap is_gt (order.antisymm x y) ∙ turned (cmp y x) ∙ e) h.0,
+    falls_never xs h.1,
+  )
+    where
+      turned : (o : Ordering) → is_gt (ordering_reverse o) ≡ is_lt o
+      turned o = grind arith
 
   -- entries may compare as equal here
   pub rising_never_falls : (xs : List A) → NeverFalls cmp (rising_list cmp xs)
-  rising_never_falls [] = tt
-  rising_never_falls (x ∷ xs) = inserted_no_fall x (rising_list cmp xs) (rising_never_falls xs)
+  rising_never_falls xs = falls_never (rising_list cmp xs) (list_rises cmp order xs)
 
 -- ---- the position of an entry is how many entries are below it
 

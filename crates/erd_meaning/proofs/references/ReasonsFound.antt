@@ -1,5 +1,5 @@
 -- The reasons of a reference, by one look-up of its text.
-use Rattle.erd_meaning.proofs.Common.{◌≡◌, ℕ, Bool, true, false, not, ◌&&◌, List, [], ◌∷◌, ◌++◌, is_some, is_none, ◌==◌, Some, None, Option, option_map, option_to_list, sym, refl, ap, ◌∙◌, ap₂, and-false, option_map_or, Data, string, as_str, family_number, Family, family, Reason, SelectionOfOtherContest, Unresolved, WrongFamily, Want, Reference, number_of_id, is_in_contest, number_among, object_among, Kept, leads_to_references, is_known, is_of_others, is_selection_family, is_selection_elsewhere, is_elsewhere, reason_if, id_reasons, reference_reasons_told}
+use Rattle.erd_meaning.proofs.Common.{◌≡◌, ℕ, Bool, true, false, not, ◌&&◌, List, [], ◌∷◌, ◌++◌, is_some, is_none, ◌==◌, Some, None, Option, option_map, option_to_list, sym, refl, ap, ◌∙◌, ap₂, and-false, option_map_or, Data, string, as_str, family_number, Family, family, Reason, SelectionOfOtherContest, Unresolved, WrongFamily, Want, Reference, number_of_id, is_in_contest, number_among, object_among, Kept, leads_to_references, is_known, is_of_others, is_selection_family, is_selection_elsewhere, is_elsewhere, reason_if, id_reasons, reference_reasons_told, arith}
 use Rattle.std.specs.Bool.{then_some}
 use Rattle.erd_meaning.proofs.references.SilentWalks.{TellsOfReferences}
 use Rattle.erd_meaning.proofs.finding.FoundWithId.{with_id_none, with_id_of_other, with_id_some}
@@ -21,8 +21,7 @@ others_by : (ks : List Kept) (f : Family) (id : List ℕ) (o : Option Kept) (kno
 others_by ks f id o known e k = ap₂ (λ (q : Option Kept) (b : Bool). is_none (option_map (λ k. k.value) q) && b) e k ∙ at o
   where
     at : (o : Option Kept) → (is_none (option_map (λ (k : Kept). k.value) o) && known) ≡ (is_none o && known)
-    at None = refl
-    at (Some k) = refl
+    at o = grind arith
 
 elsewhere_by : (ks : List Kept) (outer : Data) (id : List ℕ) (o : Option ℕ) → number_among ks family.Selection id ≡ o → is_elsewhere ks outer id ≡ option_map_or (is_selection_elsewhere ks outer) o false
 elsewhere_by ks outer id o e = ap (λ (q : Option ℕ). option_map_or (is_selection_elsewhere ks outer) q false) e
@@ -67,8 +66,7 @@ reasons_of_family ks outer f g id i e same =
     told-same ks outer f id true false (is_selection_family f && is_selection_elsewhere ks outer i) known (others_by ks f id (Some one.0) true one.1 known) (elsewhere_of_family ks outer f g id i e same)
 
 pub told_if : (b : Bool) (r : Reason) → option_to_list (then_some b r) ≡ reason_if b r
-told_if true r = refl
-told_if false r = refl
+told_if b r = grind arith
 
 -- reasons of references are told where a reference is asked for, and nowhere else
 pub of_references : (ks : List Kept) → TellsOfReferences (reference_reasons_told ks)

@@ -1,5 +1,5 @@
 -- What is looked up among the objects that are kept of a report is what its `@id` texts name.
-use Rattle.erd_meaning.proofs.Common.{◌≡◌, ℕ, Bool, true, false, cond, ◌&&◌, ◌||◌, List, [], ◌∷◌, is_some, Some, None, filter, Option, option_map, find, bytes_eq, sym, refl, ap, ◌∙◌, inl, inr, and_from, bytes_eq-Decides, both_ways, list_any, option_map_or, Data, families, family_number, Family, family, In, any_at, NoneOf, Preference, IdentityFault, Placed, objects, id_of, has_id, owner, is_owned, is_of_family, keeps_id, Kept, kept, kept_objects, same_id, is_known, owner_among}
+use Rattle.erd_meaning.proofs.Common.{◌≡◌, ℕ, Bool, true, false, cond, ◌&&◌, List, [], ◌∷◌, is_some, Some, None, filter, Option, option_map, find, bytes_eq, sym, refl, ap, ◌∙◌, inl, inr, and_from, bytes_eq-Decides, both_ways, list_any, option_map_or, Data, families, family_number, Family, family, In, any_at, NoneOf, Preference, IdentityFault, Placed, objects, id_of, has_id, owner, is_owned, is_of_family, keeps_id, Kept, kept_objects, same_id, is_known, owner_among, and-false, cases_Bool}
 use Rattle.erd_meaning.proofs.identity.IdentityFaults.{any_from}
 use Rattle.erd_meaning.proofs.finding.Lookups.{kept_of, those_kept}
 use Rattle.erd_meaning.proofs.finding.OneFamily.{among_first}
@@ -26,30 +26,16 @@ text_same a b =
 
 pub find_both : {A : Type 0} (p q : A → Bool) (xs : List A) → find (λ x. p x && q x) xs ≡ find q (filter p xs)
 find_both p q [] = refl
-find_both {A} p q (x ∷ xs) = at (p x) (find_both p q xs)
-  where
-    at : (b : Bool) → find (λ x. p x && q x) xs ≡ find q (filter p xs) → cond (b && q x) (Some x) (find (λ x. p x && q x) xs) ≡ find q (cond b (x ∷ filter p xs) (filter p xs))
-    at true h = ap (cond (q x) (Some x)) h
-    at false h = h
+find_both p q (x ∷ xs) = elim (cases_Bool (p x)) [ inl is ↦ rw is (ap (cond (q x) (Some x)) (find_both p q xs)) | inr is ↦ rw is (find_both p q xs) ]
 
 found_some : {A B : Type 0} (g : A → B) (p : A → Bool) (x : A) (xs : List A) → In x xs → p x ≡ true → is_some (option_map g (find p xs)) ≡ true
 found_some g p x [] i h = absurd i
 found_some g p x (y ∷ ys) (inl e) h = rw (ap p e ∙ h)
-found_some g p x (y ∷ ys) (inr t) h = at (p y) (found_some g p x ys t h)
-  where
-    at : (b : Bool) → is_some (option_map g (find p ys)) ≡ true → is_some (option_map g (cond b (Some y) (find p ys))) ≡ true
-    at true k = refl
-    at false k = k
+found_some g p x (y ∷ ys) (inr t) h = elim (cases_Bool (p y)) [ inl is ↦ rw is refl | inr is ↦ rw is (found_some g p x ys t h) ]
 
 found_any : {A B : Type 0} (g : A → B) (q p : A → Bool) (xs : List A) → is_some (option_map g (find (λ x. q x && p x) xs)) ≡ true → list_any p xs ≡ true
 found_any g q p [] h = cc
-found_any g q p (x ∷ xs) h = at (q x) (p x) (found_any g q p xs) h
-  where
-    at : (b c : Bool) → (is_some (option_map g (find (λ x. q x && p x) xs)) ≡ true → list_any p xs ≡ true)
-        → is_some (option_map g (cond (b && c) (Some x) (find (λ x. q x && p x) xs))) ≡ true → c || list_any p xs ≡ true
-    at b true more k = refl
-    at true false more k = more k
-    at false false more k = more k
+found_any g q p (x ∷ xs) h = elim (cases_Bool (p x)) [ inl is ↦ rw is refl | inr is ↦ rw is (found_any g q p xs (rw (is, and-false (q x)) at h)) ]
 
 -- ---- the object of a family
 
@@ -63,14 +49,7 @@ named_same id (Some a) = text_same a id
 
 find_kept : (π : Preference) (f : Family) (id : List ℕ) (os : List Placed) → option_map (λ k. k.value) (find (keeps_id id) (kept_of π f os)) ≡ option_map (λ o. o.value) (find (λ o. has_id id o.value) os)
 find_kept π f id [] = refl
-find_kept π f id (o ∷ os) = at (keeps_id id (kept π f o.value)) (has_id id o.value) (named_same id (id_of o.value)) (find_kept π f id os)
-  where
-    at : (a b : Bool) → a ≡ b → option_map (λ k. k.value) (find (keeps_id id) (kept_of π f os)) ≡ option_map (λ o. o.value) (find (λ o. has_id id o.value) os)
-        → option_map (λ k. k.value) (cond a (Some (kept π f o.value)) (find (keeps_id id) (kept_of π f os))) ≡ option_map (λ o. o.value) (cond b (Some o) (find (λ o. has_id id o.value) os))
-    at true true e h = refl
-    at true false e h = cc
-    at false true e h = cc
-    at false false e h = h
+find_kept π f id (o ∷ os) = rw (named_same id (id_of o.value)) (elim (cases_Bool (has_id id o.value)) [ inl is ↦ rw is refl | inr is ↦ rw is (find_kept π f id os) ])
 
 first_owner_same : (π : Preference) (t : Data) (f : Family) (id : List ℕ) → first_owner (kept_objects π t) f id ≡ owner t f id
 first_owner_same π t f id =

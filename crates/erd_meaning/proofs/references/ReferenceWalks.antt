@@ -1,5 +1,5 @@
 -- The walk that judges references tells exactly the faults of references.
-use Rattle.erd_meaning.proofs.Common.{◌≡◌, ℕ, Bool, true, false, cond, not, ◌&&◌, List, [], ◌∷◌, ◌++◌, is_none, Some, None, filter, Option, sym, refl, ap, ◌∙◌, ap₂, append-nil, and-false, option_map_or, Data, as_str, ListsAll, Family, family, Report, Reason, Repeated, SelectionOfOtherContest, Unresolved, WrongFamily, Step, walk_lists, Agrees, Around, NoneOf, told_of_report, IsInOrder, Asked, Want, Reference, Preference, IdentityFault, is_in_other_contest, is_other_selection, ReferenceFault, owner, is_owned, kept_objects, is_known, is_of_others, is_selection_family, is_elsewhere, reason_if, id_reasons, reference_reasons_told}
+use Rattle.erd_meaning.proofs.Common.{◌≡◌, ℕ, Bool, true, false, cond, not, ◌&&◌, List, [], ◌∷◌, ◌++◌, is_none, Some, None, filter, Option, sym, refl, ap, ◌∙◌, ap₂, append-nil, and-false, option_map_or, Data, as_str, ListsAll, Family, family, Report, Reason, Repeated, SelectionOfOtherContest, Unresolved, WrongFamily, Step, walk_lists, Agrees, Around, NoneOf, told_of_report, IsInOrder, Asked, Want, Reference, Preference, IdentityFault, is_in_other_contest, is_other_selection, ReferenceFault, owner, is_owned, kept_objects, is_known, is_of_others, is_selection_family, is_elsewhere, reason_if, id_reasons, reference_reasons_told, and-true}
 use Rattle.erd_check.specs.code.Walk.{asked_with}
 use Rattle.erd_check.specs.declared.want.Want.TheVariants.{Object}
 use Rattle.erd_meaning.proofs.references.ReferenceFaultLists.{reference_reasons}
@@ -8,10 +8,6 @@ use Rattle.erd_meaning.proofs.references.SelectionsElsewhere.{elsewhere_same}
 use Rattle.erd_meaning.proofs.references.SelectionEntries.{has_reference_fault, reasons_all, reasons_there}
 
 -- ---- at one place
-
-and_true_is : (b : Bool) → (b && true) ≡ b
-and_true_is true = refl
-and_true_is false = refl
 
 -- reasons, each where its test holds
 abbrev if_told : Bool → Bool → Bool → Bool → List Reason
@@ -74,7 +70,7 @@ tests_here π t u p near (Reference f) repeated d none around =
     if_told-same (repeated && true) (option_map_or (λ id. not (is_owned t id)) (as_str d) false) (option_map_or (λ id. is_none (owner t f id) && is_owned t id) (as_str d) false) (told_other t p a)
     repeated (option_map_or (λ id. not (is_owned t id)) (as_str d) false) (option_map_or (λ id. is_none (owner t f id) && is_owned t id) (as_str d) false)
     (is_selection_family f && option_map_or (is_in_other_contest t u) (as_str d) false)
-    (and_true_is repeated) refl refl (other_there t u p near a around ∙ other_same t u f d)
+    (and-true repeated) refl refl (other_there t u p near a around ∙ other_same t u f d)
     ∙ sym (by_text π t u f repeated (as_str d) none)
 tests_here π t u p near w repeated d none around = none_here t u p near (asked_with w repeated d) around refl
 

@@ -1,5 +1,5 @@
 -- A reference to a selection is asked for in the list of an object alone, so that no test of its place is needed.
-use Rattle.erd_meaning.proofs.Common.{◌≡◌, ℕ, ◌-◌, ◌<◌, ◌≤◌, Bool, true, false, cond, not, ◌&&◌, List, [], ◌∷◌, ◌++◌, length, take, Some, None, codes, filter, Option, option_map, option_and_then, bytes_eq, sym, refl, ap, ◌∙◌, subst, true≢false, arith, length-drop, take-append-drop, and_parts, and_from, bytes_eq-Decides, list_all, option_map_or, Data, array, object, get_member, get_item, reason_cmp, ListsAll, Row, rows_of_class, kind_of_identity, kind_of_member, is_required, Class, class, Family, family, Report, Fault, Reason, SelectionOfOtherContest, MemberKind, kind, Step, At, Name, tree_in_order, In, In-filter, In-filter_kept, sorted_filter, kind_of_name, kind_of_id, outer_place, IsTree, scope_inside, want_of_kind, is_report_class, member_want, carried_want, want_of_name, entry_want, is_compared_set, Asked, asked, is_repeated, asked_of_member, asked_inside, asked_from, asked_at, Want, Carried, ClassText, Member, Reference, Status, is_reference_fault, is_other_selection, ReferenceFault}
+use Rattle.erd_meaning.proofs.Common.{◌≡◌, ℕ, ◌-◌, ◌<◌, ◌≤◌, Bool, true, false, cond, not, ◌&&◌, List, [], ◌∷◌, ◌++◌, length, take, Some, None, codes, filter, Option, option_map, option_and_then, bytes_eq, sym, refl, ap, ◌∙◌, subst, true≢false, arith, length-drop, take-append-drop, and_parts, and_from, bytes_eq-Decides, list_all, option_map_or, Data, array, object, get_member, get_item, reason_cmp, ListsAll, Row, rows_of_class, kind_of_identity, kind_of_member, is_required, Class, class, Family, family, Report, Fault, Reason, SelectionOfOtherContest, MemberKind, kind, Step, At, Name, tree_in_order, In, In-filter, In-filter_kept, IsStrictlySortedBy-filter, kind_of_name, kind_of_id, outer_place, IsTree, scope_inside, want_of_kind, is_report_class, member_want, carried_want, want_of_name, entry_want, is_compared_set, Asked, asked, is_repeated, asked_of_member, asked_inside, asked_from, asked_at, Want, Carried, ClassText, Member, Reference, Status, is_reference_fault, is_other_selection, ReferenceFault, inl, inr, cases_Bool}
 use Rattle.erd_check.specs.declared.want.Scope.{Scope, Scope as scope}
 use Rattle.erd_check.specs.declared.want.Want.TheVariants.{Object}
 use Rattle.erd_check.proofs.FaultsAsked.{faults_asked, faults_asked_listed, AreReasons}
@@ -70,11 +70,7 @@ some_fits name v w e h = let same : v ≡ w = cc in subst (λ x. want_fits name 
 
 named_fits : (s : Scope) (name : List ℕ) (w : Want) → want_of_name s name ≡ Some w → want_fits name w ≡ true
 named_fits scope.Nothing name w e = cc
-named_fits (scope.Members r None) name w e = at (bytes_eq name (codes "@type")) e
-  where
-    at : (b : Bool) → cond b (Some (ClassText r)) None ≡ Some w → want_fits name w ≡ true
-    at true e = some_fits name (ClassText r) w e refl
-    at false e = cc
+named_fits (scope.Members r None) name w e = elim (cases_Bool (bytes_eq name (codes "@type"))) [ inl is ↦ some_fits name (ClassText r) w (rw is at e) refl | inr is ↦ (let h : None ≡ Some w = rw is at e in cc) ]
 named_fits (scope.Members r (Some c)) name w e = at (bytes_eq name (codes "@type")) refl e
   where
     at : (b : Bool) → bytes_eq name (codes "@type") ≡ b → cond b (Some (ClassText r)) (Some (member_want c name)) ≡ Some w → want_fits name w ≡ true
@@ -236,7 +232,7 @@ complete_there t p r h =
 
 pub reasons_all : (t : Data) → AreReasons t (reasons_there t) (ReferenceFault t)
 reasons_all t = record {
-  rising = λ p a. sorted_filter (has_reference_fault t p a) reason_cmp reference_reasons reference_reasons_rise;
+  rising = λ p a. IsStrictlySortedBy-filter reason_cmp (has_reference_fault t p a) reference_reasons reference_reasons_rise;
   sound = λ p a r e i. fault_of_reason t p a r e (reason_from t p a r e (In-filter (has_reference_fault t p a) r reference_reasons i).1);
   complete = complete_there t;
 }

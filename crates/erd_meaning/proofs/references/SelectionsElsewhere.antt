@@ -43,12 +43,10 @@ numbered_inside {A} k (suc c) x (y ∷ xs) e =
 -- a selection of the contest at a position has its number
 with_its_number : (t : Data) (c : ℕ) (contest o : Placed) → slice_get (contests t) c ≡ Some contest → In o (selections_of_contest contest) → In {A = Numbered} (c, o) (numbered_selections t)
 with_its_number t c contest o e i =
+    let none : 0 + c ≡ c = omega arith in
     In-flat_map {A = Numbered} {B = Numbered} numbered_selections_of (c, o) (c, contest) (enumerate_from 0 (contests t))
     (subst (λ n. In {A = Numbered} (n, contest) (enumerate_from 0 (contests t))) none (numbered_inside 0 c contest (contests t) e))
     (In-map {B = Numbered} (λ p. (c, p)) o (selections_of_contest contest) i)
-  where
-    none : 0 + c ≡ c
-    none = omega arith
 
 -- the selection at a position, with the number of its contest
 record SelectionAt (t : Data) (s : ℕ) (id : List ℕ) : Type 0 where

@@ -1,5 +1,5 @@
 -- No reference stands in an identifier, a text or a carried value, so a walk that tells of references alone tells nothing there.
-use Rattle.erd_meaning.proofs.Common.{◌≡◌, ℕ, Bool, true, false, cond, ◌&&◌, ◌||◌, List, [], ◌∷◌, ◌++◌, length, Some, None, codes, Option, option_and_then, bytes_eq, sym, refl, ap, ◌∙◌, ap₂, list_all, list_any, option_map_or, Data, array, object, Items, no_items, item, Members, no_members, member, get, as_str, role_of_class, class_in_role, rows_of_class, is_reference_name, kind_of_identity, kind_of_member, is_required, Class, class, Role, role, MemberKind, kind, Step, At, Name, if_some, kind_of_class, is_same_json, faults_of, Telling, told_at, told_of_items, told_of_members, IsKnown, AreItemsKnown, AreMembersKnown, IsSilent, IsKnownOfAll, AreEntriesKnown, class_of_object, scope_inside, want_of_kind, is_report_class, member_want, carried_want, want_of_name, entry_want, is_compared_set, Want, Carried, ClassText, Member, Status, leads_to_references}
+use Rattle.erd_meaning.proofs.Common.{◌≡◌, ℕ, Bool, true, false, ◌&&◌, ◌||◌, List, [], ◌∷◌, ◌++◌, length, Some, None, codes, Option, option_and_then, bytes_eq, sym, refl, ap, ◌∙◌, ap₂, list_all, list_any, option_map_or, Data, array, object, Items, no_items, item, Members, no_members, member, get, as_str, role_of_class, class_in_role, rows_of_class, is_reference_name, kind_of_identity, kind_of_member, is_required, Class, class, Role, role, MemberKind, kind, Step, At, Name, if_some, kind_of_class, is_same_json, faults_of, Telling, told_at, told_of_items, told_of_members, IsKnown, AreItemsKnown, AreMembersKnown, IsSilent, IsKnownOfAll, AreEntriesKnown, class_of_object, scope_inside, want_of_kind, is_report_class, member_want, carried_want, want_of_name, entry_want, is_compared_set, Want, Carried, ClassText, Member, Status, leads_to_references, cond_both}
 use Rattle.erd_tables.proofs.Roles.{class_in_role_named}
 use Rattle.erd_check.specs.declared.want.Scope.{Scope, Scope as scope}
 use Rattle.erd_check.specs.declared.want.Want.TheVariants.{Object}
@@ -42,11 +42,9 @@ plain_identity class.ElectionReport = refl
 plain_identity c = refl
 
 plain_member : (c : Class) (name : List ℕ) → is_plain_role (role_of_class c) ≡ true → bytes_eq name (codes "@type") ≡ false → leads_to_references (member_want c name) ≡ false
-plain_member c name e other = at (is_report_class c && bytes_eq name (codes "Status"))
-  where
-    at : (b : Bool) → leads_to_references (cond b Status (want_of_kind (kind_of_member c name) (is_required c name))) ≡ false
-    at true = refl
-    at false = plain_kind (kind_of_member c name) (is_required c name) (kind_of_class is_plain_kind c name other (plain_rows c e) (plain_identity c) refl refl)
+plain_member c name e other =
+    cond_both (is_report_class c && bytes_eq name (codes "Status")) Status (want_of_kind (kind_of_member c name) (is_required c name)) (λ w. leads_to_references w ≡ false) (λ is. refl)
+    (λ is. plain_kind (kind_of_member c name) (is_required c name) (kind_of_class is_plain_kind c name other (plain_rows c e) (plain_identity c) refl refl))
 
 class_role : (r : Role) (o : Option (List ℕ)) (c : Class) → option_and_then (class_in_role r) o ≡ Some c → role_of_class c ≡ r
 class_role r None c e = cc
@@ -77,11 +75,8 @@ plain_object r ms plain = plain_named r (class_of_object r (object ms)) plain (c
 plain_carried : (name : List ℕ) (v : Want) → want_of_name scope.Carried name ≡ Some v → leads_to_references v ≡ false
 plain_carried name v e =
     let h : carried_want name ≡ v = cc in
-    ap leads_to_references (sym h) ∙ at (bytes_eq name (codes "@id") || is_reference_name name)
-  where
-    at : (b : Bool) → leads_to_references (cond b (Member kind.StrangeIdentity false) Carried) ≡ false
-    at true = refl
-    at false = refl
+    ap leads_to_references (sym h)
+    ∙ cond_both (bytes_eq name (codes "@id") || is_reference_name name) (Member kind.StrangeIdentity false) Carried (λ w. leads_to_references w ≡ false) (λ is. refl) (λ is. refl)
 
 nothing_named : (name : List ℕ) (v : Want) → want_of_name scope.Nothing name ≡ Some v → leads_to_references v ≡ false
 nothing_named name v e = cc

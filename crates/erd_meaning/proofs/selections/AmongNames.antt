@@ -1,5 +1,5 @@
 -- The names of selections with look-ups among the objects that are kept are those of the definition.
-use Rattle.erd_meaning.proofs.Common.{◌≡◌, ℕ, Bool, true, false, cond, List, [], ◌∷◌, Some, None, codes, Option, option_map, find, option_and_then, refl, ap, ◌∙◌, cons_option, Data, as_str, Class, class, Family, family, NoneOf, entries_at, class_of_object, has_keys, key_cmp, Preference, key_of, key_of_family_object, IdentityFault, Placed, objects, id_of, has_id, rising_list, key_named, keys_named, keys_of_selection, is_write_in, order_of_selection, label_of_selection, name_in_class, selection_role, name_of, key_among, keys_among, selection_keys_among, class_name_among, name_among, is_of_family, keeps_id, Kept, kept, kept_objects}
+use Rattle.erd_meaning.proofs.Common.{◌≡◌, ℕ, true, cond, List, [], ◌∷◌, Some, None, codes, Option, option_map, find, option_and_then, refl, ap, ◌∙◌, cons_option, Data, as_str, Class, class, Family, family, NoneOf, entries_at, class_of_object, has_keys, key_cmp, Preference, key_of, key_of_family_object, IdentityFault, Placed, objects, id_of, has_id, rising_list, key_named, keys_named, keys_of_selection, is_write_in, order_of_selection, label_of_selection, name_in_class, selection_role, name_of, key_among, keys_among, selection_keys_among, class_name_among, name_among, is_of_family, keeps_id, Kept, kept_objects, inl, inr, cases_Bool}
 use Rattle.erd_meaning.proofs.finding.Lookups.{kept_of, those_kept}
 use Rattle.erd_meaning.proofs.finding.OneFamily.{among_first}
 use Rattle.erd_meaning.proofs.references.ReferenceLookups.{find_both, named_same}
@@ -12,15 +12,7 @@ keyed π f d e = ap (λ b. cond b (key_of π d) None) e
 key_found : (π : Preference) (f : Family) (id : List ℕ) (os : List Placed) → has_keys f ≡ true
     → option_and_then (λ k. k.key) (find (keeps_id id) (kept_of π f os)) ≡ option_and_then (key_of π) (option_map (λ o. o.value) (find (λ o. has_id id o.value) os))
 key_found π f id [] h = refl
-key_found π f id (o ∷ os) h = at (keeps_id id (kept π f o.value)) (has_id id o.value) (named_same id (id_of o.value)) (key_found π f id os h)
-  where
-    at : (a b : Bool) → a ≡ b
-        → option_and_then (λ k. k.key) (find (keeps_id id) (kept_of π f os)) ≡ option_and_then (key_of π) (option_map (λ o. o.value) (find (λ o. has_id id o.value) os))
-        → option_and_then (λ k. k.key) (cond a (Some (kept π f o.value)) (find (keeps_id id) (kept_of π f os))) ≡ option_and_then (key_of π) (option_map (λ o. o.value) (cond b (Some o) (find (λ o. has_id id o.value) os)))
-    at true true e k = keyed π f o.value h
-    at true false e k = cc
-    at false true e k = cc
-    at false false e k = k
+key_found π f id (o ∷ os) h = rw (named_same id (id_of o.value)) (elim (cases_Bool (has_id id o.value)) [ inl is ↦ rw is (keyed π f o.value h) | inr is ↦ rw is (key_found π f id os h) ])
 
 key_same : (π : Preference) (t : Data) (f : Family) (id : List ℕ) → NoneOf (IdentityFault π t) → has_keys f ≡ true → key_among (kept_objects π t) f id ≡ key_named π t f id
 key_same π t f id none h =

@@ -1,6 +1,6 @@
 -- The selections of a contest stand one after another among those of the report, after as many as the contests before have. They
 -- begin after the last selection up to which no more contests stand than before the contest.
-use Rattle.erd_meaning.proofs.Common.{◌≡◌, ℕ, zero, suc, ◌+◌, ◌<◌, ◌≤◌, Bool, true, false, cond, leb, ◌⊎◌, List, [], ◌∷◌, ◌++◌, map, length, get_or as slice_index_or, take, ◌==◌, slice_get, Some, None, Option, flat_map, option_and_then, sym, refl, ap, ◌∙◌, subst, ap₂, inl, inr, ⊎_elim, true≢false, append_assoc, append-nil, arith, length-append, get_or-append-add, le-leb, Decides-eqb, leb_tells, length-map, get_or_append_left, AllByRecursion, IsNonDecreasingBy, ⊤, Data, family_number, family, selections_before, Placed, contests, selections_of_contest, numbered_selections_of, numbered_selections, contests_before, IsStart, is_of_family, Kept, numbered_from, if_of_contest, StandFrom}
+use Rattle.erd_meaning.proofs.Common.{◌≡◌, ℕ, zero, suc, ◌+◌, ◌<◌, ◌≤◌, Bool, true, false, cond, leb, ◌⊎◌, List, [], ◌∷◌, ◌++◌, map, length, get_or as slice_index_or, take, ◌==◌, slice_get, Some, None, Option, flat_map, option_and_then, sym, refl, ap, ◌∙◌, subst, ap₂, inl, inr, ⊎_elim, true≢false, append_assoc, append-nil, arith, length-append, get_or-append-add, le-leb, Decides-eqb, leb_tells, length-map, get_or_append_left, AllByRecursion, IsNonDecreasingBy, ⊤, Data, family_number, family, selections_before, Placed, contests, selections_of_contest, numbered_selections_of, numbered_selections, contests_before, IsStart, is_of_family, Kept, numbered_from, if_of_contest, StandFrom, false_from_ne_true}
 use Rattle.erd_meaning.proofs.identity.ObjectFamilies.{itself}
 use Rattle.erd_meaning.proofs.selections.ListParts.{get_first, get_later, within_or_after}
 use Rattle.erd_meaning.proofs.selections.NamesTold.{Numbered}
@@ -186,11 +186,7 @@ module _ (k r : ℕ) (ss rs : List Numbered) (start : IsStart (counts_of ss ++ c
 -- ---- what stands there
 
 not_same : (m n : ℕ) → n < m → (m == n) ≡ false
-not_same m n less = at (m == n) refl
-  where
-    at : (b : Bool) → (m == n) ≡ b → b ≡ false
-    at true e = let same : m ≡ n = (Decides-eqb m n).0 e in absurd (omega arith)
-    at false e = refl
+not_same m n less = false_from_ne_true (m == n) (λ e. let same : m ≡ n = (Decides-eqb m n).0 e in omega arith)
 
 none_of_later : (k : ℕ) (ss : List Numbered) (i : ℕ) → AllByRecursion {X = Numbered} (λ s. k < s.0) ss → option_and_then (if_of_contest k) (slice_get ss i) ≡ None
 none_of_later k [] i h = refl

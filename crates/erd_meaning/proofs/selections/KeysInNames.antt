@@ -1,16 +1,14 @@
 -- The keys in the name of a selection are those of objects of the report.
-use Rattle.erd_meaning.proofs.Common.{◌≡◌, ℕ, List, [], ◌∷◌, Some, None, codes, Option, option_map, option_and_then, refl, ap, ◌∙◌, subst, AllByRecursion, cons_option, Data, as_str, Class, class, Family, family, entries_at, class_of_object, key_cmp, Preference, key_of, NameParts, objects, owner, family_chosen, key_named, keys_named, keys_of_selection, name_in_class, selection_role, name_of, HasKeysIn, IsKeyIn, Key}
+use Rattle.erd_meaning.proofs.Common.{◌≡◌, ℕ, List, [], ◌∷◌, Some, None, codes, Option, option_and_then, refl, ap, ◌∙◌, subst, AllByRecursion, cons_option, Data, as_str, Class, class, Family, family, entries_at, class_of_object, key_cmp, Preference, key_of, NameParts, objects, owner, family_chosen, key_named, keys_named, keys_of_selection, name_in_class, selection_role, name_of, HasKeysIn, IsKeyIn, Key, and_then-Some, option_map-Some}
 use Rattle.erd_meaning.proofs.accepted.References.{Contains-Has}
 use Rattle.erd_meaning.proofs.accepted.Standing.{owned_by}
 use Rattle.erd_meaning.proofs.orders.RisingOrders.{all_rising}
 
 module _ (π : Preference) (t : Data) (f : Family) where
   referred_in : (id : List ℕ) (k : Key) → key_named π t f id ≡ Some k → IsKeyIn π t f k
-  referred_in id k e = at (owner t f id) refl e
-    where
-      at : (d : Option Data) → owner t f id ≡ d → option_and_then (key_of π) d ≡ Some k → IsKeyIn π t f k
-      at None is h = cc
-      at (Some d) is h = let x = owned_by t f id d is in record { owner = x.0; stands = Contains-Has (objects f t) x.0 x.1; keyed = ap (key_of π) x.2 ∙ h }
+  referred_in id k e =
+      let r = and_then-Some (key_of π) (owner t f id) k e in
+      let x = owned_by t f id r.0 r.1 in record { owner = x.0; stands = Contains-Has (objects f t) x.0 x.1; keyed = ap (key_of π) x.2 ∙ r.2 }
 
   by_reference : (id : Option (List ℕ)) (k : Key) → option_and_then (key_named π t f) id ≡ Some k → IsKeyIn π t f k
   by_reference None k e = cc
@@ -36,10 +34,4 @@ module _ (π : Preference) (t : Data) where
   keys_in_name c d = all_rising (IsKeyIn π t (family_chosen c)) key_cmp (keys_of_selection π t c d) (chosen_all c d)
 
   pub known_name : (d : Data) (n : NameParts) → name_of π t d ≡ Some n → HasKeysIn π t n
-  known_name d n e = at (class_of_object selection_role d) e
-    where
-      at : (c : Option Class) → option_map (λ c. name_in_class π t c d) c ≡ Some n → HasKeysIn π t n
-      at None h = cc
-      at (Some c) h =
-          let same : name_in_class π t c d ≡ n = cc in
-          subst (HasKeysIn π t) same (keys_in_name c d)
+  known_name d n e = let r = option_map-Some (λ c. name_in_class π t c d) (class_of_object selection_role d) n e in subst (HasKeysIn π t) r.2 (keys_in_name r.0 d)

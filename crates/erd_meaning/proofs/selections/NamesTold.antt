@@ -1,7 +1,7 @@
 -- What the walk over selections tells of them: of each selection with a name, after all that stand before it, and in order.
-use Rattle.erd_meaning.proofs.Common.{◌≡◌, ℕ, Bool, true, false, cond, ◌||◌, ◌⊎◌, List, [], ◌∷◌, ◌++◌, ◌==◌, Some, None, Option, flat_map, is_eq, Ordering, Less, sym, refl, ap, ◌∙◌, subst, ap₂, inl, inr, append_assoc, append-nil, and_parts, and_from, Decides-eqb, tied_itself, IsStrictlySortedBy, option_map_or, Data, fault_cmp, place_cmp, Fault, TwinSelection, In, In-append_left, In-append_right, In-append, any_at, In-all, sorted_append, fault_at, NameParts, Placed, name_cmp, fault_if, name_cmp_total, name_cmp_exact, NumberedName, is_selection_named, is_taken, NamesMet, added_name, with_name, named_one, named_all}
-use Rattle.std.proofs.lemmas.List.Folds.{list_any-append}
-use Rattle.erd_meaning.proofs.identity.IdentityFaults.{any_from, at_true, tied_from}
+use Rattle.erd_meaning.proofs.Common.{◌≡◌, ℕ, Bool, true, false, cond, ◌||◌, ◌⊎◌, List, [], ◌∷◌, ◌++◌, ◌==◌, Some, None, Option, flat_map, is_eq, Ordering, Less, sym, refl, ap, ◌∙◌, subst, ap₂, inl, inr, append_assoc, append-nil, and_parts, and_from, Decides-eqb, tied_itself, IsStrictlySortedBy, option_map_or, Data, fault_cmp, place_cmp, Fault, TwinSelection, In, In-append_left, In-append_right, In-append, any_at, In-all, sorted_append, fault_at, NameParts, Placed, name_cmp, fault_if, name_cmp_total, name_cmp_exact, NumberedName, is_selection_named, is_taken, NamesMet, added_name, with_name, named_one, named_all, Equal-is, or-false, list_any-append, arith}
+use Rattle.erd_check.proofs.TwoWalks.{both_empty}
+use Rattle.erd_meaning.proofs.identity.IdentityFaults.{any_from, at_true}
 use Rattle.erd_meaning.proofs.identity.ObjectFamilies.{itself}
 use Rattle.erd_meaning.proofs.identity.ToldFaults.{if_sorted, in_if, less_itself, turned, earlier_fault}
 use Rattle.erd_meaning.proofs.identity.SeenKeys.{or_same}
@@ -39,7 +39,7 @@ names_told name earlier (x ∷ xs) = fault_after name earlier x ++ names_told na
 pub is_named_from : (s : NumberedName) (c : ℕ) (n : NameParts) → is_selection_named c n s ≡ true → ◌≡◌ {A = NumberedName} s (c, n)
 is_named_from s c n h =
     let both = and_parts (s.0 == c) (is_eq (name_cmp s.1 n)) h in
-    ap₂ (λ (d : ℕ) (m : NameParts). (d, m)) ((Decides-eqb s.0 c).0 both.0) (name_cmp_exact s.1 n (tied_from _ both.1))
+    ap₂ (λ (d : ℕ) (m : NameParts). (d, m)) ((Decides-eqb s.0 c).0 both.0) (name_cmp_exact s.1 n ((Equal-is _).0 both.1))
 
 pub is_named_itself : (c : ℕ) (n : NameParts) → is_selection_named c n (c, n) ≡ true
 is_named_itself c n = and_from (c == c) (is_eq (name_cmp n n)) (itself c) (ap is_eq (tied_itself name_cmp_total n))
@@ -58,10 +58,6 @@ taken_by names c n i = any_at {A = NumberedName} (is_selection_named c n) (c, n)
 abbrev HasSame : List NumberedName → List NumberedName → Type 0
 HasSame ns ms = (c : ℕ) (n : NameParts) → is_taken ns c n ≡ is_taken ms c n
 
-or_false : (a : Bool) → (a || false) ≡ a
-or_false true = refl
-or_false false = refl
-
 added_same : (ns ms : List NumberedName) (c : ℕ) (n : NameParts) → HasSame ns ms → HasSame (added_name ns c n) (ms ++ (c, n) ∷ [])
 added_same ns ms c n h d k = at (is_taken ns c n) refl ∙ sym (list_any-append {X = NumberedName} (is_selection_named d k) ms ((c, n) ∷ []))
   where
@@ -71,7 +67,7 @@ added_same ns ms c n h d k = at (is_taken ns c n) refl ∙ sym (list_any-append 
         h d k
         ∙ or_same (is_taken ms d k) (is_selection_named d k (c, n) || false)
         (λ t.
-        let one = is_named_from (c, n) d k (sym (or_false (is_selection_named d k (c, n))) ∙ t) in
+        let one = is_named_from (c, n) d k (sym (or-false (is_selection_named d k (c, n))) ∙ t) in
         sym (h d k) ∙ ap (λ (s : NumberedName). is_taken ns s.0 s.1) (sym one) ∙ e)
 
 one_same : (m : NamesMet) (full : List NumberedName) (x : Numbered) (o : Option NameParts) → HasSame m.names full
@@ -92,13 +88,8 @@ all_faults name m full (x ∷ xs) h =
     ∙ ap (λ (fs : List Fault). fs ++ names_told name (full ++ name_list name x) xs) (one_faults m full x (name x.1.value) h)
     ∙ append_assoc m.faults (fault_after name full x) (names_told name (full ++ name_list name x) xs)
 
-both_empty : (fs gs : List Fault) → fs ++ gs ≡ [] → (fs ≡ []) × (gs ≡ [])
-both_empty [] gs e = (refl, e)
-both_empty (f ∷ fs) gs e = cc
-
 not_told : (b : Bool) (f : Fault) → fault_if b f ≡ [] → b ≡ false
-not_told true f e = cc
-not_told false f e = refl
+not_told b f e = grind arith
 
 one_names : (m : NamesMet) (x : Numbered) (o : Option NameParts) → fault_of m.names x o ≡ [] → (option_map_or (with_name m x.1.place x.0) o m).names ≡ m.names ++ name_if x.0 o
 one_names m x None e = sym (append-nil m.names)
@@ -161,18 +152,11 @@ unfolding IsStrictlySortedBy
 told_twin name earlier [] f rising h = absurd h
 told_twin name earlier (x ∷ xs) f rising h = elim (In-append f (fault_after name earlier x) (names_told name (earlier ++ name_list name x) xs) h) [
   | inl a ↦ first_told name earlier x xs f (name x.1.value) refl a
-  | inr b ↦ later (told_twin name (earlier ++ name_list name x) xs f rising.1 b)
+  | inr b ↦
+      let t = told_twin name (earlier ++ name_list name x) xs f rising.1 b in
+      let less = In-all {A = Numbered} (λ y. in_places x y ≡ Less) t.one xs rising.0 t.there in
+      record { one = t.one; there = inr t.there; parts = t.parts; named = t.named; is = t.is; other = later_told name earlier x xs t.one t.parts less t.other }
 ]
-  where
-    later : ToldTwin name (earlier ++ name_list name x) xs f → ToldTwin name earlier (x ∷ xs) f
-    later t = record {
-      one = t.one;
-      there = inr t.there;
-      parts = t.parts;
-      named = t.named;
-      is = t.is;
-      other = later_told name earlier x xs t.one t.parts (In-all {A = Numbered} (λ y. in_places x y ≡ Less) t.one xs rising.0 t.there) t.other;
-    }
 
 -- ---- each that repeats a name is told
 

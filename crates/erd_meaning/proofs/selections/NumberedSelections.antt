@@ -2,7 +2,6 @@
 use Rattle.erd_meaning.proofs.Common.{◌≡◌, ℕ, suc, ◌+◌, List, [], ◌∷◌, ◌++◌, map, slice_get, Some, option_map, flat_map, Ordering, Less, sym, refl, ap, ◌∙◌, subst, ap₂, inl, inr, arith, map-append, same_Some, slice_get-map, enumerate_from, IsStrictlySortedBy, Data, Selection, In, In-map, In-map_from, In-flat_map, all_from_In, In-all, Preference, Placed, contests, selections_of_contest, objects, numbered_selections_of, numbered_selections, Located, located_one, located}
 use Rattle.erd_check.proofs.FaultsAsked.{In-flat_map_from}
 use Rattle.erd_meaning.proofs.selections.NamesTold.{Numbered, in_places}
-use Rattle.erd_meaning.proofs.identity.ObjectFamilies.{located-append}
 use Rattle.erd_meaning.proofs.identity.ObjectPlaces.{apart}
 use Rattle.erd_meaning.proofs.finding.OneObject.{family_apart}
 use Rattle.erd_meaning.proofs.identity.ToldFaults.{before_apart}
@@ -29,7 +28,7 @@ of_contests : (π : Preference) (k : ℕ) (cs : List Placed) → map {A = Number
 of_contests π k [] = refl
 of_contests π k (c ∷ cs) =
     map-append {A = Numbered} (located_selection π) (numbered_selections_of (k, c)) (flat_map numbered_selections_of (enumerate_from (k + 1) cs))
-    ∙ ap₂ ◌++◌ (of_contest π k (selections_of_contest c)) (of_contests π (k + 1) cs) ∙ sym (located-append π Selection (selections_of_contest c) (flat_map selections_of_contest cs))
+    ∙ ap₂ ◌++◌ (of_contest π k (selections_of_contest c)) (of_contests π (k + 1) cs) ∙ sym (map-append (located_one π Selection) (selections_of_contest c) (flat_map selections_of_contest cs))
 
 pub numbered_rising : (π : Preference) (t : Data) → IsStrictlySortedBy in_places (numbered_selections t)
 numbered_rising π t =

@@ -1,5 +1,5 @@
 -- The names that the walk over the selections of a report meets are those of the definition, where its shape has no fault.
-use Rattle.erd_meaning.proofs.Common.{◌≡◌, ℕ, zero, suc, ◌<◌, List, [], ◌∷◌, ◌++◌, slice_get, Some, None, Option, option_map, flat_map, option_and_then, sym, refl, ap, ◌∙◌, inl, inr, cases_order, option_map_or, Data, Class, Selection, TwinSelection, object_in, ObjectIn, In, In-flat_map, ShapeFault, NoneOf, class_of_object, Preference, SelectionFault, selection_in, NameParts, Placed, contests, selections_of_contest, objects, numbered_selections, name_in_class, selection_role, name_of, AreNames, NumberedName}
+use Rattle.erd_meaning.proofs.Common.{◌≡◌, ℕ, zero, suc, ◌<◌, List, [], ◌∷◌, ◌++◌, slice_get, Some, None, Option, option_map, flat_map, option_and_then, sym, refl, ap, ◌∙◌, inl, inr, cases_order, option_map_or, Data, Class, Selection, TwinSelection, object_in, ObjectIn, In, In-flat_map, ShapeFault, NoneOf, class_of_object, Preference, SelectionFault, selection_in, NameParts, Placed, contests, selections_of_contest, objects, numbered_selections, name_in_class, selection_role, name_of, AreNames, NumberedName, and_then-Some}
 use Rattle.erd_meaning.proofs.selections.NamesTold.{Numbered, in_places, name_list}
 use Rattle.erd_meaning.proofs.selections.NumberedSelections.{numbered_rising, of_its_contest}
 use Rattle.erd_meaning.proofs.finding.OneObject.{in_at, sorted_at}
@@ -65,11 +65,9 @@ parts_of c d None n e = cc
 parts_of c d (Some m) n e = let parts : ◌≡◌ {A = NumberedName} (c, m) (d, n) = cc in (ap (λ (s : NumberedName). s.0) parts, ap (λ (s : NumberedName). Some s.1) parts)
 
 selection_at : (π : Preference) (t : Data) (i c : ℕ) (n : NameParts) → selection_in π t i ≡ Some (c, n) → SelectionAt π t i c n
-selection_at π t i c n e = from (slice_get (numbered_selections t) i) refl e
-  where
-    from : (o : Option Numbered) → slice_get (numbered_selections t) i ≡ o → option_and_then (λ s. numbered_name s.0 (name_of π t s.1.value)) o ≡ Some (c, n) → SelectionAt π t i c n
-    from None is h = cc
-    from (Some s) is h = let parts = parts_of s.0 c (name_of π t s.1.value) n h in record { one = s; at = is; number = parts.0; named = parts.1 }
+selection_at π t i c n e =
+    let s = and_then-Some (λ (s : Numbered). numbered_name s.0 (name_of π t s.1.value)) (slice_get (numbered_selections t) i) (c, n) e in
+    let parts = parts_of s.0.0 c (name_of π t s.0.1.value) n s.2 in record { one = s.0; at = s.1; number = parts.0; named = parts.1 }
 
 two_names : (π : Preference) (t : Data) (i j c : ℕ) (n : NameParts) → NoneOf (SelectionFault π t) → SelectionAt π t i c n → SelectionAt π t j c n → i < j → ⊥
 two_names π t i j c n none a b less =

@@ -1,5 +1,5 @@
 -- What the walk over the selections of a report leaves.
-use Rattle.erd_meaning.proofs.Common.{◌≡◌, List, [], ◌∷◌, ◌++◌, length, Option, flat_map, sym, refl, ap, ◌∙◌, subst, Data, ListsAll, Fault, none_from_empty, ShapeFault, NoneOf, Preference, IdentityFault, SelectionFault, NameParts, numbered_selections, name_of, name_among, Kept, kept_objects, names_of, AreNames, NumberedName, is_taken, NamesMet, named_all, names_met}
+use Rattle.erd_meaning.proofs.Common.{◌≡◌, List, [], ◌++◌, length, Option, flat_map, sym, ap, ◌∙◌, subst, Data, ListsAll, Fault, none_from_empty, ShapeFault, NoneOf, Preference, IdentityFault, SelectionFault, NameParts, numbered_selections, name_of, name_among, Kept, kept_objects, names_of, AreNames, NumberedName, is_taken, NamesMet, named_all, names_met, nil_from_length}
 use Rattle.erd_meaning.specs.declared.names.selection_walk.SelectionWalk.{SelectionWalk}
 use Rattle.erd_meaning.proofs.selections.AmongNames.{name_same}
 use Rattle.erd_meaning.proofs.selections.NamesTold.{all_faults, all_names, name_list, names_told}
@@ -33,13 +33,9 @@ walked_names π w v ks t h none =
     ap (λ (m : NamesMet). m.names) (met_by_name π w v ks t h) ∙ all_names (name_of π t) (names_met w) (numbered_selections t) told
     ∙ ap (λ (ns : List NumberedName). ns ++ flat_map (name_list (name_of π t)) (numbered_selections t)) (ap names_of h.no_name)
 
-no_entries : (fs : List Fault) → length fs ≡ 0 → fs ≡ []
-no_entries [] e = refl
-no_entries (f ∷ fs) e = cc
-
 pub names_left : (π : Preference) (w v : SelectionWalk) (ks : List Kept) (t : Data) → NamesWalked π w v ks t → NoneOf (ShapeFault t)
     → (fs : List Fault) → fs ≡ v.faults.items → length fs ≡ 0 → AreNames π t (names_of v.names)
-names_left π w v ks t h none fs e empty = subst (AreNames π t) (sym (walked_names π w v ks t h (sym e ∙ no_entries fs empty))) (names_listed π t none)
+names_left π w v ks t h none fs e empty = subst (AreNames π t) (sym (walked_names π w v ks t h (sym e ∙ nil_from_length fs empty))) (names_listed π t none)
 
 pub twins_left : (π : Preference) (w v : SelectionWalk) (ks : List Kept) (t : Data) → NamesWalked π w v ks t → (fs : List Fault) → fs ≡ v.faults.items → ListsAll (SelectionFault π t) fs
 twins_left π w v ks t h fs e = subst (ListsAll (SelectionFault π t)) (sym (e ∙ walked_faults π w v ks t h)) (selections_listed π t)

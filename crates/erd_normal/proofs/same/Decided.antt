@@ -1,5 +1,5 @@
 -- A test that two reports say the same, given the two functions of texts. It is for examples: what passes says the same.
-use Rattle.erd_normal.proofs.Common.{◌≡◌, ℕ, Bool, true, false, cond, not, ◌&&◌, List, [], ◌∷◌, Some, None, Option, option_map, IsPermutation, bytes_eq, sym, refl, ap, ◌∙◌, subst, and_parts, bytes_eq-Decides, list_all, Data, null, boolean, number, string, array, object, Items, no_items, item, Members, no_members, member, items_of, role, kind, text_itself, list_of_items-items_of, is_reference, list_of_items, scope_inside, want_of_name, entry_want, is_table_set, Asked, Scope, Want, Member, Object, one_kept, two_exchanged, in_turn, reordered_self, Reordered, IsPermutation-reordered, is_id_text, Sides, IsUnused, is_array_kind, is_envelope, an_empty_array, of_the_envelope, an_unused_id, not_asked, a_null, a_flag, a_number, a_text, an_id, a_list, a_set, an_object, no_entry, one_entry, no_member, in_both, left_only, right_only, MayBeAbsent, Same, SameEntries, SameMembers, SaysTheSame}
+use Rattle.erd_normal.proofs.Common.{◌≡◌, ℕ, Bool, true, false, cond, not, ◌&&◌, List, [], ◌∷◌, Some, None, Option, option_map, IsPermutation, bytes_eq, sym, refl, ap, ◌∙◌, subst, and_parts, bytes_eq-Decides, list_all, Data, null, boolean, number, string, array, object, Items, no_items, item, Members, no_members, member, items_of, role, kind, text_itself, list_of_items-items_of, is_reference, list_of_items, scope_inside, want_of_name, entry_want, is_table_set, Asked, Scope, Want, Member, Object, two_exchanged, is_id_text, Sides, IsUnused, is_array_kind, is_envelope, an_empty_array, of_the_envelope, an_unused_id, not_asked, a_null, a_flag, a_number, a_text, an_id, a_list, a_set, an_object, no_entry, one_entry, no_member, in_both, left_only, right_only, MayBeAbsent, Same, SameEntries, SameMembers, SaysTheSame, IsPermutation-cons, IsPermutation-refl, IsPermutation-trans}
 use Rattle.erd_check.proofs.AllAsked.{AskedPlace, all_asked, tested_at}
 use Rattle.erd_normal.proofs.examples.EqualTrees.{equal_trees, same_tree}
 use Rattle.erd_normal.proofs.lists.Matched.{Paired, none, more}
@@ -52,7 +52,7 @@ pick test (item e es) = cond (test e) (Some es) (option_map (item e) (pick test 
 record Picked (test : Data → Bool) (es rest : Items) : Type 0 where
   entry : Data
   passes : test entry ≡ true
-  same : Reordered (entry ∷ list_of_items rest) (list_of_items es)
+  same : IsPermutation (entry ∷ list_of_items rest) (list_of_items es)
 
 picked : (test : Data → Bool) (es rest : Items) → pick test es ≡ Some rest → Picked test es rest
 picked test no_items rest h = cc
@@ -63,10 +63,10 @@ picked test (item e es) rest h = at (test e) refl (picked test es) h
     later_at (Some r) is step h =
         let one : item e r ≡ rest = cc in
         let p = step r is in
-        subst (Picked test (item e es)) one (record { entry = p.entry; passes = p.passes; same = in_turn two_exchanged (one_kept p.same) })
+        subst (Picked test (item e es)) one (record { entry = p.entry; passes = p.passes; same = IsPermutation-trans _ _ _ two_exchanged (IsPermutation-cons _ _ _ p.same) })
 
     at : (b : Bool) → test e ≡ b → ((r : Items) → pick test es ≡ Some r → Picked test es r) → cond b (Some es) (option_map (item e) (pick test es)) ≡ Some rest → Picked test (item e es) rest
-    at true is step h = let one : es ≡ rest = cc in record { entry = e; passes = is; same = subst (λ x. Reordered (e ∷ list_of_items x) (e ∷ list_of_items es)) one (reordered_self (e ∷ list_of_items es)) }
+    at true is step h = let one : es ≡ rest = cc in record { entry = e; passes = is; same = subst (λ x. IsPermutation (e ∷ list_of_items x) (e ∷ list_of_items es)) one (IsPermutation-refl (e ∷ list_of_items es)) }
     at false is step h = later_at (pick test es) refl step h
 
 -- ---- members
@@ -127,12 +127,12 @@ module _ (m : Sides) where
   record InSomeOrder (o : Option Want) (ds es : Items) : Type 0 where
     middle : List Data
     paired : Paired (Same m o) (list_of_items ds) middle
-    reordered : Reordered middle (list_of_items es)
+    reordered : IsPermutation middle (list_of_items es)
 
   set_from : (w : Want) (ds es : Items) → is_table_set w ≡ true → InSomeOrder (entry_want w) ds es → Same m (Some w) (array ds) (array es)
   set_from w ds es is h =
       let f = follows h.reordered (paired_flip h.paired) in
-      a_set (items_of f.new) is (subst (IsPermutation (list_of_items ds)) (sym (list_of_items-items_of f.new)) (IsPermutation-reordered f.reordered))
+      a_set (items_of f.new) is (subst (IsPermutation (list_of_items ds)) (sym (list_of_items-items_of f.new)) f.reordered)
       (subst (SameEntries m (entry_want w) (items_of f.new)) (items_again es) (paired_entries m (entry_want w) (paired_flip f.paired)))
 
   absent_rest : (s : Scope) (ns : Members) → all_absent (absent_test m.right s) ns ≡ true → SameMembers m s no_members ns
@@ -174,7 +174,7 @@ module _ (m : Sides) where
   set_step o d ds es (Some rest) is h first rest_of =
       let p = picked (λ e. same_test o d e) es rest is in
       let q = rest_of rest h in
-      record { middle = p.entry ∷ q.middle; paired = more (first p.entry p.passes) q.paired; reordered = in_turn (one_kept q.reordered) p.same }
+      record { middle = p.entry ∷ q.middle; paired = more (first p.entry p.passes) q.paired; reordered = IsPermutation-trans _ _ _ (IsPermutation-cons _ _ _ q.reordered) p.same }
 
   members_step : (s : Scope) (k : List ℕ) (d : Data) (ms ns : Members) (r : Option (Data × Members)) → skip (absent_test m.right s) k ns ≡ r
       → go_on r (λ e rest. same_test (want_of_name s k) d e && members_test s ms rest) (absent_test m.left s k d && members_test s ms ns) ≡ true
@@ -212,7 +212,7 @@ module _ (m : Sides) where
     list_tested o (item d ds) (item e es) h = let both = and_parts (same_test o d e) (list_test o ds es) h in one_entry (same_tested o d e both.0) (list_tested o ds es both.1)
 
     set_tested : (o : Option Want) (ds es : Items) → set_test o ds es ≡ true → InSomeOrder o ds es
-    set_tested o no_items no_items h = record { middle = []; paired = none; reordered = reordered_self [] }
+    set_tested o no_items no_items h = record { middle = []; paired = none; reordered = IsPermutation-refl [] }
     set_tested o no_items (item e es) h = absurd (cc h)
     set_tested o (item d ds) es h = set_step o d ds es (pick (λ e. same_test o d e) es) refl h (λ e g. same_tested o d e g) (λ rest g. set_tested o ds rest g)
 

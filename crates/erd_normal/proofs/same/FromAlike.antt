@@ -1,5 +1,5 @@
 -- Reports that are alike say the same, if each `@id` text that was replaced comes back.
-use Rattle.erd_normal.proofs.Common.{◌≡◌, ℕ, Bool, true, false, cond, ◌&&◌, List, [], ◌∷◌, Some, None, Option, IsPermutation, sym, refl, ap, ◌∙◌, subst, Data, null, boolean, number, string, array, object, Items, no_items, item, Members, no_members, member, get_member, items_of, role, At, Name, list_of_items-place, list_of_items-items_of, get_member-first, here, later, Has, Within-step, Within-root, within-tree, Within, get_member-later, IsTree, AreTrees, AreMembers, list_of_items, entries_of, scope_inside, want_of_name, entry_want, is_compared_set, is_table_set, Asked, asked, is_repeated, Scope, Want, Object, IsPermutation-reordered, is_id_text, Sides, not_asked, a_null, a_flag, a_number, a_text, an_id, a_list, a_set, an_object, no_member, in_both, Same, SameEntries, SameMembers, SaysTheSame}
+use Rattle.erd_normal.proofs.Common.{◌≡◌, ℕ, Bool, true, false, cond, ◌&&◌, List, [], ◌∷◌, Some, None, Option, IsPermutation, sym, refl, ap, ◌∙◌, subst, Data, null, boolean, number, string, array, object, Items, no_items, item, Members, no_members, member, get_member, items_of, role, At, Name, list_of_items-place, list_of_items-items_of, get_member-first, here, later, Has, Within-step, Within-root, within-tree, Within, get_member-later, IsTree, AreTrees, AreMembers, list_of_items, entries_of, scope_inside, want_of_name, entry_want, is_compared_set, is_table_set, Asked, asked, is_repeated, Scope, Want, Object, is_id_text, Sides, not_asked, a_null, a_flag, a_number, a_text, an_id, a_list, a_set, an_object, no_member, in_both, Same, SameEntries, SameMembers, SaysTheSame}
 use Rattle.erd_normal.proofs.lists.Matched.{Paired, none, more}
 use Rattle.erd_normal.proofs.lists.BuiltLists.{items_again}
 use Rattle.erd_normal.proofs.rearranged.AlikeChanges.{Alike, AlikeMembers, AreAlike, IsArranged}
@@ -45,7 +45,7 @@ module _ (ρ σ : List ℕ → List ℕ) (t u : Data) (back : ComesBack ρ σ t)
       → IsArranged b fs (list_of_items es) → Same m (Some w) (array ds) (array es)
   array_same w ds fs es true is p arranged =
       let f = follows arranged (paired_flip p) in
-      a_set (items_of f.new) is (subst (IsPermutation (list_of_items ds)) (sym (list_of_items-items_of f.new)) (IsPermutation-reordered f.reordered))
+      a_set (items_of f.new) is (subst (IsPermutation (list_of_items ds)) (sym (list_of_items-items_of f.new)) f.reordered)
       (subst (SameEntries m (entry_want w) (items_of f.new)) (items_again es) (paired_entries m (entry_want w) (paired_flip f.paired)))
   array_same w ds fs es false is p arranged =
       a_list is

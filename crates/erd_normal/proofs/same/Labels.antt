@@ -1,7 +1,6 @@
 -- The worst case of the names of selections: a label with translations. Labels that say the same have one text, with their translations
 -- in rising order.
-use Rattle.erd_normal.proofs.Common.{◌≡◌, ℕ, Bool, true, false, cond, List, [], ◌∷◌, ◌++◌, map, Some, None, codes, Option, bytes_eq, Ordering, Greater, sym, refl, ap, ◌∙◌, subst, ap₂, nat_list_cmp_total, exact_bytes, option_map_or, match_ordering, get_member-put, Data, null, array, object, Members, no_members, member, put, get_member, items_of, comma_if, compact_text, items_text, members_text, kind_of_member, is_required, text_cmp, class, role, kind, text_exact, members_unique, put-trees, kind_of_unlisted_has, IsTree, AreMembers, entries_of, entries_at, class_of_object, member_want, want_of_name, Scope, scope, Want, ClassText, Member, Object, reordered_map, Reordered, rising_list_map, rising_list, compact_cmp, with_rising_text, Sides, MayBeAbsent, Same, SameMembers}
-use Rattle.erd_meaning.proofs.orders.Reordered.{no_entry}
+use Rattle.erd_normal.proofs.Common.{◌≡◌, ℕ, Bool, true, false, cond, List, [], ◌∷◌, ◌++◌, map, Some, None, codes, Option, bytes_eq, Ordering, Greater, sym, refl, ap, ◌∙◌, subst, ap₂, nat_list_cmp_total, exact_bytes, option_map_or, match_ordering, get_member-put, Data, null, array, object, Members, no_members, member, put, get_member, items_of, comma_if, compact_text, items_text, members_text, kind_of_member, is_required, text_cmp, class, role, kind, text_exact, members_unique, put-trees, kind_of_unlisted_has, IsTree, AreMembers, entries_of, entries_at, class_of_object, member_want, want_of_name, Scope, scope, Want, ClassText, Member, Object, IsPermutation, rising_list_map, rising_list, compact_cmp, with_rising_text, Sides, MayBeAbsent, Same, SameMembers, IsPermutation-map, IsPermutation-refl}
 use Rattle.erd_normal.proofs.built.NormalGets.{put_elsewhere, put_twice}
 use Rattle.erd_normal.proofs.lists.Matched.{matched_equal}
 use Rattle.erd_normal.proofs.lists.NumbersInOrder.{rising-reordered}
@@ -36,9 +35,9 @@ put_one_text b k d e (member l f ms) same = at (text_cmp k l) (put_one_text true
     at x later = rw same
 
 -- lists with the same entries have the same texts in rising order
-rising_texts : {xs ys : List Data} → Reordered xs ys → map compact_text (rising_list compact_cmp xs) ≡ map compact_text (rising_list compact_cmp ys)
+rising_texts : {xs ys : List Data} → IsPermutation xs ys → map compact_text (rising_list compact_cmp xs) ≡ map compact_text (rising_list compact_cmp ys)
 rising_texts {xs = xs} {ys = ys} h =
-    rising_list_map compact_text text_cmp xs ∙ rising-reordered nat_list_cmp_total exact_bytes (reordered_map compact_text h) ∙ sym (rising_list_map compact_text text_cmp ys)
+    rising_list_map compact_text text_cmp xs ∙ rising-reordered nat_list_cmp_total exact_bytes (IsPermutation-map compact_text _ _ h) ∙ sym (rising_list_map compact_text text_cmp ys)
 
 -- ---- labels
 
@@ -65,7 +64,7 @@ asked_beside P k text other v asks = at (bytes_eq k (codes "@type")) refl
 -- the members of labels of the class
 record LabelMembers (ms ns : Members) : Type 0 where
   beside : (k : List ℕ) → bytes_eq k (codes "Text") ≡ false → get_member k ms ≡ get_member k ns
-  texts : Reordered (entries_at (codes "Text") (object ms)) (entries_at (codes "Text") (object ns))
+  texts : IsPermutation (entries_at (codes "Text") (object ms)) (entries_at (codes "Text") (object ns))
 
 module _ (m : Sides) where
   -- nothing beside `Text` may be absent
@@ -83,12 +82,12 @@ module _ (m : Sides) where
       ap Some (steady_same m (λ v asks. asked_beside is_plain k refl (λ e. plain_of_kind (kind_of_member class.InternationalizedText k) (is_required class.InternationalizedText k) (plain_beside k e other)) v asks) h)
   same_beside k o p other (not_both l r) = none_beside m.left k o other l ∙ sym (none_beside m.right k p other r)
 
-  same_texts : (o p : Option Data) → Aligned m in_label (codes "Text") o p → Reordered (option_map_or entries_of o []) (option_map_or entries_of p [])
+  same_texts : (o p : Option Data) → Aligned m in_label (codes "Text") o p → IsPermutation (option_map_or entries_of o []) (option_map_or entries_of p [])
   same_texts (Some d) (Some e) (both_there h) =
       matched_equal (λ x y same. steady_same m (λ v asks. let one : Object role.Language ≡ v = cc in ap is_plain (sym one)) same) (entries_matched m (Member kind.Languages true) h)
   same_texts o p (not_both l r) =
-      subst (λ x. Reordered x (option_map_or entries_of p [])) (sym (lacking_empty m.left in_label (codes "Text") o refl l))
-      (subst (Reordered []) (sym (lacking_empty m.right in_label (codes "Text") p refl r)) no_entry)
+      subst (λ x. IsPermutation x (option_map_or entries_of p [])) (sym (lacking_empty m.left in_label (codes "Text") o refl l))
+      (subst (IsPermutation []) (sym (lacking_empty m.right in_label (codes "Text") p refl r)) (IsPermutation-refl []))
 
   label_members : (ms ns : Members) → AreMembers ms → AreMembers ns → SameMembers m in_label ms ns → LabelMembers ms ns
   label_members ms ns left right h = record {

@@ -1,5 +1,5 @@
 -- Completeness for the worst case: labels of one class that mean the same say the same.
-use Rattle.erd_normal.proofs.Common.{◌≡◌, ℕ, Bool, true, false, List, Some, None, codes, Option, bytes_eq, sym, refl, ap, ◌∙◌, subst, Data, null, boolean, number, string, array, object, Items, no_items, item, Members, no_members, member, get_member, kind_of_member, is_required, class, role, kind, text_exact, AreMembers, list_of_items, scope_inside, want_of_name, entry_want, Scope, Want, Member, Object, Reordered, IsPermutation-reordered, JsonMap, JsonSet, Label, untranslated, translated, json_set, label_beside_text, label_of, Sides, not_asked, a_null, a_flag, a_number, a_text, a_list, a_set, an_object, no_entry, one_entry, no_member, in_both, Same, SameEntries, SameMembers}
+use Rattle.erd_normal.proofs.Common.{◌≡◌, ℕ, Bool, true, false, List, Some, None, codes, Option, bytes_eq, sym, refl, ap, ◌∙◌, subst, Data, null, boolean, number, string, array, object, Items, no_items, item, Members, no_members, member, get_member, kind_of_member, is_required, class, role, kind, text_exact, AreMembers, list_of_items, scope_inside, want_of_name, entry_want, Scope, Want, Member, Object, IsPermutation, JsonMap, JsonSet, Label, untranslated, translated, json_set, label_beside_text, label_of, Sides, not_asked, a_null, a_flag, a_number, a_text, a_list, a_set, an_object, no_entry, one_entry, no_member, in_both, Same, SameEntries, SameMembers}
 use Rattle.erd_normal.proofs.same.Lists.{ApartBy, AreSound, itself, json_sets_reordered}
 use Rattle.erd_normal.proofs.same.Labels.{asked_beside, in_label, plain_beside}
 use Rattle.erd_normal.proofs.same.Lookups.{Aligned, both_there, not_both, lacks_none}
@@ -47,9 +47,9 @@ module _ (m : Sides) where
   equal_aligned s k None p plain e = subst (Aligned m s k None) e (not_both (lacks_none m.left s k) (lacks_none m.right s k))
   equal_aligned s k (Some d) p plain e = subst (Aligned m s k (Some d)) e (both_there (plain_self m (want_of_name s k) d plain))
 
-  texts_same : (ds es : Items) → Reordered (list_of_items ds) (list_of_items es) → Same m (Some (Member kind.Languages true)) (array ds) (array es)
+  texts_same : (ds es : Items) → IsPermutation (list_of_items ds) (list_of_items es) → Same m (Some (Member kind.Languages true)) (array ds) (array es)
   texts_same ds es h =
-      a_set es refl (IsPermutation-reordered h) (plain_entries_self m (Some (Object role.Language)) es (λ v asks. let one : Object role.Language ≡ v = cc in ap is_plain (sym one)))
+      a_set es refl h (plain_entries_self m (Some (Object role.Language)) es (λ v asks. let one : Object role.Language ≡ v = cc in ap is_plain (sym one)))
 
   pub labels_say : (ms ns : Members) → AreMembers ms → AreMembers ns → (left : Translations ms) (right : Translations ns) → get_member (codes "@type") ms ≡ get_member (codes "@type") ns
       → label_of (object ms) ≡ label_of (object ns) → SameMembers m in_label ms ns

@@ -1,8 +1,7 @@
 -- The objects of two reports that say the same: those of each family are matched, and matched ones have one key.
-use Rattle.erd_normal.proofs.Common.{◌≡◌, ℕ, true, false, List, [], Some, None, codes, Option, flat_map, bytes_eq, sym, refl, ap, ◌∙◌, subst, option_map_or, Data, object, Members, get_member, role_of_class, is_envelope_name, kind_of_member, is_required, Class, class, Family, family, Role, role, MemberKind, kind, object_in, report_class, election_class, ObjectIn, here, later, Has, unrepeated, want_by_kind, ShapeFault, NoneOf, IsTree, list_of_items, entries_of, entries_at, class_of_object, scope_inside, member_want, want_of_name, entry_want, Scope, scope, Want, Member, Object, contest_selections, reordered_self, reordered_back, reordered-has, Reordered, Preference, key_of, Sides, is_envelope, an_empty_array, of_the_envelope, an_unused_id, a_null, a_flag, a_number, a_text, an_id, a_list, a_set, an_object, MayBeAbsent, Same}
+use Rattle.erd_normal.proofs.Common.{◌≡◌, ℕ, true, false, List, [], Some, None, codes, Option, flat_map, bytes_eq, sym, refl, ap, ◌∙◌, subst, option_map_or, Data, object, Members, get_member, role_of_class, is_envelope_name, kind_of_member, is_required, Class, class, Family, family, Role, role, MemberKind, kind, object_in, report_class, election_class, ObjectIn, here, later, Has, unrepeated, want_by_kind, ShapeFault, NoneOf, IsTree, list_of_items, entries_of, entries_at, class_of_object, scope_inside, member_want, want_of_name, entry_want, Scope, scope, Want, Member, Object, contest_selections, reordered-has, IsPermutation, Preference, key_of, Sides, is_envelope, an_empty_array, of_the_envelope, an_unused_id, a_null, a_flag, a_number, a_text, an_id, a_list, a_set, an_object, MayBeAbsent, Same, IsPermutation-refl, IsPermutation-sym}
 use Rattle.erd_normal.proofs.built.LeastKeys.{key_of_identifiers-reordered, kind_of_identifiers}
 use Rattle.erd_normal.proofs.lists.Matched.{Matched, matched_equal, matched_flat, matched_none, Paired, none, more}
-use Rattle.erd_normal.proofs.lists.NumbersInOrder.{permuted_reordered}
 use Rattle.erd_normal.proofs.same.FamilyValues.{family_values}
 use Rattle.erd_normal.proofs.same.Back.{entries_paired}
 use Rattle.erd_normal.proofs.same.FromAlike.{Stands, entry_stands, member_stands, stands_tree}
@@ -24,8 +23,8 @@ matched_within_both S h m = record {
   reordered = m.reordered;
 }
 
-matched_left : {A B : Type 0} {R : A → B → Type 0} {xs ws : List A} {ys : List B} → Reordered xs ws → Paired R ws ys → Matched R xs ys
-matched_left h p = let f = follows (reordered_back h) p in record { middle = f.new; paired = f.paired; reordered = reordered_back f.reordered }
+matched_left : {A B : Type 0} {R : A → B → Type 0} {xs ws : List A} {ys : List B} → IsPermutation xs ws → Paired R ws ys → Matched R xs ys
+matched_left h p = let f = follows (IsPermutation-sym _ _ h) p in record { middle = f.new; paired = f.paired; reordered = IsPermutation-sym _ _ f.reordered }
 
 -- ---- arrays
 
@@ -36,8 +35,8 @@ entries_matched m w a_flag = matched_none _
 entries_matched m w a_number = matched_none _
 entries_matched m w (a_text is) = matched_none _
 entries_matched m w (an_id is h) = matched_none _
-entries_matched m w (a_list {es = es} is h) = record { middle = list_of_items es; paired = entries_paired m h; reordered = reordered_self (list_of_items es) }
-entries_matched m w (a_set {ds = ds} fs is p h) = matched_left (permuted_reordered (list_of_items ds) (list_of_items fs) p) (entries_paired m h)
+entries_matched m w (a_list {es = es} is h) = record { middle = list_of_items es; paired = entries_paired m h; reordered = IsPermutation-refl (list_of_items es) }
+entries_matched m w (a_set {ds = ds} fs is p h) = matched_left p (entries_paired m h)
 entries_matched m w (an_object h) = matched_none _
 
 -- a member that may be absent has no entries, if it is not in the envelope
@@ -157,7 +156,7 @@ module _ (m : Sides) (left_tree : IsTree m.left) (right_tree : IsTree m.right) w
     no_report r c name is other = refl
 
     identifiers_match : (r : Role) (d e : Data) (o : ObjectIn m.left r d) → Related m (Object r) d e → (r ≡ role.Report → ⊥) → kind_of_member o.class (codes "ExternalIdentifier") ≡ kind.Identifiers
-        → Reordered (entries_at (codes "ExternalIdentifier") d) (entries_at (codes "ExternalIdentifier") e)
+        → IsPermutation (entries_at (codes "ExternalIdentifier") d) (entries_at (codes "ExternalIdentifier") e)
     identifiers_match r d e o related other is =
         let name = codes "ExternalIdentifier" in
         matched_equal (λ x y h. steady_same m (λ v asks. let g : Object role.Identifier ≡ v = cc in ap is_plain (sym g)) h.same)

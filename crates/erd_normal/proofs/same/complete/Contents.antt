@@ -1,5 +1,5 @@
 -- Contents of ballots that mean the same say the same, headers inside headers included.
-use Rattle.erd_normal.proofs.Common.{◌≡◌, ℕ, zero, suc, ◌≤◌, max, Bool, true, false, cond, List, [], ◌∷◌, map, Some, None, codes, Option, IsPermutation, option_and_then, bytes_eq, sym, refl, ap, ◌∙◌, subst, arith, Data, string, array, object, Items, no_items, item, Members, depth, items_depth, members_depth, get_member, get_item, as_str, items_of, kind_of_member, is_required, Class, class, Family, family, role, MemberKind, kind, At, entries_in, text_exact, list_of_items-items_of, get_member-tree, get_member-depth, is_absent, is_filled_array, MayBeArray, here, later, Has, Within-step, of_role, member_within, Within, kind_of_unlisted_has, no_strange, no_unknown, IsTree, AreTrees, AreMembers, list_of_items, want_of_kind, member_want, want_of_name, entry_want, is_table_set, asked, Scope, scope, Want, ClassText, Member, Object, Reference, no_shape_fault, resolves, IsPermutation-reordered, IsAccepted, has_keys, Preference, key_of, JsonMap, Content, no_content, Node, a_contest, a_header, NameParts, if_carried, carried_members, contest_node, header_node, nodes_of, node_of, content_inside, key_named, name_named, Key, Sides, StandsFor, is_array_kind, an_empty_array, a_text, an_id, a_list, a_set, an_object, no_entry, one_entry, Same, SameEntries, SameMembers}
+use Rattle.erd_normal.proofs.Common.{◌≡◌, ℕ, zero, suc, ◌≤◌, max, Bool, true, false, cond, List, [], ◌∷◌, map, Some, None, codes, Option, IsPermutation, option_and_then, bytes_eq, sym, refl, ap, ◌∙◌, subst, arith, Data, string, array, object, Items, no_items, item, Members, depth, items_depth, members_depth, get_member, get_item, as_str, items_of, kind_of_member, is_required, Class, class, Family, family, role, MemberKind, kind, At, entries_in, text_exact, list_of_items-items_of, get_member-tree, get_member-depth, is_absent, is_filled_array, MayBeArray, here, later, Has, Within-step, of_role, member_within, Within, kind_of_unlisted_has, no_strange, no_unknown, IsTree, AreTrees, AreMembers, list_of_items, want_of_kind, member_want, want_of_name, entry_want, is_table_set, asked, Scope, scope, Want, ClassText, Member, Object, Reference, no_shape_fault, resolves, IsAccepted, has_keys, Preference, key_of, JsonMap, Content, no_content, Node, a_contest, a_header, NameParts, if_carried, carried_members, contest_node, header_node, nodes_of, node_of, content_inside, key_named, name_named, Key, Sides, StandsFor, is_array_kind, an_empty_array, a_text, an_id, a_list, a_set, an_object, no_entry, one_entry, Same, SameEntries, SameMembers}
 use Rattle.erd_normal.proofs.lists.Matched.{Matched, matched_back, matched_on, Paired, none, more}
 use Rattle.erd_normal.proofs.lists.BuiltLists.{items_again}
 use Rattle.erd_normal.proofs.same.Back.{paired_entries, paired_flip, entries_paired}
@@ -18,7 +18,7 @@ module _ (m : Sides) where
   pub set_says : (w : Want) (ds es : Items) → is_table_set w ≡ true → Matched (Same m (entry_want w)) (list_of_items ds) (list_of_items es) → Same m (Some w) (array ds) (array es)
   set_says w ds es is h =
       let f = follows h.reordered (paired_flip h.paired) in
-      a_set (items_of f.new) is (subst (IsPermutation (list_of_items ds)) (sym (list_of_items-items_of f.new)) (IsPermutation-reordered f.reordered))
+      a_set (items_of f.new) is (subst (IsPermutation (list_of_items ds)) (sym (list_of_items-items_of f.new)) f.reordered)
       (subst (SameEntries m (entry_want w) (items_of f.new)) (items_again es) (paired_entries m (entry_want w) (paired_flip f.paired)))
 
   pub list_says : (w : Want) (ds es : Items) → is_table_set w ≡ false → Paired (Same m (entry_want w)) (list_of_items ds) (list_of_items es) → Same m (Some w) (array ds) (array es)

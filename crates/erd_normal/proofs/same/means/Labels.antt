@@ -1,5 +1,5 @@
 -- Labels that say the same mean the same, and have one text with their translations in rising order.
-use Rattle.erd_normal.proofs.Common.{◌≡◌, ℕ, Bool, true, false, cond, ◌||◌, List, Some, None, codes, bytes_eq, sym, refl, ap, ◌∙◌, ap₂, Data, array, object, Members, get, compact_text, kind_of_member, is_required, class, role, kind, of_label, wanted_within, unrepeated, classed, Classed, entries_at, class_of_object, scope_inside, Want, Member, Object, no_shape_fault, Reordered, Preference, translated, label_of, with_rising_text, Sides, a_null, a_flag, a_number, a_text, an_id, a_list, a_set, an_object, Same, SameMembers, fun_ext}
+use Rattle.erd_normal.proofs.Common.{◌≡◌, ℕ, Bool, true, false, cond, ◌||◌, List, Some, None, codes, bytes_eq, sym, refl, ap, ◌∙◌, ap₂, Data, array, object, Members, get, compact_text, kind_of_member, is_required, class, role, kind, of_label, wanted_within, unrepeated, classed, Classed, entries_at, class_of_object, scope_inside, Want, Member, Object, no_shape_fault, IsPermutation, Preference, translated, label_of, with_rising_text, Sides, a_null, a_flag, a_number, a_text, an_id, a_list, a_set, an_object, Same, SameMembers, fun_ext}
 use Rattle.erd_normal.proofs.lists.Matched.{matched_equal}
 use Rattle.erd_normal.proofs.meaning.RisingMeanings.{json_set-reordered}
 use Rattle.erd_normal.proofs.same.FromAlike.{Stands, stands_tree}
@@ -16,7 +16,7 @@ module _ (m : Sides) where
       let c = class.InternationalizedText in
       told_plain m c k (get k d) (get k e) (plain_of_kind (kind_of_member c k) (is_required c k) (plain_beside k typed text)) (steady_beside k typed text) refl (h k typed)
 
-  same_translations : (d e : Data) → HaveMembers m class.InternationalizedText d e → Reordered (entries_at (codes "Text") d) (entries_at (codes "Text") e)
+  same_translations : (d e : Data) → HaveMembers m class.InternationalizedText d e → IsPermutation (entries_at (codes "Text") d) (entries_at (codes "Text") e)
   same_translations d e h =
       matched_equal (λ x y r. steady_same m (λ v asks. let one : Object role.Language ≡ v = cc in ap is_plain (sym one)) r.same)
       (told_entries m class.InternationalizedText (codes "Text") (Member kind.Languages true) (Object role.Language) (get (codes "Text") d) (get (codes "Text") e) refl refl refl refl (h (codes "Text") refl))
