@@ -12,16 +12,15 @@ pub use Rattle.std.specs.Slice.Iter.{iter_rest}
 pub use Rattle.serde_json.specs.Data.{items_depth}
 pub use Rattle.serde_json.specs.declared.value.Value.{the_lemmas}
 pub use Rattle.erd_check.proofs.Exact.{text_itself, flag_itself, is_same_exact, are_same_members_exact}
-pub use Rattle.erd_check.proofs.Members.{get_member-first, get_member-later, found_cases, members_unique, get_member-tree, get_member-depth}
+pub use Rattle.erd_check.proofs.Shapes.{get_member-first, get_member-later, found_cases, members_unique, get_member-tree, get_member-depth}
 pub use Rattle.erd_check.proofs.Reports.{one_unit_report, status, unit, identifier, other_election, party_contest}
-pub use Rattle.erd_check.proofs.Rising.{not_below_itself}
-pub use Rattle.erd_meaning.proofs.accepted.References.{find-Some, find-any, has_identifier}
+pub use Rattle.erd_check.proofs.Order.{not_below_itself}
+pub use Rattle.erd_meaning.proofs.accepted.Standing.{find-Some, find-any, has_identifier}
 pub use Rattle.erd_meaning.proofs.examples.RecordExamples.{local_key}
 pub use Rattle.erd_meaning.proofs.finding.OneObject.{in_at, at_low, sorted_at, one_key}
 pub use Rattle.erd_meaning.proofs.meanings.WholeMeanings.{same_but_one, same_object, AgreeAt, is_key_in, same_at_every_key, AreAmong, no_record, value_with_key, ObjectsAgree, same_at_key, ObjectsAgreeButOne, SameMember, same_at_key_with, HaveKeys, keys_of_family, nothing_at, same_family, selection_with_name, SelectionsAgreeButOne, same_at_name, HaveNames, names_of_selections, same_selections, election_has_key, same_sole_election, same_meaning}
 pub use Rattle.erd_meaning.proofs.meanings.WholeRecords.{absent_plain, absent_member, same_at_other_names, no_election_id, other_than_election}
-pub use Rattle.erd_meaning.proofs.orders.DistinctEntries.{distinct_from_one_place}
-pub use Rattle.erd_meaning.proofs.orders.EqualNames.{options_exact, equal_keys}
+pub use Rattle.erd_meaning.proofs.orders.DistinctEntries.{distinct_from_one_place, options_exact, equal_keys}
 pub use Rattle.erd_meaning.proofs.orders.RisingOrders.{greater_turned, all_rising, rising_strictly, stands_at_rank}
 pub use Rattle.erd_meaning.proofs.selections.PositionedKeys.{KeyPosition, positioned_made, positioned_keys, all_positioned, rising_positioned}
 pub use Rattle.erd_meaning.specs.Lookups.{rising_election_keys}

@@ -24,18 +24,14 @@ pub use Rattle.erd_tables.specs.Classes.{family_of_role}
 pub use Rattle.erd_tables.specs.Rows.{envelope_rows}
 pub use Rattle.erd_tables.specs.Table.{is_envelope_name}
 pub use Rattle.erd_check.proofs.Deciding.{is_tree, before_later, before_all, faults_found}
-pub use Rattle.erd_check.proofs.Entries.{object_from, string_from_text, list_of_items-tree}
+pub use Rattle.erd_check.proofs.Shapes.{object_from, string_from_text, list_of_items-tree, get_member-before, get_member-first, found_cases, members_unique, get_member-tree, get_member-depth, asked_at-steps, AsksObject, of_label, unrepeated, classed, within-holds, within-tree, Classed, kind_of_unlisted_has, is_word, want_unless_status}
 pub use Rattle.erd_check.proofs.Exact.{text_exact, text_itself, same_flag_exact, is_same_exact}
 pub use Rattle.erd_check.proofs.Lists.{list_of_items-items_of}
-pub use Rattle.erd_check.proofs.Members.{get_member-before, get_member-first, found_cases, members_unique, get_member-tree, get_member-depth}
-pub use Rattle.erd_check.proofs.Options.{and_then-Some}
+pub use Rattle.erd_check.proofs.Positions.{and_then-Some, map_has, all_at, all_by_entry}
 pub use Rattle.erd_check.proofs.Order.{sorted_map}
-pub use Rattle.erd_check.proofs.Positions.{map_has, all_at, all_by_entry}
 pub use Rattle.erd_check.proofs.ReadTrees.{before_put, put-trees, read_is_tree}
 pub use Rattle.erd_check.proofs.Reports.{identifier}
-pub use Rattle.erd_check.proofs.Shapes.{asked_at-steps, AsksObject, of_label, unrepeated, classed, within-holds, within-tree, Classed}
 pub use Rattle.erd_check.proofs.Steps.{text_from_equal}
-pub use Rattle.erd_check.proofs.TableKinds.{kind_of_unlisted_has, is_word, want_unless_status}
 pub use Rattle.erd_check.proofs.Whole.{get_member-later, is_simple_class, no_strange, no_unknown, entry_itself}
 pub use Rattle.erd_check.specs.Faults.{has_kind, is_wrong_class, is_outside, is_other_status, wants_entry}
 pub use Rattle.erd_check.specs.Numbers.{IsFittingNumber, HasFittingNumbers, ItemsHaveFittingNumbers, MembersHaveFittingNumbers}
@@ -46,21 +42,14 @@ pub use Rattle.erd_check.specs.declared.want.Scope.{Scope, Scope as scope}
 pub use Rattle.erd_check.specs.declared.want.Want.TheVariants.{Object}
 pub use Rattle.erd_meaning.proofs.accepted.DistinctKeys.{election_has_identifier, objects_distinct, values_distinct, elections_distinct}
 pub use Rattle.erd_meaning.proofs.accepted.HeldObjects.{has-append, has-flat, held_key_in}
-pub use Rattle.erd_meaning.proofs.accepted.Phases.{no_shape_fault, no_identity_fault, no_reference_fault, accepted_by_phases}
-pub use Rattle.erd_meaning.proofs.accepted.References.{owned, unrepeated_reference, selected, find-Some, find-any, Contains-Has, Has-Contains, has_identifier, resolves}
-pub use Rattle.erd_meaning.proofs.accepted.Skeleton.{skeleton_of_shape, skeleton, values-placed_from, values-placed_entries, values-placed_flat, election_entries, values_in_elections, election_stands, election_within, election_object, Skeleton}
-pub use Rattle.erd_meaning.proofs.accepted.Standing.{stands, append-has, has-append_left, flat-has, contest_selections, one_placed, one_object, one_keyed, one_named, has_id-Some, has_id-from, owner_is, owned_by}
+pub use Rattle.erd_meaning.proofs.accepted.Standing.{no_shape_fault, no_identity_fault, no_reference_fault, accepted_by_phases, owned, unrepeated_reference, selected, find-Some, find-any, Contains-Has, Has-Contains, has_identifier, resolves, skeleton_of_shape, skeleton, values-placed_from, values-placed_entries, values-placed_flat, election_entries, values_in_elections, election_stands, election_within, election_object, Skeleton, stands, append-has, has-append_left, flat-has, contest_selections, one_placed, one_object, one_keyed, one_named, has_id-Some, has_id-from, owner_is, owned_by}
 pub use Rattle.erd_meaning.proofs.examples.RecordExamples.{local_key, members_of}
 pub use Rattle.erd_meaning.proofs.finding.OneObject.{in_at, at_low, with_part, one_id}
 pub use Rattle.erd_meaning.proofs.meanings.SelectionKinds.{kind_of_type, is_selections, selections_kind, selections_name, selections_family, class_role}
 pub use Rattle.erd_meaning.proofs.meanings.WholeMeanings.{same_members, same_object, absent_carried, absent_beside, AgreeAt, same_at_every_key, AreAmong, no_record, value_with_key, same_at_key, ObjectsAgreeButOne, SameMember, same_at_key_with, HaveKeys, keys_of_family, same_family, selection_with_name, SelectionsAgreeButOne, same_at_name, HaveNames, names_of_selections, same_selections, same_sole_election, same_meaning}
-pub use Rattle.erd_meaning.proofs.orders.DistinctEntries.{place_of, distinct_from_one_place, distinct_map, distinct_one, unrepeated_distinct, unrepeated_by_cmp}
-pub use Rattle.erd_meaning.proofs.orders.EqualNames.{options_exact, equal_keys, equal_names}
-pub use Rattle.erd_meaning.proofs.orders.Reordered.{two_exchanged, along_permutation, reordered_flat, reordered_kept, reordered_rising, whole-reordered, count-reordered, all-reordered, reordered-has}
+pub use Rattle.erd_meaning.proofs.orders.DistinctEntries.{place_of, distinct_from_one_place, distinct_map, distinct_one, unrepeated_distinct, unrepeated_by_cmp, options_exact, equal_keys, equal_names, any-has, has-any}
+pub use Rattle.erd_meaning.proofs.orders.RisingOrders.{two_exchanged, along_permutation, reordered_flat, reordered_kept, reordered_rising, whole-reordered, count-reordered, all-reordered, reordered-has, greater_turned, inserted_exchange, all_rising, NeverFalls, rising_strictly, rising_never_falls, rank_map, rank_by_at, length-rising, In-from_has, has_from_In, In-inserted, In-rising, has_rising}
 pub use Rattle.erd_meaning.proofs.orders.RisingLists.{by_first, rising_from_sort, rising_list_map}
-pub use Rattle.erd_meaning.proofs.orders.RisingOrders.{greater_turned, inserted_exchange, all_rising, NeverFalls, rising_strictly, rising_never_falls, rank_map, rank_by_at}
-pub use Rattle.erd_meaning.proofs.orders.RisingSets.{length-rising, In-from_has, has_from_In, In-inserted, In-rising, has_rising}
-pub use Rattle.erd_meaning.proofs.orders.Sets.{any-has, has-any}
 pub use Rattle.erd_meaning.specs.LaterFaults.{is_unresolved, is_of_other_family}
 pub use Rattle.erd_meaning.specs.Lookups.{rising_election_keys}
 pub use Rattle.erd_meaning.specs.Meaning.{JsonMap, JsonSet, translated, a_json_set, a_content, SelectionRecord, a_selection_map}

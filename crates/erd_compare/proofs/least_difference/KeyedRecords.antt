@@ -3,13 +3,10 @@
 use Rattle.erd_compare.proofs.Common.{◌≡◌, ℕ, zero, suc, ◌≤◌, Bool, true, false, ◌⊎◌, List, [], ◌∷◌, length, nat_lt, slice_get, Some, None, Option, option_map, find, option_and_then, is_eq, sym, refl, ap, ◌∙◌, subst, inl, inr, arith, tied_itself, slice_get_within, Equal-is, option_cmp, Data, Class, Family, family, Role, role, In, any_at, position_of, has_at, find-Some, find-any, option_map-Some, has_identifier, in_at, one_key, no_election_id, options_exact, equal_keys, has_keys, key_cmp, Preference, key_of, election_key_in, election_in, ObjectRecord, Placed, report_of, elections, objects, has_several, election_of_place, meaning, member_of_class, object_record, record_in_election, placed_record, records_of, election_records, key_cmp_total, Key, record_with_key, record_without_key, record_at, Differ, TellsHow, RecordMap, IsWholeTree, HasNoElectionId, TellsHeld, role_of_part, objects_in, key_with_role, holder_key_in, is_ranked, TellsAtPositions, HasKeyAt, IsComparable, How, OnlyLeft, OnlyRight, Part, part}
 use Rattle.erd_check.specs.Wants.{asked, class_of_object}
 use Rattle.erd_check.specs.declared.want.Want.TheVariants.{Object}
-use Rattle.erd_check.proofs.ObjectsAt.{ObjectIn, object_in}
-use Rattle.erd_check.proofs.Shapes.{Within, Within-root}
-use Rattle.erd_meaning.proofs.finding.TwinElections.{one_election_key}
+use Rattle.erd_check.proofs.Shapes.{ObjectIn, object_in, Within, Within-root}
+use Rattle.erd_meaning.proofs.finding.Found.{one_election_key}
 use Rattle.erd_meaning.proofs.accepted.DistinctKeys.{election_has_identifier}
-use Rattle.erd_meaning.proofs.accepted.Phases.{no_identity_fault, no_shape_fault}
-use Rattle.erd_meaning.proofs.accepted.Skeleton.{election_stands, skeleton}
-use Rattle.erd_meaning.proofs.accepted.Standing.{stands}
+use Rattle.erd_meaning.proofs.accepted.Standing.{no_identity_fault, no_shape_fault, election_stands, skeleton, stands}
 use Rattle.erd_compare.proofs.least_difference.StepWalks.{IsNoneBeside}
 use Rattle.erd_compare.proofs.whole_trees.WholeTrees.{whole_election, whole_object}
 

@@ -1,6 +1,6 @@
 -- The key of the object that is found by an `@id` is the key that a reference names.
 use Rattle.erd_compare.proofs.Common.{◌≡◌, ℕ, true, false, cond, List, ◌==◌, slice_get, Some, None, Option, option_map, option_and_then, sym, refl, ap, ◌∙◌, Data, view, family_number, Family, family, Judged, has_keys, Preference, key_of, key_of_family_object, key_in, FindsId, Placed, objects, owner_at, key_named, name_of, name_named, number_of_name, number_of_selection, on_side, Side}
-use Rattle.erd_meaning.proofs.finding.OwnedObjects.{owner_elsewhere, owner_here, owner_nowhere}
+use Rattle.erd_meaning.proofs.finding.OneObject.{owner_elsewhere, owner_here, owner_nowhere}
 
 -- ---- its key
 

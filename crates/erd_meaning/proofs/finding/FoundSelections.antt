@@ -2,7 +2,7 @@
 use Rattle.erd_meaning.proofs.Common.{◌≡◌, ℕ, List, Some, None, Option, position, sym, ap, ◌∙◌, subst, same_Some, view, Value, Preference, selection_in, FindsSelection, NameParts, IsResolved, NumberedName, is_selection_named, Object}
 use Rattle.erd_meaning.proofs.selections.NamesTold.{is_named_from, is_named_itself}
 use Rattle.erd_meaning.proofs.finding.OneObject.{hit, in_at, missed}
-use Rattle.erd_meaning.proofs.selections.SelectionsMet.{one_selection}
+use Rattle.erd_meaning.proofs.selections.WalkedNames.{one_selection}
 
 pub selection_found : (π : Preference) (v : Value) (os : List Object) (ns : List NumberedName) (c : ℕ) (n : NameParts) (found : Option ℕ) → IsResolved π v os ns
     → position (is_selection_named c n) ns ≡ found → FindsSelection π (view v) c n found

@@ -1,7 +1,7 @@
 -- What earlier objects have is what the indexes know.
 use Rattle.erd_meaning.proofs.Common.{◌≡◌, ℕ, ◌+◌, Bool, true, false, cond, ◌&&◌, List, [], ◌∷◌, length, is_some, ◌==◌, Some, None, Option, option_map, position, option_and_then, is_eq, sym, refl, ap, ◌∙◌, ap₂, Bor, and-false, Decides-eqb, tied_itself, position_from-zero, Equal-is, both_ways, list_any, position_from, option_map_or, family_number, Family, key_cmp, same_owned, rank, number_at, number_of_id, number_of_key, those_of, is_keyed, keeps_id, Kept, same_key, same_id, has_same_key, has_same_id, key_cmp_total, key_cmp_exact, Key, inl, inr, cases_Bool, arith}
 use Rattle.erd_meaning.proofs.finding.OneObject.{hit}
-use Rattle.erd_meaning.proofs.finding.OwnedKeys.{owned_exact}
+use Rattle.erd_meaning.proofs.finding.Pushed.{owned_exact}
 use Rattle.erd_meaning.proofs.references.ReferenceLookups.{text_same}
 
 -- ---- positions

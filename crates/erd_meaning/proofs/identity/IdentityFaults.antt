@@ -1,7 +1,6 @@
 -- The walk over the elections and the objects of a report tells exactly the faults of identity.
 use Rattle.erd_meaning.proofs.Common.{◌≡◌, ℕ, Bool, true, false, cond, List, [], ◌∷◌, ◌++◌, is_none, IsTrue, ◌==◌, Some, None, Option, Less, sym, refl, ap, ◌∙◌, subst, inl, inr, true≢false, and_parts, and_from, tied_itself, bytes_eq-Decides, list_any, Data, family_number, ListsAll, place_cmp, Family, Role, Fault, Reason, DuplicateId, NoIdentifier, TwinIdentifier, Step, In, In-append_left, In-append_right, In-append, any_at, In-from_contains, contains_from_In, fault_at, has_keys, is_keyed_role, Preference, key_of, key_of_family_object, IdentityFault, LacksIdentifier, RepeatsId, RepeatsKey, Placed, elections, objects, has_several, objects_with_role, needs_key, id_of, kept, Met, an_object, an_election, Located, located_one, located_election, all_located, same_key, same_id, fault_if, is_keyless, are_twins, are_named_alike, faults_after, key_cmp_total, key_cmp_exact, Key, Equal-is, cases_Bool, arith, Contains, role}
-use Rattle.erd_meaning.proofs.identity.MetSources.{IsElectionMet, IsObjectMet, election_is_met, is_met, source}
-use Rattle.erd_meaning.proofs.identity.ObjectFamilies.{family_exact, itself}
+use Rattle.erd_meaning.proofs.identity.ObjectFamilies.{IsElectionMet, IsObjectMet, election_is_met, is_met, source, family_exact, itself}
 use Rattle.erd_meaning.proofs.identity.ObjectPlaces.{all_parted, id_place}
 use Rattle.erd_meaning.proofs.identity.ToldFaults.{Complete, Told, complete, duplicate_id, has_twin, in_if, is_named_before, no_identifier, told, told_rising, told_sound, twin_identifier}
 
@@ -52,6 +51,9 @@ earlier_place p {x} {y} e less = subst (λ q. place_cmp q p ≡ Less) (sym (ap (
 
 -- ---- the facts of a fault, put together
 
+pub lacks_identifier : (π : Preference) (t : Data) (r : Role) (o : Placed) → IsTrue (needs_key t r) → Contains (objects_with_role r t) o → key_of π o.value ≡ None → LacksIdentifier π t o.place
+lacks_identifier π t r o needed stands keyless = record { role = r; needed = needed; placed = o; stands = stands; place = refl; keyless = keyless }
+
 pub repeats_key : (π : Preference) (t : Data) (r : Role) (o p : Placed) (k : Key) → IsTrue (is_keyed_role r) → Contains (objects_with_role r t) o → Contains (objects_with_role r t) p → place_cmp p.place o.place ≡ Less
     → key_of π o.value ≡ Some k → key_of π p.value ≡ Some k → RepeatsKey π t o.place
 repeats_key π t r o p k keyed i j less a b = record {
@@ -90,14 +92,7 @@ module _ (π : Preference) (t : Data) (f : Family) (o : Placed) (there : In o (o
   lacking : is_keyless (object_here π f o) ≡ true → LacksIdentifier π t o.place
   lacking e =
       let both = and_parts (has_keys f) (is_none (key_of_family_object π f o.value)) e in
-      record {
-        role = role.OfFamily f;
-        needed = both.0;
-        placed = o;
-        stands = contains_from_In o (objects f t) there;
-        place = refl;
-        keyless = none_from (key_of π o.value) (subst (λ b. is_none (cond b (key_of π o.value) None) ≡ true) both.0 both.1);
-      }
+      lacks_identifier π t (role.OfFamily f) o both.0 (contains_from_In o (objects f t) there) (none_from (key_of π o.value) (subst (λ b. is_none (cond b (key_of π o.value) None) ≡ true) both.0 both.1))
 
   twin_object : (y : Located) → IsObjectMet π t y → place_cmp y.place o.place ≡ Less → are_twins (object_here π f o) y.met ≡ true → RepeatsKey π t o.place
   twin_object y other less e =
@@ -143,14 +138,7 @@ module _ (π : Preference) (t : Data) (e : Placed) (there : In e (elections t)) 
   lacking_election : is_keyless (election_here π t e) ≡ true → LacksIdentifier π t e.place
   lacking_election h =
       let both = and_parts (has_several t) (is_none (key_of π e.value)) h in
-      record {
-        role = role.Election;
-        needed = both.0;
-        placed = e;
-        stands = contains_from_In e (elections t) there;
-        place = refl;
-        keyless = none_from (key_of π e.value) both.1;
-      }
+      lacks_identifier π t role.Election e both.0 (contains_from_In e (elections t) there) (none_from (key_of π e.value) both.1)
 
   twin_election : (y : Located) → IsElectionMet π t y → place_cmp y.place e.place ≡ Less → are_twins (election_here π t e) y.met ≡ true → RepeatsKey π t e.place
   twin_election y other less h =

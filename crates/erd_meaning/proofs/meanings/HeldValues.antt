@@ -1,6 +1,6 @@
 -- The objects of a family without their places, each with the key of the election that holds it.
 use Rattle.erd_meaning.proofs.Common.{◌≡◌, ℕ, suc, ◌+◌, false, List, [], ◌∷◌, ◌++◌, map, if◌then◌else◌, slice_get, Some, None, codes, Option, option_map, flat_map, option_and_then, bytes_eq, sym, refl, ap, ◌∙◌, ap₂, arith, map-append, slice_get-map, Data, Family, role, At, Name, entries_at, Preference, key_of, election_key_in, election_key_of, ObjectRecord, Placed, placed_from, placed_entries, report_of, elections, objects, object_record, record_in_election, Key}
-use Rattle.erd_meaning.proofs.accepted.Skeleton.{values-placed_entries}
+use Rattle.erd_meaning.proofs.accepted.Standing.{values-placed_entries}
 
 -- the key of the election that holds an object, if one does and has a key, and the value of the object
 abbrev pub Held : Type 0

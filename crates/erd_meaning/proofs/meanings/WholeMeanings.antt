@@ -1,7 +1,7 @@
 -- When two reports mean the same: the report, and the election and the object of each key, mean the same.
 use Rattle.erd_meaning.proofs.Common.{◌≡◌, ℕ, zero, suc, Bool, true, false, not, ◌&&◌, List, [], ◌∷◌, ◌++◌, map, is_some, Some, None, Contains, filter, Option, option_map, find, option_and_then, bytes_eq, is_eq, Ordering, unwrap_or, sym, refl, ap, ◌∙◌, subst, ap₂, true≢false, arith, fun_ext, and_parts, or_parts, or_from, bytes_eq-Decides, list_any, option_cmp, ⊤, Data, null, get, kind_of_member, Class, Family, family, Role, role, MemberKind, kind, class_of_object, has_keys, key_cmp, Preference, key_of, election_key_of, Record, NameParts, Placed, report_of, elections, objects, if_carried, carried_members, label_beside_text, meaning, plain_member, record_with, selection_record, selection_map, member_of_class, object_record, record_in_election, placed_record, placed_with_key, records_of, election_records, selection_role, name_of, name_cmp, Key, inl, inr, cases_Bool}
 use Rattle.std.proofs.lemmas.List.Folds.{list_any-append}
-use Rattle.erd_meaning.proofs.orders.EqualNames.{options_exact, equal_keys, equal_names}
+use Rattle.erd_meaning.proofs.orders.DistinctEntries.{options_exact, equal_keys, equal_names}
 use Rattle.erd_meaning.proofs.meanings.WholeRecords.{names_in, nothing_either_way, absent_member, absent_plain, same_at_every_name, same_at_other_names}
 
 -- ---- members

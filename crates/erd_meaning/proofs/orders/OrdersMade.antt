@@ -3,8 +3,7 @@ use Rattle.erd_meaning.proofs.Common.{◌≡◌, ℕ, ◌+◌, ◌<◌, List, []
 use Rattle.erd_meaning.proofs.finding.OneObject.{in_at}
 use Rattle.erd_meaning.proofs.orders.PlacesPut.{StandOnce, length_put, put_at, same_entries}
 use Rattle.erd_meaning.proofs.orders.RisingLists.{by_first}
-use Rattle.erd_meaning.proofs.orders.RisingOrders.{rank_at, rank_in, stands_at_rank}
-use Rattle.erd_meaning.proofs.orders.RisingSets.{In-rising, length-rising}
+use Rattle.erd_meaning.proofs.orders.RisingOrders.{rank_at, rank_in, stands_at_rank, In-rising, length-rising}
 use Rattle.erd_meaning.proofs.selections.PositionedKeys.{apart_positioned, count_positioned, key_positioned, length_positioned, one_positioned_at, stands_positioned}
 
 module _ {K : Type 0} (cmp : K → K → Ordering) (total : IsTotalOrder cmp) (ks : List K) where

@@ -1,10 +1,25 @@
 -- The tests by which an index of names with ranks is asked are those of the names.
-use Rattle.erd_meaning.proofs.Common.{◌≡◌, ℕ, suc, ◌+◌, ◌<◌, ◌≤◌, Bool, true, false, cond, ◌&&◌, ◌||◌, List, [], ◌∷◌, ◌++◌, map, length, get_or, drop, if◌then◌else◌, ◌==◌, Some, position, flat_map, nat_cmp, is_eq, Ordering, Equal, sym, refl, ap, ◌∙◌, subst, ap₂, arith, and_parts, Decides-eqb, tied_itself, nat_cmp_total, lists_total, position_from-zero, length-map, at_drop_more, at_drop_all, exact_unsigned, Equal-is, both_ways, slice_cmp, HashWrites, str, usize, list_all, list_any, position_from, eq_by_cmp, ordering_then, text_of_class, Class, Family, In, In-all, after_keys_writes, key_cmp, NameParts, without_keys, numbered_parts, numbered_name_cmp, family_chosen, RankedParts, PlacedName, ranked_name_cmp, ranked_name_writes, class_cmp, name_cmp, Kept, classes_exact, rank_among, is_key_among, fed_rank, ranked_parts, has_keys_among, names_of, are_ranks_of, is_sought, AllAreRanked, IsRanked, NumberedName, is_selection_named, is_taken, added_name, Key, and-false, cond_both}
+use Rattle.erd_meaning.proofs.Common.{◌≡◌, ℕ, Bool, true, ◌&&◌, ◌∷◌, ◌++◌, ◌==◌, is_eq, ap, ◌∙◌, tied_itself, Equal-is, both_ways, NameParts, name_cmp, name_cmp_total, name_cmp_exact, NumberedName, is_selection_named, suc, ◌+◌, ◌<◌, ◌≤◌, false, cond, ◌||◌, List, [], map, length, get_or, drop, if◌then◌else◌, Some, position, flat_map, nat_cmp, Ordering, Equal, sym, refl, subst, ap₂, arith, and_parts, Decides-eqb, nat_cmp_total, lists_total, position_from-zero, length-map, at_drop_more, at_drop_all, exact_unsigned, slice_cmp, HashWrites, str, usize, list_all, list_any, position_from, eq_by_cmp, ordering_then, text_of_class, Class, Family, In, In-all, after_keys_writes, key_cmp, without_keys, numbered_parts, numbered_name_cmp, family_chosen, RankedParts, PlacedName, ranked_name_cmp, ranked_name_writes, class_cmp, Kept, classes_exact, rank_among, is_key_among, fed_rank, ranked_parts, has_keys_among, names_of, are_ranks_of, is_sought, AllAreRanked, IsRanked, is_taken, added_name, Key, and-false, cond_both}
+use Rattle.erd_meaning.proofs.finding.Known.{number_swap}
 use Rattle.erd_meaning.specs.code.NumberedOrders.{numbered_as_named, numbers_as_keys}
 use Rattle.erd_meaning.specs.code.RankedOrders.{equal_ranked_alike}
-use Rattle.erd_meaning.proofs.selections.NameTests.{name_test}
 use Rattle.erd_meaning.proofs.selections.NamesTold.{is_named_from}
 use Rattle.erd_meaning.proofs.selections.RankedKeys.{each_passes, rank_as_key}
+
+names_one_way : (m n : NameParts) → is_eq (name_cmp m n) ≡ true → is_eq (name_cmp n m) ≡ true
+names_one_way m n h =
+    let same : m ≡ n = name_cmp_exact m n ((Equal-is (name_cmp m n)).0 h) in
+    ap (λ o. is_eq (name_cmp n o)) same ∙ ap is_eq (tied_itself name_cmp_total n)
+
+names_swap : (m n : NameParts) → is_eq (name_cmp m n) ≡ is_eq (name_cmp n m)
+names_swap m n = both_ways (is_eq (name_cmp m n)) (is_eq (name_cmp n m)) (names_one_way m n) (names_one_way n m)
+
+-- the same contest and the same name, as an index compares them
+abbrev pub equals_name : ℕ → NameParts → NumberedName → Bool
+equals_name c n s = (c == s.0) && is_eq (name_cmp n s.1)
+
+pub name_test : (c : ℕ) (n : NameParts) → equals_name c n ≡ is_selection_named c n
+name_test c n i s = number_swap c s.0 i && names_swap n s.1 i
 
 -- ---- one name and another
 

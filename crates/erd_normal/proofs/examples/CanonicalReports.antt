@@ -1,7 +1,7 @@
 -- Whole reports that are canonical, and the canonical forms of two, by tests that compute.
 use Rattle.erd_normal.proofs.Common.{◌≡◌, Bool, true, false, not, ◌&&◌, List, [], ◌∷◌, map, Some, None, Option, is_lt, Ordering, Less, refl, subst, arith, not-true, and_parts, AllByRecursion, list_all, IsStrictlySortedBy, option_cmp, serde_json_on_literals, Data, Family, family, MemberKind, kind, Step, less, tree_sound, no_fault_listed, tree_of, small_ballot, small_ballot_canonical, one_unit, is_empty_array, IsNoDeeper, entries_of, Asked, asked_at, IsAccepted, key_cmp, compact_cmp, name_of, name_cmp, kind_wanted, HasNoEmptyArray, keys_of, keys_referred, RisesAs, AreSetsInOrder, IsCanonical, IsCanonicalFormOf}
-use Rattle.erd_check.proofs.AllAsked.{AskedPlace, all_asked, tested_at}
-use Rattle.erd_meaning.proofs.examples.AcceptedExamples.{small_ballot_canonical_is_accepted}
+use Rattle.erd_check.proofs.AskedInside.{AskedPlace, all_asked, tested_at}
+use Rattle.erd_meaning.proofs.examples.RefusedExamples.{small_ballot_canonical_is_accepted}
 use Rattle.erd_meaning.proofs.refused.Refused.{accepted_by_lists}
 use Rattle.erd_normal.proofs.examples.BallotMeaningExamples.{canonical_ballot_means_the_same}
 use Rattle.erd_normal.proofs.examples.CanonicalExamples.{canonical_envelope}

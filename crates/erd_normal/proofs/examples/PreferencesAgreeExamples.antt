@@ -1,9 +1,9 @@
 -- Small reports under two preferences: what the law says of them.
 use Rattle.erd_normal.proofs.Common.{◌≡◌, ℕ, true, false, ◌↔◌, List, [], ◌∷◌, ◌++◌, map, length, get_or as slice_index_or, is_some, slice_get, Some, None, codes, Option, option_map, unwrap_or, sym, refl, ap, ◌∙◌, true≢false, serde_json_on_literals, Data, null, class, Family, family, role, is_tree, tree_sound, faults_found, no_fault_listed, tree_of, IsTree, local_key, same_object, same_at_every_key, no_record, same_sole_election, same_meaning, IsAccepted, Preference, Placed, report_of, elections, objects, meaning, object_record, records_of, election_records, Key, keys_in}
 use Rattle.erd_meaning.proofs.identity.IdentityFaults.{identity_told}
-use Rattle.erd_meaning.proofs.references.SelectionEntries.{reference_faults}
+use Rattle.erd_meaning.proofs.references.ReferenceWalks.{reference_faults}
 use Rattle.erd_meaning.proofs.refused.Refused.{accepted_by_lists}
-use Rattle.erd_meaning.proofs.selections.SelectionFaults.{selections_told}
+use Rattle.erd_meaning.proofs.selections.NamesTold.{selections_told}
 use Rattle.erd_normal.proofs.same.complete.Complete.{preferences_agree}
 
 -- ---- three reports, and two preferences

@@ -1,6 +1,6 @@
 -- Lists put one after another, beside others of the same lengths whose elements have the numbers of their lists.
 use Rattle.erd_normal.proofs.Common.{◌≡◌, ℕ, suc, ◌+◌, ◌<◌, ◌⊎◌, List, [], ◌∷◌, map, length, slice_get, Some, None, Option, option_map, flat_map, sym, refl, ap, ◌∙◌, subst, inl, inr, arith, length-map, same_Some, slice_get-map, enumerate_from}
-use Rattle.erd_meaning.proofs.selections.ListParts.{get_first, get_later, within_or_after}
+use Rattle.erd_meaning.proofs.selections.ContestSelections.{get_first, get_later, within_or_after}
 
 -- what is found in a list of numbered elements
 pair_from : {C : Type 0} (k n : ℕ) (x : Option C) (o : C) → option_map {U = ℕ × C} (λ o. (k, o)) x ≡ Some (n, o) → (x ≡ Some o) × (k ≡ n)

@@ -2,7 +2,7 @@
 use Rattle.erd_normal.proofs.Common.{◌≡◌, ℕ, zero, suc, ◌+◌, ◌<◌, ◌≤◌, List, [], ◌∷◌, ◌++◌, map, length, get_or, take, slice_get, Some, None, codes, Option, option_map, flat_map, option_and_then, sym, refl, ap, ◌∙◌, subst, append-nil, arith, length-append, take_more, slice_get-map, slice_get_within, Data, family, entries_at, option_map-Some, Preference, NameParts, Placed, objects, name_of, name_in, AreNamedFrom}
 use Rattle.std.proofs.lemmas.Grind.{flat_map-append}
 use Rattle.std.proofs.lemmas.List.Folds.{length-flat_map-take}
-use Rattle.erd_meaning.proofs.selections.ListParts.{get_first, get_later}
+use Rattle.erd_meaning.proofs.selections.ContestSelections.{get_first, get_later}
 use Rattle.erd_meaning.proofs.selections.NamesTold.{Numbered}
 use Rattle.erd_normal.proofs.ranks.SelectionReferences.{numbered_at}
 

@@ -1,6 +1,6 @@
 -- A test that two reports say the same, given the two functions of texts. It is for examples: what passes says the same.
 use Rattle.erd_normal.proofs.Common.{◌≡◌, ℕ, Bool, true, false, cond, not, ◌&&◌, List, [], ◌∷◌, Some, None, Option, option_map, IsPermutation, bytes_eq, sym, refl, ap, ◌∙◌, subst, and_parts, bytes_eq-Decides, list_all, Data, null, boolean, number, string, array, object, Items, no_items, item, Members, no_members, member, items_of, role, kind, text_itself, list_of_items-items_of, is_reference, list_of_items, scope_inside, want_of_name, entry_want, is_table_set, Asked, Scope, Want, Member, Object, two_exchanged, is_id_text, Sides, IsUnused, is_array_kind, is_envelope, an_empty_array, of_the_envelope, an_unused_id, not_asked, a_null, a_flag, a_number, a_text, an_id, a_list, a_set, an_object, no_entry, one_entry, no_member, in_both, left_only, right_only, MayBeAbsent, Same, SameEntries, SameMembers, SaysTheSame, IsPermutation-cons, IsPermutation-refl, IsPermutation-trans}
-use Rattle.erd_check.proofs.AllAsked.{AskedPlace, all_asked, tested_at}
+use Rattle.erd_check.proofs.AskedInside.{AskedPlace, all_asked, tested_at}
 use Rattle.erd_normal.proofs.examples.EqualTrees.{equal_trees, same_tree}
 use Rattle.erd_normal.proofs.lists.Matched.{Paired, none, more}
 use Rattle.erd_normal.proofs.lists.BuiltLists.{items_again}

@@ -1,6 +1,6 @@
 -- The objects of a report that has no fraction have none.
 use Rattle.erd_normal.proofs.Common.{◌≡◌, ℕ, ◌+◌, false, List, [], ◌∷◌, map, slice_get, Some, None, codes, Option, option_map, flat_map, Ordering, refl, ap, ◌∙◌, or_parts, AllByRecursion, option_map_or, Data, array, get, items_of, view, items_view, has_float, items_have_float, Value, Family, family, Step, In-all, entries_of, entries_at, in_at, all_rising, Placed, placed_from, placed_entries, elections, contests, objects, rising_list}
-use Rattle.erd_meaning.proofs.selections.WholeParts.{whole_get}
+use Rattle.erd_meaning.proofs.selections.MetSelections.{whole_get}
 use Rattle.erd_meaning.proofs.selections.ContestSelections.{all_both}
 use Rattle.erd_normal.proofs.lists.BuiltLists.{items_again}
 

@@ -1,6 +1,6 @@
 use Rattle.erd_meaning.proofs.Common.{◌≡◌, ◌≢◌, length, sym, ap, ◌∙◌, view, []}
 use Rattle.erd_meaning.specs.declared.objects.object_walk.ObjectWalk.{ObjectWalk}
-use Rattle.erd_meaning.proofs.identity.Resolved.{Walked, all_told, none_told, walked_elections, walked_objects}
+use Rattle.erd_meaning.proofs.identity.MetLists.{Walked, all_told, none_told, walked_elections, walked_objects}
 use Rattle.erd_meaning.proofs.report.resolving.objects_told_apart.Goals as goal
 
 pub returns-then-len-eq0 : goal.returns-then-len-eq0

@@ -1,6 +1,6 @@
 use Rattle.erd_meaning.proofs.Common.{ℕ, List, map, option_map, sym, ap, ◌∙◌, Bor, view, shown, not-false}
-use Rattle.erd_meaning.proofs.finding.OwnedKeys.{families_same}
-use Rattle.erd_meaning.proofs.references.ReasonsFound.{among_family, clear_of_family, text_read}
+use Rattle.erd_meaning.proofs.finding.Pushed.{families_same}
+use Rattle.erd_meaning.proofs.references.SilentWalks.{among_family, clear_of_family, text_read}
 use Rattle.erd_meaning.proofs.report.reference_judge.ReferenceJudge.clear_position.Goals as goal
 
 pub returns : goal.returns

@@ -1,6 +1,6 @@
 use Rattle.erd_meaning.proofs.Common.{map, option_to_list, sym, ap, ◌∙◌, view, SelectionOfOtherContest, reason_if, shown, not-true, not-false}
-use Rattle.erd_meaning.proofs.finding.OwnedKeys.{families_same}
-use Rattle.erd_meaning.proofs.references.ReasonsFound.{reasons_of_family, reasons_of_other, reasons_of_unknown, told_if}
+use Rattle.erd_meaning.proofs.finding.Pushed.{families_same}
+use Rattle.erd_meaning.proofs.references.SilentWalks.{reasons_of_family, reasons_of_other, reasons_of_unknown, told_if}
 use Rattle.erd_meaning.proofs.report.reference_judge.ReferenceJudge.id_reason.Goals as goal
 
 pub returns-in_default : goal.returns-in_default
