@@ -1,6 +1,7 @@
--- Where the entries of a list stand, and what holds of each.
-use Rattle.erd_check.proofs.Common.{◌≡◌, ℕ, zero, suc, ◌<◌, List, [], ◌∷◌, map, slice_get, Some, ap, subst, ⊎_elim, AllByRecursion}
-use Rattle.erd_check.proofs.Rising.{Has, Has-cases, here, later}
+-- Where the entries of a list stand, and what stands where one option gives another.
+use Rattle.erd_check.proofs.Common.{◌≡◌, ℕ, zero, suc, List, [], ◌∷◌, map, slice_get, Some, ap, subst, ⊎_elim, AllByRecursion, true, None, Option, option_map, option_and_then, refl}
+use Rattle.erd_check.proofs.Order.{Has, Has-cases, here, later}
+use Rattle.std.proofs.Common.{is_some}
 
 -- an entry of a list stands at a position
 pub position_of : {A : Type 0} (xs : List A) (x : A) → Has xs x → (i : ℕ) × (slice_get xs i ≡ Some x)
@@ -35,3 +36,18 @@ all_by_entry P (x ∷ xs) each = (each x here, all_by_entry P xs (λ y h. each y
 pub all_weakened : {A : Type 0} (P Q : A → Type 0) (xs : List A) → ((x : A) → P x → Q x) → AllByRecursion P xs → AllByRecursion Q xs
 all_weakened P Q [] each all = tt
 all_weakened P Q (x ∷ xs) each all = (each x all.0, all_weakened P Q xs each all.1)
+
+-- ---- what stands where one option gives another
+
+-- a value that is given comes from one that stands
+pub and_then-Some : {A B : Type 0} (f : A → Option B) (o : Option A) (y : B) → option_and_then f o ≡ Some y → (x : A) × (o ≡ Some x) × (f x ≡ Some y)
+and_then-Some f None y e = cc
+and_then-Some f (Some x) y e = (x, refl, e)
+
+pub option_map-Some : {A B : Type 0} (f : A → B) (o : Option A) (y : B) → option_map f o ≡ Some y → (x : A) × (o ≡ Some x) × (f x ≡ y)
+option_map-Some f None y e = cc
+option_map-Some f (Some x) y e = (x, refl, cc)
+
+pub some_from : {A : Type 0} (o : Option A) → is_some o ≡ true → (x : A) × (o ≡ Some x)
+some_from None h = cc
+some_from (Some x) h = (x, refl)

@@ -1,6 +1,7 @@
 -- The faults of one value: the list of its reasons holds each of them, and rises.
-use Rattle.erd_check.proofs.Common.{◌≡◌, ℕ, ◌<◌, ◌≤◌, Bool, true, false, ◌&&◌, List, [], ◌∷◌, ◌++◌, Some, None, filter, bytes_eq, nat_cmp, Less, sym, refl, subst, inl, inr, true≢false, arith, rules, and_parts, and_from, or_right, bytes_eq-Decides, slice_cmp, AllByRecursion, list_any, IsStrictlySortedBy, Data, reason_number, reason_cmp, required_names, Class, class, Reason, CarriedIdentity, ElectionCount, EmptyArray, MissingMember, NotPreElection, NotWhole, OutsideProfile, Repeated, UnknownReference, WrongClassText, WrongKind, lacks, names_wanted, is_shape_fault, scope_inside, asked_with, missing, other_reasons, reasons, Scope, scope, Want}
-use Rattle.erd_check.proofs.Order.{In, In-append, In-append_left, In-append_right, In-map, In-map_from, In-filter, In-filter_kept, Below, sorted_append, sorted_map, sorted_filter, In-all}
+use Rattle.erd_check.proofs.Common.{◌≡◌, ℕ, ◌<◌, ◌≤◌, Bool, true, false, List, [], ◌∷◌, ◌++◌, Some, None, filter, bytes_eq, nat_cmp, Less, sym, refl, subst, inl, inr, true≢false, arith, rules, and_parts, and_from, or_right, bytes_eq-Decides, slice_cmp, AllByRecursion, list_any, IsStrictlySortedBy, Data, reason_number, reason_cmp, required_names, Class, class, Reason, CarriedIdentity, ElectionCount, EmptyArray, MissingMember, NotPreElection, NotWhole, OutsideProfile, Repeated, UnknownReference, WrongClassText, WrongKind, lacks, names_wanted, is_shape_fault, scope_inside, asked_with, missing, other_reasons, reasons, Scope, scope, Want}
+use Rattle.std.proofs.lemmas.List.Kept.{IsStrictlySortedBy-filter}
+use Rattle.erd_check.proofs.Order.{In, In-append, In-append_left, In-append_right, In-map, In-map_from, In-filter, In-filter_kept, Below, sorted_append, sorted_map, In-all}
 
 -- ---- tests
 
@@ -153,10 +154,10 @@ reasons_sorted w repeated d =
     sorted_append reason_cmp (kinds w d ++ missing s d ++ other_reasons w d) (repeats w repeated d)
     (sorted_append reason_cmp (kinds w d ++ missing s d) (other_reasons w d)
     (sorted_append reason_cmp (kinds w d) (missing s d)
-    (sorted_filter (is_shape_fault (asked_with w false d)) reason_cmp (WrongKind ∷ []) (alone_sorted WrongKind))
-    (sorted_map MissingMember (slice_cmp nat_cmp) reason_cmp (λ x y e. e) (filter (lacks d) (names_wanted s)) (sorted_filter (lacks d) (slice_cmp nat_cmp) (names_wanted s) (needed_sorted s)))
+    (IsStrictlySortedBy-filter reason_cmp (is_shape_fault (asked_with w false d)) (WrongKind ∷ []) (alone_sorted WrongKind))
+    (sorted_map MissingMember (slice_cmp nat_cmp) reason_cmp (λ x y e. e) (filter (lacks d) (names_wanted s)) (IsStrictlySortedBy-filter (slice_cmp nat_cmp) (lacks d) (names_wanted s) (needed_sorted s)))
     (below_between 1 1 2 2 (kinds w d) (missing s d) (omega arith) one two))
-    (sorted_filter (is_shape_fault (asked_with w false d)) reason_cmp others others_sorted)
+    (IsStrictlySortedBy-filter reason_cmp (is_shape_fault (asked_with w false d)) others others_sorted)
     (below_between 1 2 3 10 (kinds w d ++ missing s d) (other_reasons w d) (omega arith) one_two three))
-    (sorted_filter (is_shape_fault (asked_with w repeated d)) reason_cmp (Repeated ∷ []) (alone_sorted Repeated))
+    (IsStrictlySortedBy-filter reason_cmp (is_shape_fault (asked_with w repeated d)) (Repeated ∷ []) (alone_sorted Repeated))
     (below_between 1 10 11 11 (kinds w d ++ missing s d ++ other_reasons w d) (repeats w repeated d) (omega arith) to_three four)

@@ -4,13 +4,10 @@ use Rattle.erd_compare.proofs.Common.{◌≡◌, ℕ, zero, suc, ◌≤◌, Bool
 use Rattle.std.specs.Cmp.Lexicographic.{options_total}
 use Rattle.erd_check.specs.Wants.{asked, class_of_object}
 use Rattle.erd_check.specs.declared.want.Want.TheVariants.{Object}
-use Rattle.erd_check.proofs.ObjectsAt.{ObjectIn, object_in}
-use Rattle.erd_check.proofs.Shapes.{Within, Within-root}
-use Rattle.erd_meaning.proofs.finding.TwinElections.{one_election_key}
+use Rattle.erd_check.proofs.Shapes.{ObjectIn, object_in, Within, Within-root}
+use Rattle.erd_meaning.proofs.finding.Found.{one_election_key}
 use Rattle.erd_meaning.proofs.accepted.DistinctKeys.{election_has_identifier}
-use Rattle.erd_meaning.proofs.accepted.Phases.{no_identity_fault, no_shape_fault}
-use Rattle.erd_meaning.proofs.accepted.Skeleton.{election_stands, skeleton}
-use Rattle.erd_meaning.proofs.accepted.Standing.{stands}
+use Rattle.erd_meaning.proofs.accepted.Standing.{no_identity_fault, no_shape_fault, election_stands, skeleton, stands}
 use Rattle.erd_compare.proofs.least_difference.StepWalks.{IsNoneBeside}
 use Rattle.erd_compare.proofs.whole_trees.WholeTrees.{whole_election, whole_object}
 

@@ -1,7 +1,7 @@
 -- The numbers of the names of selections: names of two reports are equal if and only if their numbers are.
 use Rattle.erd_compare.proofs.Common.{◌≡◌, ℕ, true, List, [], map, ◌==◌, Some, None, Option, option_map, filter_map, option_and_then, sym, refl, ap, ◌∙◌, subst, ap₂, fun_ext, list_any, position_or_len, Data, family, In, position_of, Judged, NameParts, NumberedParts, numbered_name_cmp, Placed, objects, has_id, owner_at, owner, name_of, name_named, option_and_then_some, option_eq, find-Some, option_map-Some, in_at, numbered_name_cmp_total, numbered_name_cmp_exact, name_by_ranks, name_by_ranks_of, name_told, name_eq, names_on, names_of_both, number_of_name, number_of_selection, numbers_on, AreNameNumbers, Decides, on_side, AreCommonByRank, CommonRanks, Side, Left, Right}
 use Rattle.indexmap.specs.IndexSet.{insert_all}
-use Rattle.erd_meaning.proofs.selections.KeysInNames.{known_name}
+use Rattle.erd_meaning.proofs.selections.RankedReports.{known_name}
 use Rattle.erd_meaning.specs.code.RanksAmong.{HasKeysIn}
 use Rattle.erd_compare.specs.declared.ranks.name_numbers.NameNumbers.{NameNumbers}
 use Rattle.erd_compare.proofs.same_values.EqualOptions.{options_decide}

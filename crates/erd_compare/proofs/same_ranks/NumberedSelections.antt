@@ -1,8 +1,8 @@
 -- The selections of a contest by the numbers of their names: numbers are equal if and only if the names are. So two contests
 -- mean the same by numbers if and only if they do by names.
 use Rattle.erd_compare.proofs.Common.{◌≡◌, ℕ, Bool, true, cond, List, [], ◌∷◌, ◌==◌, Some, None, Option, option_map, find, option_and_then, is_eq, sym, refl, ap, ◌∙◌, subst, inl, inr, fun_ext, Decides-eqb, tied_itself, both_ways, option_cmp, Data, view, In, position_of, Judged, NameParts, selection_record, selection_map, name_of, name_cmp, name_cmp_total, option_eq, find-Some, in_at, options_exact, SelectionRecord, number_of_name, number_of_selection, Decides, on_side, has_number, numbered_map, Side, Left, Right}
-use Rattle.erd_meaning.proofs.orders.EqualNames.{equal_names}
 use Rattle.erd_compare.proofs.same_ranks.NameNumbers.{IsNameOn, one_name}
+use Rattle.erd_meaning.proofs.orders.DistinctEntries.{equal_names}
 
 same_find : {A : Type 0} (p q : A → Bool) (xs : List A) → ((x : A) → In x xs → p x ≡ q x) → find p xs ≡ find q xs
 same_find p q [] same = refl

@@ -4,7 +4,7 @@ use Rattle.erd_compare.proofs.Common.{◌≡◌, ℕ, Bool, true, List, [], ◌�
 use Rattle.std.proofs.lemmas.List.Kept.{Contains-dedup_nat, Contains-from_dedup, IsStrictlySortedBy-dedup}
 use Rattle.std.proofs.lemmas.List.Sorted.{list_any-IsPermutation}
 use Rattle.std.proofs.lemmas.Map.Views.{Contains-from_any}
-use Rattle.erd_meaning.proofs.orders.Sets.{set_unique}
+use Rattle.erd_meaning.proofs.orders.DistinctEntries.{set_unique}
 use Rattle.erd_compare.proofs.same_ranks.KeyRanks.{both_keys, one_rank}
 use Rattle.erd_compare.proofs.same_ranks.KeyPlaces.{Stands}
 use Rattle.erd_compare.proofs.same_ranks.NamedRanks.{value_named, value_known}

@@ -1,7 +1,7 @@
 -- The selections of a contest among those of their report.
 use Rattle.erd_compare.proofs.Common.{◌≡◌, ℕ, ◌+◌, Bool, true, false, cond, List, map, ◌==◌, slice_get, Some, None, codes, Option, option_map, option_and_then, sym, refl, ap, ◌∙◌, subst, slice_get-map, Data, get, view, role_of_class, kind_of_member, Class, class, family, role, MemberKind, kind, In, In-flat_map, entries_of, entries_at, Judged, Placed, contests, selections_of_contest, objects, numbered_selections, selection_map, name_of, option_and_then_some, option_map-Some, in_at, Decides, IsPairOf, IsPlaced, AreSelectionsAt, AreSelectionsIn, on_side, is_selections, numbered_map, MemberPair, Side, Left, Right}
-use Rattle.erd_meaning.proofs.accepted.Skeleton.{values-placed_entries}
-use Rattle.erd_meaning.proofs.selections.NumberedSelections.{numbered_at}
+use Rattle.erd_meaning.proofs.selections.NamesTold.{numbered_at}
+use Rattle.erd_meaning.proofs.accepted.Standing.{values-placed_entries}
 use Rattle.erd_meaning.specs.code.SelectionWalk.{StandFrom, if_of_contest, selection_of}
 use Rattle.erd_meaning.proofs.orders.DistinctEntries.{place_of as place_in}
 use Rattle.erd_compare.proofs.same_ranks.NameNumbers.{selection_named}

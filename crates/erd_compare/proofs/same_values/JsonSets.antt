@@ -2,8 +2,8 @@
 use Rattle.erd_compare.proofs.Common.{◌≡◌, Bool, true, false, ◌&&◌, List, [], ◌∷◌, map, sym, refl, ap, ◌∙◌, subst, fun_ext, and_parts, and_from, both_ways, AllByRecursion, list_all, Data, view, Value, here, later, all-Has, Has, is_same_json, json_set, Decides, IsWholeTree}
 use Rattle.erd_check.specs.ValueSets.{StandsFor, values_in}
 use Rattle.erd_check.specs.declared.value_set.ValueSet.{ValueSet}
-use Rattle.erd_meaning.proofs.orders.Sets.{any-has, has-any}
 use Rattle.erd_compare.proofs.whole_trees.WholeTrees.{AreWholeTrees, whole_tree-exact, whole_tree-itself, whole_trees-views}
+use Rattle.erd_meaning.proofs.orders.DistinctEntries.{any-has, has-any}
 
 -- ---- tests
 

@@ -1,6 +1,6 @@
 -- What is found by an `@id` is the object that a reference names.
 use Rattle.erd_compare.proofs.Common.{◌≡◌, ℕ, true, false, cond, List, ◌==◌, slice_get, Some, None, Option, option_map, option_and_then, sym, refl, ap, subst, Data, view, family_number, Family, role, Judged, has_keys, key_of, key_of_family_object, FindsId, Placed, objects, owner, name_of, number_of_name, number_of_selection, rank_of_key, on_side, Side}
-use Rattle.erd_meaning.proofs.finding.OwnedObjects.{owner_elsewhere, owner_here, owner_nowhere}
+use Rattle.erd_meaning.proofs.finding.OneObject.{owner_elsewhere, owner_here, owner_nowhere}
 
 -- what is told of the object of a family that a reference names
 module _ {R : Type 0} (told : Option Data → R) {x j : Judged} (same : x ≡ j) (f : Family) (id : List ℕ) where

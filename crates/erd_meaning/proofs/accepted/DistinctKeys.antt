@@ -1,13 +1,10 @@
 -- In a report without faults of identity no two objects of a family and no two elections have one key, and each of several elections has one.
-use Rattle.erd_meaning.proofs.Common.{◌≡◌, ℕ, Bool, true, false, cond, List, map, length, nat_lt, slice_get, Some, None, codes, Option, option_and_then, is_eq, sym, refl, ap, ◌∙◌, subst, ap₂, arith, ltb-false, slice_get_within, map-map, Equal-is, IsDistinct, option_cmp, eq_by_cmp, Data, Family, reason, Has, NoneOf, entries_at, has_keys, key_cmp, Preference, key_of, key_of_family_object, IdentityFault, key_in, Placed, report_of, elections, objects, has_several, AreDistinct, HaveDistinctKeys, Kept, kept, kept_objects, election_keys, key_cmp_exact, Key}
-use Rattle.erd_meaning.proofs.accepted.References.{Contains-Has, has_identifier}
-use Rattle.erd_meaning.proofs.accepted.Skeleton.{values-placed_entries}
-use Rattle.erd_meaning.proofs.finding.Lookups.{those_kept}
-use Rattle.erd_meaning.proofs.finding.OneObject.{in_at, one_key}
-use Rattle.erd_meaning.proofs.finding.TwinElections.{one_election_key}
+use Rattle.erd_meaning.proofs.Common.{◌≡◌, ℕ, Bool, true, false, cond, List, map, length, nat_lt, slice_get, Some, None, codes, Option, option_and_then, is_eq, sym, refl, ap, ◌∙◌, subst, ap₂, arith, ltb-false, slice_get_within, map-map, Equal-is, IsDistinct, option_cmp, eq_by_cmp, Data, Family, reason, Has, NoneOf, entries_at, has_keys, key_cmp, Preference, key_of, key_of_family_object, IdentityFault, key_in, Placed, report_of, elections, objects, has_several, AreDistinct, HaveDistinctKeys, Kept, kept, kept_objects, election_keys, key_cmp_exact, Key, role}
+use Rattle.erd_meaning.proofs.accepted.Standing.{Contains-Has, has_identifier, values-placed_entries}
+use Rattle.erd_meaning.proofs.finding.OneObject.{those_kept, in_at, one_key}
+use Rattle.erd_meaning.proofs.finding.Found.{one_election_key}
 use Rattle.erd_meaning.proofs.orders.DistinctEntries.{distinct_from_one_place, distinct_map}
-use Rattle.erd_meaning.proofs.orders.RisingSets.{has_from_In}
-use Rattle.erd_tables.specs.declared.class.Role.TheVariants as role
+use Rattle.erd_meaning.proofs.orders.RisingOrders.{has_from_In}
 
 -- ---- the keys of elections
 

@@ -22,13 +22,10 @@ pub record HeldObject (t : Data) (name : List ℕ) (o : Placed) : Type 0 where
 -- the position of an entry is the last step of its place
 entry_placed : (p : List Step) (i : ℕ) (ds : List Data) (o : Placed) → Has (placed_from p i ds) o → (j : ℕ) × (slice_get (placed_from p i ds) j ≡ Some o) × (o.place ≡ p ++ At (i + j) ∷ [])
 entry_placed p i [] o h = elim h [ ]
-entry_placed p i (d ∷ ds) o h = at (Has-cases (record { place = p ++ At i ∷ []; value = d }) o (placed_from p (i + 1) ds) h) (entry_placed p (i + 1) ds o)
-  where
-    at : (◌≡◌ {A = Placed} (record { place = p ++ At i ∷ []; value = d }) o) ⊎ Has (placed_from p (i + 1) ds) o
-        → (Has (placed_from p (i + 1) ds) o → (j : ℕ) × (slice_get (placed_from p (i + 1) ds) j ≡ Some o) × (o.place ≡ p ++ At (i + 1 + j) ∷ []))
-        → (j : ℕ) × (slice_get (placed_from p i (d ∷ ds)) j ≡ Some o) × (o.place ≡ p ++ At (i + j) ∷ [])
-    at (inl e) k = let s : i ≡ i + 0 = omega arith in (zero, ap Some e, sym (ap (λ x. x.place) e) ∙ ap (λ n. p ++ At n ∷ []) s)
-    at (inr m) k = let r = k m in let s : i + 1 + r.0 ≡ i + suc r.0 = omega arith in (suc r.0, r.1, r.2 ∙ ap (λ n. p ++ At n ∷ []) s)
+entry_placed p i (d ∷ ds) o h = elim (Has-cases (record { place = p ++ At i ∷ []; value = d }) o (placed_from p (i + 1) ds) h) [
+  | inl e ↦ let s : i ≡ i + 0 = omega arith in (zero, ap Some e, sym (ap (λ x. x.place) e) ∙ ap (λ n. p ++ At n ∷ []) s)
+  | inr m ↦ let r = entry_placed p (i + 1) ds o m in let s : i + 1 + r.0 ≡ i + suc r.0 = omega arith in (suc r.0, r.1, r.2 ∙ ap (λ n. p ++ At n ∷ []) s)
+]
 
 -- the same of the entries of an array from its first on
 entry_at : (p : List Step) (ds : List Data) (o : Placed) → Has (placed_from p 0 ds) o → (j : ℕ) × (slice_get (placed_from p 0 ds) j ≡ Some o) × (o.place ≡ p ++ At j ∷ [])

@@ -1,5 +1,5 @@
--- Lists in which no two entries compare as equal, from what is known of their positions, and of arrays that are sets.
-use Rattle.erd_meaning.proofs.Common.{◌≡◌, ℕ, zero, suc, ◌<◌, Bool, true, false, ◌⊎◌, List, [], ◌∷◌, map, take, slice_get, Some, Ordering, Equal, sym, refl, ap, ◌∙◌, subst, inl, inr, true≢false, arith, false_from_ne_true, Equal-is, IsDistinct, eq_by_cmp, Data, Items, no_items, item, get_item, In, In-map_from, any_at, all_from_In, In-all, has_mapped, Has-cases, all-Has, Has, is_same_json, list_of_items, is_repeated}
+-- Lists and sets in which no two entries compare as equal.
+use Rattle.erd_meaning.proofs.Common.{◌≡◌, ℕ, zero, suc, ◌<◌, Bool, true, false, ◌⊎◌, List, [], ◌∷◌, map, take, slice_get, Some, Ordering, Equal, sym, refl, ap, ◌∙◌, subst, inl, inr, true≢false, arith, false_from_ne_true, Equal-is, IsDistinct, eq_by_cmp, Data, Items, no_items, item, get_item, In, In-map_from, any_at, all_from_In, In-all, has_mapped, Has-cases, all-Has, Has, is_same_json, list_of_items, is_repeated, None, Option, is_eq, option_cmp, NameParts, key_cmp, name_cmp, key_cmp_exact, name_cmp_exact, Key, tied_itself, CmpEqualImpliesEq, IsTotalOrder, list_any, IsStrictlySortedBy, rising_unique, or_right, cases_Bool, later, here}
 
 -- where an entry of a list stands
 pub place_of : {A : Type 0} (x : A) (xs : List A) → In x xs → (i : ℕ) × (slice_get xs i ≡ Some x)
@@ -85,3 +85,36 @@ pub unrepeated_by_cmp : (cmp : Data → Data → Ordering) (ds : Items) → ((i 
     → ((d e : Data) → In d (list_of_items ds) → In e (list_of_items ds) → cmp d e ≡ Equal → is_same_json e d ≡ true) → IsDistinct (eq_by_cmp cmp) (list_of_items ds)
 unrepeated_by_cmp cmp ds each equal =
     distinct_less (λ d e. is_same_json e d) (eq_by_cmp cmp) (list_of_items ds) (λ d e i j h. equal d e i j ((Equal-is (cmp d e)).0 h)) (unrepeated_distinct ds each)
+
+-- ---- keys and names that are equal in their orders are equal
+
+pub options_exact : {A : Type 0} (cmp : A → A → Ordering) → ((a b : A) → is_eq (cmp a b) ≡ true → a ≡ b) → (x y : Option A) → is_eq (option_cmp cmp x y) ≡ true → x ≡ y
+options_exact cmp exact None None h = refl
+options_exact cmp exact (Some a) (Some b) h = ap Some (exact a b h)
+options_exact cmp exact x y h = absurd (cc h)
+
+pub equal_keys : (k l : Key) → is_eq (key_cmp k l) ≡ true → k ≡ l
+equal_keys k l h = key_cmp_exact k l ((Equal-is (key_cmp k l)).0 h)
+
+pub equal_names : (m n : NameParts) → is_eq (name_cmp m n) ≡ true → m ≡ n
+equal_names m n h = name_cmp_exact m n ((Equal-is (name_cmp m n)).0 h)
+
+-- ---- a set that is written as a rising list is determined by its membership test
+
+pub any-has : {A : Type 0} (test : A → Bool) (xs : List A) (x : A) → Has xs x → test x ≡ true → list_any test xs ≡ true
+any-has test xs x (here {xs = ys}) e = rw e
+any-has test xs x (later {y = y} {xs = ys} h) e = or_right (test y) _ (any-has test ys x h e)
+
+pub has-any : {A : Type 0} (test : A → Bool) (xs : List A) → list_any test xs ≡ true → (x : A) × Has xs x × (test x ≡ true)
+has-any test [] e = cc
+has-any test (y ∷ ys) e = elim (cases_Bool (test y)) [ inl is ↦ (y, here, is) | inr is ↦ let r = has-any test ys (rw is at e) in (r.0, later r.1, r.2) ]
+
+-- a set of what an order tells apart
+pub set_unique : {K : Type 0} (cmp : K → K → Ordering) → IsTotalOrder cmp → CmpEqualImpliesEq cmp → (xs ys : List K) → IsStrictlySortedBy cmp xs → IsStrictlySortedBy cmp ys
+    → ((k : K) → list_any (λ l. is_eq (cmp l k)) xs ≡ list_any (λ l. is_eq (cmp l k)) ys) → xs ≡ ys
+set_unique {K} cmp order exact xs ys rise rise' same = rising_unique cmp order xs ys rise rise' (over xs ys same) (over ys xs (λ k. sym (same k)))
+  where
+    over : (xs ys : List K) → ((k : K) → list_any (λ l. is_eq (cmp l k)) xs ≡ list_any (λ l. is_eq (cmp l k)) ys) → (k : K) → Has xs k → Has ys k
+    over xs ys same k h =
+        let r = has-any (λ l. is_eq (cmp l k)) ys (sym (same k) ∙ any-has (λ l. is_eq (cmp l k)) xs k h (ap is_eq (tied_itself order k))) in
+        subst (Has ys) (exact r.0 k ((Equal-is (cmp r.0 k)).0 r.2)) r.1

@@ -1,5 +1,5 @@
 -- The key that identifiers give does not depend on their order, so that what is built of an object has its key.
-use Rattle.erd_normal.proofs.Common.{◌≡◌, Bool, true, false, List, [], ◌∷◌, map, if◌then◌else◌, Some, None, codes, Option, is_lt, Ordering, Less, Equal, Greater, sym, refl, ap, ◌∙◌, true≢false, CmpEqualImpliesEq, IsTotalOrder, ordering_reverse, Data, role_of_class, kind_of_member, Class, class, Family, role, kind, less, ShapeFault, NoneOf, IsTree, entries_at, class_of_object, triple_of, Preference, key_of_identifiers, key_of, rising_list, compact_cmp, class_role, reordered_rising, whole-reordered, Reordered, Key, normal_object, normal_election, fun_ext}
+use Rattle.erd_normal.proofs.Common.{◌≡◌, Bool, true, false, List, [], ◌∷◌, map, if◌then◌else◌, Some, None, codes, Option, is_lt, Ordering, Less, Equal, Greater, sym, refl, ap, ◌∙◌, true≢false, CmpEqualImpliesEq, IsTotalOrder, ordering_reverse, Data, role_of_class, kind_of_member, Class, class, Family, role, kind, less, ShapeFault, NoneOf, IsTree, entries_at, class_of_object, triple_of, Preference, key_of_identifiers, key_of, rising_list, compact_cmp, class_role, reordered_rising, whole-reordered, Key, normal_object, normal_election, fun_ext, IsPermutation}
 use Rattle.erd_meaning.specs.code.ChosenKeys.{choice_cmp, choice_of, choice_of_two}
 use Rattle.erd_meaning.proofs.orders.ChoiceOrder.{choice_cmp_exact, choice_cmp_total, key_is_choice}
 use Rattle.erd_normal.proofs.built.NormalEntries.{entries_of_identifiers, identifiers_of_election}
@@ -60,11 +60,11 @@ module _ (π : Preference) where
   key_is_chosen [] = key_is_choice π []
   key_is_chosen (d ∷ ds) = key_is_choice π (d ∷ ds) ∙ sym (chosen_after (triple_of d) ds)
 
-  chosen-reordered : {ds es : List Data} → Reordered ds es → chosen ds ≡ chosen es
+  chosen-reordered : {ds es : List Data} → IsPermutation ds es → chosen ds ≡ chosen es
   chosen-reordered h =
       whole-reordered chosen (λ d f o. f (with_one o (triple_of d))) (λ d ds. refl) (λ d e f. fun_ext (λ o. ap f (with_one_exchanges o (triple_of d) (triple_of e)))) h
 
-  pub key_of_identifiers-reordered : (ds es : List Data) → Reordered ds es → key_of_identifiers π ds ≡ key_of_identifiers π es
+  pub key_of_identifiers-reordered : (ds es : List Data) → IsPermutation ds es → key_of_identifiers π ds ≡ key_of_identifiers π es
   key_of_identifiers-reordered ds es h = key_is_chosen ds ∙ ap (λ f. f None) (chosen-reordered h) ∙ sym (key_is_chosen es)
 
   pub key_of_identifiers-rising : (cmp : Data → Data → Ordering) (ds : List Data) → key_of_identifiers π (rising_list cmp ds) ≡ key_of_identifiers π ds

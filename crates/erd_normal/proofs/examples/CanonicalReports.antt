@@ -1,9 +1,9 @@
 -- Whole reports that are canonical, and the canonical forms of two: the trees that are built for them.
 use Rattle.erd_normal.proofs.Common.{◌≡◌, ℕ, ◌^◌, ◌<◌, false, List, length, slice_get, None, codes, bytes_eq, unwrap_or, refl, ap, subst, true≢false, arith, lit<, option_map_or, Data, Family, family, tree_of, small_ballot, small_ballot_canonical, one_unit, IsAccepted, Placed, report_of, objects, serde_json_on_literals, digits, HasFittingNumbers, IsNoDeeper, IsObject, HasCanonicalEnvelope, HasCanonicalIds, IsCanonical, IsCanonicalFormOf, normal_tree}
 use Rattle.erd_check.proofs.WholeExamples.{IsFaultless, one_unit_is_faultless, small_ballot_is_faultless}
-use Rattle.erd_meaning.proofs.examples.AcceptedExamples.{one_unit_is_accepted, small_ballot_is_accepted}
 use Rattle.erd_normal.proofs.canonical.NormalForms.{form_built}
 use Rattle.erd_normal.proofs.examples.NormalTreeExamples.{one_unit_built, one_unit_canonical, small_ballot_built}
+use Rattle.erd_meaning.proofs.examples.RefusedExamples.{one_unit_is_accepted, small_ballot_is_accepted}
 
 -- ---- the tree that is built for a report is its canonical form
 

@@ -1,11 +1,11 @@
 -- Small reports under two preferences: what the law says of them.
 use Rattle.erd_normal.proofs.Common.{◌≡◌, ℕ, true, List, [], ◌∷◌, ◌++◌, map, length, is_some, Some, None, codes, refl, ap, true≢false, Data, family, tree_sound, no_fault_listed, tree_of, IsTree, IsAccepted, Preference, meaning, ◌↔◌, serde_json_on_literals, is_tree, faults_found, local_key, Key, keys_in, SaysTheSame, sym, IsDistinct}
 use Rattle.erd_meaning.proofs.identity.IdentityFaults.{identity_told}
-use Rattle.erd_meaning.proofs.references.SelectionEntries.{reference_faults}
+use Rattle.erd_meaning.proofs.references.ReferenceWalks.{reference_faults}
 use Rattle.erd_meaning.proofs.refused.Refused.{accepted_by_lists}
-use Rattle.erd_meaning.proofs.selections.SelectionFaults.{selections_told}
 use Rattle.erd_normal.proofs.examples.RearrangedExamples.{new_name, renaming}
 use Rattle.erd_normal.proofs.same.FromAlike.{renamed_says_the_same}
+use Rattle.erd_meaning.proofs.selections.NamesTold.{selections_told}
 use Rattle.erd_normal.proofs.same.complete.Complete.{preferences_agree}
 use Rattle.erd_normal.proofs.same.means.Meanings.{saying_the_same_means_the_same}
 

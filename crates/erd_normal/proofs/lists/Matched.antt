@@ -1,6 +1,5 @@
 -- Lists whose entries are related one by one, but for their order.
-use Rattle.erd_normal.proofs.Common.{◌≡◌, suc, ◌≤◌, Bool, true, false, cond, ◌||◌, List, [], ◌∷◌, ◌++◌, map, length, Some, None, filter, Option, find, flat_map, filter_map, option_and_then, is_eq, Ordering, Less, Equal, sym, refl, ap, ◌∙◌, subst, ap₂, true≢false, arith, false_from_ne_true, on_total, IsTotalOrder, AllByRecursion, cons_option, list_any, eq_by_cmp, ordering_reverse, has_mapped, all_weakened, here, later, all-Has, rising_unique, Has, IsDistinct, IsStrictlySortedBy, all_by_entry, one_kept, two_exchanged, in_turn, reordered_self, reordered_back, reordered_map, reordered_after, reordered_before, reordered_flat, any-reordered, length-reordered, count-reordered, all-reordered, reordered-has, Reordered}
-use Rattle.erd_meaning.proofs.orders.Reordered.{no_entry}
+use Rattle.erd_normal.proofs.Common.{◌≡◌, suc, ◌≤◌, Bool, true, false, cond, ◌||◌, List, [], ◌∷◌, ◌++◌, map, length, Some, None, filter, Option, find, flat_map, filter_map, option_and_then, is_eq, Ordering, Less, Equal, sym, refl, ap, ◌∙◌, subst, ap₂, true≢false, arith, false_from_ne_true, on_total, IsTotalOrder, AllByRecursion, cons_option, list_any, eq_by_cmp, ordering_reverse, has_mapped, all_weakened, here, later, all-Has, rising_unique, Has, IsDistinct, IsStrictlySortedBy, all_by_entry, reordered_flat, count-reordered, all-reordered, reordered-has, IsPermutation, IsPermutation-map, IsPermutation-append_left, IsPermutation-append_right, length_permutation, list_any-IsPermutation, IsPermutation-refl, IsPermutation-sym, IsPermutation-trans, along_permutation}
 use Rattle.erd_normal.proofs.lists.FoundInParts.{AreApart}
 
 -- ---- lists whose entries are related one by one
@@ -16,7 +15,7 @@ pub data Paired {A B : Type 0} (R : A → B → Type 0) : List A → List B → 
 pub record Matched {A B : Type 0} (R : A → B → Type 0) (xs : List A) (ys : List B) : Type 0 where
   pub middle : List B
   pub paired : Paired R xs middle
-  pub reordered : Reordered middle ys
+  pub reordered : IsPermutation middle ys
 
 -- ---- entry by entry
 
@@ -41,10 +40,10 @@ paired_back y (more r rest) (later h) = let b = paired_back y rest h in (b.0, la
 -- ---- in some order
 
 pub matched_none : {A B : Type 0} (R : A → B → Type 0) → Matched R [] []
-matched_none R = record { middle = []; paired = none; reordered = no_entry }
+matched_none R = record { middle = []; paired = none; reordered = IsPermutation-refl [] }
 
-pub matched_then : {A B : Type 0} {R : A → B → Type 0} {xs : List A} {ys zs : List B} → Matched R xs ys → Reordered ys zs → Matched R xs zs
-matched_then h k = record { middle = h.middle; paired = h.paired; reordered = in_turn h.reordered k }
+pub matched_then : {A B : Type 0} {R : A → B → Type 0} {xs : List A} {ys zs : List B} → Matched R xs ys → IsPermutation ys zs → Matched R xs zs
+matched_then h k = record { middle = h.middle; paired = h.paired; reordered = IsPermutation-trans _ _ _ h.reordered k }
 
 -- the values of a function
 paired_with_values : {A B : Type 0} (f : A → B) (xs : List A) → Paired (λ x y. f x ≡ y) xs (map f xs)
@@ -52,14 +51,14 @@ paired_with_values f [] = none
 paired_with_values f (x ∷ xs) = more refl (paired_with_values f xs)
 
 pub matched_map : {A B : Type 0} (f : A → B) (xs : List A) → Matched (λ x y. f x ≡ y) xs (map f xs)
-matched_map f xs = record { middle = map f xs; paired = paired_with_values f xs; reordered = reordered_self (map f xs) }
+matched_map f xs = record { middle = map f xs; paired = paired_with_values f xs; reordered = IsPermutation-refl (map f xs) }
 
 pub matched_within : {A B : Type 0} {R : A → B → Type 0} (S : A → B → Type 0) {xs : List A} {ys : List B} → ((x : A) (y : B) → Has xs x → R x y → S x y) → Matched R xs ys → Matched S xs ys
 matched_within S h m = record { middle = m.middle; paired = paired_within S h m.paired; reordered = m.reordered }
 
 -- each entry of the second list has one of the first to which it is related
 pub matched_back : {A B : Type 0} {R : A → B → Type 0} {xs : List A} {ys : List B} (y : B) → Matched R xs ys → Has ys y → (x : A) × Has xs x × R x y
-matched_back y m h = paired_back y m.paired (reordered-has y (reordered_back m.reordered) h)
+matched_back y m h = paired_back y m.paired (reordered-has y (IsPermutation-sym _ _ m.reordered) h)
 
 paired_on : {A B : Type 0} {R : A → B → Type 0} {xs : List A} {ys : List B} (x : A) → Paired R xs ys → Has xs x → (y : B) × Has ys y × R x y
 paired_on x none h = elim h [ ]
@@ -74,7 +73,7 @@ pub matched_append : {A B : Type 0} {R : A → B → Type 0} {xs us : List A} {y
 matched_append {ys = ys} m n = record {
   middle = m.middle ++ n.middle;
   paired = paired_append _ n.middle m.paired n.paired;
-  reordered = in_turn (reordered_before n.middle m.reordered) (reordered_after ys n.reordered);
+  reordered = IsPermutation-trans _ _ _ (IsPermutation-append_left n.middle _ _ m.reordered) (IsPermutation-append_right ys _ _ n.reordered);
 }
 
 flat_paired : {A B C D : Type 0} {R : A → B → Type 0} {S : C → D → Type 0} (f : A → List C) (g : B → List D) → {xs : List A} {ys : List B} → ((x : A) (y : B) → Has xs x → R x y → Matched S (f x) (g y))
@@ -93,7 +92,7 @@ paired_mapped f g h none = none
 paired_mapped f g h (more {x = x} {y = y} r rest) = more (h x y r) (paired_mapped f g h rest)
 
 pub matched_mapped : {A B C D : Type 0} {R : A → B → Type 0} {S : C → D → Type 0} (f : A → C) (g : B → D) → ((x : A) (y : B) → R x y → S (f x) (g y)) → {xs : List A} {ys : List B} → Matched R xs ys → Matched S (map f xs) (map g ys)
-matched_mapped f g h m = record { middle = map g m.middle; paired = paired_mapped f g h m.paired; reordered = reordered_map g m.reordered }
+matched_mapped f g h m = record { middle = map g m.middle; paired = paired_mapped f g h m.paired; reordered = IsPermutation-map g _ _ m.reordered }
 
 -- ---- what is found
 
@@ -131,12 +130,12 @@ either_first {A} test x y xs h = at (test x) (test y) refl refl
     at true true p q = absurd (not_both test x y xs h p q)
     at a b p q = rw (p, q) refl
 
-pub find-reordered : {A : Type 0} (test : A → Bool) {xs ys : List A} → Reordered xs ys → AtMostOne test xs → find test xs ≡ find test ys
-find-reordered test no_entry few = refl
-find-reordered test (one_kept {x = x} {xs = xs} h) few = ap (λ o. cond (test x) (Some x) o) (find-reordered test h (rest_few test x xs few))
-find-reordered test (two_exchanged {x = x} {y = y} {xs = xs}) few = either_first test x y xs few
-find-reordered test (in_turn h k) few =
-    find-reordered test h few ∙ find-reordered test k (record { few = subst (λ n. n ≤ 1) (count-reordered test h) few.few })
+pub find-reordered : {A : Type 0} (test : A → Bool) {xs ys : List A} → IsPermutation xs ys → AtMostOne test xs → find test xs ≡ find test ys
+find-reordered test = along_permutation (λ xs ys. AtMostOne test xs → find test xs ≡ find test ys)
+    (λ xs few. refl)
+    (λ x xs ys p h few. ap (λ o. cond (test x) (Some x) o) (h (rest_few test x xs few)))
+    (either_first test)
+    (λ xs ys zs p h k few. h few ∙ k (record { few = subst (λ n. n ≤ 1) (count-reordered test p) few.few }))
 
 -- what is found in both, or in neither
 pub data Both {A B : Type 0} (R : A → B → Type 0) : Option A → Option B → Type 0 where
@@ -172,15 +171,14 @@ module _ {A B : Type 0} {R : A → B → Type 0} (test : A → Bool) (test' : B 
 
 -- ---- lists of values that are all different
 
-pub distinct-reordered : {A : Type 0} (test : A → A → Bool) {xs ys : List A} → ((x y : A) → Has xs x → Has xs y → test x y ≡ false → test y x ≡ false)
-    → Reordered xs ys → IsDistinct test xs → IsDistinct test ys
+pub distinct-reordered : {A : Type 0} (test : A → A → Bool) {xs ys : List A} → IsPermutation xs ys → ((x y : A) → Has xs x → Has xs y → test x y ≡ false → test y x ≡ false)
+    → IsDistinct test xs → IsDistinct test ys
 unfolding IsDistinct
-distinct-reordered test turns no_entry d = d
-distinct-reordered test turns (one_kept {x = x} h) d =
-    (all-reordered (λ y. test x y ≡ false) h d.0, distinct-reordered test (λ y z i j. turns y z (later i) (later j)) h d.1)
-distinct-reordered test turns (two_exchanged {x = x} {y = y}) d = ((turns x y here (later here) d.0.0, d.1.0), (d.0.1, d.1.1))
-distinct-reordered test turns (in_turn h k) d =
-    distinct-reordered test (λ x y i j. turns x y (reordered-has x (reordered_back h) i) (reordered-has y (reordered_back h) j)) k (distinct-reordered test turns h d)
+distinct-reordered {A} test = along_permutation (λ xs ys. ((x y : A) → Has xs x → Has xs y → test x y ≡ false → test y x ≡ false) → IsDistinct test xs → IsDistinct test ys)
+    (λ xs turns d. d)
+    (λ x xs ys p h turns d. (all-reordered (λ y. test x y ≡ false) p d.0, h (λ y z i j. turns y z (later i) (later j)) d.1))
+    (λ x y xs turns d. ((turns x y here (later here) d.0.0, d.1.0), (d.0.1, d.1.1)))
+    (λ xs ys zs p h k turns d. k (λ x y i j. turns x y (reordered-has x (IsPermutation-sym xs ys p) i) (reordered-has y (IsPermutation-sym xs ys p) j)) (h turns d))
 
 -- lists of values that are all different are matched by such lists, where a test that tells the others' entries apart tells theirs apart
 pub distinct-paired : {A B : Type 0} {R : A → B → Type 0} (test : A → A → Bool) (test' : B → B → Bool) {xs : List A} {ys : List B}
@@ -203,7 +201,7 @@ IsEven {A} test = (x y : A) → test x y ≡ false → test y x ≡ false
 
 pub distinct_matched : {A B : Type 0} {R : A → B → Type 0} (test : A → A → Bool) (test' : B → B → Bool) {xs : List A} {ys : List B} → IsEven test'
     → ((x x' : A) (y y' : B) → Has xs x → Has xs x' → R x y → R x' y' → test' y y' ≡ true → test x x' ≡ true) → Matched R xs ys → IsDistinct test xs → IsDistinct test' ys
-distinct_matched test test' even tells m d = distinct-reordered test' (λ x y i j. even x y) m.reordered (distinct-paired test test' tells m.paired d)
+distinct_matched test test' even tells m d = distinct-reordered test' m.reordered (λ x y i j. even x y) (distinct-paired test test' tells m.paired d)
 
 pub even_order : {A : Type 0} (cmp : A → A → Ordering) → IsTotalOrder cmp → IsEven (eq_by_cmp cmp)
 even_order cmp order d e h = ap is_eq (order.antisymm e d) ∙ at (cmp d e) h
@@ -218,15 +216,15 @@ paired_length none = refl
 paired_length (more r rest) = ap suc (paired_length rest)
 
 pub matched_length : {A B : Type 0} {R : A → B → Type 0} {xs : List A} {ys : List B} → Matched R xs ys → length xs ≡ length ys
-matched_length m = paired_length m.paired ∙ length-reordered m.reordered
+matched_length m = paired_length m.paired ∙ sym (length_permutation _ _ m.reordered)
 
 -- entries that are equal are the same entries in some order
 pub paired_equal : {A : Type 0} {R : A → A → Type 0} {xs ys : List A} → ((x y : A) → R x y → x ≡ y) → Paired R xs ys → xs ≡ ys
 paired_equal same none = refl
 paired_equal same (more {x = x} {y = y} r rest) = ap₂ ◌∷◌ (same x y r) (paired_equal same rest)
 
-pub matched_equal : {A : Type 0} {R : A → A → Type 0} {xs ys : List A} → ((x y : A) → R x y → x ≡ y) → Matched R xs ys → Reordered xs ys
-matched_equal {ys = ys} same m = subst (λ zs. Reordered zs ys) (sym (paired_equal same m.paired)) m.reordered
+pub matched_equal : {A : Type 0} {R : A → A → Type 0} {xs ys : List A} → ((x y : A) → R x y → x ≡ y) → Matched R xs ys → IsPermutation xs ys
+matched_equal {ys = ys} same m = subst (λ zs. IsPermutation zs ys) (sym (paired_equal same m.paired)) m.reordered
 
 -- whether an entry passes a test
 pub paired_any : {A B : Type 0} {R : A → B → Type 0} (test : A → Bool) (test' : B → Bool) {xs : List A} {ys : List B} → ((x : A) (y : B) → R x y → test x ≡ test' y) → Paired R xs ys → list_any test xs ≡ list_any test' ys
@@ -234,7 +232,7 @@ paired_any test test' same none = refl
 paired_any test test' same (more {x = x} {y = y} r rest) = ap₂ ◌||◌ (same x y r) (paired_any test test' same rest)
 
 pub matched_any : {A B : Type 0} {R : A → B → Type 0} (test : A → Bool) (test' : B → Bool) {xs : List A} {ys : List B} → ((x : A) (y : B) → R x y → test x ≡ test' y) → Matched R xs ys → list_any test xs ≡ list_any test' ys
-matched_any test test' same m = paired_any test test' same m.paired ∙ any-reordered test' m.reordered
+matched_any test test' same m = paired_any test test' same m.paired ∙ list_any-IsPermutation test' _ _ m.reordered
 
 -- no two entries pass a test that two different ones do not pass
 pub apart_distinct : {A : Type 0} (test : A → Bool) (both_pass : A → A → Bool) (xs : List A) → ((x y : A) → test x ≡ true → test y ≡ true → both_pass x y ≡ true) → IsDistinct both_pass xs → AreApart test xs
@@ -263,5 +261,5 @@ matched_rising {R = R} cmp order key key' same xs ys rise rise' m =
     subst (Paired R xs)
     (rising_unique (λ x y. cmp (key' x) (key' y)) (on_total key' order) m.middle ys
     (rising_by cmp key' m.middle (subst (IsStrictlySortedBy cmp) (paired_map key key' same m.paired) rise)) (rising_by cmp key' ys rise')
-    (λ y h. reordered-has y m.reordered h) (λ y h. reordered-has y (reordered_back m.reordered) h))
+    (λ y h. reordered-has y m.reordered h) (λ y h. reordered-has y (IsPermutation-sym _ _ m.reordered) h))
     m.paired

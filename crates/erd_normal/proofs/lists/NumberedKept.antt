@@ -1,7 +1,7 @@
 -- What a test keeps of a list, and lists whose entries are numbered.
 use Rattle.erd_normal.proofs.Common.{◌≡◌, ℕ, suc, ◌+◌, ◌<◌, Bool, true, false, cond, ◌⊎◌, List, [], ◌∷◌, map, length, slice_get, Some, None, filter, Option, option_map, flat_map, sym, refl, ap, ◌∙◌, subst, inl, inr, arith, length-map, same_Some, slice_get-map, enumerate_from, Has-cases, Has, In-from_has, has_from_In}
 use Rattle.erd_check.proofs.Order.{In-filter}
-use Rattle.erd_meaning.proofs.selections.ListParts.{get_first, get_later, within_or_after}
+use Rattle.erd_meaning.proofs.selections.ContestSelections.{get_first, get_later, within_or_after}
 
 -- through a function
 pub kept_map : {A B : Type 0} (f : A → B) (q : B → Bool) (xs : List A) → filter q (map f xs) ≡ map f (filter (λ x. q (f x)) xs)

@@ -1,5 +1,5 @@
 -- Records that are alike: objects of one class whose members mean the same, and selections of one name.
-use Rattle.erd_normal.proofs.Common.{◌≡◌, ℕ, Bool, true, false, List, Some, None, Option, option_map, option_and_then, is_eq, Equal, sym, refl, ap, ◌∙◌, ap₂, tied_itself, options_total, option_cmp, Data, Class, family, Role, MemberKind, kind, object_in, ObjectIn, Within, entries_of, class_of_object, asked, Object, no_shape_fault, is_selections, options_exact, equal_names, IsAccepted, Preference, PlainValue, SelectionRecord, MemberValue, a_plain, a_selection_map, Record, NameParts, unless_empty, plain_member, record_with, selection_record, selection_map, member_value, name_in_class, selection_role, name_of, name_cmp, name_cmp_total, by_name, fun_ext, as_str, Family, is_same_json, any-reordered, any_filter_map-reordered, Reordered, key_cmp, json_set, key_set, key_named, keys_named, is_some, if◌then◌else◌, codes, bytes_eq, list_all, family_of_class, rows_of_class, kind_of_identity, kind_of_member, class, text_exact, kind_of_class, kind_of_type}
+use Rattle.erd_normal.proofs.Common.{◌≡◌, ℕ, Bool, true, false, List, Some, None, Option, option_map, option_and_then, is_eq, Equal, sym, refl, ap, ◌∙◌, ap₂, tied_itself, options_total, option_cmp, Data, Class, family, Role, MemberKind, kind, object_in, ObjectIn, Within, entries_of, class_of_object, asked, Object, no_shape_fault, is_selections, options_exact, equal_names, IsAccepted, Preference, PlainValue, SelectionRecord, MemberValue, a_plain, a_selection_map, Record, NameParts, unless_empty, plain_member, record_with, selection_record, selection_map, member_value, name_in_class, selection_role, name_of, name_cmp, name_cmp_total, by_name, fun_ext, as_str, Family, is_same_json, key_cmp, json_set, key_set, key_named, keys_named, is_some, if◌then◌else◌, codes, bytes_eq, list_all, family_of_class, rows_of_class, kind_of_identity, kind_of_member, class, text_exact, kind_of_class, kind_of_type, IsPermutation, list_any-IsPermutation, reordered_kept}
 
 -- ---- the records of the objects of accepted reports: each object has one, of its class, and each selection has a name
 
@@ -80,12 +80,12 @@ named_tied π t name x y h k =
 
 -- ---- what sets mean does not depend on the order of their arrays
 
-pub json_set-reordered : {ds es : List Data} → Reordered ds es → json_set ds ≡ json_set es
-json_set-reordered h = fun_ext (λ d. any-reordered (is_same_json d) h)
+pub json_set-reordered : {ds es : List Data} → IsPermutation ds es → json_set ds ≡ json_set es
+json_set-reordered h = fun_ext (λ d. list_any-IsPermutation (is_same_json d) _ _ h)
 
 -- the set of the keys that references name
-pub keys_named-reordered : (π : Preference) (t : Data) (f : Family) {ds es : List Data} → Reordered ds es → key_set (keys_named π t f ds) ≡ key_set (keys_named π t f es)
-keys_named-reordered π t f h = fun_ext (λ k. any_filter_map-reordered (λ r. option_and_then (key_named π t f) (as_str r)) (λ l. is_eq (key_cmp l k)) h)
+pub keys_named-reordered : (π : Preference) (t : Data) (f : Family) {ds es : List Data} → IsPermutation ds es → key_set (keys_named π t f ds) ≡ key_set (keys_named π t f es)
+keys_named-reordered π t f h = fun_ext (λ k. list_any-IsPermutation (λ l. is_eq (key_cmp l k)) _ _ (reordered_kept (λ r. option_and_then (key_named π t f) (as_str r)) h))
 
 -- ---- the order of a ballot and the selections of contests stand in few classes
 

@@ -7,7 +7,7 @@ use Rattle.erd_meaning.specs.RankedNames.{RankedParts, ranked_name}
 use Rattle.erd_meaning.specs.code.NumberedOrders.{numbered_name_cmp_total}
 use Rattle.erd_meaning.proofs.orders.OrdersMade.{all_low, ranks_are}
 use Rattle.erd_meaning.proofs.selections.PositionedKeys.{positioned-append, positioned_made}
-use Rattle.erd_meaning.proofs.selections.RanksInTurn.{numbered_names_alike}
+use Rattle.erd_meaning.proofs.selections.RankedReports.{numbered_names_alike}
 use Rattle.erd_normal.proofs.canonical.RisingReports.{selection_values_distinct}
 use Rattle.erd_normal.proofs.lists.NumberedKept.{in_part}
 use Rattle.erd_normal.proofs.lists.StableRising.{map_after}

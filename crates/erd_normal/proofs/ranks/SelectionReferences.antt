@@ -1,7 +1,6 @@
 -- What a reference to a selection becomes, by the ranks of the selection and its contest.
 use Rattle.erd_normal.proofs.Common.{◌≡◌, ℕ, true, false, List, [], ◌==◌, slice_get, Some, None, codes, Option, option_map, find, option_and_then, sym, refl, ap, ◌∙◌, subst, ap₂, slice_get-map, option_map_or, Data, string, family_number, Family, family, Has, entries_at, IsAccepted, Preference, key_of, key_in, rank_of, id_in, selection_in, FindsId, NameParts, Placed, contests, selections_of_contest, objects, numbered_selections, id_of, has_id, name_of, find-Some, option_map-Some, stands, flat-has, one_object, has_id-Some, owner_is, in_at, with_part, place_of, In-from_has, has_from_In, canonical_selection_id, rank_of_name, id_of_selection, contest_with, selection_with, normal_selection_reference, AreSelectionRanks}
-use Rattle.erd_meaning.proofs.selections.NamesTold.{Numbered}
-use Rattle.erd_meaning.proofs.selections.NumberedSelections.{OfContest, of_its_contest, placed_of_contests}
+use Rattle.erd_meaning.proofs.selections.NamesTold.{Numbered, OfContest, of_its_contest, placed_of_contests}
 use Rattle.erd_meaning.proofs.identity.ObjectFamilies.{family_exact}
 use Rattle.erd_normal.proofs.canonical.ContestSelections.{one_contest}
 use Rattle.erd_normal.proofs.lists.FoundInParts.{FoundSelection, owner_found}

@@ -2,9 +2,9 @@
 use Rattle.erd_normal.proofs.Common.{◌≡◌, ℕ, zero, suc, ◌+◌, ◌^◌, ◌<◌, ◌≤◌, List, [], ◌∷◌, ◌++◌, map, length, get_or, take, slice_get, Some, None, codes, Option, option_map, flat_map, option_and_then, sym, refl, ap, ◌∙◌, subst, append-nil, arith, length-append, length-map, take_more, slice_get-map, slice_get_within, get_or_from_slice_get, Data, view, Value, family, entries_at, Preference, NameParts, Placed, contests, objects, IsBounded, name_of, option_map-Some, values-placed_flat, name_in, AreNamedFrom}
 use Rattle.std.proofs.lemmas.Grind.{flat_map-append}
 use Rattle.std.proofs.lemmas.List.Folds.{length-flat_map-take}
-use Rattle.erd_meaning.proofs.selections.ListParts.{get_first, get_later}
 use Rattle.erd_meaning.proofs.selections.NamesTold.{Numbered}
 use Rattle.erd_normal.proofs.ranks.SelectionReferences.{numbered_at}
+use Rattle.erd_meaning.proofs.selections.ContestSelections.{get_first, get_later}
 
 -- what stands in one of several lists, among all of them
 part_at : {A B : Type 0} (f : A → List B) (xs : List A) (k : ℕ) (x : A) → k < length xs → x ≡ get_or xs k x → (j : ℕ) (y : B) → slice_get (f x) j ≡ Some y

@@ -1,11 +1,11 @@
 -- A renaming and an exchange of two entries of a set make values that are alike.
-use Rattle.erd_normal.proofs.Common.{◌≡◌, ℕ, zero, suc, ◌<◌, Bool, true, false, cond, ◌&&◌, List, [], ◌∷◌, length, IsSomeAnd, if◌then◌else◌, IsTrue, Some, None, Option, option_map, swap, option_and_then, nat_cmp, is_eq, Ordering, Equal, sym, refl, ap, ◌∙◌, subst, arith, is_eq-slice_cmp, slice_cmp, Data, null, string, array, object, Items, no_items, item, Members, no_members, member, get_member, get_item, items_of, role, Step, At, Name, list_of_items-items_of, text_from_equal, list_of_items, entries_of, scope_inside, want_of_name, entry_want, is_compared_set, is_table_set, Asked, asked, is_repeated, asked_of_member, asked_inside, asked_from, Scope, Want, Object, reordered_self, reordered_swap, Reordered, Renaming, replaced_text, is_id_text, renamed_value, renamed_items, renamed_members, changed_at, member_changed, item_changed, swapped, exchanged, HasEntries}
+use Rattle.erd_normal.proofs.Common.{◌≡◌, ℕ, zero, suc, ◌<◌, Bool, true, false, cond, ◌&&◌, List, [], ◌∷◌, length, IsSomeAnd, if◌then◌else◌, IsTrue, Some, None, Option, option_map, swap, option_and_then, nat_cmp, is_eq, Ordering, Equal, sym, refl, ap, ◌∙◌, subst, arith, is_eq-slice_cmp, slice_cmp, Data, null, string, array, object, Items, no_items, item, Members, no_members, member, get_member, get_item, items_of, role, Step, At, Name, list_of_items-items_of, text_from_equal, list_of_items, entries_of, scope_inside, want_of_name, entry_want, is_compared_set, is_table_set, Asked, asked, is_repeated, asked_of_member, asked_inside, asked_from, Scope, Want, Object, Renaming, replaced_text, is_id_text, renamed_value, renamed_items, renamed_members, changed_at, member_changed, item_changed, swapped, exchanged, HasEntries, IsPermutation, IsPermutation-swap, IsPermutation-refl}
 
 -- ---- two values that are alike: spelled otherwise, with the same said. A renaming and an exchange make values that are alike
 
 -- the entries of a set may stand in another order
 abbrev pub IsArranged : Bool → List Data → List Data → Type 0
-IsArranged true ds es = Reordered ds es
+IsArranged true ds es = IsPermutation ds es
 IsArranged false ds es = ds ≡ es
 
 -- `@id` texts and references of the table are the same but for a function of texts, sets have entries that are alike in
@@ -31,7 +31,7 @@ abbrev mutual
 -- ---- a renaming and an exchange of two entries of a set make values that are alike
 
 arranged_self : (b : Bool) (ds : List Data) → IsArranged b ds ds
-arranged_self true ds = reordered_self ds
+arranged_self true ds = IsPermutation-refl ds
 arranged_self false ds = refl
 
 -- ---- renaming
@@ -100,7 +100,7 @@ swapped_alike i j w (array ds) set low high =
       refl,
       entries_self (entry_want w) ds,
       subst (λ b. IsArranged b (list_of_items ds) (list_of_items es)) (sym set)
-          (subst (Reordered (list_of_items ds)) (sym (list_of_items-items_of (swap (list_of_items ds) i j))) (reordered_swap (list_of_items ds) i j low high)),
+          (subst (IsPermutation (list_of_items ds)) (sym (list_of_items-items_of (swap (list_of_items ds) i j))) (IsPermutation-swap (list_of_items ds) _ i j low high refl)),
     )
 swapped_alike i j w e set low high = absurd (omega arith)
 

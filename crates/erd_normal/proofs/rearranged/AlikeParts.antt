@@ -1,5 +1,5 @@
 -- What stands in values that are alike, part by part, and the objects of reports that are alike.
-use Rattle.erd_normal.proofs.Common.{◌≡◌, ℕ, Bool, true, false, List, [], ◌∷◌, Some, None, Option, sym, subst, Data, null, boolean, number, string, array, object, Items, no_items, item, Members, no_members, member, get_member, here, later, Has, IsBeforeFirst, IsTree, AreTrees, AreMembers, list_of_items, scope_inside, want_of_name, entry_want, is_table_set, Scope, Want, reordered_self, reordered_back, reordered-has, Reordered, if◌then◌else◌, codes, option_map, bytes_eq, refl, ap, ◌∙◌, option_map_or, get, as_str, kind_of_member, is_required, Class, Family, Role, role, kind, At, list_of_items-place, ObjectAt, ObjectIn, Within-step, AsksObject, of_role, of_label, member_within, Within, want_by_kind, ShapeFault, NoneOf, entries_of, entries_at, class_of_object, member_want, is_compared_set, asked, scope, Member, Object, is_id_text, option_and_then, class, object_in, report_class, Within-root, id_of}
+use Rattle.erd_normal.proofs.Common.{◌≡◌, ℕ, Bool, true, false, List, [], ◌∷◌, Some, None, Option, sym, subst, Data, null, boolean, number, string, array, object, Items, no_items, item, Members, no_members, member, get_member, here, later, Has, IsBeforeFirst, IsTree, AreTrees, AreMembers, list_of_items, scope_inside, want_of_name, entry_want, is_table_set, Scope, Want, reordered-has, if◌then◌else◌, codes, option_map, bytes_eq, refl, ap, ◌∙◌, option_map_or, get, as_str, kind_of_member, is_required, Class, Family, Role, role, kind, At, list_of_items-place, ObjectAt, ObjectIn, Within-step, AsksObject, of_role, of_label, member_within, Within, want_by_kind, ShapeFault, NoneOf, entries_of, entries_at, class_of_object, member_want, is_compared_set, asked, scope, Member, Object, is_id_text, option_and_then, class, object_in, report_class, Within-root, id_of, IsPermutation, IsPermutation-refl, IsPermutation-sym}
 use Rattle.erd_normal.proofs.lists.Matched.{Both, both, neither, Matched, Paired, none, more, matched_none, matched_within}
 use Rattle.erd_normal.proofs.rearranged.AlikeChanges.{Alike, AlikeMembers, AreAlike, IsArranged}
 use Rattle.erd_normal.proofs.same.Lookups.{get_both, asked_of_name}
@@ -27,9 +27,9 @@ pub alike_entries : (ρ : List ℕ → List ℕ) (w : Option Want) (ds : Items) 
 alike_entries ρ w no_items es h = subst (Paired (Alike ρ w) []) (sym h) none
 alike_entries ρ w (item d ds) es h = subst (Paired (Alike ρ w) (d ∷ list_of_items ds)) (sym h.2) (more h.3 (alike_entries ρ w ds h.1 h.4))
 
-arranged_reordered : (b : Bool) (ds es : List Data) → IsArranged b ds es → Reordered ds es
+arranged_reordered : (b : Bool) (ds es : List Data) → IsArranged b ds es → IsPermutation ds es
 arranged_reordered true ds es h = h
-arranged_reordered false ds es h = subst (Reordered ds) h (reordered_self ds)
+arranged_reordered false ds es h = subst (IsPermutation ds) h (IsPermutation-refl ds)
 
 -- the entries of arrays that are alike, in some order
 pub alike_array : (ρ : List ℕ → List ℕ) (w : Want) (ds es : Items) → Alike ρ (Some w) (array ds) (array es) → Matched (Alike ρ (entry_want w)) (list_of_items ds) (list_of_items es)
@@ -38,7 +38,7 @@ alike_array ρ w ds es h =
     record {
       middle = h.0;
       paired = alike_entries ρ (entry_want w) ds h.0 h.3;
-      reordered = subst (λ x. Reordered h.0 (list_of_items x)) same (arranged_reordered (is_table_set w) h.0 (list_of_items h.1) h.4);
+      reordered = subst (λ x. IsPermutation h.0 (list_of_items x)) same (arranged_reordered (is_table_set w) h.0 (list_of_items h.1) h.4);
     }
 
 -- ---- trees
@@ -69,7 +69,7 @@ mutual
   alike_tree ρ (Some w) (string s) e h tree = subst IsTree (sym h) tt
   alike_tree ρ (Some w) (array ds) e h tree =
       let trees = entries_trees ρ (entry_want w) ds h.0 h.3 tree in
-      subst IsTree (sym h.2) (trees_of_list h.1 (λ d i. trees d (reordered-has d (reordered_back (arranged_reordered (is_table_set w) h.0 (list_of_items h.1) h.4)) i)))
+      subst IsTree (sym h.2) (trees_of_list h.1 (λ d i. trees d (reordered-has d (IsPermutation-sym _ _ (arranged_reordered (is_table_set w) h.0 (list_of_items h.1) h.4)) i)))
   alike_tree ρ (Some w) (object ms) e h tree = subst IsTree (sym h.1) (members_trees ρ (scope_inside w (object ms)) ms h.0 h.2 tree)
 
   entries_trees : (ρ : List ℕ → List ℕ) (w : Option Want) (ds : Items) (es : List Data) → AreAlike ρ w ds es → AreTrees ds → Trees es

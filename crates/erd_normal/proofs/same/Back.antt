@@ -1,7 +1,6 @@
 -- Each report says what it says, and if u says what t says, t says what u says.
-use Rattle.erd_normal.proofs.Common.{List, Option, IsPermutation, sym, subst, IsPermutation-sym, Data, Items, Members, items_of, list_of_items-items_of, list_of_items, entry_want, Scope, Want, IsPermutation-reordered, SaysBack, Sides, not_asked, a_null, a_flag, a_number, a_text, an_id, a_list, a_set, an_object, no_entry, one_entry, no_member, in_both, left_only, right_only, Same, SameEntries, SameMembers, is_table_set, ◌≡◌, true, false, Some, array, ℕ, Bool, None, refl, IsPermutation-refl, null, boolean, number, string, object, no_items, item, no_members, member, role, scope_inside, want_of_name, Object, is_id_text, SaysItself, StandsFor}
+use Rattle.erd_normal.proofs.Common.{List, Option, IsPermutation, sym, subst, IsPermutation-sym, Data, Items, Members, items_of, list_of_items-items_of, list_of_items, entry_want, Scope, Want, SaysBack, Sides, not_asked, a_null, a_flag, a_number, a_text, an_id, a_list, a_set, an_object, no_entry, one_entry, no_member, in_both, left_only, right_only, Same, SameEntries, SameMembers, is_table_set, ◌≡◌, true, false, Some, array, ℕ, Bool, None, refl, IsPermutation-refl, null, boolean, number, string, object, no_items, item, no_members, member, role, scope_inside, want_of_name, Object, is_id_text, SaysItself, StandsFor}
 use Rattle.erd_normal.proofs.lists.Matched.{Paired, none, more, Matched}
-use Rattle.erd_normal.proofs.lists.NumbersInOrder.{permuted_reordered}
 use Rattle.erd_normal.proofs.lists.BuiltLists.{items_again}
 use Rattle.erd_normal.proofs.same.Lists.{follows}
 use Rattle.erd_normal.proofs.same.Lookups.{scope_same}
@@ -31,10 +30,10 @@ pub record SetMoved (m : Sides) (w : Option Want) (es ds : Items) : Type 0 where
 
 pub set_swapped : (m : Sides) (w : Option Want) (ds fs es : Items) → IsPermutation (list_of_items ds) (list_of_items fs) → SameEntries m w es fs → SetMoved m w es ds
 set_swapped m w ds fs es p h =
-    let f = follows (permuted_reordered (list_of_items fs) (list_of_items ds) (IsPermutation-sym (list_of_items ds) (list_of_items fs) p)) (paired_flip (entries_paired m h)) in
+    let f = follows (IsPermutation-sym (list_of_items ds) (list_of_items fs) p) (paired_flip (entries_paired m h)) in
     record {
       moved = items_of f.new;
-      permuted = subst (IsPermutation (list_of_items es)) (sym (list_of_items-items_of f.new)) (IsPermutation-reordered f.reordered);
+      permuted = subst (IsPermutation (list_of_items es)) (sym (list_of_items-items_of f.new)) f.reordered;
       entries = subst (SameEntries m w (items_of f.new)) (items_again ds) (paired_entries m w (paired_flip f.paired));
     }
 
@@ -43,7 +42,7 @@ module _ (m : Sides) where
   pub set_says : (w : Want) (ds es : Items) → is_table_set w ≡ true → Matched (Same m (entry_want w)) (list_of_items ds) (list_of_items es) → Same m (Some w) (array ds) (array es)
   set_says w ds es is h =
       let f = follows h.reordered (paired_flip h.paired) in
-      a_set (items_of f.new) is (subst (IsPermutation (list_of_items ds)) (sym (list_of_items-items_of f.new)) (IsPermutation-reordered f.reordered))
+      a_set (items_of f.new) is (subst (IsPermutation (list_of_items ds)) (sym (list_of_items-items_of f.new)) f.reordered)
       (subst (SameEntries m (entry_want w) (items_of f.new)) (items_again es) (paired_entries m (entry_want w) (paired_flip f.paired)))
 
   pub list_says : (w : Want) (ds es : Items) → is_table_set w ≡ false → Paired (Same m (entry_want w)) (list_of_items ds) (list_of_items es) → Same m (Some w) (array ds) (array es)

@@ -1,9 +1,9 @@
 -- If v says what t says, and u what v says, then u says what t says.
-use Rattle.erd_normal.proofs.Common.{◌≡◌, ℕ, Bool, true, false, List, [], Some, None, Option, IsPermutation, sym, refl, ap, ◌∙◌, subst, IsPermutation-sym, IsPermutation-trans, Num, Data, null, boolean, number, string, array, object, Items, no_items, item, Members, no_members, member, role, is_reference, IsTree, list_of_items, scope_inside, want_of_name, entry_want, is_table_set, Scope, Want, Object, Reference, length-reordered, Reordered, is_id_text, SaysInTurn, Sides, StandsFor, IsUnused, an_empty_array, of_the_envelope, an_unused_id, not_asked, a_null, a_flag, a_number, a_text, an_id, a_list, a_set, an_object, no_entry, one_entry, no_member, in_both, left_only, right_only, MayBeAbsent, Same, SameEntries, SameMembers, true≢false}
+use Rattle.erd_normal.proofs.Common.{◌≡◌, ℕ, Bool, true, false, List, [], Some, None, Option, IsPermutation, sym, refl, ap, ◌∙◌, subst, IsPermutation-sym, IsPermutation-trans, Num, Data, null, boolean, number, string, array, object, Items, no_items, item, Members, no_members, member, role, is_reference, IsTree, list_of_items, scope_inside, want_of_name, entry_want, is_table_set, Scope, Want, Object, Reference, is_id_text, SaysInTurn, Sides, StandsFor, IsUnused, an_empty_array, of_the_envelope, an_unused_id, not_asked, a_null, a_flag, a_number, a_text, an_id, a_list, a_set, an_object, no_entry, one_entry, no_member, in_both, left_only, right_only, MayBeAbsent, Same, SameEntries, SameMembers, true≢false}
 use Rattle.erd_normal.proofs.same.Back.{same_back, set_swapped, turned}
 use Rattle.erd_normal.proofs.same.CameFrom.{CameFrom, reference_came_from}
 use Rattle.erd_normal.proofs.same.Lookups.{scope_same}
-use Rattle.erd_normal.proofs.lists.NumbersInOrder.{permuted_reordered}
+use Rattle.std.proofs.lemmas.List.Sorted.{length_permutation}
 
 -- ---- what may be absent, along the relation
 
@@ -24,16 +24,16 @@ reference_is_id w h = cc
 nothing_same : (m : Sides) {o : Option Want} {es : Items} → SameEntries m o no_items es → es ≡ no_items
 nothing_same m no_entry = refl
 
-nothing_moved : (fs : Items) → Reordered [] (list_of_items fs) → fs ≡ no_items
+nothing_moved : (fs : Items) → IsPermutation [] (list_of_items fs) → fs ≡ no_items
 nothing_moved no_items h = refl
-nothing_moved (item f fs) h = let e = length-reordered h in cc
+nothing_moved (item f fs) h = let e = length_permutation _ _ h in cc
 
 empty_same : (m : Sides) {w : Want} {x c : Data} → Same m (Some w) x c → x ≡ array no_items → c ≡ array no_items
 empty_same m (a_list {w = w} {ds = ds} {es = es} is h) e =
     let none : ds ≡ no_items = cc in ap array (nothing_same m (subst (λ x. SameEntries m (entry_want w) x es) none h))
 empty_same m (a_set {w = w} {ds = ds} {es = es} fs is p h) e =
     let none : ds ≡ no_items = cc in
-    let moved : fs ≡ no_items = nothing_moved fs (subst (λ x. Reordered (list_of_items x) (list_of_items fs)) none (permuted_reordered (list_of_items ds) (list_of_items fs) p)) in
+    let moved : fs ≡ no_items = nothing_moved fs (subst (λ x. IsPermutation (list_of_items x) (list_of_items fs)) none p) in
     ap array (nothing_same m (subst (λ x. SameEntries m (entry_want w) x es) moved h))
 empty_same m h e = cc
 

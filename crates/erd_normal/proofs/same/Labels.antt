@@ -1,7 +1,6 @@
 -- The worst case of the names of selections: a label with translations. Labels that say the same have one text, with their translations
 -- in rising order.
-use Rattle.erd_normal.proofs.Common.{◌≡◌, ℕ, Bool, true, false, List, [], ◌∷◌, ◌++◌, map, Some, None, codes, Option, bytes_eq, Ordering, Greater, sym, refl, ap, ◌∙◌, subst, ap₂, nat_list_cmp_total, exact_bytes, option_map_or, match_ordering, get_member-put, Data, null, array, object, Members, no_members, member, put, get_member, items_of, comma_if, compact_text, items_text, members_text, kind_of_member, text_cmp, class, role, kind, text_exact, members_unique, put-trees, kind_of_unlisted_has, IsTree, AreMembers, entries_of, entries_at, class_of_object, want_of_name, Scope, scope, Member, reordered_map, Reordered, rising_list_map, rising_list, compact_cmp, with_rising_text, Sides, MayBeAbsent, Same, SameMembers, Items, list_of_items, Want, Object, IsPermutation-reordered, JsonMap, JsonSet, Label, untranslated, translated, json_set, label_beside_text, label_of, a_set, is_id_text, StandsFor, true≢false}
-use Rattle.erd_meaning.proofs.orders.Reordered.{no_entry}
+use Rattle.erd_normal.proofs.Common.{◌≡◌, ℕ, Bool, true, false, List, [], ◌∷◌, ◌++◌, map, Some, None, codes, Option, bytes_eq, Ordering, Greater, sym, refl, ap, ◌∙◌, subst, ap₂, nat_list_cmp_total, exact_bytes, option_map_or, match_ordering, get_member-put, Data, null, array, object, Members, no_members, member, put, get_member, items_of, comma_if, compact_text, items_text, members_text, kind_of_member, text_cmp, class, role, kind, text_exact, members_unique, put-trees, kind_of_unlisted_has, IsTree, AreMembers, entries_of, entries_at, class_of_object, want_of_name, Scope, scope, Member, rising_list_map, rising_list, compact_cmp, with_rising_text, Sides, MayBeAbsent, Same, SameMembers, Items, list_of_items, Want, Object, JsonMap, JsonSet, Label, untranslated, translated, json_set, label_beside_text, label_of, a_set, is_id_text, StandsFor, true≢false, IsPermutation, IsPermutation-map, IsPermutation-refl}
 use Rattle.erd_normal.proofs.built.NormalGets.{put_elsewhere, put_twice}
 use Rattle.erd_normal.proofs.lists.Matched.{matched_equal}
 use Rattle.erd_normal.proofs.lists.NumbersInOrder.{rising-reordered}
@@ -38,9 +37,9 @@ put_one_text b k d e (member l f ms) same = at (text_cmp k l) (put_one_text true
     at x later = rw same
 
 -- lists with the same entries have the same texts in rising order
-rising_texts : {xs ys : List Data} → Reordered xs ys → map compact_text (rising_list compact_cmp xs) ≡ map compact_text (rising_list compact_cmp ys)
+rising_texts : {xs ys : List Data} → IsPermutation xs ys → map compact_text (rising_list compact_cmp xs) ≡ map compact_text (rising_list compact_cmp ys)
 rising_texts {xs = xs} {ys = ys} h =
-    rising_list_map compact_text text_cmp xs ∙ rising-reordered nat_list_cmp_total exact_bytes (reordered_map compact_text h) ∙ sym (rising_list_map compact_text text_cmp ys)
+    rising_list_map compact_text text_cmp xs ∙ rising-reordered nat_list_cmp_total exact_bytes (IsPermutation-map compact_text _ _ h) ∙ sym (rising_list_map compact_text text_cmp ys)
 
 -- ---- labels
 
@@ -60,7 +59,7 @@ all_plain_beside k other = known_passes is_plain role.Label class.Internationali
 -- the members of labels of the class
 record LabelMembers (ms ns : Members) : Type 0 where
   beside : (k : List ℕ) → bytes_eq k (codes "Text") ≡ false → get_member k ms ≡ get_member k ns
-  texts : Reordered (entries_at (codes "Text") (object ms)) (entries_at (codes "Text") (object ns))
+  texts : IsPermutation (entries_at (codes "Text") (object ms)) (entries_at (codes "Text") (object ns))
 
 module _ (m : Sides) where
   -- nothing beside `Text` may be absent
@@ -77,12 +76,12 @@ module _ (m : Sides) where
   same_beside k (Some d) (Some e) other (both_there h) = ap Some (steady_same m h (all_plain_beside k other))
   same_beside k o p other (not_both l r) = none_beside m.left k o other l ∙ sym (none_beside m.right k p other r)
 
-  same_texts : (o p : Option Data) → Aligned m in_label (codes "Text") o p → Reordered (option_map_or entries_of o []) (option_map_or entries_of p [])
+  same_texts : (o p : Option Data) → Aligned m in_label (codes "Text") o p → IsPermutation (option_map_or entries_of o []) (option_map_or entries_of p [])
   same_texts (Some d) (Some e) (both_there h) =
       matched_equal (λ x y same. steady_same m same refl) (entries_matched m (Member kind.Languages true) h)
   same_texts o p (not_both l r) =
-      subst (λ x. Reordered x (option_map_or entries_of p [])) (sym (lacking_empty m.left in_label (codes "Text") o refl l))
-      (subst (Reordered []) (sym (lacking_empty m.right in_label (codes "Text") p refl r)) no_entry)
+      subst (λ x. IsPermutation x (option_map_or entries_of p [])) (sym (lacking_empty m.left in_label (codes "Text") o refl l))
+      (subst (IsPermutation []) (sym (lacking_empty m.right in_label (codes "Text") p refl r)) (IsPermutation-refl []))
 
   label_members : (ms ns : Members) → AreMembers ms → AreMembers ns → SameMembers m in_label ms ns → LabelMembers ms ns
   label_members ms ns left right h = record {
@@ -149,9 +148,9 @@ module _ (m : Sides) where
   equal_aligned s k None p plain e = subst (Aligned m s k None) e (not_both (lacks_none m.left s k) (lacks_none m.right s k))
   equal_aligned s k (Some d) p plain e = subst (Aligned m s k (Some d)) e (both_there (plain_self m (want_of_name s k) d plain))
 
-  texts_same : (ds es : Items) → Reordered (list_of_items ds) (list_of_items es) → Same m (Some (Member kind.Languages true)) (array ds) (array es)
+  texts_same : (ds es : Items) → IsPermutation (list_of_items ds) (list_of_items es) → Same m (Some (Member kind.Languages true)) (array ds) (array es)
   texts_same ds es h =
-      a_set es refl (IsPermutation-reordered h) (entries_self m AllPlain (plain_text m) plain_entry plain_scope (Some (Object role.Language)) es refl)
+      a_set es refl h (entries_self m AllPlain (plain_text m) plain_entry plain_scope (Some (Object role.Language)) es refl)
 
   pub labels_say : (ms ns : Members) → AreMembers ms → AreMembers ns → (left : Translations ms) (right : Translations ns) → get_member (codes "@type") ms ≡ get_member (codes "@type") ns
       → label_of (object ms) ≡ label_of (object ns) → SameMembers m in_label ms ns

@@ -1,7 +1,6 @@
 -- Values of two reports that say the same, and the entries of those that are arrays.
-use Rattle.erd_normal.proofs.Common.{◌≡◌, ℕ, true, false, List, [], Some, None, Option, sym, refl, ap, ◌∙◌, option_map_or, Data, here, later, Has, list_of_items, entries_of, entry_want, Scope, Want, reordered_self, reordered_back, reordered-has, Reordered, Sides, is_envelope, an_empty_array, of_the_envelope, an_unused_id, a_list, a_set, MayBeAbsent, Same}
+use Rattle.erd_normal.proofs.Common.{◌≡◌, ℕ, true, false, List, [], Some, None, Option, sym, refl, ap, ◌∙◌, option_map_or, Data, here, later, Has, list_of_items, entries_of, entry_want, Scope, Want, reordered-has, Sides, is_envelope, an_empty_array, of_the_envelope, an_unused_id, a_list, a_set, MayBeAbsent, Same, IsPermutation, IsPermutation-refl, IsPermutation-sym}
 use Rattle.erd_normal.proofs.lists.Matched.{Matched, matched_none, Paired, none, more}
-use Rattle.erd_normal.proofs.lists.NumbersInOrder.{permuted_reordered}
 use Rattle.erd_normal.proofs.same.Back.{entries_paired}
 use Rattle.erd_normal.proofs.same.FromAlike.{Stands}
 use Rattle.erd_normal.proofs.same.Lists.{follows}
@@ -20,15 +19,15 @@ matched_within_both S h m = record {
   reordered = m.reordered;
 }
 
-matched_left : {A B : Type 0} {R : A → B → Type 0} {xs ws : List A} {ys : List B} → Reordered xs ws → Paired R ws ys → Matched R xs ys
-matched_left h p = let f = follows (reordered_back h) p in record { middle = f.new; paired = f.paired; reordered = reordered_back f.reordered }
+matched_left : {A B : Type 0} {R : A → B → Type 0} {xs ws : List A} {ys : List B} → IsPermutation xs ws → Paired R ws ys → Matched R xs ys
+matched_left h p = let f = follows (IsPermutation-sym _ _ h) p in record { middle = f.new; paired = f.paired; reordered = IsPermutation-sym _ _ f.reordered }
 
 -- ---- arrays
 
 -- the entries of values that say the same are matched
 pub entries_matched : (m : Sides) (w : Want) {d e : Data} → Same m (Some w) d e → Matched (Same m (entry_want w)) (entries_of d) (entries_of e)
-entries_matched m w (a_list {es = es} is h) = record { middle = list_of_items es; paired = entries_paired m h; reordered = reordered_self (list_of_items es) }
-entries_matched m w (a_set {ds = ds} fs is p h) = matched_left (permuted_reordered (list_of_items ds) (list_of_items fs) p) (entries_paired m h)
+entries_matched m w (a_list {es = es} is h) = record { middle = list_of_items es; paired = entries_paired m h; reordered = IsPermutation-refl (list_of_items es) }
+entries_matched m w (a_set {ds = ds} fs is p h) = matched_left p (entries_paired m h)
 entries_matched m w h = matched_none _
 
 -- a member that may be absent has no entries, if it is not in the envelope

@@ -1,7 +1,7 @@
 -- What stands in a report that has no fraction has none.
 use Rattle.erd_normal.proofs.Common.{◌≡◌, ℕ, ◌<◌, false, List, [], ◌∷◌, map, length, get_or, slice_get, Some, None, option_map, Ordering, sym, refl, ap, ◌∙◌, or_parts, slice_get-map, slice_get_read, AllByRecursion, option_map_or, Data, array, object, get_item, get, items_of, view, items_view, members_view, has_float, items_have_float, members_have_float, Value, Family, role, has_at, Within, list_of_items, entries_of, entries_at, Asked, asked, IsAccepted, Preference, Placed, elections, objects, rising_list, Entry, all_at, within-holds, Object, option_map-Some, skeleton, election_stands, stands, all_rising}
-use Rattle.erd_meaning.proofs.selections.WholeParts.{whole_get}
 use Rattle.erd_normal.proofs.lists.BuiltLists.{entry_holds, items_again}
+use Rattle.erd_meaning.proofs.selections.MetSelections.{whole_get}
 
 -- ---- the entries of an array that has no fraction have none
 

@@ -1,5 +1,5 @@
 -- Canonical reports that say the same are equal.
-use Rattle.erd_normal.proofs.Common.{◌≡◌, ℕ, zero, suc, ◌≤◌, Bool, true, false, List, [], map, Some, None, Option, option_and_then, Ordering, sym, refl, ap, ◌∙◌, subst, arith, IsTotalOrder, options_total, IsStrictlySortedBy, option_cmp, Data, string, array, object, Items, Members, depth, items_depth, members_depth, get_member, get, as_str, is_envelope_name, Family, family, role, MemberKind, kind, list_of_items_exact, members_unique, get_member-depth, all-Has, rising_unique, Has, is_empty_array, AreMembers, list_of_items, scope_inside, want_of_name, entry_want, is_table_set, Want, Member, Object, reordered_back, reordered-has, has_keys, key_cmp, Preference, key_of, compact_cmp, name_of, name_cmp, key_cmp_total, compact_cmp_total, name_cmp_total, kind_wanted, RisesAs, HasCanonicalEnvelope, IsCanonical, Sides, IsUnused, is_envelope, an_empty_array, of_the_envelope, an_unused_id, a_null, a_flag, a_number, a_text, an_id, a_list, a_set, an_object, MayBeAbsent, Same, SameMembers}
+use Rattle.erd_normal.proofs.Common.{◌≡◌, ℕ, zero, suc, ◌≤◌, Bool, true, false, List, map, Some, None, Option, option_and_then, Ordering, sym, refl, ap, ◌∙◌, subst, arith, IsTotalOrder, options_total, IsStrictlySortedBy, option_cmp, Data, string, array, object, Items, Members, depth, items_depth, members_depth, get_member, get, as_str, is_envelope_name, Family, family, role, MemberKind, kind, list_of_items_exact, members_unique, get_member-depth, all-Has, rising_unique, Has, is_empty_array, AreMembers, list_of_items, scope_inside, want_of_name, entry_want, is_table_set, Want, Member, Object, reordered-has, has_keys, key_cmp, Preference, key_of, compact_cmp, name_of, name_cmp, key_cmp_total, compact_cmp_total, name_cmp_total, kind_wanted, RisesAs, HasCanonicalEnvelope, IsCanonical, Sides, IsUnused, is_envelope, an_empty_array, of_the_envelope, an_unused_id, a_null, a_flag, a_number, a_text, an_id, a_list, a_set, an_object, MayBeAbsent, Same, SameMembers, IsPermutation-sym}
 use Rattle.erd_normal.proofs.lists.BuiltLists.{listed_depth}
 use Rattle.erd_normal.proofs.lists.Matched.{Matched, matched_equal, paired_equal, matched_rising}
 use Rattle.erd_normal.proofs.same.Back.{entries_paired}
@@ -45,7 +45,7 @@ by_one_order cmp order key key' same xs ys rise rise' h = paired_equal (λ x y e
 
 by_texts : (xs ys : List Data) → IsStrictlySortedBy compact_cmp xs → IsStrictlySortedBy compact_cmp ys → Matched (λ x y. x ≡ y) xs ys → xs ≡ ys
 by_texts xs ys rise rise' h =
-    let r = matched_equal (λ x y e. e) h in rising_unique compact_cmp compact_cmp_total xs ys rise rise' (λ d i. reordered-has d r i) (λ d i. reordered-has d (reordered_back r) i)
+    let r = matched_equal (λ x y e. e) h in rising_unique compact_cmp compact_cmp_total xs ys rise rise' (λ d i. reordered-has d r i) (λ d i. reordered-has d (IsPermutation-sym _ _ r) i)
 
 module _ (π : Preference) (t u : Data) (canonical : IsCanonical π t) (canonical' : IsCanonical π u) (both : MeanOne π t u) where
   by_keys : (xs ys : List Data) → IsStrictlySortedBy (option_cmp key_cmp) (map (key_of π) xs) → IsStrictlySortedBy (option_cmp key_cmp) (map (key_of π) ys) → Matched (λ x y. x ≡ y) xs ys → xs ≡ ys

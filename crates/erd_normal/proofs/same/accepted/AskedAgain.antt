@@ -9,7 +9,7 @@ use Rattle.erd_normal.proofs.same.InTurn.{id_text}
 use Rattle.erd_normal.proofs.same.Related.{entries_matched, matched_within_both}
 use Rattle.erd_normal.proofs.same.Steady.{steady_same, is_plain, of_report}
 use Rattle.erd_normal.proofs.same.CameFrom.{from_array, CameFrom, came_along, envelope_quiet, quiet_from}
-use Rattle.erd_meaning.proofs.references.SelectionEntries.{asked_from-append}
+use Rattle.erd_meaning.proofs.references.ReferenceWalks.{asked_from-append}
 
 -- ---- members of the envelope
 
@@ -139,7 +139,7 @@ module _ (m : Sides) (left_tree : IsTree m.left) (right_tree : IsTree m.right) (
       matched_within_both (Entry v) (λ x y i j k. record { same = k; inside = entry_within a ds v inside value asks x i; tree = list_of_items-tree es y trees j }) matched in
       let turned = λ (d f : Data) (i : Has entries.middle d) (j : Has entries.middle f) (h : is_same_json f d ≡ false).
       same_turned d f (list_of_items-tree es d trees (reordered-has d entries.reordered i)) (list_of_items-tree es f trees (reordered-has f entries.reordered j)) h in
-      distinct-reordered (λ d f. is_same_json f d) turned entries.reordered
+      distinct-reordered (λ d f. is_same_json f d) entries.reordered turned
       (distinct-paired (λ d f. is_same_json f d) (λ d f. is_same_json f d) (λ x x' y y' i j e e' h. one_entry a v asks set x x' y y' e e' h) entries.paired
       (unrepeated_distinct ds (λ i d found. each i d found)))
     where

@@ -1,5 +1,5 @@
 -- Members that mean the same by themselves say the same.
-use Rattle.erd_normal.proofs.Common.{◌≡◌, ℕ, suc, Bool, true, false, not, ◌||◌, List, [], length, ◌==◌, Some, None, codes, Option, option_and_then, sym, refl, ap, ◌∙◌, subst, arith, Data, string, array, object, Items, no_items, item, Members, get_member, text_of_class, role_of_class, Class, class, Family, role, reason, MemberKind, kind, array_from, get_member-tree, of_label, faultless, wanted_within, lacks_none, classed, member_within, Classed, Within, is_simple_class, no_strange, no_unknown, is_text, is_array, is_object, is_empty_array, IsTree, AreTrees, AreMembers, list_of_items, class_of_object, want_of_kind, want_of_name, asked, Scope, scope, Want, Carried, Member, Object, Reference, no_shape_fault, Reordered, IsAccepted, has_keys, Preference, Label, untranslated, Content, no_content, PlainValue, a_label, a_json_set, a_key, a_key_set, a_content, label_of, unless_empty, plain_value, Key, Sides, is_array_kind, a_text, an_object, no_entry, Same, SameEntries, SameMembers}
+use Rattle.erd_normal.proofs.Common.{◌≡◌, ℕ, suc, Bool, true, false, not, ◌||◌, List, [], length, ◌==◌, Some, None, codes, Option, option_and_then, sym, refl, ap, ◌∙◌, subst, arith, Data, string, array, object, Items, no_items, item, Members, get_member, text_of_class, role_of_class, Class, class, Family, role, reason, MemberKind, kind, array_from, get_member-tree, of_label, faultless, wanted_within, lacks_none, classed, member_within, Classed, Within, is_simple_class, no_strange, no_unknown, is_text, is_array, is_object, is_empty_array, IsTree, AreTrees, AreMembers, list_of_items, class_of_object, want_of_kind, want_of_name, asked, Scope, scope, Want, Carried, Member, Object, Reference, no_shape_fault, IsAccepted, has_keys, Preference, Label, untranslated, Content, no_content, PlainValue, a_label, a_json_set, a_key, a_key_set, a_content, label_of, unless_empty, plain_value, Key, Sides, is_array_kind, a_text, an_object, no_entry, Same, SameEntries, SameMembers, IsPermutation}
 use Rattle.erd_normal.proofs.lists.Matched.{Matched, matched_none}
 use Rattle.erd_normal.proofs.same.Back.{entries_paired, set_says, list_says}
 use Rattle.erd_normal.proofs.same.Labels.{Translations, labels_say, plain_self}
@@ -177,7 +177,7 @@ module _ (π : Preference) (t u : Data) (m : Sides) (accepted : IsAccepted π t)
       (values_apart π t accepted kind.Identifiers r role.Identifier ds w refl refl identifier_simple trees) (values_apart π u accepted' kind.Identifiers r role.Identifier es w' refl refl identifier_simple trees')
       (ap json_in e))))
     where
-      in_some_order : {xs ys : List Data} → Reordered xs ys → Matched (Same m (Some (Object role.Identifier))) xs ys
+      in_some_order : {xs ys : List Data} → IsPermutation xs ys → Matched (Same m (Some (Object role.Identifier))) xs ys
       in_some_order {xs} h = record { middle = xs; paired = paired_self xs (λ x. plain_self m (Some (Object role.Identifier)) x (all_plain _ (Object role.Identifier) refl refl)); reordered = h }
 
   same_content : (r : Bool) (ds es : Items) → AreTrees ds → AreTrees es → Within t (asked (Member kind.Content r) (array ds)) → Within u (asked (Member kind.Content r) (array es))

@@ -12,7 +12,7 @@ use Rattle.erd_normal.proofs.same.means.Members.{BothObjects, MeansNothing, TwoR
 use Rattle.erd_normal.proofs.same.means.Names.{name_alike}
 use Rattle.erd_normal.proofs.same.means.Records.{plain_alike, selection_alike}
 use Rattle.erd_normal.proofs.canonical.RisingReports.{selection_values_distinct}
-use Rattle.erd_meaning.proofs.identity.Resolved.{none_told}
+use Rattle.erd_meaning.proofs.identity.MetLists.{none_told}
 
 module _ (m : Sides) (π : Preference) (g : TwoReports m π) where
   -- an object of the family, and one that is related to it

@@ -8,7 +8,7 @@ use Rattle.erd_normal.proofs.same.means.Contents.{content_alike}
 use Rattle.erd_normal.proofs.same.means.Members.{BothObjects, HaveMembers, MeansNothing, TwoReports, Told, both_told, both_objects, related_entries_of, unless_empty_same, nothing_cases}
 use Rattle.erd_normal.proofs.same.means.References.{key_alike, keys_set_alike, label_alike}
 use Rattle.erd_normal.proofs.built.AskedMembers.{status_kind}
-use Rattle.erd_meaning.proofs.identity.Resolved.{none_told}
+use Rattle.erd_meaning.proofs.identity.MetLists.{none_told}
 
 -- ---- what means nothing
 

@@ -1,5 +1,5 @@
 -- References and labels of two reports that say the same mean the same.
-use Rattle.erd_normal.proofs.Common.{◌≡◌, ℕ, List, [], ◌∷◌, map, Some, Option, option_and_then, unwrap_or, refl, ap, ◌∙◌, subst, ap₂, Data, string, Items, as_str, Family, here, later, Has, wanted_within, list_of_items, Want, Reference, no_shape_fault, key_cmp, Preference, key_set, rising_list, key_named, keys_named, IsUsed, Sides, StandsFor, an_id, no_entry, one_entry, Same, SameEntries, string_from_text, sym, a_text, a_set, Bool, true, false, cond, ◌||◌, None, codes, bytes_eq, array, object, Members, get, compact_text, kind_of_member, is_required, class, role, kind, of_label, unrepeated, classed, Classed, entries_at, class_of_object, scope_inside, Member, Object, Reordered, translated, label_of, with_rising_text, a_list, an_object, SameMembers, fun_ext}
+use Rattle.erd_normal.proofs.Common.{◌≡◌, ℕ, List, [], ◌∷◌, map, Some, Option, option_and_then, unwrap_or, refl, ap, ◌∙◌, subst, ap₂, Data, string, Items, as_str, Family, here, later, Has, wanted_within, list_of_items, Want, Reference, no_shape_fault, key_cmp, Preference, key_set, rising_list, key_named, keys_named, IsUsed, Sides, StandsFor, an_id, no_entry, one_entry, Same, SameEntries, string_from_text, sym, a_text, a_set, Bool, true, false, cond, ◌||◌, None, codes, bytes_eq, array, object, Members, get, compact_text, kind_of_member, is_required, class, role, kind, of_label, unrepeated, classed, Classed, entries_at, class_of_object, scope_inside, Member, Object, translated, label_of, with_rising_text, a_list, an_object, SameMembers, fun_ext, IsPermutation}
 use Rattle.erd_normal.proofs.lists.Matched.{Matched, paired_kept, matched_equal}
 use Rattle.erd_normal.proofs.lists.NumbersInOrder.{rising_keys_named-reordered}
 use Rattle.erd_normal.proofs.meaning.AlikeRecords.{keys_named-reordered, json_set-reordered}
@@ -72,7 +72,7 @@ module _ (m : Sides) where
       let c = class.InternationalizedText in
       told_plain m c k (get k d) (get k e) (plain_of_kind (kind_of_member c k) (is_required c k) (plain_beside k typed text)) (steady_beside k typed text) refl (h k typed)
 
-  same_translations : (d e : Data) → HaveMembers m class.InternationalizedText d e → Reordered (entries_at (codes "Text") d) (entries_at (codes "Text") e)
+  same_translations : (d e : Data) → HaveMembers m class.InternationalizedText d e → IsPermutation (entries_at (codes "Text") d) (entries_at (codes "Text") e)
   same_translations d e h =
       matched_equal (λ x y r. steady_same m r.same refl)
       (told_entries m class.InternationalizedText (codes "Text") (Member kind.Languages true) (Object role.Language) (get (codes "Text") d) (get (codes "Text") e) refl refl refl refl (h (codes "Text") refl))

@@ -1,5 +1,5 @@
 -- What is built of the value of a member without objects says what the value says, and where nothing is built of it, it is an empty array.
-use Rattle.erd_normal.proofs.Common.{◌≡◌, ℕ, Bool, true, false, ◌&&◌, List, [], ◌∷◌, map, if◌then◌else◌, Some, None, codes, Option, bytes_eq, Ordering, sym, refl, ap, ◌∙◌, subst, map-id, not-false, Data, string, array, object, Items, no_items, item, Members, put, get_member, kind_of_member, is_required, Class, Family, family, role, reason, MemberKind, kind, text_exact, all-Has, faultless, wanted_within, within-tree, Within, want_unless_status, is_empty_array, IsTree, list_of_items, entries_of, entries_at, text_of, want_of_kind, is_report_class, member_want, want_of_name, entry_want, is_table_set, asked, Scope, scope, Want, Carried, Member, Object, Reference, Status, no_shape_fault, IsAccepted, Preference, IsBounded, rising_list, compact_cmp, with_rising_text, Sides, is_array_kind, an_empty_array, a_text, an_id, an_object, Same, SameMembers, normal_id, normal_reference, reference_cmp, normal_selection_reference, unless_no_entry, array_of, normal_value, is_array, IsPermutation, items_of, list_of_items-items_of, here, later, Has, reordered_back, reordered_rising, reordered-has, permuted_rising, a_list, a_set, SameEntries}
+use Rattle.erd_normal.proofs.Common.{◌≡◌, ℕ, Bool, true, false, ◌&&◌, List, [], ◌∷◌, map, if◌then◌else◌, Some, None, codes, Option, bytes_eq, Ordering, sym, refl, ap, ◌∙◌, subst, map-id, not-false, Data, string, array, object, Items, no_items, item, Members, put, get_member, kind_of_member, is_required, Class, Family, family, role, reason, MemberKind, kind, text_exact, all-Has, faultless, wanted_within, within-tree, Within, want_unless_status, is_empty_array, IsTree, list_of_items, entries_of, entries_at, text_of, want_of_kind, is_report_class, member_want, want_of_name, entry_want, is_table_set, asked, Scope, scope, Want, Carried, Member, Object, Reference, Status, no_shape_fault, IsAccepted, Preference, IsBounded, rising_list, compact_cmp, with_rising_text, Sides, is_array_kind, an_empty_array, a_text, an_id, an_object, Same, SameMembers, normal_id, normal_reference, reference_cmp, normal_selection_reference, unless_no_entry, array_of, normal_value, is_array, IsPermutation, items_of, list_of_items-items_of, here, later, Has, reordered_rising, reordered-has, a_list, a_set, SameEntries, IsPermutation-sym}
 use Rattle.erd_normal.proofs.built.AskedMembers.{entries_asked, status_kind}
 use Rattle.erd_normal.proofs.built.BuiltFrom.{Builder}
 use Rattle.erd_normal.proofs.built.NormalEntries.{no_entry}
@@ -27,8 +27,8 @@ module _ (m : Sides) (w : Want) (g : Data → Data) where
   pub set_built : (cmp : Data → Data → Ordering) (ds : Items) → is_table_set w ≡ true → EachSame (list_of_items ds) → Same m (Some w) (array ds) (array_of (map g (rising_list cmp (list_of_items ds))))
   set_built cmp ds is each =
       let xs = rising_list cmp (list_of_items ds) in
-      a_set (items_of xs) is (subst (IsPermutation (list_of_items ds)) (sym (list_of_items-items_of xs)) (permuted_rising cmp (list_of_items ds)))
-      (paired_entries m (entry_want w) (built_entries xs (λ x i. each x (reordered-has x (reordered_back (reordered_rising cmp (list_of_items ds))) i))))
+      a_set (items_of xs) is (subst (IsPermutation (list_of_items ds)) (sym (list_of_items-items_of xs)) (reordered_rising cmp (list_of_items ds)))
+      (paired_entries m (entry_want w) (built_entries xs (λ x i. each x (reordered-has x (IsPermutation-sym _ _ (reordered_rising cmp (list_of_items ds))) i))))
 
   pub list_built : (ds : Items) → is_table_set w ≡ false → EachSame (list_of_items ds) → Same m (Some w) (array ds) (array_of (map g (list_of_items ds)))
   list_built ds is each =
