@@ -41,8 +41,6 @@ map_in o = λ n. None
 
 -- ---- records that are alike: objects of one class whose members mean the same, and selections of one name
 
--- ---- records
-
 -- objects of one class whose members mean the same have one record
 pub record_alike : {V : Type 0} (m n : Class → List ℕ → Option V) (r : Role) (e d : Data) (c : Class) → class_of_object r e ≡ Some c → class_of_object r d ≡ Some c → ((name : List ℕ) → m c name ≡ n c name)
     → record_with m r e ≡ record_with n r d
@@ -88,8 +86,6 @@ pub keys_named-reordered : (π : Preference) (t : Data) (f : Family) {ds es : Li
 keys_named-reordered π t f h = fun_ext (λ k. list_any-IsPermutation (λ l. is_eq (key_cmp l k)) _ _ (reordered_kept (λ r. option_and_then (key_named π t f) (as_str r)) h))
 
 -- ---- the order of a ballot and the selections of contests stand in few classes
-
--- ---- kinds
 
 -- a member of this kind is neither the order of a ballot nor the selections of a contest
 abbrev pub is_flat : MemberKind → Bool

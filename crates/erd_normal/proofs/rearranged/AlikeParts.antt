@@ -83,8 +83,6 @@ mutual
 
 -- ---- what stands in an object of a report, and what in one that is alike to it
 
--- ---- arrays
-
 module _ (ρ : List ℕ → List ℕ) where
   -- what has no entries is alike to what has none
   pub alike_listed : (w : Want) (d e : Data) → Alike ρ (Some w) d e → Matched (Alike ρ (entry_want w)) (entries_of d) (entries_of e)
@@ -163,8 +161,6 @@ related_id_text ρ w (object ms) e is h = ap as_str h.1
 related_id_text ρ w k e is h = sym (ap as_str h)
 
 -- ---- the objects of each family are matched, and related ones have `@id`s that are one but for the function of texts
-
--- ---- objects that are related
 
 module _ (ρ : List ℕ → List ℕ) (t : Data) (clean : NoneOf (ShapeFault t)) where
   abbrev RelatedIn : Role → Data → Data → Type 0

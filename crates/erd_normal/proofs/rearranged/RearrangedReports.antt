@@ -87,8 +87,6 @@ module _ (π : Preference) (ρ σ : List ℕ → List ℕ) (t u : Data) (back : 
 
 -- ---- a rearranged report is a tree, is accepted as it was, says the same and so means the same: by each change, and so by all
 
--- ---- one change
-
 -- the report is as good as an accepted one, and says the same
 record IsAsGood (π : Preference) (t u : Data) : Type 0 where
   tree : IsTree u

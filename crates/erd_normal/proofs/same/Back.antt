@@ -78,7 +78,7 @@ mutual
 pub says_back : SaysBack
 says_back t u h = record { there = h.back; back = h.there; same = same_back (record { left = t; right = u; there = h.there; back = h.back }) h.same }
 
--- ---- if u says what t says, t says what u says
+-- ---- each report says what it says
 
 abbrev pub as_it_is : List ℕ → List ℕ
 as_it_is s = s

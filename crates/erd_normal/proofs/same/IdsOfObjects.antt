@@ -65,8 +65,6 @@ module _ (π : Preference) (t : Data) (accepted : IsAccepted π t) where
       let j = position_of (objects g t) p.0 p.1 in
       (one_id π t id f g i.0 j.0 (no_identity_fault π t accepted) (id_at f i.0 o.0 id i.1 (ap id_of o.2 ∙ a)) (id_at g j.0 p.0 id j.1 (ap id_of p.2 ∙ b))).0
 
--- ---- what each value is, by what is asked of it
-
 -- ---- a reference of an accepted report names an object of its family
 
 -- a text that names an object of the family
@@ -86,8 +84,6 @@ module _ (π : Preference) (t : Data) (accepted : IsAccepted π t) where
       (Within-step t (asked (Member (kind.Many f) r) (array ds)) (record { want = Reference f; value = d; repeated = is_repeated ds i d }) (At i) w (rw e refl))))
 
 -- ---- what a value is, by what the table asks of it: so an `@id` that it asks for is that of an object of a family
-
--- ---- what a value is, by what is asked of it
 
 abbrev pub IsPart : Data → Want → Data → Type 0
 IsPart t (Object role.Report) d = d ≡ t

@@ -69,8 +69,6 @@ module _ (m : Sides) where
 
 -- ---- `@type` is never left out, so objects that say the same have the same class
 
--- ---- `@type` is never left out
-
 asks_class : (s : Scope) (w : Want) → want_of_name s (codes "@type") ≡ Some w → ((r : Role) → ClassText r ≡ w → ⊥) → (Carried ≡ w → ⊥) → ⊥
 asks_class scope.Nothing w e h k = cc
 asks_class (scope.Members r c) w e h k = let g : ClassText r ≡ w = cc in absurd (h r g)

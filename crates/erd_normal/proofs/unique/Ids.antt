@@ -99,8 +99,6 @@ module _ (π : Preference) (t u : Data) (canonical : IsCanonical π t) (canonica
 
 -- ---- what canonical form closes: texts that stand for one another are equal, and no `@id` may be absent
 
--- ---- a report that refers to each object of another
-
 -- the `@id` of an object as a reference
 abbrev reference_to : Data → Data
 reference_to d = option_map_or string (id_of d) null

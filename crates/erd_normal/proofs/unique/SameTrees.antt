@@ -21,8 +21,6 @@ envelope_equal t u a b =
 
 -- ---- canonical reports that say the same are equal
 
--- ---- what may be absent
-
 -- outside its envelope a canonical report has no member that may be absent, if each `@id` is used
 none_absent : (π : Preference) (t l : Data) → IsCanonical π t → ((s : List ℕ) → IsId t s → IsUnused l s → ⊥) → (w : Want) (ms : Members) → Stands t w (object ms) → (n : List ℕ) (d : Data) → get_member n ms ≡ Some d
     → is_envelope (scope_inside w (object ms)) n ≡ false → MayBeAbsent l (scope_inside w (object ms)) n d → ⊥

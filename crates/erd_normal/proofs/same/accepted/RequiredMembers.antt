@@ -154,8 +154,6 @@ module _ (t : Data) (clean : NoneOf (ShapeFault t)) where
 
 -- ---- what stands in the right report alone has no fault of shape
 
--- ---- what has no fault
-
 -- neither a reference nor a part of a ballot
 abbrev pub is_lone : Want → Bool
 is_lone (Reference f) = false

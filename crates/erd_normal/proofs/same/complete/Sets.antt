@@ -22,8 +22,6 @@ pub record TextsTied (π : Preference) (t u : Data) (m : Sides) : Type 0 where
 
 -- ---- sets that mean the same say the same: references that name one set of keys, and JSON values
 
--- ---- lists
-
 -- entries that a test tells apart are apart by a key, where entries with one key pass the test
 pub apart_by : {A K : Type 0} (test : A → A → Bool) (key : A → K) (xs : List A) → ((x y : A) → Has xs x → Has xs y → key x ≡ key y → test x y ≡ true) → IsDistinct test xs → ApartBy key xs
 unfolding IsDistinct

@@ -190,8 +190,6 @@ module _ (π : Preference) (t : Data) where
 
 -- ---- references of the report that is built: none is to an object without `@id`, and none of the report is to a style
 
--- ---- references of the report
-
 -- an object with an `@id`, and its canonical `@id`
 pub record Renamed (π : Preference) (t : Data) (s id : List ℕ) : Type 0 where
   pub its_family : Family

@@ -36,8 +36,6 @@ module _ (m : Sides) (w : Want) (g : Data → Data) where
 
 -- ---- what is built of the value of a member without objects
 
--- ---- what is built of a value
-
 -- a value says the same, or there is none and the value before is an empty array
 pub data Said (m : Sides) (w : Want) (d : Data) : Option Data → Type 0 where
   kept : {v : Data} → Same m (Some w) d v → Said m w d (Some v)
