@@ -11,10 +11,9 @@ use Rattle.erd_normal.proofs.same.Families.{selections_matched}
 use Rattle.erd_normal.proofs.same.accepted.RequiredMembers.{IsSound, is_lone}
 use Rattle.erd_normal.proofs.same.accepted.AskedAgain.{AskedAgain, asked_again, none_repeated, none_asked}
 use Rattle.erd_normal.proofs.same.means.References.{used}
-use Rattle.erd_normal.proofs.same.means.Members.{BothObjects, Told, both_told, both_objects, steady_nothing, told_entries}
+use Rattle.erd_normal.proofs.same.means.Members.{BothObjects, Told, both_told, both_objects, steady_nothing, told_entries, none_told}
 use Rattle.erd_normal.proofs.same.Steady.{is_steady_kind}
 use Rattle.erd_normal.proofs.lists.Lists.{is_family}
-use Rattle.erd_meaning.proofs.identity.MetLists.{none_told}
 
 -- it has no fault of references by itself
 pub record IsSoundIn (u : Data) (a : Asked) : Type 0 where

@@ -5,10 +5,9 @@ use Rattle.erd_normal.proofs.same.complete.ContentNodes.{content_at, content_cla
 use Rattle.erd_normal.proofs.same.FromAlike.{Stands, entry_stands, stands_tree}
 use Rattle.erd_normal.proofs.same.Related.{Related}
 use Rattle.erd_normal.proofs.same.Steady.{is_steady_kind, is_plain}
-use Rattle.erd_normal.proofs.same.means.Members.{BothObjects, HaveMembers, TwoReports, Told, both_told, absent_nothing, both_objects, member_there, nothing_empty, steady_nothing, told_plain, nothing_cases}
+use Rattle.erd_normal.proofs.same.means.Members.{BothObjects, HaveMembers, TwoReports, Told, both_told, absent_nothing, both_objects, member_there, nothing_empty, steady_nothing, told_plain, nothing_cases, none_told}
 use Rattle.erd_normal.proofs.same.means.Names.{name_named_alike}
 use Rattle.erd_normal.proofs.same.means.References.{key_alike_text, said_in_turn}
-use Rattle.erd_meaning.proofs.identity.MetLists.{none_told}
 use Rattle.erd_tables.specs.declared.class.Role.TheVariants as role
 
 -- ---- carried members

@@ -8,11 +8,10 @@ use Rattle.erd_normal.proofs.meaning.AlikeRecords.{is_named, named_tied, plain_m
 use Rattle.erd_normal.proofs.same.FamilyValues.{family_values, placed_value, outside, in_report, in_election, not_before_itself, value_placed}
 use Rattle.erd_normal.proofs.same.Related.{Related}
 use Rattle.erd_normal.proofs.same.Families.{elections_matched, related_election_key, related_key, keyed_array, family_matched, selections_matched}
-use Rattle.erd_normal.proofs.same.means.Members.{BothObjects, MeansNothing, TwoReports, Told, both_told, both_objects, unless_empty_same, nothing_cases}
+use Rattle.erd_normal.proofs.same.means.Members.{BothObjects, MeansNothing, TwoReports, Told, both_told, both_objects, unless_empty_same, nothing_cases, none_told}
 use Rattle.erd_normal.proofs.same.means.Names.{name_alike}
 use Rattle.erd_normal.proofs.same.means.Records.{plain_alike, selection_alike}
 use Rattle.erd_normal.proofs.canonical.RisingReports.{selection_values_distinct}
-use Rattle.erd_meaning.proofs.identity.MetLists.{none_told}
 
 module _ (m : Sides) (π : Preference) (g : TwoReports m π) where
   -- an object of the family, and one that is related to it

@@ -5,9 +5,8 @@ use Rattle.erd_normal.proofs.same.Owners.{owners_related}
 use Rattle.erd_normal.proofs.same.Related.{Related}
 use Rattle.erd_normal.proofs.same.Families.{related_key}
 use Rattle.erd_normal.proofs.same.Steady.{is_steady_kind, is_plain}
-use Rattle.erd_normal.proofs.same.means.Members.{BothObjects, HaveMembers, TwoReports, Told, both_told, both_objects, steady_nothing, told_entries, told_plain}
+use Rattle.erd_normal.proofs.same.means.Members.{BothObjects, HaveMembers, TwoReports, Told, both_told, both_objects, steady_nothing, told_entries, told_plain, none_told}
 use Rattle.erd_normal.proofs.same.means.References.{keys_list_alike, label_text_alike}
-use Rattle.erd_meaning.proofs.identity.MetLists.{none_told}
 
 module _ (m : Sides) (π : Preference) (g : TwoReports m π) where
   -- ---- the six parts

@@ -5,10 +5,9 @@ use Rattle.erd_normal.proofs.meaning.AlikeRecords.{nothing_of, record_alike, jso
 use Rattle.erd_normal.proofs.same.Related.{Related}
 use Rattle.erd_normal.proofs.same.Steady.{steady_same, is_plain}
 use Rattle.erd_normal.proofs.same.means.Contents.{content_alike}
-use Rattle.erd_normal.proofs.same.means.Members.{BothObjects, HaveMembers, MeansNothing, TwoReports, Told, both_told, both_objects, related_entries_of, unless_empty_same, nothing_cases}
+use Rattle.erd_normal.proofs.same.means.Members.{BothObjects, HaveMembers, MeansNothing, TwoReports, Told, both_told, both_objects, related_entries_of, unless_empty_same, nothing_cases, none_told}
 use Rattle.erd_normal.proofs.same.means.References.{key_alike, keys_set_alike, label_alike}
 use Rattle.erd_normal.proofs.built.AskedMembers.{status_kind}
-use Rattle.erd_meaning.proofs.identity.MetLists.{none_told}
 
 -- ---- what means nothing
 
