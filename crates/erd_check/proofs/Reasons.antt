@@ -37,8 +37,8 @@ unrepeated w repeated d r h = h
 missing_sound : (w : Want) (repeated : Bool) (d : Data) (r : Reason) → In r (missing (scope_inside w d) d) → is_shape_fault (asked_with w repeated d) r ≡ true
 missing_sound w repeated d r h =
     let from = In-map_from MissingMember (filter (lacks d) (names_wanted (scope_inside w d))) r h in
-    let kept = In-filter (lacks d) from.from (names_wanted (scope_inside w d)) from.inside in
-    subst (λ q. is_shape_fault (asked_with w repeated d) q ≡ true) from.is (and_from _ _ (any_from_In from.from (names_wanted (scope_inside w d)) kept.0) kept.1)
+    let kept = In-filter (lacks d) from.0 (names_wanted (scope_inside w d)) from.1 in
+    subst (λ q. is_shape_fault (asked_with w repeated d) q ≡ true) from.2 (and_from _ _ (any_from_In from.0 (names_wanted (scope_inside w d)) kept.0) kept.1)
 
 repeats_sound : (w : Want) (repeated : Bool) (d : Data) (r : Reason) → In r (repeats w repeated d) → is_shape_fault (asked_with w repeated d) r ≡ true
 repeats_sound w repeated d r h = (In-filter (is_shape_fault (asked_with w repeated d)) r (Repeated ∷ []) h).1
@@ -112,7 +112,7 @@ unfolding IsStrictlySortedBy
 alone_sorted r = (tt, tt)
 
 by_number : (q r : Reason) → reason_number q < reason_number r → reason_cmp q r ≡ Less
-by_number q r h = grind (arith)
+by_number q r h = grind arith
 
 abbrev Between : ℕ → ℕ → List Reason → Type 0
 Between low high xs = (r : Reason) → In r xs → (low ≤ reason_number r) × (reason_number r ≤ high)
@@ -137,7 +137,7 @@ between_filter low high test xs a r i = In-all (λ r. (low ≤ reason_number r) 
 between_missing : (s : Scope) (d : Data) → Between 2 2 (missing s d)
 between_missing s d r i =
     let from = In-map_from MissingMember (filter (lacks d) (names_wanted s)) r i in
-    subst (λ q. (2 ≤ reason_number q) × (reason_number q ≤ 2)) from.is (omega arith, omega arith)
+    subst (λ q. (2 ≤ reason_number q) × (reason_number q ≤ 2)) from.2 (omega arith, omega arith)
 
 pub reasons_sorted : (w : Want) (repeated : Bool) (d : Data) → IsStrictlySortedBy reason_cmp (reasons w repeated d)
 reasons_sorted w repeated d =

@@ -1,9 +1,9 @@
 -- What stands at the places of a report whose shape has no fault: members, entries, objects and their kinds.
 use Rattle.erd_check.proofs.Common.{◌≡◌, ℕ, zero, suc, true, ◌⊎◌, List, [], Some, Option, refl, ap, subst, ap₂, inl, inr, ⊎_elim, option_map_or, Data, string, array, object, Items, no_items, item, Members, get_item, is_text, is_array, is_object, IsTree, AreTrees, list_of_items, entries_of, ◌≤◌, None, Ordering, Less, Equal, Greater, sym, ◌∙◌, arith, tied_itself, nat_list_cmp_total, exact_bytes, match_ordering, ordering_reverse, no_members, member, depth, members_depth, get_member, text_cmp, IsBeforeFirst, AreMembers, Bool, false, not, ◌&&◌, ◌∷◌, ◌++◌, is_none, IsSomeAnd, IsTrue, codes, option_map, option_and_then, bytes_eq, append_assoc, not-false, and_from, false_from_ne_true, list_any, get, text_of_class, role_of_class, class_in_role, Class, Role, role, Reason, reason, kind, Step, At, Name, has_wanted_kind, names_wanted, is_reference, is_shape_fault, ShapeFault, NoneOf, class_of_object, scope_inside, member_want, want_of_name, entry_want, is_compared_set, Asked, asked, is_repeated, asked_inside, asked_from, asked_at, Want, ClassText, Member, Object, cond, unwrap_or, and_parts, list_all, Row, rows_of_class, kind_in_rows, is_reference_name, kind_of_identity, kind_of_unlisted, kind_of_member, is_required, class, MemberKind, want_of_kind, is_report_class, cases_Bool, Family, is_empty_array}
-use Rattle.erd_check.proofs.Order.{Has, Has-cases}
 use Rattle.std.proofs.lemmas.Option.{same_Some}
 use Rattle.erd_tables.proofs.Roles.{class_in_role_named}
 use Rattle.erd_check.proofs.Exact.{text_exact}
+use Rattle.erd_check.proofs.Order.{In}
 
 -- the entries of an array that may be absent
 abbrev pub entries_in : Option Data → List Data
@@ -26,13 +26,13 @@ list_of_items_exact no_items no_items e = refl
 list_of_items_exact (item d ds) (item f es) e = let h : list_of_items ds ≡ list_of_items es = cc in let g : d ≡ f = cc in ap₂ item g (list_of_items_exact ds es h)
 list_of_items_exact ds es e = cc
 
-pub list_of_items-place : (ds : Items) (d : Data) → Has (list_of_items ds) d → (i : ℕ) × (get_item i ds ≡ Some d)
+pub list_of_items-place : (ds : Items) (d : Data) → In d (list_of_items ds) → (i : ℕ) × (get_item i ds ≡ Some d)
 list_of_items-place no_items d h = elim h [ ]
-list_of_items-place (item e ds) d h = elim (Has-cases e d (list_of_items ds) h) [ inl s ↦ (zero, ap Some s) | inr k ↦ let r = list_of_items-place ds d k in (suc r.0, r.1) ]
+list_of_items-place (item e ds) d h = elim h [ inl s ↦ (zero, ap Some s) | inr k ↦ let r = list_of_items-place ds d k in (suc r.0, r.1) ]
 
-pub list_of_items-tree : (ds : Items) (d : Data) → AreTrees ds → Has (list_of_items ds) d → IsTree d
+pub list_of_items-tree : (ds : Items) (d : Data) → AreTrees ds → In d (list_of_items ds) → IsTree d
 list_of_items-tree no_items d tree h = elim h [ ]
-list_of_items-tree (item e ds) d tree h = ⊎_elim (λ s. subst IsTree s tree.0) (λ k. list_of_items-tree ds d tree.1 k) (Has-cases e d (list_of_items ds) h)
+list_of_items-tree (item e ds) d tree h = ⊎_elim (λ s. subst IsTree s tree.0) (λ k. list_of_items-tree ds d tree.1 k) h
 
 pub get_item-tree : (i : ℕ) (v : Data) (ds : Items) → AreTrees ds → get_item i ds ≡ Some v → IsTree v
 get_item-tree i v no_items tree e = cc

@@ -2,30 +2,13 @@
 use Rattle.erd_check.proofs.Common.{◌≡◌, List, [], ◌∷◌, map, Some, flat_map, Ordering, Less, sym, refl, ap, subst, inl, inr, IsStrictlySortedBy, Data, place_same, reason_cmp, fault_cmp, ListsAll, Report, Fault, Reason, Step, fault_at, IsInOrder, Asked, asked_at, Object, ◌-◌, ◌≤◌, Bool, false, ◌&&◌, ◌++◌, length, take, IsSomeAnd, IsTrue, None, Option, ◌∙◌, ap₂, append-nil, arith, length-append, list_any, option_map_or, array, object, Items, no_items, item, Members, no_members, member, At, Name, is_shape_fault, ShapeFault, is_same_json, faults_of, Telling, told_at, told_of_items, told_of_members, told_of_report, scope_inside, want_of_name, entry_want, is_compared_set, asked_with, reasons, Scope, Want}
 use Rattle.erd_tables.specs.Places.{place_cmp}
 use Rattle.erd_check.proofs.AskedInside.{AskedPlace, all_asked, all_asked_complete, by_place, all_asked_rising, all_asked_sound, all_asked_from, all_asked_items, all_asked_members}
-use Rattle.erd_check.proofs.Order.{In, In-append, In-flat_map, In-map, In-map_from, In-all, In-from_contains, contains_from_In, Below, sorted_append, sorted_map, In-append_left, In-append_right}
+use Rattle.erd_check.proofs.Order.{In, In-flat_map, In-map, In-map_from, In-all, In-from_contains, contains_from_In, Below, sorted_append, sorted_map, In-append_left, In-append_right, In-flat_map_from}
 use Rattle.std.proofs.Math.Seq.{take-append_seam}
 use Rattle.std.proofs.lemmas.List.{take-append-le}
 use Rattle.std.proofs.lemmas.Grind.{flat_map-append}
 use Rattle.erd_check.proofs.Reasons.{reasons_complete, reasons_sorted, reasons_sound}
 
 -- ---- lists of lists
-
--- a value of one of the lists, and what that list is made of
-pub record Origin {A B : Type 0} (f : A → List B) (xs : List A) (y : B) : Type 0 where
-  pub from : A
-  pub inside : In from xs
-  pub has : In y (f from)
-
-origin_later : {A B : Type 0} (f : A → List B) (x : A) (xs : List A) (y : B) → Origin f xs y → Origin f (x ∷ xs) y
-origin_later f x xs y o = record { from = o.from; inside = inr o.inside; has = o.has }
-
-pub In-flat_map_from : {A B : Type 0} (f : A → List B) (xs : List A) (y : B) → In y (flat_map f xs) → Origin f xs y
-In-flat_map_from f [] y h = absurd h
-In-flat_map_from f (x ∷ xs) y h =
-    elim (In-append y (f x) (flat_map f xs) h) [
-      | inl i ↦ record { from = x; inside = inl refl; has = i }
-      | inr j ↦ origin_later f x xs y (In-flat_map_from f xs y j)
-    ]
 
 pub sorted_flat_map : {A B : Type 0} (f : A → List B) (cmp : A → A → Ordering) (cmp' : B → B → Ordering) → ((x : A) → IsStrictlySortedBy cmp' (f x))
     → ((x y : A) → cmp x y ≡ Less → Below cmp' (f x) (f y)) → (xs : List A) → IsStrictlySortedBy cmp xs → IsStrictlySortedBy cmp' (flat_map f xs)
@@ -35,7 +18,7 @@ sorted_flat_map f cmp cmp' each apart (x ∷ xs) p =
     sorted_append cmp' (f x) (flat_map f xs) (each x) (sorted_flat_map f cmp cmp' each apart xs p.1)
     (λ a b i j.
     let o = In-flat_map_from f xs b j in
-    apart x o.from (In-all (λ y. cmp x y ≡ Less) o.from xs p.0 o.inside) a b i o.has)
+    apart x o.0 (In-all (λ y. cmp x y ≡ Less) o.0 xs p.0 o.1) a b i o.2)
 
 -- ---- reasons at one place
 
@@ -60,7 +43,7 @@ below_there : (reasons_at : List Step → Asked → List Reason) (x y : AskedPla
 below_there reasons_at x y less f g i j =
     let a = In-map_from (fault_at x.0) (reasons_at x.0 x.1) f i in
     let b = In-map_from (fault_at y.0) (reasons_at y.0 y.1) g j in
-    faults_apart f g x.0 y.0 (ap (λ (z : Fault). z.place) a.is) (ap (λ (z : Fault). z.place) b.is) less
+    faults_apart f g x.0 y.0 (ap (λ (z : Fault). z.place) a.2) (ap (λ (z : Fault). z.place) b.2) less
 
 rising_there : (t : Data) (reasons_at : List Step → Asked → List Reason) (IsFault : List Step → Reason → Type 0) → AreReasons t reasons_at IsFault → (x : AskedPlace) → IsStrictlySortedBy fault_cmp (faults_there reasons_at x)
 rising_there t reasons_at IsFault are x = sorted_map (fault_at x.0) reason_cmp fault_cmp (λ q r e. rw (place_same x.0) e) (reasons_at x.0 x.1) (are.rising x.0 x.1)
@@ -69,9 +52,9 @@ sound_there : (t : Data) (reasons_at : List Step → Asked → List Reason) (IsF
     → (f : Fault) → In f (faults_asked reasons_at t) → IsFault f.place f.reason
 sound_there t reasons_at IsFault order are f i =
     let o = In-flat_map_from (faults_there reasons_at) (all_asked t) f i in
-    let x = o.from in
-    let from = In-map_from (fault_at x.0) (reasons_at x.0 x.1) f o.has in
-    subst (λ (g : Fault). IsFault g.place g.reason) from.is (are.sound x.0 x.1 from.from (all_asked_sound t x.0 x.1 order o.inside) from.inside)
+    let x = o.0 in
+    let from = In-map_from (fault_at x.0) (reasons_at x.0 x.1) f o.2 in
+    subst (λ (g : Fault). IsFault g.place g.reason) from.2 (are.sound x.0 x.1 from.0 (all_asked_sound t x.0 x.1 order o.1) from.1)
 
 complete_there : (t : Data) (reasons_at : List Step → Asked → List Reason) (IsFault : List Step → Reason → Type 0) → AreReasons t reasons_at IsFault
     → (p : List Step) (r : Reason) → IsFault p r → In (fault_at p r) (faults_asked reasons_at t)

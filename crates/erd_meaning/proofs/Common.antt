@@ -42,8 +42,8 @@ pub use Rattle.erd_tables.specs.declared.class.Family.TheVariants.{Contest, Sele
 pub use Rattle.erd_tables.specs.declared.fault.Reason.TheVariants.{DuplicateId, NoIdentifier, SelectionOfOtherContest, TwinIdentifier, TwinSelection, Unresolved, WrongFamily}
 pub use Rattle.erd_check.proofs.Deciding.{none_from_empty, less, tree_sound, if_some, tree_in_order, no_fault_listed}
 pub use Rattle.erd_check.proofs.Shapes.{entries_in, array_from, list_of_items_exact, list_of_items-place, object_in, object_at, report_class, election_class, not_empty, is_absent, is_filled_array, keyed_list, MayBeArray, ObjectAt, ObjectIn, asked_at-step, Within-step, Within-root, not_within, of_role, asked_inside_object, faultless, wanted_within, lacks_none, member_within, Within, kind_of_class, kind_of_name, kind_of_id, want_by_kind}
-pub use Rattle.erd_check.proofs.Positions.{and_then-Some, option_map-Some, some_from, position_of, has_mapped, has_at, all_weakened}
-pub use Rattle.erd_check.proofs.Order.{In, In-append_left, In-append_right, In-append, In-map, In-map_from, In-flat_map, any_at, In-filter, In-filter_kept, In-from_contains, contains_from_In, all_from_In, In-all, Below, sorted_append, here, later, Has-cases, all-Has, rising_unique, Has}
+pub use Rattle.erd_check.proofs.Positions.{and_then-Some, option_map-Some, some_from, position_of, all_weakened, in_at}
+pub use Rattle.erd_check.proofs.Order.{In, In-append_left, In-append_right, In-append, In-map, In-map_from, In-flat_map, any_at, In-filter, In-filter_kept, In-from_contains, contains_from_In, all_from_In, In-all, Below, sorted_append, rising_unique, In-any, all_hold, each_holds, In-flat_map_from}
 pub use Rattle.erd_check.proofs.Reports.{tree_of, small_ballot_with, header_node, contest_node, small_ballot, small_ballot_canonical, election, one_unit, with_report_member, with_unit_member, with_election_member, report_of_two, two_elections_with, two_elections, three_contests}
 pub use Rattle.erd_check.proofs.Walks.{outer_place, walk_lists, Agrees, Around}
 pub use Rattle.erd_check.specs.Refusals.{RefusedFor}

@@ -1,6 +1,6 @@
 -- What a report means at the keys of a part are the records of its objects: each object of an accepted report has a record,
 -- and no two of a part have one key.
-use Rattle.erd_compare.proofs.Common.{◌≡◌, ℕ, zero, suc, ◌≤◌, Bool, true, false, ◌⊎◌, List, [], ◌∷◌, length, nat_lt, slice_get, Some, None, Option, option_map, find, option_and_then, is_eq, sym, refl, ap, ◌∙◌, subst, inl, inr, arith, tied_itself, slice_get_within, option_cmp, Data, Family, family, Role, role, In, any_at, position_of, has_at, has_keys, key_cmp, Preference, key_of, election_key_in, election_in, ObjectRecord, Placed, report_of, elections, objects, has_several, election_of_place, meaning, object_record, record_in_election, placed_record, records_of, election_records, key_cmp_total, find-Some, find-any, option_map-Some, has_identifier, in_at, one_key, no_election_id, options_exact, equal_keys, Key, record_with_key, record_without_key, record_at, TellsHow, RecordMap, IsWholeTree, HasNoElectionId, TellsHeld, role_of_part, objects_in, key_with_role, holder_key_in, is_ranked, TellsAtPositions, HasKeyAt, IsComparable, record_of_class, How, Part, part}
+use Rattle.erd_compare.proofs.Common.{◌≡◌, ℕ, zero, suc, ◌≤◌, Bool, true, false, ◌⊎◌, List, [], ◌∷◌, length, nat_lt, slice_get, Some, None, Option, option_map, find, option_and_then, is_eq, sym, refl, ap, ◌∙◌, subst, inl, inr, arith, tied_itself, slice_get_within, option_cmp, Data, Family, family, Role, role, In, any_at, position_of, has_keys, key_cmp, Preference, key_of, election_key_in, election_in, ObjectRecord, Placed, report_of, elections, objects, has_several, election_of_place, meaning, object_record, record_in_election, placed_record, records_of, election_records, key_cmp_total, find-Some, find-any, option_map-Some, has_identifier, in_at, one_key, no_election_id, options_exact, equal_keys, Key, record_with_key, record_without_key, record_at, TellsHow, RecordMap, IsWholeTree, HasNoElectionId, TellsHeld, role_of_part, objects_in, key_with_role, holder_key_in, is_ranked, TellsAtPositions, HasKeyAt, IsComparable, record_of_class, How, Part, part}
 use Rattle.std.specs.Cmp.Lexicographic.{options_total}
 use Rattle.erd_check.specs.Wants.{asked, class_of_object}
 use Rattle.erd_check.specs.declared.want.Want.TheVariants.{Object}
@@ -63,7 +63,7 @@ module _ (π : Preference) (t : Data) (c : IsComparable π t) (f : Family) (keye
   kept d = rw keyed
 
   identified : (i : ℕ) (o : Placed) → slice_get (objects f t) i ≡ Some o → (k : Key) × (key_of π o.value ≡ Some k)
-  identified i o at = has_identifier π t (no_identity_fault π t c.accepted) f o keyed (has_at (objects f t) i o at)
+  identified i o at = has_identifier π t (no_identity_fault π t c.accepted) f o keyed (in_at (objects f t) i o at)
 
   apart_in_family : AreApart π (objects f t)
   apart_in_family i j o p at there same =
@@ -94,8 +94,8 @@ module _ (π : Preference) (t : Data) (c : IsComparable π t) (f : Family) (keye
     at_key = family_at_key;
     beside = family_beside;
     one = λ i j k h g. apart_in_family i j h.object g.object h.stands g.stands (sym (kept h.object.value) ∙ (h.key ∙ sym (sym (kept g.object.value) ∙ g.key)));
-    within = λ i o at. record { place = o.place; is = stands π t c.accepted f o (has_at (objects f t) i o at) };
-    whole = λ i o at. whole_object t f c.whole o (has_at (objects f t) i o at);
+    within = λ i o at. record { place = o.place; is = stands π t c.accepted f o (in_at (objects f t) i o at) };
+    whole = λ i o at. whole_object t f c.whole o (in_at (objects f t) i o at);
   }
 
 -- a record that no election holds
@@ -111,7 +111,7 @@ module _ (π : Preference) (t : Data) (c : IsComparable π t) where
   apart_elections i j o p at there same = by_key (key_of π o.value) refl
     where
       sole : (b : Bool) → has_several t ≡ b → key_of π o.value ≡ None → i ≡ j
-      sole true is none = let its = election_has_identifier π t (no_identity_fault π t c.accepted) is o (has_at (elections t) i o at) in let clash : None ≡ Some its.0 = sym none ∙ its.1 in absurd (cc clash)
+      sole true is none = let its = election_has_identifier π t (no_identity_fault π t c.accepted) is o (in_at (elections t) i o at) in let clash : None ≡ Some its.0 = sym none ∙ its.1 in absurd (cc clash)
       sole false is none = omega (arith, few (length (elections t)) is, slice_get_within (elections t) i o at, slice_get_within (elections t) j p there)
 
       by_key : (k : Option Key) → key_of π o.value ≡ k → i ≡ j
@@ -134,8 +134,8 @@ module _ (π : Preference) (t : Data) (c : IsComparable π t) where
     at_key = election_at_key;
     beside = election_beside;
     one = λ i j k h g. apart_elections i j h.object g.object h.stands g.stands (h.key ∙ sym g.key);
-    within = λ i o at. record { place = o.place; is = election_stands t (skeleton π t c.accepted) o (has_at (elections t) i o at) };
-    whole = λ i o at. whole_election t o c.whole (has_at (elections t) i o at);
+    within = λ i o at. record { place = o.place; is = election_stands t (skeleton π t c.accepted) o (in_at (elections t) i o at) };
+    whole = λ i o at. whole_election t o c.whole (in_at (elections t) i o at);
   }
 
   -- the report is the only object with its role

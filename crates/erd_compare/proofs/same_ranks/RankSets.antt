@@ -61,14 +61,14 @@ module _ (a b : Judged) (r : Role) where
       let inside = in_from_any key_cmp key_cmp_total key_cmp_exact k ks h in
       let any = sym (same (rank k)) ∙ any_from_in nat_cmp nat_cmp_total exact_unsigned (rank k) (map rank ks) (In-map rank k ks inside) in
       let image = In-map_from rank ls (rank k) (in_from_any nat_cmp nat_cmp_total exact_unsigned (rank k) (map rank ls) any) in
-      let one : image.from ≡ k = one_rank a b r image.from k (its image.from image.inside) (mine k inside) image.is in
-      any_from_in key_cmp key_cmp_total key_cmp_exact k ls (subst (λ x. In x ls) one image.inside)
+      let one : image.0 ≡ k = one_rank a b r image.0 k (its image.0 image.1) (mine k inside) image.2 in
+      any_from_in key_cmp key_cmp_total key_cmp_exact k ls (subst (λ x. In x ls) one image.1)
 
   ranks_over : (ks ls : List Key) → ((k : Key) → key_set ks k ≡ key_set ls k) → (n : ℕ) → rank_set (map rank ks) n ≡ true → rank_set (map rank ls) n ≡ true
   ranks_over ks ls same n h =
       let image = In-map_from rank ks n (in_from_any nat_cmp nat_cmp_total exact_unsigned n (map rank ks) h) in
-      let inside = in_from_any key_cmp key_cmp_total key_cmp_exact image.from ls (sym (same image.from) ∙ any_from_in key_cmp key_cmp_total key_cmp_exact image.from ks image.inside) in
-      any_from_in nat_cmp nat_cmp_total exact_unsigned n (map rank ls) (subst (λ x. In x (map rank ls)) image.is (In-map rank image.from ls inside))
+      let inside = in_from_any key_cmp key_cmp_total key_cmp_exact image.0 ls (sym (same image.0) ∙ any_from_in key_cmp key_cmp_total key_cmp_exact image.0 ks image.1) in
+      any_from_in nat_cmp nat_cmp_total exact_unsigned n (map rank ls) (subst (λ x. In x (map rank ls)) image.2 (In-map rank image.0 ls inside))
 
   pub same_keys : (ks ls : List Key) → AllKnown ks → AllKnown ls → ((n : ℕ) → rank_set (map rank ks) n ≡ rank_set (map rank ls) n) → (k : Key) → key_set ks k ≡ key_set ls k
   same_keys ks ls mine its same k = both_ways (key_set ks k) (key_set ls k) (keys_over ks ls mine its same k) (keys_over ls ks its mine (λ n. sym (same n)) k)

@@ -1,5 +1,5 @@
 -- The selections of two contests by the numbers of their names: what the right has at each name of the left is taken out.
-use Rattle.erd_compare.proofs.Common.{◌≡◌, ℕ, suc, Bool, true, false, cond, ◌⊎◌, List, [], ◌∷◌, length, ◌==◌, Some, None, Option, option_map, find, option_and_then, sym, refl, ap, ◌∙◌, subst, inl, inr, arith, Bor, fun_ext, AllByRecursion, Data, view, Value, Class, all-Has, Judged, Preference, plain_member, selection_record, name_in_class, selection_role, ◌↔◌, IsDistinct, option_eq, find-Some, SelectionRecord, number_of_name, Decides, IsWholeTree, on_side, has_number, IsByNumber, numbered_map, Side, Left, Right}
+use Rattle.erd_compare.proofs.Common.{◌≡◌, ℕ, suc, Bool, true, false, cond, ◌⊎◌, List, [], ◌∷◌, length, ◌==◌, Some, None, Option, option_map, find, option_and_then, sym, refl, ap, ◌∙◌, subst, inl, inr, arith, Bor, fun_ext, AllByRecursion, Data, view, Value, Class, Judged, Preference, plain_member, selection_record, name_in_class, selection_role, ◌↔◌, IsDistinct, option_eq, find-Some, SelectionRecord, number_of_name, Decides, IsWholeTree, on_side, has_number, IsByNumber, numbered_map, Side, Left, Right, In-all}
 use Rattle.std.specs.Map.{keys_of, lookup}
 use Rattle.erd_check.specs.Wants.{class_of_object}
 use Rattle.erd_meaning.proofs.identity.ObjectFamilies.{itself}
@@ -66,7 +66,7 @@ module _ (a b : Judged) (side : Side) (ds : List Data) where
   nothing_at name h = ap (option_and_then (selection_record π t)) (sym h)
 
   pub whole_at : AreWholeTrees ds → (name : ℕ) (d : Data) → find (has_number a b side name) ds ≡ Some d → IsWholeTree d
-  whole_at whole name d h = all-Has IsWholeTree ds d whole (find-Some (has_number a b side name) ds d h).0
+  whole_at whole name d h = In-all IsWholeTree d ds whole (find-Some (has_number a b side name) ds d h).0
 
 -- different maps are told so
 decided_not : {A : Type 0} {x y : A} → (x ≡ y → ⊥) → Decides false x y

@@ -1,10 +1,9 @@
 -- An accepted report has no fault of any phase: its references name objects, each object stands at its place, and no two have one `@id`.
-use Rattle.erd_meaning.proofs.Common.{inl, inr, Data, ShapeFault, NoneOf, IsAccepted, Preference, IdentityFault, ReferenceFault, SelectionFault, ◌≡◌, ℕ, zero, suc, Bool, true, false, not, ◌&&◌, List, [], ◌∷◌, ◌++◌, is_some, is_none, IsTrue, Some, None, codes, Contains, Option, find, option_and_then, sym, refl, ap, ◌∙◌, subst, arith, false_from_ne_true, true_from_ne_false, list_any, string, Family, family, role, reason, Step, At, Name, here, later, Has, not_within, Within, text_at, Asked, asked, asked_at, Reference, has_keys, key_of, is_reference_fault, is_selection_in, Placed, objects, has_id, owner, is_owned, key_named, Key, cases_Bool, option_map-Some, some_from, ◌+◌, ◌⊎◌, map, flat_map, ap₂, map-append, array, object, Items, no_items, item, Members, get_member, get_item, class, kind, entries_in, array_from, list_of_items-place, object_at, report_class, election_class, not_empty, ObjectAt, Has-cases, asked_at-step, Within-step, Within-root, of_role, asked_inside_object, faultless, wanted_within, lacks_none, member_within, list_of_items, entries_at, asked_inside, Member, placed_from, placed_entries, elections, option_map, bytes_eq, Ordering, Less, Equal, Greater, option_map_or, ordering_reverse, place_cmp_total, place_cmp_exact, role_of_class, place_cmp, kind_of_member, is_required, Class, Role, object_in, is_absent, is_filled_array, keyed_list, MayBeArray, ObjectIn, want_by_kind, Want, IsBefore, NameParts, report_of, contests, selections_of_contest, id_of, name_of}
+use Rattle.erd_meaning.proofs.Common.{inl, inr, Data, ShapeFault, NoneOf, IsAccepted, Preference, IdentityFault, ReferenceFault, SelectionFault, ◌≡◌, ℕ, suc, Bool, true, false, not, ◌&&◌, List, [], ◌∷◌, ◌++◌, is_some, is_none, IsTrue, Some, None, codes, Option, find, option_and_then, sym, refl, ap, ◌∙◌, subst, arith, false_from_ne_true, true_from_ne_false, list_any, string, Family, family, role, reason, Step, At, Name, not_within, Within, text_at, Asked, asked, asked_at, Reference, has_keys, key_of, is_reference_fault, is_selection_in, Placed, objects, has_id, owner, is_owned, key_named, Key, cases_Bool, option_map-Some, some_from, ◌+◌, ◌⊎◌, map, flat_map, ap₂, map-append, array, object, Items, no_items, item, Members, get_member, get_item, class, kind, entries_in, array_from, list_of_items-place, object_at, report_class, election_class, not_empty, ObjectAt, asked_at-step, Within-step, Within-root, of_role, asked_inside_object, faultless, wanted_within, lacks_none, member_within, list_of_items, entries_at, asked_inside, Member, placed_from, placed_entries, elections, option_map, bytes_eq, Ordering, Less, Equal, Greater, option_map_or, ordering_reverse, place_cmp_total, place_cmp_exact, role_of_class, place_cmp, kind_of_member, is_required, Class, Role, object_in, is_absent, is_filled_array, keyed_list, MayBeArray, ObjectIn, want_by_kind, Want, IsBefore, NameParts, report_of, contests, selections_of_contest, id_of, name_of, In, In-flat_map, In-flat_map_from, any_at, contains_from_In}
 use Rattle.erd_check.specs.declared.want.Want.TheVariants.{Object}
 use Rattle.erd_check.proofs.Exact.{text_exact, text_itself}
 use Rattle.erd_meaning.proofs.identity.IdentityFaults.{repeats_id, repeats_key}
-use Rattle.erd_meaning.proofs.accepted.HeldObjects.{HeldObject, has-flat, held_object}
-use Rattle.erd_meaning.proofs.orders.DistinctEntries.{any-has}
+use Rattle.erd_meaning.proofs.accepted.HeldObjects.{HeldObject, held_object}
 
 pub no_shape_fault : (π : Preference) (t : Data) → IsAccepted π t → NoneOf (ShapeFault t)
 no_shape_fault π t accepted p r h = accepted p r (inl h)
@@ -64,32 +63,23 @@ selected π t accepted a contest w names i r e =
     }))
 
 -- what is found passes, and stands in the list
-pub find-Some : {A : Type 0} (test : A → Bool) (xs : List A) (x : A) → find test xs ≡ Some x → Has xs x × (test x ≡ true)
+pub find-Some : {A : Type 0} (test : A → Bool) (xs : List A) (x : A) → find test xs ≡ Some x → In x xs × (test x ≡ true)
 find-Some test [] x e = cc
 find-Some test (y ∷ ys) x e = elim (cases_Bool (test y)) [
-  | inl is ↦ let f : Some y ≡ Some x = rw is at e in let g : y ≡ x = cc in (subst (λ z. Has (y ∷ ys) z) g here, subst (λ z. test z ≡ true) g is)
-  | inr is ↦ let r = find-Some test ys x (rw is at e) in (later r.0, r.1)
+  | inl is ↦ let f : Some y ≡ Some x = rw is at e in let g : y ≡ x = cc in (subst (λ z. In z (y ∷ ys)) g (inl refl), subst (λ z. test z ≡ true) g is)
+  | inr is ↦ let r = find-Some test ys x (rw is at e) in (inr r.0, r.1)
 ]
 
-pub find-any : {A : Type 0} (test : A → Bool) (xs : List A) → list_any test xs ≡ true → (x : A) × (find test xs ≡ Some x) × (test x ≡ true) × Has xs x
+pub find-any : {A : Type 0} (test : A → Bool) (xs : List A) → list_any test xs ≡ true → (x : A) × (find test xs ≡ Some x) × (test x ≡ true) × In x xs
 find-any test [] e = cc
-find-any test (x ∷ xs) e = elim (cases_Bool (test x)) [ inl is ↦ (x, rw is, is, here) | inr is ↦ let r = find-any test xs (rw is at e) in (r.0, rw is r.1, r.2, later r.3) ]
-
-pub Contains-Has : {A : Type 0} (xs : List A) (x : A) → Has xs x → Contains xs x
-Contains-Has xs x (here {xs = ys}) = (0, omega arith, refl)
-Contains-Has xs x (later {y = y} {xs = ys} h) = let r = Contains-Has ys x h in (suc r.0, omega (arith, r.1), r.2)
-
-pub Has-Contains : {A : Type 0} (xs : List A) (x : A) → Contains xs x → Has xs x
-Has-Contains [] x (k, low, e) = absurd (omega (arith, low))
-Has-Contains (y ∷ ys) x (zero, low, e) = subst (Has (y ∷ ys)) e here
-Has-Contains (y ∷ ys) x (suc k, low, e) = later (Has-Contains ys x (k, omega (arith, low), e))
+find-any test (x ∷ xs) e = elim (cases_Bool (test x)) [ inl is ↦ (x, rw is, is, inl refl) | inr is ↦ let r = find-any test xs (rw is at e) in (r.0, rw is r.1, r.2, inr r.3) ]
 
 -- an object of a family that is named by keys has one
-pub has_identifier : (π : Preference) (t : Data) → NoneOf (IdentityFault π t) → (f : Family) (o : Placed) → has_keys f ≡ true → Has (objects f t) o → (k : Key) × (key_of π o.value ≡ Some k)
+pub has_identifier : (π : Preference) (t : Data) → NoneOf (IdentityFault π t) → (f : Family) (o : Placed) → has_keys f ≡ true → In o (objects f t) → (k : Key) × (key_of π o.value ≡ Some k)
 has_identifier π t none f o keyed h = at (key_of π o.value) refl
   where
     at : (k : Option Key) → key_of π o.value ≡ k → (l : Key) × (key_of π o.value ≡ Some l)
-    at None e = absurd (none o.place reason.NoIdentifier (record { role = role.OfFamily f; needed = keyed; placed = o; stands = Contains-Has (objects f t) o h; place = refl; keyless = e }))
+    at None e = absurd (none o.place reason.NoIdentifier (record { role = role.OfFamily f; needed = keyed; placed = o; stands = contains_from_In o (objects f t) h; place = refl; keyless = e }))
     at (Some k) e = (k, e)
 
 -- a reference names an object that has a key
@@ -156,15 +146,15 @@ values-placed_flat name (o ∷ os) =
     map-append (λ (o : Placed). o.value) (placed_entries name o) (flat_map (placed_entries name) os) ∙ ap₂ ◌++◌ (values-placed_entries name o) (values-placed_flat name os)
 
 -- where an entry of an array stands
-pub placed_index : (p : List Step) (i : ℕ) (ds : Items) (o : Placed) → Has (placed_from p i (list_of_items ds)) o → (j : ℕ) × (o.place ≡ p ++ At (i + j) ∷ []) × (get_item j ds ≡ Some o.value)
+pub placed_index : (p : List Step) (i : ℕ) (ds : Items) (o : Placed) → In o (placed_from p i (list_of_items ds)) → (j : ℕ) × (o.place ≡ p ++ At (i + j) ∷ []) × (get_item j ds ≡ Some o.value)
 placed_index p i no_items o h = elim h [ ]
-placed_index p i (item d ds) o h = at (Has-cases (record { place = p ++ At i ∷ []; value = d }) o (placed_from p (i + 1) (list_of_items ds)) h) (placed_index p (i + 1) ds o)
+placed_index p i (item d ds) o h = at h (placed_index p (i + 1) ds o)
   where
     Found : Type 0
     Found = (j : ℕ) × (o.place ≡ p ++ At (i + j) ∷ []) × (get_item j (item d ds) ≡ Some o.value)
 
-    at : (◌≡◌ {A = Placed} (record { place = p ++ At i ∷ []; value = d }) o) ⊎ Has (placed_from p (i + 1) (list_of_items ds)) o
-        → (Has (placed_from p (i + 1) (list_of_items ds)) o → (j : ℕ) × (o.place ≡ p ++ At (i + 1 + j) ∷ []) × (get_item j ds ≡ Some o.value)) → (j : ℕ) × (o.place ≡ p ++ At (i + j) ∷ []) × (get_item j (item d ds) ≡ Some o.value)
+    at : (◌≡◌ {A = Placed} (record { place = p ++ At i ∷ []; value = d }) o) ⊎ In o (placed_from p (i + 1) (list_of_items ds))
+        → (In o (placed_from p (i + 1) (list_of_items ds)) → (j : ℕ) × (o.place ≡ p ++ At (i + 1 + j) ∷ []) × (get_item j ds ≡ Some o.value)) → (j : ℕ) × (o.place ≡ p ++ At (i + j) ∷ []) × (get_item j (item d ds) ≡ Some o.value)
     at (inl e) k = let s : i ≡ i + 0 = omega arith in (0, sym (ap (λ x. x.place) e) ∙ ap (λ n. p ++ At n ∷ []) s, ap (λ x. Some x.value) e)
     at (inr m) k = let r = k m in let s : i + 1 + r.0 ≡ i + suc r.0 = omega arith in (suc r.0, r.1 ∙ ap (λ n. p ++ At n ∷ []) s, r.2)
 
@@ -183,9 +173,9 @@ values_in_elections t s name =
     ∙ ap (flat_map (entries_at name)) (values-placed_from (Name (codes "Election") ∷ []) 0 (entries_at (codes "Election") t) ∙ election_entries t s)
 
 -- each election stands at its place
-pub election_stands : (t : Data) (s : Skeleton t) (e : Placed) → Has (elections t) e → asked_at t e.place ≡ Some (asked (Object role.Election) e.value)
+pub election_stands : (t : Data) (s : Skeleton t) (e : Placed) → In e (elections t) → asked_at t e.place ≡ Some (asked (Object role.Election) e.value)
 election_stands t s e h =
-    let j = placed_index (Name (codes "Election") ∷ []) 0 s.es e (subst (λ os. Has os e) (elections_placed t s) h) in
+    let j = placed_index (Name (codes "Election") ∷ []) 0 s.es e (subst (λ os. In e os) (elections_placed t s) h) in
     let same : 0 + j.0 ≡ j.0 = omega arith in
     ap (asked_at t) (j.1 ∙ ap (λ n. Name (codes "Election") ∷ At n ∷ []) same)
     ∙ asked_at-step t (Name (codes "Election") ∷ []) (asked (Member kind.Elections true) (array s.es)) (asked (Object role.Election) e.value) (At j.0)
@@ -195,7 +185,7 @@ election_stands t s e h =
     (rw j.2)
 
 -- each value of the array of elections is asked to be an election
-pub election_within : (t : Data) (s : Skeleton t) (d : Data) → Has (list_of_items s.es) d → Within t (asked (Object role.Election) d)
+pub election_within : (t : Data) (s : Skeleton t) (d : Data) → In d (list_of_items s.es) → Within t (asked (Object role.Election) d)
 election_within t s d h =
     let p = list_of_items-place s.es d h in
     Within-step t (asked (Member kind.Elections true) (array s.es)) (asked (Object role.Election) d) (At p.0) s.inside (rw p.1)
@@ -210,7 +200,7 @@ election_object t none d w = object_at t none role.Election class.Election elect
 entries_found : (t : Data) (parent : Placed) (w : Want) (q : Role) (c : Class) (ms : Members) → parent.value ≡ object ms → ObjectAt t w q c ms → asked_at t parent.place ≡ Some (asked w (object ms))
     → (f : Family) (name : List ℕ) → bytes_eq name (codes "@type") ≡ false → kind_of_member c name ≡ kind.Keyed f
     → (found_at : Option Data) → get_member name ms ≡ found_at → MayBeArray (λ ds. Within t (asked (Member (kind.Keyed f) (is_required c name)) (array ds))) found_at
-    → (o : Placed) → Has (placed_from (parent.place ++ Name name ∷ []) 0 (entries_in found_at)) o → asked_at t o.place ≡ Some (asked (Object (role.OfFamily f)) o.value)
+    → (o : Placed) → In o (placed_from (parent.place ++ Name name ∷ []) 0 (entries_in found_at)) → asked_at t o.place ≡ Some (asked (Object (role.OfFamily f)) o.value)
 entries_found t parent w q c ms is a stands f name other keyed found_at e is_absent o h = elim h [ ]
 entries_found t parent w q c ms is a stands f name other keyed found_at e (is_filled_array {ds = ds} inside) o h =
     let j = placed_index (parent.place ++ Name name ∷ []) 0 ds o h in
@@ -223,18 +213,18 @@ entries_found t parent w q c ms is a stands f name other keyed found_at e (is_fi
 
 pub placed_found : (t : Data) → NoneOf (ShapeFault t) → (parent : Placed) (w : Want) (q : Role) (c : Class) (ms : Members) → parent.value ≡ object ms → ObjectAt t w q c ms → asked_at t parent.place ≡ Some (asked w (object ms))
     → (f : Family) (name : List ℕ) → bytes_eq name (codes "@type") ≡ false → kind_of_member c name ≡ kind.Keyed f
-    → (o : Placed) → Has (placed_entries name parent) o → asked_at t o.place ≡ Some (asked (Object (role.OfFamily f)) o.value)
+    → (o : Placed) → In o (placed_entries name parent) → asked_at t o.place ≡ Some (asked (Object (role.OfFamily f)) o.value)
 placed_found t none parent w q c ms is a stands f name other keyed o h =
     entries_found t parent w q c ms is a stands f name other keyed (get_member name ms) refl (keyed_list t none w q c ms a f name other keyed (get_member name ms) refl) o
-    (subst (λ x. Has (placed_from (parent.place ++ Name name ∷ []) 0 (entries_at name x)) o) is h)
+    (subst (λ x. In o (placed_from (parent.place ++ Name name ∷ []) 0 (entries_at name x))) is h)
 
 in_report : (t : Data) → NoneOf (ShapeFault t) → (s : Skeleton t) (f : Family) (name : List ℕ) → bytes_eq name (codes "@type") ≡ false → kind_of_member class.ElectionReport name ≡ kind.Keyed f
-    → (o : Placed) → Has (placed_entries name (report_of t)) o → asked_at t o.place ≡ Some (asked (Object (role.OfFamily f)) o.value)
+    → (o : Placed) → In o (placed_entries name (report_of t)) → asked_at t o.place ≡ Some (asked (Object (role.OfFamily f)) o.value)
 in_report t none s f name other keyed o h =
     placed_found t none (report_of t) (Object role.Report) role.Report class.ElectionReport s.ms s.is_object s.report (ap (λ x. Some (asked (Object role.Report) x)) s.is_object) f name other keyed o h
 
 in_election : (t : Data) → NoneOf (ShapeFault t) → (s : Skeleton t) (f : Family) (name : List ℕ) → bytes_eq name (codes "@type") ≡ false → kind_of_member class.Election name ≡ kind.Keyed f
-    → (o : Placed) → Has (flat_map (placed_entries name) (elections t)) o → asked_at t o.place ≡ Some (asked (Object (role.OfFamily f)) o.value)
+    → (o : Placed) → In o (flat_map (placed_entries name) (elections t)) → asked_at t o.place ≡ Some (asked (Object (role.OfFamily f)) o.value)
 in_election t none s f name other keyed o h =
     let held : HeldObject t name o = held_object t name o h in
     let e : Placed = held.election in
@@ -243,7 +233,7 @@ in_election t none s f name other keyed o h =
     placed_found t none e (Object role.Election) role.Election class.Election at.0 at.1 at.2 (stands ∙ ap (λ x. Some (asked (Object role.Election) x)) at.1) f name other keyed o held.holds
 
 -- an object of a family stands at its place
-keyed_stands : (t : Data) → NoneOf (ShapeFault t) → (s : Skeleton t) (f : Family) → has_keys f ≡ true → (o : Placed) → Has (objects f t) o → asked_at t o.place ≡ Some (asked (Object (role.OfFamily f)) o.value)
+keyed_stands : (t : Data) → NoneOf (ShapeFault t) → (s : Skeleton t) (f : Family) → has_keys f ≡ true → (o : Placed) → In o (objects f t) → asked_at t o.place ≡ Some (asked (Object (role.OfFamily f)) o.value)
 keyed_stands t none s family.Unit k o h = in_report t none s family.Unit (codes "GpUnit") refl refl o h
 keyed_stands t none s family.Party k o h = in_report t none s family.Party (codes "Party") refl refl o h
 keyed_stands t none s family.Person k o h = in_report t none s family.Person (codes "Person") refl refl o h
@@ -254,18 +244,6 @@ keyed_stands t none s family.Contest k o h = in_election t none s family.Contest
 keyed_stands t none s family.Style k o h = in_election t none s family.Style (codes "BallotStyle") refl refl o h
 keyed_stands t none s family.Selection k o h = cc
 
-pub append-has : {A : Type 0} (xs ys : List A) (x : A) → Has ys x → Has (xs ++ ys) x
-append-has [] ys x h = h
-append-has (z ∷ xs) ys x h = later (append-has xs ys x h)
-
-pub has-append_left : {A : Type 0} (xs ys : List A) (x : A) → Has xs x → Has (xs ++ ys) x
-has-append_left xs ys x (here {xs = zs}) = here
-has-append_left xs ys x (later {xs = zs} h) = later (has-append_left zs ys x h)
-
-pub flat-has : {A B : Type 0} (f : A → List B) (xs : List A) (x : A) (y : B) → Has xs x → Has (f x) y → Has (flat_map f xs) y
-flat-has f xs x y (here {xs = zs}) k = has-append_left (f x) (flat_map f zs) y k
-flat-has f xs x y (later {y = z} {xs = zs} h) k = append-has (f z) (flat_map f zs) y (flat-has f zs x y h k)
-
 pub contest_selections : (c : Class) → role_of_class c ≡ role.OfFamily family.Contest → kind_of_member c (codes "ContestSelection") ≡ kind.Keyed family.Selection
 contest_selections class.CandidateContest e = refl
 contest_selections class.BallotMeasureContest e = refl
@@ -275,23 +253,23 @@ contest_selections c e = cc
 
 -- a selection stands at its place in its contest
 selection_stands : (t : Data) → NoneOf (ShapeFault t) → (contest : Placed) → asked_at t contest.place ≡ Some (asked (Object (role.OfFamily family.Contest)) contest.value)
-    → (o : Placed) → Has (placed_entries (codes "ContestSelection") contest) o → asked_at t o.place ≡ Some (asked (Object (role.OfFamily family.Selection)) o.value)
+    → (o : Placed) → In o (placed_entries (codes "ContestSelection") contest) → asked_at t o.place ≡ Some (asked (Object (role.OfFamily family.Selection)) o.value)
 selection_stands t none contest stands o h =
     let a : ObjectIn t (role.OfFamily family.Contest) contest.value = object_in t none (role.OfFamily family.Contest) contest.value (record { place = contest.place; is = stands }) in
     placed_found t none contest (Object (role.OfFamily family.Contest)) (role.OfFamily family.Contest) a.class a.ms a.is_object a.at
     (stands ∙ ap (λ x. Some (asked (Object (role.OfFamily family.Contest)) x)) a.is_object) family.Selection (codes "ContestSelection") refl (contest_selections a.class a.role) o h
 
-pub stands_of_shape : (t : Data) → NoneOf (ShapeFault t) → (f : Family) (o : Placed) → Has (objects f t) o → asked_at t o.place ≡ Some (asked (Object (role.OfFamily f)) o.value)
+pub stands_of_shape : (t : Data) → NoneOf (ShapeFault t) → (f : Family) (o : Placed) → In o (objects f t) → asked_at t o.place ≡ Some (asked (Object (role.OfFamily f)) o.value)
 stands_of_shape t none family.Selection o h =
-    let c = has-flat (placed_entries (codes "ContestSelection")) (contests t) o h in
+    let c = In-flat_map_from (placed_entries (codes "ContestSelection")) (contests t) o h in
     selection_stands t none c.0 (keyed_stands t none (skeleton_of_shape t none) family.Contest refl c.0 c.1) o c.2
 stands_of_shape t none d o h = keyed_stands t none (skeleton_of_shape t none) d refl o h
 
-pub stands : (π : Preference) (t : Data) → IsAccepted π t → (f : Family) (o : Placed) → Has (objects f t) o → asked_at t o.place ≡ Some (asked (Object (role.OfFamily f)) o.value)
+pub stands : (π : Preference) (t : Data) → IsAccepted π t → (f : Family) (o : Placed) → In o (objects f t) → asked_at t o.place ≡ Some (asked (Object (role.OfFamily f)) o.value)
 stands π t accepted = stands_of_shape t (no_shape_fault π t accepted)
 
 -- two objects of which neither is before the other are one
-pub one_placed : (π : Preference) (t : Data) → IsAccepted π t → (f g : Family) (o p : Placed) → Has (objects f t) o → Has (objects g t) p → (IsBefore o p → ⊥) → (IsBefore p o → ⊥) → o ≡ p
+pub one_placed : (π : Preference) (t : Data) → IsAccepted π t → (f g : Family) (o p : Placed) → In o (objects f t) → In p (objects g t) → (IsBefore o p → ⊥) → (IsBefore p o → ⊥) → o ≡ p
 one_placed π t accepted f g o p h k before after = at (place_cmp o.place p.place) refl
   where
     at : (c : Ordering) → place_cmp o.place p.place ≡ c → o ≡ p
@@ -305,34 +283,34 @@ one_placed π t accepted f g o p h k before after = at (place_cmp o.place p.plac
     at Greater is = absurd (after (place_cmp_total.antisymm p.place o.place ∙ ap ordering_reverse is))
 
 -- a later object has not the `@id` of an earlier one
-no_second_id : (π : Preference) (t : Data) → IsAccepted π t → (f g : Family) (o p : Placed) (r : List ℕ) → Has (objects f t) o → Has (objects g t) p → id_of o.value ≡ Some r → id_of p.value ≡ Some r → ¬ IsBefore o p
-no_second_id π t accepted f g o p r h k e l is = no_identity_fault π t accepted (p.place ++ Name (codes "@id") ∷ []) reason.DuplicateId (repeats_id t g f p o r (Contains-Has (objects g t) p k) (Contains-Has (objects f t) o h) is l e)
+no_second_id : (π : Preference) (t : Data) → IsAccepted π t → (f g : Family) (o p : Placed) (r : List ℕ) → In o (objects f t) → In p (objects g t) → id_of o.value ≡ Some r → id_of p.value ≡ Some r → ¬ IsBefore o p
+no_second_id π t accepted f g o p r h k e l is = no_identity_fault π t accepted (p.place ++ Name (codes "@id") ∷ []) reason.DuplicateId (repeats_id t g f p o r (contains_from_In p (objects g t) k) (contains_from_In o (objects f t) h) is l e)
 
 -- two objects with one `@id` are one
-pub one_object : (π : Preference) (t : Data) → IsAccepted π t → (f g : Family) (o p : Placed) (r : List ℕ) → Has (objects f t) o → Has (objects g t) p → id_of o.value ≡ Some r → id_of p.value ≡ Some r → o ≡ p
+pub one_object : (π : Preference) (t : Data) → IsAccepted π t → (f g : Family) (o p : Placed) (r : List ℕ) → In o (objects f t) → In p (objects g t) → id_of o.value ≡ Some r → id_of p.value ≡ Some r → o ≡ p
 one_object π t accepted f g o p r h k e l =
     one_placed π t accepted f g o p h k (no_second_id π t accepted f g o p r h k e l) (no_second_id π t accepted g f p o r k h l e)
 
 -- a later object of a family has not the key of an earlier one
-no_twin : (π : Preference) (t : Data) → IsAccepted π t → (f : Family) (o p : Placed) (k : Key) → has_keys f ≡ true → Has (objects f t) o → Has (objects f t) p → key_of π o.value ≡ Some k → key_of π p.value ≡ Some k → ¬ IsBefore o p
-no_twin π t accepted f o p k keyed h i e l is = no_identity_fault π t accepted p.place reason.TwinIdentifier (repeats_key π t (role.OfFamily f) p o k keyed (Contains-Has (objects f t) p i) (Contains-Has (objects f t) o h) is l e)
+no_twin : (π : Preference) (t : Data) → IsAccepted π t → (f : Family) (o p : Placed) (k : Key) → has_keys f ≡ true → In o (objects f t) → In p (objects f t) → key_of π o.value ≡ Some k → key_of π p.value ≡ Some k → ¬ IsBefore o p
+no_twin π t accepted f o p k keyed h i e l is = no_identity_fault π t accepted p.place reason.TwinIdentifier (repeats_key π t (role.OfFamily f) p o k keyed (contains_from_In p (objects f t) i) (contains_from_In o (objects f t) h) is l e)
 
 -- two objects of a family with one key are one
-pub one_keyed : (π : Preference) (t : Data) → IsAccepted π t → (f : Family) (o p : Placed) (k : Key) → has_keys f ≡ true → Has (objects f t) o → Has (objects f t) p → key_of π o.value ≡ Some k → key_of π p.value ≡ Some k → o ≡ p
+pub one_keyed : (π : Preference) (t : Data) → IsAccepted π t → (f : Family) (o p : Placed) (k : Key) → has_keys f ≡ true → In o (objects f t) → In p (objects f t) → key_of π o.value ≡ Some k → key_of π p.value ≡ Some k → o ≡ p
 one_keyed π t accepted f o p k keyed h i e l =
     one_placed π t accepted f f o p h i (no_twin π t accepted f o p k keyed h i e l) (no_twin π t accepted f p o k keyed i h l e)
 
 -- a later selection of a contest has not the name of an earlier one
-no_second_name : (π : Preference) (t : Data) → IsAccepted π t → (contest o p : Placed) (n : NameParts) → Has (objects family.Contest t) contest → Has (selections_of_contest contest) o → Has (selections_of_contest contest) p
+no_second_name : (π : Preference) (t : Data) → IsAccepted π t → (contest o p : Placed) (n : NameParts) → In contest (objects family.Contest t) → In o (selections_of_contest contest) → In p (selections_of_contest contest)
     → name_of π t o.value ≡ Some n → name_of π t p.value ≡ Some n → ¬ IsBefore o p
 no_second_name π t accepted contest o p n c h k e l is = no_selection_fault π t accepted p.place reason.TwinSelection (record {
   contest = contest;
-  contest_stands = Contains-Has (objects family.Contest t) contest c;
+  contest_stands = contains_from_In contest (objects family.Contest t) c;
   later = p;
-  later_stands = Contains-Has (selections_of_contest contest) p k;
+  later_stands = contains_from_In p (selections_of_contest contest) k;
   place = refl;
   earlier = o;
-  earlier_stands = Contains-Has (selections_of_contest contest) o h;
+  earlier_stands = contains_from_In o (selections_of_contest contest) h;
   before = is;
   name = n;
   later_name = l;
@@ -340,10 +318,10 @@ no_second_name π t accepted contest o p n c h k e l is = no_selection_fault π 
 })
 
 -- two selections of a contest with one name are one
-pub one_named : (π : Preference) (t : Data) → IsAccepted π t → (contest o p : Placed) (n : NameParts) → Has (objects family.Contest t) contest → Has (selections_of_contest contest) o → Has (selections_of_contest contest) p
+pub one_named : (π : Preference) (t : Data) → IsAccepted π t → (contest o p : Placed) (n : NameParts) → In contest (objects family.Contest t) → In o (selections_of_contest contest) → In p (selections_of_contest contest)
     → name_of π t o.value ≡ Some n → name_of π t p.value ≡ Some n → o ≡ p
 one_named π t accepted contest o p n c h k e l =
-    one_placed π t accepted family.Selection family.Selection o p (flat-has selections_of_contest (contests t) contest o c h) (flat-has selections_of_contest (contests t) contest p c k)
+    one_placed π t accepted family.Selection family.Selection o p (In-flat_map selections_of_contest o contest (contests t) c h) (In-flat_map selections_of_contest p contest (contests t) c k)
     (no_second_name π t accepted contest o p n c h k e l) (no_second_name π t accepted contest p o n c k h l e)
 
 pub has_id-Some : (r : List ℕ) (d : Data) → has_id r d ≡ true → id_of d ≡ Some r
@@ -357,13 +335,13 @@ pub has_id-from : (r : List ℕ) (d : Data) → id_of d ≡ Some r → has_id r 
 has_id-from r d e = ap (λ o. option_map_or (bytes_eq r) o false) e ∙ text_itself r
 
 -- an object owns its `@id`
-pub owner_is : (π : Preference) (t : Data) → IsAccepted π t → (f : Family) (o : Placed) (r : List ℕ) → Has (objects f t) o → id_of o.value ≡ Some r → owner t f r ≡ Some o.value
+pub owner_is : (π : Preference) (t : Data) → IsAccepted π t → (f : Family) (o : Placed) (r : List ℕ) → In o (objects f t) → id_of o.value ≡ Some r → owner t f r ≡ Some o.value
 owner_is π t accepted f o r h e =
-    let x = find-any (λ o. has_id r o.value) (objects f t) (any-has (λ o. has_id r o.value) (objects f t) o h (has_id-from r o.value e)) in
+    let x = find-any (λ o. has_id r o.value) (objects f t) (any_at (λ o. has_id r o.value) o (objects f t) h (has_id-from r o.value e)) in
     ap (option_map (λ o. o.value)) x.1 ∙ ap (λ x. Some x.value) (one_object π t accepted f f x.0 o r x.3 h (has_id-Some r x.0.value x.2) e)
 
 -- the object that an `@id` names
-pub owned_by : (t : Data) (f : Family) (r : List ℕ) (d : Data) → owner t f r ≡ Some d → (o : Placed) × Has (objects f t) o × (o.value ≡ d) × (id_of d ≡ Some r)
+pub owned_by : (t : Data) (f : Family) (r : List ℕ) (d : Data) → owner t f r ≡ Some d → (o : Placed) × In o (objects f t) × (o.value ≡ d) × (id_of d ≡ Some r)
 owned_by t f r d e =
     let x = option_map-Some (λ o. o.value) (find (λ o. has_id r o.value) (objects f t)) d e in
     let y = find-Some (λ o. has_id r o.value) (objects f t) x.0 x.1 in

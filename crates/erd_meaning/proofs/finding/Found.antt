@@ -1,7 +1,7 @@
 -- What is found by a key, by an `@id` or by a name is what has it.
-use Rattle.erd_meaning.proofs.Common.{◌≡◌, ℕ, true, List, map, slice_get, Some, None, Option, option_map, position, option_and_then, is_eq, sym, refl, ap, ◌∙◌, subst, ap₂, and_parts, and_from, tied_itself, same_Some, some_pair_parts, bytes_eq-Decides, Data, view, Value, family_number, Family, In, In-filter, NoneOf, Preference, IdentityFault, key_in, id_in, FindsKey, FindsId, rank, number_at, number_of_id, number_of_key, is_of_family, those_of, is_keyed, keeps_id, Kept, kept_objects, same_key, same_id, key_cmp_total, IsResolved, NumberedName, shown, Key, Object, and_then-Some, ◌+◌, Bool, false, cond, [], ◌∷◌, ◌++◌, length, ◌==◌, find, append_snoc, position_from-zero, length_push, position_from, number_among, object_among, inl, inr, cases_Bool, cond_both, ◌<◌, cases_order, slice_get-map, TwinIdentifier, contains_from_In, IsStrictlySortedBy-filter, key_of, IsBefore, Placed, elections, has_several, located_election, all_located, role}
+use Rattle.erd_meaning.proofs.Common.{◌≡◌, ℕ, true, List, map, slice_get, Some, None, Option, option_map, position, option_and_then, is_eq, sym, refl, ap, ◌∙◌, subst, ap₂, and_parts, and_from, tied_itself, same_Some, some_pair_parts, bytes_eq-Decides, Data, view, Value, family_number, Family, In, In-filter, NoneOf, Preference, IdentityFault, key_in, id_in, FindsKey, FindsId, rank, number_at, number_of_id, number_of_key, is_of_family, those_of, is_keyed, keeps_id, Kept, kept_objects, same_key, same_id, key_cmp_total, IsResolved, NumberedName, shown, Key, Object, and_then-Some, ◌+◌, Bool, false, cond, [], ◌∷◌, ◌++◌, length, ◌==◌, find, append_snoc, position_from-zero, length_push, position_from, number_among, object_among, inl, inr, cases_Bool, cond_both, ◌<◌, cases_order, slice_get-map, TwinIdentifier, contains_from_In, IsStrictlySortedBy-filter, key_of, IsBefore, Placed, elections, has_several, located_election, all_located, role, in_at}
 use Rattle.erd_meaning.specs.code.OwnIds.{HaveOwnIds}
-use Rattle.erd_meaning.proofs.finding.OneObject.{hit, in_at, missed, one_id, one_key, kept_part, part_at, ranked, sorted_at}
+use Rattle.erd_meaning.proofs.finding.OneObject.{hit, missed, one_id, one_key, kept_part, part_at, ranked, sorted_at}
 use Rattle.erd_meaning.proofs.identity.IdentityFaults.{same_id_from, same_key_from, repeats_key}
 use Rattle.erd_meaning.proofs.identity.ObjectFamilies.{itself, family_exact, elections_picked, is_election}
 use Rattle.erd_meaning.proofs.finding.Pushed.{get_last}

@@ -1,19 +1,14 @@
 -- What names an object names one object: its family and position, its key in its family, its `@id` in the report.
-use Rattle.erd_meaning.proofs.Common.{◌≡◌, ℕ, zero, suc, ◌+◌, ◌<◌, Bool, true, ◌⊎◌, List, [], ◌∷◌, length, slice_get, Some, None, Option, option_map, position, option_and_then, Ordering, Less, sym, refl, ap, ◌∙◌, subst, inl, inr, arith, cases_order, position_from-zero, slice_get-map, position_from, IsStrictlySortedBy, Data, place_cmp, Family, role, DuplicateId, TwinIdentifier, In, contains_from_In, In-all, IsStrictlySortedBy-filter, NoneOf, Preference, key_of_family_object, IdentityFault, key_in, id_in, Placed, objects, id_of, Met, an_object, an_election, Located, located_one, located, all_located, Key, cases_Bool, and_then-Some, ◌^◌, ◌≤◌, false, cond, map, count_by, length-map, view, Value, IsBounded, rank, is_of_family, those_of, Kept, objects_among, kept_objects, IsResolved, NumberedName, shown, Object, ◌&&◌, ◌==◌, find, family_number, In-filter_kept, keeps_id, object_among, and_left, and_right, true≢false, some_pair_parts, position_of, has_at, Has, FindsId, has_id, owner_at, kept}
+use Rattle.erd_meaning.proofs.Common.{◌≡◌, ℕ, zero, suc, ◌+◌, ◌<◌, Bool, true, ◌⊎◌, List, [], ◌∷◌, length, slice_get, Some, None, Option, option_map, position, option_and_then, Ordering, Less, sym, refl, ap, ◌∙◌, subst, inl, inr, arith, cases_order, position_from-zero, slice_get-map, position_from, IsStrictlySortedBy, Data, place_cmp, Family, role, DuplicateId, TwinIdentifier, In, contains_from_In, In-all, IsStrictlySortedBy-filter, NoneOf, Preference, key_of_family_object, IdentityFault, key_in, id_in, Placed, objects, id_of, Met, an_object, an_election, Located, located_one, located, all_located, Key, cases_Bool, and_then-Some, ◌^◌, ◌≤◌, false, cond, map, count_by, length-map, view, Value, IsBounded, rank, is_of_family, those_of, Kept, objects_among, kept_objects, IsResolved, NumberedName, shown, Object, ◌&&◌, ◌==◌, find, family_number, In-filter_kept, keeps_id, object_among, and_left, and_right, true≢false, some_pair_parts, position_of, FindsId, has_id, owner_at, kept, any_at, in_at}
 use Rattle.erd_meaning.proofs.identity.IdentityFaults.{kept_keyed, repeats_key, repeats_id, same_id_from}
 use Rattle.erd_meaning.proofs.identity.ObjectFamilies.{is_met, is_of, objects_met, is_object_of, pick, itself, family_exact}
 use Rattle.erd_meaning.proofs.identity.ObjectPlaces.{AreApart, all_parted, apart, id_place}
 use Rattle.erd_meaning.proofs.identity.ToldFaults.{before_apart, less_itself}
 use Rattle.std.proofs.lemmas.List.Sums.{count_by-le-length, length-filter}
-use Rattle.erd_meaning.proofs.orders.DistinctEntries.{place_of, any-has}
+use Rattle.erd_meaning.proofs.orders.DistinctEntries.{place_of}
 use Rattle.erd_meaning.proofs.accepted.Standing.{find-any, find-Some, has_id-from, has_id-Some}
 
 -- ---- positions in lists
-
-pub in_at : {A : Type 0} (xs : List A) (i : ℕ) (x : A) → slice_get xs i ≡ Some x → In x xs
-in_at [] i x e = cc
-in_at (y ∷ xs) zero x e = let same : y ≡ x = cc in inl same
-in_at (y ∷ xs) (suc i) x e = inr (in_at xs i x e)
 
 -- what stands at a position of a list
 pub at_low : {A : Type 0} (xs : List A) (i : ℕ) → i < length xs → (x : A) × (slice_get xs i ≡ Some x)
@@ -303,7 +298,7 @@ among_first π t f id none = only_family f (keeps_id id) (kept_objects π t) (on
 
 module _ (t : Data) (f : Family) (id : List ℕ) where
   -- an object of the family that has the `@id` is found at its position
-  position_in : (o : Placed) → Has (objects f t) o → has_id id o.value ≡ true → (i : ℕ) × (slice_get (objects f t) i ≡ Some o) × (id_in f t i ≡ Some id)
+  position_in : (o : Placed) → In o (objects f t) → has_id id o.value ≡ true → (i : ℕ) × (slice_get (objects f t) i ≡ Some o) × (id_in f t i ≡ Some id)
   position_in o h is =
       let place = position_of (objects f t) o h in
       (place.0, place.1, ap (option_and_then (λ (o : Placed). id_of o.value)) place.1 ∙ has_id-Some id o.value is)
@@ -315,7 +310,7 @@ module _ (t : Data) (f : Family) (id : List ℕ) where
       let there : id_in f t i ≡ Some id = (finds f i).0 (ap (λ h. Some (h, i)) one) in
       let o = with_part (λ o. id_of o.value) f t i id there in
       let found = find-any (λ (o : Placed). has_id id o.value) (objects f t)
-      (any-has (λ (o : Placed). has_id id o.value) (objects f t) o.0.one (has_at (objects f t) i o.0.one o.0.at) (has_id-from id o.0.one.value o.1)) in
+      (any_at (λ (o : Placed). has_id id o.value) o.0.one (objects f t) (in_at (objects f t) i o.0.one o.0.at) (has_id-from id o.0.one.value o.1)) in
       let place = position_in found.0 found.3 found.2 in
       let parts = some_pair_parts g f i place.0 ((finds f place.0).1 place.2) in
       found.1 ∙ sym (ap (slice_get (objects f t)) parts.1 ∙ place.1)

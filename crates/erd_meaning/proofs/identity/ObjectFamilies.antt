@@ -259,13 +259,13 @@ object_source : (π : Preference) (t : Data) (f : Family) (x : Located) → In x
 object_source π t f x i h =
     let kept = In-filter_kept (is_of f) x (all_located π t) i h in
     let from = In-map_from (located_one π f) (objects f t) x (subst (In x) (objects_met π f t) kept) in
-    record { family = f; one = from.from; there = from.inside; is = from.is }
+    record { family = f; one = from.0; there = from.1; is = from.2 }
 
 election_source : (π : Preference) (t : Data) (x : Located) → In x (all_located π t) → is_election x ≡ true → IsElectionMet π t x
 election_source π t x i h =
     let kept = In-filter_kept is_election x (all_located π t) i h in
     let from = In-map_from (located_election π (has_several t)) (elections t) x (subst (In x) (elections_picked π t) kept) in
-    record { one = from.from; there = from.inside; is = from.is }
+    record { one = from.0; there = from.1; is = from.2 }
 
 pub source : (π : Preference) (t : Data) (x : Located) → In x (all_located π t) → IsObjectMet π t x ⊎ IsElectionMet π t x
 source π t x i = at x.met refl

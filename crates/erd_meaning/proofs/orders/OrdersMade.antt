@@ -1,6 +1,5 @@
 -- The order that is made of distinct keys: the positions in the rising order of the keys, and the rank of each key.
-use Rattle.erd_meaning.proofs.Common.{◌≡◌, ℕ, ◌+◌, ◌<◌, List, [], ◌∷◌, map, length, replicate, slice_get, Some, option_map, is_lt, Ordering, sym, ap, ◌∙◌, subst, arith, on_total, length-map, length-replicate, slice_get-map, slice_get_within, IsTotalOrder, AllByRecursion, IsDistinct, eq_by_cmp, all_from_In, places_put, rising_list, positioned, rank_by, positions_by, option_map-Some}
-use Rattle.erd_meaning.proofs.finding.OneObject.{in_at}
+use Rattle.erd_meaning.proofs.Common.{◌≡◌, ℕ, ◌+◌, ◌<◌, List, [], ◌∷◌, map, length, replicate, slice_get, Some, option_map, is_lt, Ordering, sym, ap, ◌∙◌, subst, arith, on_total, length-map, length-replicate, slice_get-map, slice_get_within, IsTotalOrder, AllByRecursion, IsDistinct, eq_by_cmp, all_from_In, places_put, rising_list, positioned, rank_by, positions_by, option_map-Some, in_at}
 use Rattle.erd_meaning.proofs.orders.PlacesPut.{StandOnce, length_put, put_at, same_entries}
 use Rattle.erd_meaning.proofs.orders.RisingLists.{by_first}
 use Rattle.erd_meaning.proofs.orders.RisingOrders.{rank_at, rank_in, stands_at_rank, In-rising, length-rising}

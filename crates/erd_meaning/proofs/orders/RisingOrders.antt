@@ -1,9 +1,7 @@
 -- Lists in rising order: they have the same entries, they rise, and the position of an entry is its rank.
-use Rattle.erd_meaning.proofs.Common.{◌≡◌, ℕ, zero, suc, ◌<◌, Bool, cond, List, [], ◌∷◌, ◌++◌, length, get_or, slice_set, Some, None, filter, Option, option_to_list, swap, flat_map, filter_map, IsPermutation, is_lt, Ordering, sym, refl, ap, ◌∙◌, append_assoc, arith, AllByRecursion, cons_option, IsPermutation-refl, IsPermutation-cons, IsPermutation-swap, IsPermutation-sym, IsPermutation-trans, all-Has, Has, with_inserted, rising_list, IsPermutation-append_left, IsPermutation-append_right, IsPermutation-append_comm, IsPermutation-keeps, sum_by-IsPermutation, cond_both, ◌≤◌, true, false, map, inl, inr, In, ◌⊎◌, subst, Has-cases, length_permutation, slice_get, is_eq, is_gt, Less, Equal, Greater, tied_itself, tied_back, on_total, CmpEqualImpliesEq, IsTotalOrder, IsDistinct, IsStrictlySortedBy, eq_by_cmp, ordering_reverse, ⊤, less, all_from_In, In-all, all_weakened, nat_cmp, nat_cmp_total, option_cmp, key_cmp, key_cmp_total, key_cmp_exact, Key, later, here}
+use Rattle.erd_meaning.proofs.Common.{◌≡◌, ℕ, zero, suc, ◌<◌, Bool, cond, List, [], ◌∷◌, ◌++◌, length, get_or, slice_set, Some, None, filter, Option, option_to_list, swap, flat_map, filter_map, IsPermutation, is_lt, Ordering, sym, refl, ap, ◌∙◌, append_assoc, arith, AllByRecursion, cons_option, IsPermutation-refl, IsPermutation-cons, IsPermutation-swap, IsPermutation-sym, IsPermutation-trans, with_inserted, rising_list, IsPermutation-append_left, IsPermutation-append_right, IsPermutation-append_comm, IsPermutation-keeps, sum_by-IsPermutation, cond_both, ◌≤◌, true, false, map, inl, inr, In, ◌⊎◌, subst, length_permutation, slice_get, is_eq, is_gt, Less, Equal, Greater, tied_itself, tied_back, on_total, CmpEqualImpliesEq, IsTotalOrder, IsDistinct, IsStrictlySortedBy, eq_by_cmp, ordering_reverse, ⊤, less, all_from_In, In-all, all_weakened, nat_cmp, nat_cmp_total, option_cmp, key_cmp, key_cmp_total, key_cmp_exact, Key, in_at}
 use Rattle.std.proofs.lemmas.List.Sums.{length-filter}
-use Rattle.erd_check.proofs.Positions.{all_by_entry}
 use Rattle.erd_meaning.proofs.orders.RisingLists.{Rises, list_rises}
-use Rattle.erd_meaning.proofs.finding.OneObject.{in_at}
 use Rattle.erd_check.proofs.Steps.{at_less}
 
 -- the first two entries change places
@@ -94,8 +92,8 @@ pub all-reordered : {A : Type 0} (P : A → Type 0) {xs ys : List A} → IsPermu
 all-reordered P = along_permutation (λ xs ys. AllByRecursion P xs → AllByRecursion P ys) (λ xs all. all) (λ x xs ys p h all. (all.0, h all.1)) (λ x y xs all. (all.1.0, (all.0, all.1.1))) (λ xs ys zs p h k all. k (h all))
 
 -- what stands in the list
-pub reordered-has : {A : Type 0} {xs ys : List A} (z : A) → IsPermutation xs ys → Has xs z → Has ys z
-reordered-has {xs = xs} {ys = ys} z h i = all-Has (Has ys) xs z (all-reordered (Has ys) (IsPermutation-sym xs ys h) (all_by_entry (Has ys) ys (λ w j. j))) i
+pub reordered-In : {A : Type 0} {xs ys : List A} (z : A) → IsPermutation xs ys → In z xs → In z ys
+reordered-In {xs = xs} {ys = ys} z h i = In-all (λ z. In z ys) z xs (all-reordered (λ z. In z ys) (IsPermutation-sym xs ys h) (all_from_In (λ z. In z ys) ys (λ w j. j))) i
 
 -- ---- a test that passes more
 
@@ -128,31 +126,14 @@ length-rising cmp xs = length_permutation xs _ (reordered_rising cmp xs)
 
 -- ---- what stands in the list
 
--- between the ways to say that a list has an entry
-pub In-from_has : {A : Type 0} (z : A) (xs : List A) → Has xs z → In z xs
-In-from_has z [] h = elim h [ ]
-In-from_has z (x ∷ xs) h = elim (Has-cases x z xs h) [ inl e ↦ inl e | inr k ↦ inr (In-from_has z xs k) ]
-
-pub has_from_In : {A : Type 0} (z : A) (xs : List A) → In z xs → Has xs z
-has_from_In z [] h = absurd h
-has_from_In z (x ∷ xs) (inl e) = subst (Has (x ∷ xs)) e here
-has_from_In z (x ∷ xs) (inr i) = later (has_from_In z xs i)
-
-In-reordered : {A : Type 0} (z : A) (xs ys : List A) → IsPermutation xs ys → In z xs → In z ys
-In-reordered z xs ys h i = In-from_has z ys (reordered-has z h (has_from_In z xs i))
-
 pub In-inserted : {A : Type 0} (cmp : A → A → Ordering) (x z : A) (ys : List A) → In z (with_inserted cmp x ys) → (x ≡ z) ⊎ In z ys
-In-inserted cmp x z ys h = In-reordered z (with_inserted cmp x ys) (x ∷ ys) (IsPermutation-sym _ _ (reordered_inserted cmp x ys)) h
+In-inserted cmp x z ys h = reordered-In z (IsPermutation-sym _ _ (reordered_inserted cmp x ys)) h
 
 pub In-rising : {A : Type 0} (cmp : A → A → Ordering) (z : A) (xs : List A) → In z (rising_list cmp xs) → In z xs
-In-rising cmp z xs h = In-reordered z (rising_list cmp xs) xs (IsPermutation-sym _ _ (reordered_rising cmp xs)) h
+In-rising cmp z xs h = reordered-In z (IsPermutation-sym _ _ (reordered_rising cmp xs)) h
 
 pub rising-In : {A : Type 0} (cmp : A → A → Ordering) (z : A) (xs : List A) → In z xs → In z (rising_list cmp xs)
-rising-In cmp z xs h = In-reordered z xs (rising_list cmp xs) (reordered_rising cmp xs) h
-
--- the same of the entries that a list has
-pub has_rising : {A : Type 0} (cmp : A → A → Ordering) (xs : List A) (x : A) → Has (rising_list cmp xs) x → Has xs x
-has_rising cmp xs x h = reordered-has x (IsPermutation-sym _ _ (reordered_rising cmp xs)) h
+rising-In cmp z xs h = reordered-In z (reordered_rising cmp xs) h
 
 -- ---- answers of a comparison
 

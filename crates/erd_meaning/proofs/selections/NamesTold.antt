@@ -1,11 +1,10 @@
 -- What the walk over selections tells of them, in order: exactly the faults of selections.
-use Rattle.erd_meaning.proofs.Common.{◌≡◌, ℕ, Bool, true, false, cond, ◌||◌, ◌⊎◌, List, [], ◌∷◌, ◌++◌, ◌==◌, Some, None, Option, flat_map, is_eq, Ordering, Less, sym, refl, ap, ◌∙◌, subst, ap₂, inl, inr, append_assoc, append-nil, and_parts, and_from, Decides-eqb, tied_itself, IsStrictlySortedBy, option_map_or, Data, fault_cmp, place_cmp, Fault, TwinSelection, In, In-append_left, In-append_right, In-append, any_at, In-all, sorted_append, fault_at, NameParts, Placed, name_cmp, fault_if, name_cmp_total, name_cmp_exact, NumberedName, is_selection_named, is_taken, NamesMet, added_name, with_name, named_one, named_all, Equal-is, or-false, list_any-append, arith, suc, ◌+◌, map, slice_get, option_map, map-append, same_Some, slice_get-map, enumerate_from, Selection, In-map, In-map_from, In-flat_map, all_from_In, Preference, contests, selections_of_contest, numbered_selections_of, numbered_selections, Located, located_one, located, ListsAll, Reason, Step, In-from_contains, contains_from_In, IsBefore, SelectionFault, RepeatsName, name_of, objects}
+use Rattle.erd_meaning.proofs.Common.{◌≡◌, ℕ, Bool, true, false, cond, ◌||◌, ◌⊎◌, List, [], ◌∷◌, ◌++◌, ◌==◌, Some, None, Option, flat_map, is_eq, Ordering, Less, sym, refl, ap, ◌∙◌, subst, ap₂, inl, inr, append_assoc, append-nil, and_parts, and_from, Decides-eqb, tied_itself, IsStrictlySortedBy, option_map_or, Data, fault_cmp, place_cmp, Fault, TwinSelection, In, In-append_left, In-append_right, In-append, any_at, In-all, sorted_append, fault_at, NameParts, Placed, name_cmp, fault_if, name_cmp_total, name_cmp_exact, NumberedName, is_selection_named, is_taken, NamesMet, added_name, with_name, named_one, named_all, Equal-is, or-false, list_any-append, arith, suc, ◌+◌, map, slice_get, option_map, map-append, same_Some, slice_get-map, enumerate_from, Selection, In-map, In-map_from, In-flat_map, all_from_In, Preference, contests, selections_of_contest, numbered_selections_of, numbered_selections, Located, located_one, located, ListsAll, Reason, Step, In-from_contains, contains_from_In, IsBefore, SelectionFault, RepeatsName, name_of, objects, In-flat_map_from}
 use Rattle.erd_check.proofs.TwoWalks.{both_empty}
 use Rattle.erd_meaning.proofs.identity.IdentityFaults.{any_from, at_true}
 use Rattle.erd_meaning.proofs.identity.ObjectFamilies.{itself}
 use Rattle.erd_meaning.proofs.identity.ToldFaults.{if_sorted, in_if, less_itself, turned, earlier_fault, before_apart}
 use Rattle.erd_meaning.proofs.identity.MetLists.{or_same}
-use Rattle.erd_check.proofs.Walks.{In-flat_map_from}
 use Rattle.erd_meaning.proofs.identity.ObjectPlaces.{apart}
 use Rattle.erd_meaning.proofs.finding.OneObject.{family_apart}
 
@@ -298,16 +297,16 @@ numbered_from k n x (y ∷ xs) (inr i) =
 pub of_its_contest : (t : Data) (s : Numbered) → In {A = Numbered} s (numbered_selections t) → OfContest t s
 of_its_contest t s i =
     let o = In-flat_map_from {A = Numbered} {B = Numbered} numbered_selections_of (enumerate_from 0 (contests t)) s i in
-    let image = In-map_from {A = Placed} {B = Numbered} (λ p. (o.from.0, p)) (selections_of_contest o.from.1) s o.has in
-    let number : o.from.0 ≡ s.0 = ap (λ (p : Numbered). p.0) image.is in
-    let h = numbered_from 0 o.from.0 o.from.1 (contests t) o.inside in
-    let is : o.from.0 ≡ 0 + h.after = h.is in
+    let image = In-map_from {A = Placed} {B = Numbered} (λ p. (o.0.0, p)) (selections_of_contest o.0.1) s o.2 in
+    let number : o.0.0 ≡ s.0 = ap (λ (p : Numbered). p.0) image.2 in
+    let h = numbered_from 0 o.0.0 o.0.1 (contests t) o.1 in
+    let is : o.0.0 ≡ 0 + h.after = h.is in
     let same : h.after ≡ s.0 = omega arith in
     record {
-      contest = o.from.1;
-      at = subst (λ n. slice_get (contests t) n ≡ Some o.from.1) same h.at;
+      contest = o.0.1;
+      at = subst (λ n. slice_get (contests t) n ≡ Some o.0.1) same h.at;
       there = h.there;
-      inside = subst (λ (p : Placed). In p (selections_of_contest o.from.1)) (ap (λ (p : Numbered). p.1) image.is) image.inside;
+      inside = subst (λ (p : Placed). In p (selections_of_contest o.0.1)) (ap (λ (p : Numbered). p.1) image.2) image.1;
     }
 
 -- two selections with one number are of one contest

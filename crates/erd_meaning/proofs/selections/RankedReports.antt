@@ -1,16 +1,16 @@
 -- The names of the selections of a report with the ranks of their keys: the keys are those of objects, and the ranks are in their order.
-use Rattle.erd_meaning.proofs.Common.{◌≡◌, ℕ, List, [], ◌∷◌, Some, None, codes, Option, option_and_then, refl, ap, ◌∙◌, subst, AllByRecursion, cons_option, Data, as_str, Class, class, Family, family, entries_at, class_of_object, key_cmp, Preference, key_of, NameParts, objects, family_chosen, key_named, keys_named, keys_of_selection, name_in_class, selection_role, name_of, HasKeysIn, IsKeyIn, Key, and_then-Some, option_map-Some, slice_get, option_map, nat_cmp, Equal, sym, ap₂, slice_cmp, option_cmp, In, In-from_contains, In-all, rank_of, NumberedParts, numbered_parts, numbered_name_cmp, Placed, numbered_selections, RankedParts, ranked_name, IsRankedIn, class_cmp, name_cmp, classes_exact, true, cond, map, length, filter, is_lt, slice_get-map, map-map, view, Value, has_keys, key_of_family_object, key_in, rising_keys, PlacedName, ranked_selection_in, rising_list, positioned, those_of, Kept, kept, rank_among, rising_keys_among, ranked_parts, names_of, AllAreRanked, IsRanked, IsResolved, NumberedName, shown, Object, owner}
-use Rattle.erd_meaning.proofs.accepted.Standing.{Contains-Has, owned_by, has_identifier}
-use Rattle.erd_meaning.proofs.orders.RisingOrders.{all_rising, IsKeyOf, counted_as_key, count_map, has_from_In}
+use Rattle.erd_meaning.proofs.Common.{◌≡◌, ℕ, List, [], ◌∷◌, Some, None, codes, Option, option_and_then, refl, ap, ◌∙◌, subst, AllByRecursion, cons_option, Data, as_str, Class, class, Family, family, entries_at, class_of_object, key_cmp, Preference, key_of, NameParts, objects, family_chosen, key_named, keys_named, keys_of_selection, name_in_class, selection_role, name_of, HasKeysIn, IsKeyIn, Key, and_then-Some, option_map-Some, slice_get, option_map, nat_cmp, Equal, sym, ap₂, slice_cmp, option_cmp, In, In-from_contains, In-all, rank_of, NumberedParts, numbered_parts, numbered_name_cmp, Placed, numbered_selections, RankedParts, ranked_name, IsRankedIn, class_cmp, name_cmp, classes_exact, true, cond, map, length, filter, is_lt, slice_get-map, map-map, view, Value, has_keys, key_of_family_object, key_in, rising_keys, PlacedName, ranked_selection_in, rising_list, positioned, those_of, Kept, kept, rank_among, rising_keys_among, ranked_parts, names_of, AllAreRanked, IsRanked, IsResolved, NumberedName, shown, Object, owner, contains_from_In, in_at}
+use Rattle.erd_meaning.proofs.accepted.Standing.{owned_by, has_identifier}
+use Rattle.erd_meaning.proofs.orders.RisingOrders.{all_rising, IsKeyOf, counted_as_key, count_map}
 use Rattle.erd_meaning.specs.code.NumberedOrders.{numbered_as_named, numbers_as_keys}
-use Rattle.erd_meaning.proofs.finding.OneObject.{those_shown, in_at}
+use Rattle.erd_meaning.proofs.finding.OneObject.{those_shown}
 use Rattle.erd_meaning.proofs.selections.PositionedKeys.{rising_positioned}
 
 module _ (π : Preference) (t : Data) (f : Family) where
   referred_in : (id : List ℕ) (k : Key) → key_named π t f id ≡ Some k → IsKeyIn π t f k
   referred_in id k e =
       let r = and_then-Some (key_of π) (owner t f id) k e in
-      let x = owned_by t f id r.0 r.1 in record { owner = x.0; stands = Contains-Has (objects f t) x.0 x.1; keyed = ap (key_of π) x.2 ∙ r.2 }
+      let x = owned_by t f id r.0 r.1 in record { owner = x.0; stands = contains_from_In x.0 (objects f t) x.1; keyed = ap (key_of π) x.2 ∙ r.2 }
 
   by_reference : (id : Option (List ℕ)) (k : Key) → option_and_then (key_named π t f) id ≡ Some k → IsKeyIn π t f k
   by_reference None k e = cc
@@ -149,7 +149,7 @@ module _ (π : Preference) (v : Value) (os : List Object) (names : List Numbered
           → option_map rank (option_map (λ (o : Placed). kept π f o.value) o) ≡ option_map (λ k. rank_of π (view v) f (Some k)) (option_and_then (λ (o : Placed). key_of_family_object π f o.value) o)
       at None is = refl
       at (Some o) is =
-          let its = has_identifier π (view v) r.identified f o keyed (has_from_In o (objects f (view v)) (in_at (objects f (view v)) i o is)) in
+          let its = has_identifier π (view v) r.identified f o keyed ((in_at (objects f (view v)) i o is)) in
           let same : key_of_family_object π f o.value ≡ Some its.0 = ap (λ b. cond b (key_of π o.value) None) keyed ∙ its.1 in
           ap (λ key. Some (rank_among (map shown os) f key)) same ∙ ap Some (rank_same f keyed (Some its.0)) ∙ sym (ap (option_map (λ k. rank_of π (view v) f (Some k))) same)
 

@@ -1,10 +1,9 @@
 -- The names that the walk over the selections of a report meets and leaves are those of the definition.
-use Rattle.erd_meaning.proofs.Common.{◌≡◌, ℕ, true, cond, List, [], ◌∷◌, Some, None, codes, Option, option_map, find, option_and_then, refl, ap, ◌∙◌, cons_option, Data, as_str, Class, class, Family, family, NoneOf, entries_at, class_of_object, has_keys, key_cmp, Preference, key_of, key_of_family_object, IdentityFault, Placed, id_of, has_id, rising_list, key_named, keys_named, keys_of_selection, is_write_in, order_of_selection, label_of_selection, name_in_class, selection_role, name_of, key_among, keys_among, selection_keys_among, class_name_among, name_among, is_of_family, keeps_id, Kept, kept_objects, inl, inr, cases_Bool, zero, suc, ◌<◌, ◌++◌, slice_get, flat_map, sym, cases_order, option_map_or, Selection, TwinSelection, object_in, ObjectIn, In, In-flat_map, ShapeFault, SelectionFault, selection_in, NameParts, contests, selections_of_contest, numbered_selections, AreNames, NumberedName, and_then-Some, length, subst, ListsAll, Fault, none_from_empty, names_of, is_taken, NamesMet, named_all, names_met, nil_from_length, objects}
-use Rattle.erd_meaning.proofs.finding.OneObject.{kept_of, those_kept, among_first, in_at, sorted_at}
+use Rattle.erd_meaning.proofs.Common.{◌≡◌, ℕ, true, cond, List, [], ◌∷◌, Some, None, codes, Option, option_map, find, option_and_then, refl, ap, ◌∙◌, cons_option, Data, as_str, Class, class, Family, family, NoneOf, entries_at, class_of_object, has_keys, key_cmp, Preference, key_of, key_of_family_object, IdentityFault, Placed, id_of, has_id, rising_list, key_named, keys_named, keys_of_selection, is_write_in, order_of_selection, label_of_selection, name_in_class, selection_role, name_of, key_among, keys_among, selection_keys_among, class_name_among, name_among, is_of_family, keeps_id, Kept, kept_objects, inl, inr, cases_Bool, zero, suc, ◌<◌, ◌++◌, slice_get, flat_map, sym, cases_order, option_map_or, Selection, TwinSelection, object_in, ObjectIn, In, In-flat_map, ShapeFault, SelectionFault, selection_in, NameParts, contests, selections_of_contest, numbered_selections, AreNames, NumberedName, and_then-Some, length, subst, ListsAll, Fault, none_from_empty, names_of, is_taken, NamesMet, named_all, names_met, nil_from_length, objects, in_at}
+use Rattle.erd_meaning.proofs.finding.OneObject.{kept_of, those_kept, among_first, sorted_at}
 use Rattle.erd_meaning.proofs.references.ReferenceLookups.{find_both, named_same}
 use Rattle.erd_meaning.proofs.selections.NamesTold.{Numbered, in_places, name_list, numbered_rising, of_its_contest, repeats, all_faults, all_names, names_told, selections_listed, selections_told}
 use Rattle.erd_meaning.proofs.accepted.Standing.{stands_of_shape}
-use Rattle.erd_meaning.proofs.orders.RisingOrders.{has_from_In}
 use Rattle.erd_meaning.specs.declared.names.selection_walk.SelectionWalk.{SelectionWalk}
 
 -- ---- the key of what an `@id` names
@@ -65,7 +64,7 @@ name_same π t d none = at (class_of_object selection_role d)
 selection_class : (t : Data) → NoneOf (ShapeFault t) → (o : Placed) → In o (objects Selection t) → (c : Class) × (class_of_object selection_role o.value ≡ Some c)
 selection_class t none o i =
     let a : ObjectIn t selection_role o.value =
-    object_in t none selection_role o.value (record { place = o.place; is = stands_of_shape t none Selection o (has_from_In o (objects Selection t) i) }) in
+    object_in t none selection_role o.value (record { place = o.place; is = stands_of_shape t none Selection o i }) in
     (a.class, ap (class_of_object selection_role) a.is_object ∙ a.at.among)
 
 -- the name of each of these

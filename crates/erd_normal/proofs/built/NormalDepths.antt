@@ -1,5 +1,5 @@
 -- What is built of a report whose shape has no fault is nested no deeper, part by part.
-use Rattle.erd_normal.proofs.Common.{◌≡◌, ℕ, zero, suc, ◌≤◌, Bool, true, false, List, [], map, if◌then◌else◌, Some, None, codes, Option, option_map, Ordering, sym, refl, ap, ◌∙◌, subst, arith, AllByRecursion, option_map_or, Data, string, array, object, Items, no_items, item, Members, no_members, member, get_member, get_item, get, kind_of_member, Class, Family, family, Role, role, MemberKind, kind, object_in, ObjectAt, ObjectIn, Within-root, wanted_within, Within, ShapeFault, NoneOf, IsTree, list_of_items, entries_of, entries_at, class_of_object, entry_want, is_compared_set, asked, Want, Member, Preference, key_of, rising_list, compact_cmp, with_rising_text, selection_role, depth, members_depth, is_array, AreMembers, ⊤, items_depth, is_envelope_name, get_member-first, get_member-depth, map_has, all_by_entry, within-tree, get_member-later, IsNoDeeper, Object, all_rising, class_of_node, id_of_key, normal_reference, reference_cmp, id_of_selection, normal_selection_reference, unless_no_entry, array_of, normal_value, normal_members, normal_object_with, normal_node_value, normal_content, normal_nodes, normal_node, normal_node_members, with_id, normal_selection, by_key, by_name, normal_object_value, normal_object, normal_objects, normal_election_value, normal_election, normal_report_value, in_envelope, normal_tree}
+use Rattle.erd_normal.proofs.Common.{◌≡◌, ℕ, zero, suc, ◌≤◌, Bool, true, false, List, [], map, if◌then◌else◌, Some, None, codes, Option, option_map, Ordering, sym, refl, ap, ◌∙◌, subst, arith, AllByRecursion, option_map_or, Data, string, array, object, Items, no_items, item, Members, no_members, member, get_member, get_item, get, kind_of_member, Class, Family, family, Role, role, MemberKind, kind, object_in, ObjectAt, ObjectIn, Within-root, wanted_within, Within, ShapeFault, NoneOf, IsTree, list_of_items, entries_of, entries_at, class_of_object, entry_want, is_compared_set, asked, Want, Member, Preference, key_of, rising_list, compact_cmp, with_rising_text, selection_role, depth, members_depth, is_array, AreMembers, ⊤, items_depth, is_envelope_name, get_member-first, get_member-depth, within-tree, get_member-later, IsNoDeeper, Object, all_rising, class_of_node, id_of_key, normal_reference, reference_cmp, id_of_selection, normal_selection_reference, unless_no_entry, array_of, normal_value, normal_members, normal_object_with, normal_node_value, normal_content, normal_nodes, normal_node, normal_node_members, with_id, normal_selection, by_key, by_name, normal_object_value, normal_object, normal_objects, normal_election_value, normal_election, normal_report_value, in_envelope, normal_tree, In-map_from, all_from_In}
 use Rattle.erd_normal.proofs.built.AskedMembers.{AskedAs, asked_as, entries_asked, entry_asked, label_texts}
 use Rattle.erd_normal.proofs.lists.BuiltLists.{IfSome, if_some_is, all_map, items_of-depth, listed_depth, unless_no_entry-holds, all_both}
 use Rattle.erd_normal.proofs.built.NormalReports.{with_envelope-depth}
@@ -26,7 +26,7 @@ rising_depth cmp d is = array_depth d (rising_list cmp (entries_of d)) is (λ n 
 texts_depth : (d : Data) (f : Data → Data) (es : List Data) → is_array d ≡ true → ((e : Data) → depth (f e) ≡ 0) → IsNoDeeper (array_of (map f es)) d
 texts_depth d f es is flat =
     array_depth d (map f es) is
-    (λ n all. all_by_entry (λ e. depth e ≤ n) (map f es) (λ e h. let x = map_has f es e h in let low : depth e ≡ 0 = ap depth (sym x.2) ∙ flat x.0 in omega arith))
+    (λ n all. all_from_In (λ e. depth e ≤ n) (map f es) (λ e h. let x = In-map_from f es e h in let low : depth e ≡ 0 = ap depth (sym x.2) ∙ flat x.0 in omega arith))
 
 with_id-depth : (id : Option (List ℕ)) (d : Data) → IsNoDeeper (with_id id d) d
 with_id-depth (Some id) (object ms) =

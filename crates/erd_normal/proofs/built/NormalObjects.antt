@@ -1,5 +1,5 @@
 -- The objects of each family in the report that is built: those of the report, each built.
-use Rattle.erd_normal.proofs.Common.{◌≡◌, ℕ, true, false, List, map, Some, codes, flat_map, sym, refl, ap, ◌∙◌, subst, Data, kind_of_member, Class, class, Family, family, role, kind, Has, Within, ShapeFault, NoneOf, IsTree, list_of_items, entries_at, class_of_object, asked, has_keys, Preference, placed_entries, report_of, elections, objects, rising_list, is_envelope_name, within-tree, Object, skeleton_of_shape, values-placed_entries, values-placed_flat, election_entries, values_in_elections, election_within, election_object, Skeleton, contest_selections, class_role, reordered_rising, normal_selection, by_key, by_name, normal_object, normal_election, normal_tree, IsPermutation-map}
+use Rattle.erd_normal.proofs.Common.{◌≡◌, ℕ, true, false, List, map, Some, codes, flat_map, sym, refl, ap, ◌∙◌, subst, Data, kind_of_member, Class, class, Family, family, role, kind, Within, ShapeFault, NoneOf, IsTree, list_of_items, entries_at, class_of_object, asked, has_keys, Preference, placed_entries, report_of, elections, objects, rising_list, is_envelope_name, within-tree, Object, skeleton_of_shape, values-placed_entries, values-placed_flat, election_entries, values_in_elections, election_within, election_object, Skeleton, contest_selections, class_role, reordered_rising, normal_selection, by_key, by_name, normal_object, normal_election, normal_tree, IsPermutation-map, In}
 use Rattle.erd_normal.proofs.built.FamilyNames.{family_name}
 use Rattle.erd_normal.proofs.built.NormalEntries.{entries_of_election, entries_of_elections, entries_of_report, entries_of_selections}
 use Rattle.erd_normal.proofs.lists.Matched.{Matched, matched_flat, matched_map, matched_then}
@@ -45,14 +45,14 @@ module _ (π : Preference) (t : Data) (clean : NoneOf (ShapeFault t)) (tree : Is
 
   module _ (s : Skeleton t) where
     -- an election has its class, and is a tree
-    pub election_classed : (d : Data) → Has (list_of_items s.es) d → (class_of_object role.Election d ≡ Some class.Election) × IsTree d
+    pub election_classed : (d : Data) → In d (list_of_items s.es) → (class_of_object role.Election d ≡ Some class.Election) × IsTree d
     election_classed d h =
         let w : Within t (asked (Object role.Election) d) = election_within t s d h in
         let o = election_object t clean d w in
         (ap (class_of_object role.Election) o.1 ∙ o.2.among, within-tree t (asked (Object role.Election) d) tree w)
 
     -- what stands in an election that is built
-    in_one_election : (f : Family) (name : List ℕ) → kind_of_member class.Election name ≡ kind.Keyed f → (d : Data) → Has (list_of_items s.es) d
+    in_one_election : (f : Family) (name : List ℕ) → kind_of_member class.Election name ≡ kind.Keyed f → (d : Data) → In d (list_of_items s.es)
         → entries_at name (normal_election π t d) ≡ built_objects π t f (entries_at name d)
     in_one_election f name is d h = let c = election_classed d h in entries_of_election π t clean tree d c.1 c.0 f name is
 

@@ -1,5 +1,5 @@
 -- Canonical `@id` texts tell objects and selections apart, as long as a report has fewer of them than a word counts.
-use Rattle.erd_normal.proofs.Common.{◌≡◌, ℕ, ◌+◌, ◌^◌, ◌<◌, ◌≤◌, List, [], ◌∷◌, ◌++◌, length, take, drop, Some, None, Option, find, flat_map, bytes_eq, unwrap_or, sym, refl, ap, ◌∙◌, subst, ap₂, arith, length-append, Data, families, Family, family, here, later, Has, Placed, contests, selections_of_contest, objects, IsBounded, decimal, decimal_is_IsNumeral, decimal_injective, id_prefix, canonical_id, canonical_selection_id}
+use Rattle.erd_normal.proofs.Common.{◌≡◌, ℕ, ◌+◌, ◌^◌, ◌<◌, ◌≤◌, List, [], ◌∷◌, ◌++◌, length, take, drop, Some, None, Option, find, flat_map, bytes_eq, unwrap_or, sym, refl, ap, ◌∙◌, subst, ap₂, arith, length-append, Data, families, Family, family, Placed, contests, selections_of_contest, objects, IsBounded, decimal, decimal_is_IsNumeral, decimal_injective, id_prefix, canonical_id, canonical_selection_id, In, inl, inr}
 use Rattle.std.specs.Char.{digit_value}
 use Rattle.std.specs.Str.Parse.{AllDigits}
 
@@ -52,12 +52,13 @@ canonical_selection_id_exact i j k l low_i low_j low_k low_l e =
     (omega (arith, first), omega (arith, second))
 
 -- one of the lists that are put together is no longer than the whole
-part_short : {A B : Type 0} (f : A → List B) (xs : List A) (x : A) → Has xs x → length (f x) ≤ length (flat_map f xs)
-part_short f xs x (here {xs = ys}) = omega (arith, length-append (f x) (flat_map f ys))
-part_short f xs x (later {y = y} {xs = ys} h) = let rest : length (f x) ≤ length (flat_map f ys) = part_short f ys x h in omega (arith, rest, length-append (f y) (flat_map f ys))
+part_short : {A B : Type 0} (f : A → List B) (xs : List A) (x : A) → In x xs → length (f x) ≤ length (flat_map f xs)
+part_short f [] x h = absurd h
+part_short f (y ∷ ys) x (inl e) = subst (λ z. length (f z) ≤ length (f y ++ flat_map f ys)) e (omega (arith, length-append (f y) (flat_map f ys)))
+part_short f (y ∷ ys) x (inr h) = let rest : length (f x) ≤ length (flat_map f ys) = part_short f ys x h in omega (arith, rest, length-append (f y) (flat_map f ys))
 
 -- a contest has few selections
-pub few_selections : (t : Data) → IsBounded t → (contest : Placed) → Has (objects family.Contest t) contest → length (selections_of_contest contest) < 2 ^ 64
+pub few_selections : (t : Data) → IsBounded t → (contest : Placed) → In contest (objects family.Contest t) → length (selections_of_contest contest) < 2 ^ 64
 few_selections t bounded contest h =
     let part : length (selections_of_contest contest) ≤ length (objects family.Selection t) = part_short selections_of_contest (contests t) contest h in
     let all : length (objects family.Selection t) < 2 ^ 64 = bounded.few family.Selection in

@@ -1,5 +1,5 @@
 -- A selection stands in one contest of an accepted report.
-use Rattle.erd_normal.proofs.Common.{◌≡◌, ℕ, ◌+◌, List, [], ◌∷◌, ◌++◌, codes, Less, Equal, sym, refl, ap, ◌∙◌, ap₂, tied_itself, Data, family, At, Name, position_of, Has, IsAccepted, Preference, IsBefore, Placed, selections_of_contest, objects, one_placed}
+use Rattle.erd_normal.proofs.Common.{◌≡◌, ℕ, ◌+◌, List, [], ◌∷◌, ◌++◌, codes, Less, Equal, sym, refl, ap, ◌∙◌, ap₂, tied_itself, Data, family, At, Name, position_of, IsAccepted, Preference, IsBefore, Placed, selections_of_contest, objects, one_placed, In}
 use Rattle.erd_tables.specs.Places.{place_cmp}
 use Rattle.erd_tables.proofs.PlaceOrder.{place_cmp_total}
 use Rattle.erd_normal.proofs.canonical.RisingReports.{placed_at}
@@ -22,7 +22,7 @@ first_same (x ∷ xs) (y ∷ ys) a b e =
     ap₂ (λ z zs. z ∷ zs) head (first_same xs ys a b rest)
 
 -- the place of a selection's contest
-contest_place : (c o : Placed) → Has (selections_of_contest c) o → (k : ℕ) × (o.place ≡ (c.place ++ Name (codes "ContestSelection") ∷ []) ++ At k ∷ [])
+contest_place : (c o : Placed) → In o (selections_of_contest c) → (k : ℕ) × (o.place ≡ (c.place ++ Name (codes "ContestSelection") ∷ []) ++ At k ∷ [])
 contest_place c o h =
     let i = position_of (selections_of_contest c) o h in
     (0 + i.0, placed_at (c.place ++ Name (codes "ContestSelection") ∷ []) 0 (selection_values c) i.0 o i.1)
@@ -34,7 +34,7 @@ never_before_itself o before = let h : Equal ≡ Less = sym (tied_itself place_c
 
 module _ (π : Preference) (t : Data) (accepted : IsAccepted π t) where
   -- two contests that have one selection are one
-  pub one_contest : (c d o : Placed) → Has (objects family.Contest t) c → Has (objects family.Contest t) d → Has (selections_of_contest c) o → Has (selections_of_contest d) o → c ≡ d
+  pub one_contest : (c d o : Placed) → In c (objects family.Contest t) → In d (objects family.Contest t) → In o (selections_of_contest c) → In o (selections_of_contest d) → c ≡ d
   one_contest c d o in_c in_d of_c of_d =
       let k = contest_place c o of_c in
       let l = contest_place d o of_d in

@@ -1,5 +1,5 @@
 -- Lists that are put in order and built entry by entry, and the arrays of them.
-use Rattle.erd_normal.proofs.Common.{◌≡◌, ℕ, zero, suc, ◌≤◌, true, false, List, [], ◌∷◌, map, length, if◌then◌else◌, ◌==◌, Some, None, Option, refl, ap, ◌∙◌, subst, ap₂, arith, same_Some, AllByRecursion, Data, array, Items, no_items, item, get_item, items_of, here, later, Has, IsTree, list_of_items, entries_of, depth, is_array, is_empty_array, AreTrees, ⊤, items_depth, list_of_items-items_of, unless_no_entry, array_of}
+use Rattle.erd_normal.proofs.Common.{◌≡◌, ℕ, zero, suc, ◌≤◌, true, false, List, [], ◌∷◌, map, length, if◌then◌else◌, ◌==◌, Some, None, Option, refl, ap, ◌∙◌, subst, ap₂, arith, same_Some, AllByRecursion, Data, array, Items, no_items, item, get_item, items_of, IsTree, list_of_items, entries_of, depth, is_array, is_empty_array, AreTrees, ⊤, items_depth, list_of_items-items_of, unless_no_entry, array_of, In, inl, inr}
 
 -- ---- any lists
 
@@ -17,9 +17,9 @@ all_map P Q f [] each all = tt
 all_map P Q f (x ∷ xs) each all = (each x all.0, all_map P Q f xs each all.1)
 
 -- where what becomes of each is the same
-pub maps_agree : {A B : Type 0} (f g : A → B) (xs : List A) → ((x : A) → Has xs x → f x ≡ g x) → map f xs ≡ map g xs
+pub maps_agree : {A B : Type 0} (f g : A → B) (xs : List A) → ((x : A) → In x xs → f x ≡ g x) → map f xs ≡ map g xs
 maps_agree f g [] each = refl
-maps_agree f g (x ∷ xs) each = ap₂ (λ y ys. y ∷ ys) (each x here) (maps_agree f g xs (λ y h. each y (later h)))
+maps_agree f g (x ∷ xs) each = ap₂ (λ y ys. y ∷ ys) (each x (inl refl)) (maps_agree f g xs (λ y h. each y (inr h)))
 
 pub all_both : (P Q : Data → Type 0) (xs : List Data) → AllByRecursion P xs → AllByRecursion Q xs → AllByRecursion (λ x. P x × Q x) xs
 all_both P Q [] p q = tt

@@ -1,5 +1,5 @@
 -- What is found in lists that are put together is found in the first of them that has it.
-use Rattle.erd_normal.proofs.Common.{◌≡◌, ℕ, Bool, true, false, cond, List, [], ◌∷◌, map, Some, None, option_map, find, flat_map, sym, refl, ◌∙◌, AllByRecursion, option_map_or, option_or, Data, family, Has, Placed, contests, selections_of_contest, objects, has_id, owner, ⊤, find-Some, option_map-Some, contest_with, selection_with}
+use Rattle.erd_normal.proofs.Common.{◌≡◌, ℕ, Bool, true, false, cond, List, [], ◌∷◌, map, Some, None, option_map, find, flat_map, sym, refl, ◌∙◌, AllByRecursion, option_map_or, option_or, Data, family, Placed, contests, selections_of_contest, objects, has_id, owner, ⊤, find-Some, option_map-Some, contest_with, selection_with, In}
 use Rattle.std.proofs.lemmas.List.Folds.{find-append}
 
 -- ---- lists of which no two entries pass a test, and what is found by a value
@@ -37,8 +37,8 @@ pub record FoundSelection (t : Data) (id : List ℕ) (d : Data) : Type 0 where
   pub contest_is : contest_with t id ≡ Some contest
   pub selection_is : selection_with id contest ≡ Some selection
   pub value : selection.value ≡ d
-  pub of_report : Has (objects family.Contest t) contest
-  pub of_contest : Has (selections_of_contest contest) selection
+  pub of_report : In contest (objects family.Contest t)
+  pub of_contest : In selection (selections_of_contest contest)
 
 pub owner_found : (t : Data) (id : List ℕ) (d : Data) → owner t family.Selection id ≡ Some d → FoundSelection t id d
 owner_found t id d e =

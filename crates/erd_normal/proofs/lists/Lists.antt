@@ -1,5 +1,5 @@
 -- Lists whose elements each pass a test, and the list of families.
-use Rattle.erd_normal.proofs.Common.{◌≡◌, zero, suc, Bool, true, false, List, [], ◌∷◌, ◌++◌, Contains, flat_map, sym, refl, ap, ◌∙◌, subst, append_assoc, append-nil, arith, lit<, and_parts, list_all, families, family_number, Family, family, here, later, all-Has, Has, IsDistinct, all_by_entry, append-has, has-append_left}
+use Rattle.erd_normal.proofs.Common.{◌≡◌, zero, suc, Bool, true, false, List, [], ◌∷◌, ◌++◌, Contains, flat_map, sym, refl, ap, ◌∙◌, subst, append_assoc, append-nil, arith, lit<, and_parts, list_all, families, family_number, Family, family, IsDistinct, In, In-all, In-append_left, In-append_right, all_from_In, inl, inr}
 
 -- ---- entries of a list that stand one after another
 
@@ -13,8 +13,8 @@ pub part_self : {A : Type 0} (xs : List A) → IsPart xs xs
 part_self xs = record { before = []; after = []; is = append-nil xs }
 
 -- what stands in the part stands in the list
-pub part_has : {A : Type 0} (part whole : List A) → IsPart part whole → (x : A) → Has part x → Has whole x
-part_has part whole p x h = subst (λ xs. Has xs x) p.is (append-has p.before (part ++ p.after) x (has-append_left part p.after x h))
+pub part_has : {A : Type 0} (part whole : List A) → IsPart part whole → (x : A) → In x part → In x whole
+part_has part whole p x h = subst (λ xs. In x xs) p.is (In-append_right x p.before (part ++ p.after) (In-append_left x part p.after h))
 
 distinct_after : {A : Type 0} (test : A → A → Bool) (xs ys : List A) → IsDistinct test (xs ++ ys) → IsDistinct test ys
 unfolding IsDistinct
@@ -25,16 +25,17 @@ distinct_before : {A : Type 0} (test : A → A → Bool) (xs ys : List A) → Is
 unfolding IsDistinct
 distinct_before test [] ys d = tt
 distinct_before test (x ∷ xs) ys d =
-    (all_by_entry (λ y. test x y ≡ false) xs (λ y h. all-Has (λ y. test x y ≡ false) (xs ++ ys) y d.0 (has-append_left xs ys y h)), distinct_before test xs ys d.1)
+    (all_from_In (λ y. test x y ≡ false) xs (λ y h. In-all (λ y. test x y ≡ false) y (xs ++ ys) d.0 (In-append_left y xs ys h)), distinct_before test xs ys d.1)
 
 -- entries that are all different are so in a part
 pub part_distinct : {A : Type 0} (test : A → A → Bool) (part whole : List A) → IsPart part whole → IsDistinct test whole → IsDistinct test part
 part_distinct test part whole p d = distinct_before test part p.after (distinct_after test p.before (part ++ p.after) (subst (IsDistinct test) (sym p.is) d))
 
 -- the list of one entry is a part of all entries' lists, one after another
-pub part_flat : {A B : Type 0} (f : A → List B) (xs : List A) (x : A) → Has xs x → IsPart (f x) (flat_map f xs)
-part_flat f xs x (here {xs = ys}) = record { before = []; after = flat_map f ys; is = refl }
-part_flat f xs x (later {y = y} {xs = ys} h) =
+pub part_flat : {A B : Type 0} (f : A → List B) (xs : List A) (x : A) → In x xs → IsPart (f x) (flat_map f xs)
+part_flat f [] x h = absurd h
+part_flat f (y ∷ ys) x (inl e) = record { before = []; after = flat_map f ys; is = ap (λ z. f z ++ flat_map f ys) (sym e) }
+part_flat f (y ∷ ys) x (inr h) =
     let p = part_flat f ys x h in
     record { before = f y ++ p.before; after = p.after; is = append_assoc (f y) p.before (f x ++ p.after) ∙ ap (λ zs. f y ++ zs) p.is }
 

@@ -1,5 +1,5 @@
 -- Lists whose entries are related one by one, but for their order.
-use Rattle.erd_normal.proofs.Common.{◌≡◌, suc, ◌≤◌, Bool, true, false, cond, ◌||◌, List, [], ◌∷◌, ◌++◌, map, length, Some, None, filter, Option, find, flat_map, filter_map, option_and_then, is_eq, Ordering, Less, Equal, sym, refl, ap, ◌∙◌, subst, ap₂, true≢false, arith, false_from_ne_true, on_total, IsTotalOrder, AllByRecursion, cons_option, list_any, eq_by_cmp, ordering_reverse, has_mapped, all_weakened, here, later, all-Has, rising_unique, Has, IsDistinct, IsStrictlySortedBy, all_by_entry, reordered_flat, count-reordered, all-reordered, reordered-has, IsPermutation, IsPermutation-map, IsPermutation-append_left, IsPermutation-append_right, length_permutation, list_any-IsPermutation, IsPermutation-refl, IsPermutation-sym, IsPermutation-trans, along_permutation}
+use Rattle.erd_normal.proofs.Common.{◌≡◌, suc, ◌≤◌, Bool, true, false, cond, ◌||◌, List, [], ◌∷◌, ◌++◌, map, length, Some, None, filter, Option, find, flat_map, filter_map, option_and_then, is_eq, Ordering, Less, Equal, sym, refl, ap, ◌∙◌, subst, ap₂, true≢false, arith, false_from_ne_true, on_total, IsTotalOrder, AllByRecursion, cons_option, list_any, eq_by_cmp, ordering_reverse, all_weakened, rising_unique, IsDistinct, IsStrictlySortedBy, reordered_flat, count-reordered, all-reordered, IsPermutation, IsPermutation-map, IsPermutation-append_left, IsPermutation-append_right, length_permutation, list_any-IsPermutation, IsPermutation-refl, IsPermutation-sym, IsPermutation-trans, along_permutation, In, In-all, In-map, all_from_In, inl, inr, reordered-In}
 use Rattle.erd_normal.proofs.lists.FoundInParts.{AreApart}
 
 -- ---- lists whose entries are related one by one
@@ -28,14 +28,14 @@ paired_append us vs none h = h
 paired_append us vs (more r rest) h = more r (paired_append us vs rest h)
 
 -- a relation that holds of related entries of the lists
-pub paired_within : {A B : Type 0} {R : A → B → Type 0} (S : A → B → Type 0) {xs : List A} {ys : List B} → ((x : A) (y : B) → Has xs x → R x y → S x y) → Paired R xs ys → Paired S xs ys
+pub paired_within : {A B : Type 0} {R : A → B → Type 0} (S : A → B → Type 0) {xs : List A} {ys : List B} → ((x : A) (y : B) → In x xs → R x y → S x y) → Paired R xs ys → Paired S xs ys
 paired_within S h none = none
-paired_within S h (more {x = x} {y = y} r rest) = more (h x y here r) (paired_within S (λ a b i. h a b (later i)) rest)
+paired_within S h (more {x = x} {y = y} r rest) = more (h x y (inl refl) r) (paired_within S (λ a b i. h a b (inr i)) rest)
 
-paired_back : {A B : Type 0} {R : A → B → Type 0} {xs : List A} {ys : List B} (y : B) → Paired R xs ys → Has ys y → (x : A) × Has xs x × R x y
-paired_back y none h = elim h [ ]
-paired_back y (more {x = x} r rest) here = (x, here, r)
-paired_back y (more r rest) (later h) = let b = paired_back y rest h in (b.0, later b.1, b.2)
+paired_back : {A B : Type 0} {R : A → B → Type 0} {xs : List A} {ys : List B} (y : B) → Paired R xs ys → In y ys → (x : A) × In x xs × R x y
+paired_back y none h = absurd h
+paired_back {A} {B} {R} y (more {x = x} r rest) (inl e) = (x, inl refl, subst (R x) e r)
+paired_back y (more r rest) (inr h) = let b = paired_back y rest h in (b.0, inr b.1, b.2)
 
 -- ---- in some order
 
@@ -53,21 +53,21 @@ paired_with_values f (x ∷ xs) = more refl (paired_with_values f xs)
 pub matched_map : {A B : Type 0} (f : A → B) (xs : List A) → Matched (λ x y. f x ≡ y) xs (map f xs)
 matched_map f xs = record { middle = map f xs; paired = paired_with_values f xs; reordered = IsPermutation-refl (map f xs) }
 
-pub matched_within : {A B : Type 0} {R : A → B → Type 0} (S : A → B → Type 0) {xs : List A} {ys : List B} → ((x : A) (y : B) → Has xs x → R x y → S x y) → Matched R xs ys → Matched S xs ys
+pub matched_within : {A B : Type 0} {R : A → B → Type 0} (S : A → B → Type 0) {xs : List A} {ys : List B} → ((x : A) (y : B) → In x xs → R x y → S x y) → Matched R xs ys → Matched S xs ys
 matched_within S h m = record { middle = m.middle; paired = paired_within S h m.paired; reordered = m.reordered }
 
 -- each entry of the second list has one of the first to which it is related
-pub matched_back : {A B : Type 0} {R : A → B → Type 0} {xs : List A} {ys : List B} (y : B) → Matched R xs ys → Has ys y → (x : A) × Has xs x × R x y
-matched_back y m h = paired_back y m.paired (reordered-has y (IsPermutation-sym _ _ m.reordered) h)
+pub matched_back : {A B : Type 0} {R : A → B → Type 0} {xs : List A} {ys : List B} (y : B) → Matched R xs ys → In y ys → (x : A) × In x xs × R x y
+matched_back y m h = paired_back y m.paired (reordered-In y (IsPermutation-sym _ _ m.reordered) h)
 
-paired_on : {A B : Type 0} {R : A → B → Type 0} {xs : List A} {ys : List B} (x : A) → Paired R xs ys → Has xs x → (y : B) × Has ys y × R x y
-paired_on x none h = elim h [ ]
-paired_on x (more {y = y} r rest) here = (y, here, r)
-paired_on x (more r rest) (later h) = let b = paired_on x rest h in (b.0, later b.1, b.2)
+paired_on : {A B : Type 0} {R : A → B → Type 0} {xs : List A} {ys : List B} (x : A) → Paired R xs ys → In x xs → (y : B) × In y ys × R x y
+paired_on x none h = absurd h
+paired_on {A} {B} {R} x (more {y = y} r rest) (inl e) = (y, inl refl, subst (λ z. R z y) e r)
+paired_on x (more r rest) (inr h) = let b = paired_on x rest h in (b.0, inr b.1, b.2)
 
 -- and each of the first has one of the second
-pub matched_on : {A B : Type 0} {R : A → B → Type 0} {xs : List A} {ys : List B} (x : A) → Matched R xs ys → Has xs x → (y : B) × Has ys y × R x y
-matched_on x m h = let b = paired_on x m.paired h in (b.0, reordered-has b.0 m.reordered b.1, b.2)
+pub matched_on : {A B : Type 0} {R : A → B → Type 0} {xs : List A} {ys : List B} (x : A) → Matched R xs ys → In x xs → (y : B) × In y ys × R x y
+matched_on x m h = let b = paired_on x m.paired h in (b.0, reordered-In b.0 m.reordered b.1, b.2)
 
 pub matched_append : {A B : Type 0} {R : A → B → Type 0} {xs us : List A} {ys vs : List B} → Matched R xs ys → Matched R us vs → Matched R (xs ++ us) (ys ++ vs)
 matched_append {ys = ys} m n = record {
@@ -76,13 +76,13 @@ matched_append {ys = ys} m n = record {
   reordered = IsPermutation-trans _ _ _ (IsPermutation-append_left n.middle _ _ m.reordered) (IsPermutation-append_right ys _ _ n.reordered);
 }
 
-flat_paired : {A B C D : Type 0} {R : A → B → Type 0} {S : C → D → Type 0} (f : A → List C) (g : B → List D) → {xs : List A} {ys : List B} → ((x : A) (y : B) → Has xs x → R x y → Matched S (f x) (g y))
+flat_paired : {A B C D : Type 0} {R : A → B → Type 0} {S : C → D → Type 0} (f : A → List C) (g : B → List D) → {xs : List A} {ys : List B} → ((x : A) (y : B) → In x xs → R x y → Matched S (f x) (g y))
     → Paired R xs ys → Matched S (flat_map f xs) (flat_map g ys)
 flat_paired {S = S} f g each none = matched_none S
-flat_paired f g each (more {x = x} {y = y} r rest) = matched_append (each x y here r) (flat_paired f g (λ a b h. each a b (later h)) rest)
+flat_paired f g each (more {x = x} {y = y} r rest) = matched_append (each x y (inl refl) r) (flat_paired f g (λ a b h. each a b (inr h)) rest)
 
 -- lists of lists
-pub matched_flat : {A B C D : Type 0} {R : A → B → Type 0} {S : C → D → Type 0} (f : A → List C) (g : B → List D) → {xs : List A} {ys : List B} → ((x : A) (y : B) → Has xs x → R x y → Matched S (f x) (g y))
+pub matched_flat : {A B C D : Type 0} {R : A → B → Type 0} {S : C → D → Type 0} (f : A → List C) (g : B → List D) → {xs : List A} {ys : List B} → ((x : A) (y : B) → In x xs → R x y → Matched S (f x) (g y))
     → Matched R xs ys → Matched S (flat_map f xs) (flat_map g ys)
 matched_flat f g each m = matched_then (flat_paired f g each m.paired) (reordered_flat g m.reordered)
 
@@ -171,36 +171,36 @@ module _ {A B : Type 0} {R : A → B → Type 0} (test : A → Bool) (test' : B 
 
 -- ---- lists of values that are all different
 
-pub distinct-reordered : {A : Type 0} (test : A → A → Bool) {xs ys : List A} → IsPermutation xs ys → ((x y : A) → Has xs x → Has xs y → test x y ≡ false → test y x ≡ false)
+pub distinct-reordered : {A : Type 0} (test : A → A → Bool) {xs ys : List A} → IsPermutation xs ys → ((x y : A) → In x xs → In y xs → test x y ≡ false → test y x ≡ false)
     → IsDistinct test xs → IsDistinct test ys
 unfolding IsDistinct
-distinct-reordered {A} test = along_permutation (λ xs ys. ((x y : A) → Has xs x → Has xs y → test x y ≡ false → test y x ≡ false) → IsDistinct test xs → IsDistinct test ys)
+distinct-reordered {A} test = along_permutation (λ xs ys. ((x y : A) → In x xs → In y xs → test x y ≡ false → test y x ≡ false) → IsDistinct test xs → IsDistinct test ys)
     (λ xs turns d. d)
-    (λ x xs ys p h turns d. (all-reordered (λ y. test x y ≡ false) p d.0, h (λ y z i j. turns y z (later i) (later j)) d.1))
-    (λ x y xs turns d. ((turns x y here (later here) d.0.0, d.1.0), (d.0.1, d.1.1)))
-    (λ xs ys zs p h k turns d. k (λ x y i j. turns x y (reordered-has x (IsPermutation-sym xs ys p) i) (reordered-has y (IsPermutation-sym xs ys p) j)) (h turns d))
+    (λ x xs ys p h turns d. (all-reordered (λ y. test x y ≡ false) p d.0, h (λ y z i j. turns y z (inr i) (inr j)) d.1))
+    (λ x y xs turns d. ((turns x y (inl refl) (inr (inl refl)) d.0.0, d.1.0), (d.0.1, d.1.1)))
+    (λ xs ys zs p h k turns d. k (λ x y i j. turns x y (reordered-In x (IsPermutation-sym xs ys p) i) (reordered-In y (IsPermutation-sym xs ys p) j)) (h turns d))
 
 -- lists of values that are all different are matched by such lists, where a test that tells the others' entries apart tells theirs apart
 pub distinct-paired : {A B : Type 0} {R : A → B → Type 0} (test : A → A → Bool) (test' : B → B → Bool) {xs : List A} {ys : List B}
-    → ((x x' : A) (y y' : B) → Has xs x → Has xs x' → R x y → R x' y' → test' y y' ≡ true → test x x' ≡ true) → Paired R xs ys → IsDistinct test xs → IsDistinct test' ys
+    → ((x x' : A) (y y' : B) → In x xs → In x' xs → R x y → R x' y' → test' y y' ≡ true → test x x' ≡ true) → Paired R xs ys → IsDistinct test xs → IsDistinct test' ys
 unfolding IsDistinct
 distinct-paired test test' tells none d = tt
 distinct-paired {A} {B} {R} test test' tells (more {x = x} {y = y} {xs = xs} {ys = ys} r rest) d = (
   apart (λ x' h. h) rest d.0,
-  distinct-paired test test' (λ a a' b b' i j. tells a a' b b' (later i) (later j)) rest d.1,
+  distinct-paired test test' (λ a a' b b' i j. tells a a' b b' (inr i) (inr j)) rest d.1,
 )
   where
-    apart : {us : List A} {vs : List B} → ((x' : A) → Has us x' → Has xs x') → Paired R us vs → AllByRecursion (λ x'. test x x' ≡ false) us → AllByRecursion (λ y'. test' y y' ≡ false) vs
+    apart : {us : List A} {vs : List B} → ((x' : A) → In x' us → In x' xs) → Paired R us vs → AllByRecursion (λ x'. test x x' ≡ false) us → AllByRecursion (λ y'. test' y y' ≡ false) vs
     apart inside none a = tt
     apart inside (more {x = x'} {y = y'} s more_of) a =
-        (false_from_ne_true (test' y y') (λ e. true≢false (sym (tells x x' y y' here (later (inside x' here)) r s e) ∙ a.0)), apart (λ z h. inside z (later h)) more_of a.1)
+        (false_from_ne_true (test' y y') (λ e. true≢false (sym (tells x x' y y' (inl refl) (inr (inside x' (inl refl))) r s e) ∙ a.0)), apart (λ z h. inside z (inr h)) more_of a.1)
 
 -- a test that sees no order
 abbrev pub IsEven : {A : Type 0} → (A → A → Bool) → Type 0
 IsEven {A} test = (x y : A) → test x y ≡ false → test y x ≡ false
 
 pub distinct_matched : {A B : Type 0} {R : A → B → Type 0} (test : A → A → Bool) (test' : B → B → Bool) {xs : List A} {ys : List B} → IsEven test'
-    → ((x x' : A) (y y' : B) → Has xs x → Has xs x' → R x y → R x' y' → test' y y' ≡ true → test x x' ≡ true) → Matched R xs ys → IsDistinct test xs → IsDistinct test' ys
+    → ((x x' : A) (y y' : B) → In x xs → In x' xs → R x y → R x' y' → test' y y' ≡ true → test x x' ≡ true) → Matched R xs ys → IsDistinct test xs → IsDistinct test' ys
 distinct_matched test test' even tells m d = distinct-reordered test' m.reordered (λ x y i j. even x y) (distinct-paired test test' tells m.paired d)
 
 pub even_order : {A : Type 0} (cmp : A → A → Ordering) → IsTotalOrder cmp → IsEven (eq_by_cmp cmp)
@@ -253,7 +253,7 @@ paired_kept f g same (more {x = x} {y = y} r rest) = ap₂ cons_option (same x y
 rising_by : {B K : Type 0} (cmp : K → K → Ordering) (key : B → K) (ys : List B) → IsStrictlySortedBy cmp (map key ys) → IsStrictlySortedBy (λ x y. cmp (key x) (key y)) ys
 unfolding IsStrictlySortedBy
 rising_by cmp key [] rise = tt
-rising_by cmp key (y ∷ ys) rise = (all_by_entry (λ z. cmp (key y) (key z) ≡ Less) ys (λ z h. all-Has (λ l. cmp (key y) l ≡ Less) (map key ys) (key z) rise.0 (has_mapped key ys z h)), rising_by cmp key ys rise.1)
+rising_by cmp key (y ∷ ys) rise = (all_from_In (λ z. cmp (key y) (key z) ≡ Less) ys (λ z h. In-all (λ l. cmp (key y) l ≡ Less) (key z) (map key ys) rise.0 (In-map key z ys h)), rising_by cmp key ys rise.1)
 
 pub matched_rising : {A B K : Type 0} {R : A → B → Type 0} (cmp : K → K → Ordering) → IsTotalOrder cmp → (key : A → K) (key' : B → K) → ((x : A) (y : B) → R x y → key x ≡ key' y) → (xs : List A) (ys : List B)
     → IsStrictlySortedBy cmp (map key xs) → IsStrictlySortedBy cmp (map key' ys) → Matched R xs ys → Paired R xs ys
@@ -261,5 +261,5 @@ matched_rising {R = R} cmp order key key' same xs ys rise rise' m =
     subst (Paired R xs)
     (rising_unique (λ x y. cmp (key' x) (key' y)) (on_total key' order) m.middle ys
     (rising_by cmp key' m.middle (subst (IsStrictlySortedBy cmp) (paired_map key key' same m.paired) rise)) (rising_by cmp key' ys rise')
-    (λ y h. reordered-has y m.reordered h) (λ y h. reordered-has y (IsPermutation-sym _ _ m.reordered) h))
+    (λ y h. reordered-In y m.reordered h) (λ y h. reordered-In y (IsPermutation-sym _ _ m.reordered) h))
     m.paired

@@ -1,6 +1,5 @@
 -- What a test keeps of a list, and lists whose entries are numbered.
-use Rattle.erd_normal.proofs.Common.{◌≡◌, ℕ, suc, ◌+◌, ◌<◌, Bool, true, false, cond, ◌⊎◌, List, [], ◌∷◌, map, length, slice_get, Some, None, filter, Option, option_map, flat_map, sym, refl, ap, ◌∙◌, subst, inl, inr, arith, length-map, same_Some, slice_get-map, enumerate_from, Has-cases, Has, In-from_has, has_from_In}
-use Rattle.erd_check.proofs.Order.{In-filter}
+use Rattle.erd_normal.proofs.Common.{◌≡◌, ℕ, suc, ◌+◌, ◌<◌, Bool, true, false, cond, ◌⊎◌, List, [], ◌∷◌, map, length, slice_get, Some, None, filter, Option, option_map, flat_map, sym, refl, ap, ◌∙◌, subst, inl, inr, arith, length-map, same_Some, slice_get-map, enumerate_from, In}
 use Rattle.erd_meaning.proofs.selections.ContestSelections.{get_first, get_later, within_or_after}
 
 -- through a function
@@ -10,14 +9,10 @@ kept_map f q (x ∷ xs) =
     let more = kept_map f q xs in
     elim (q (f x)) as (λ b. cond b (f x ∷ filter q (map f xs)) (filter q (map f xs)) ≡ map f (cond b (x ∷ filter (λ x. q (f x)) xs) (filter (λ x. q (f x)) xs))) [ true ↦ ap (λ ys. f x ∷ ys) more | false ↦ more ]
 
--- what is kept stands in the list
-pub kept_has : {A : Type 0} (q : A → Bool) (xs : List A) (x : A) → Has (filter q xs) x → Has xs x
-kept_has q xs x h = has_from_In x xs (In-filter q x xs (In-from_has x (filter q xs) h)).0
-
 -- an entry and its number
-pub numbered_stands : {A : Type 0} (n : ℕ) (xs : List A) (o : ℕ × A) → Has (enumerate_from n xs) o → (i : ℕ) × (o.0 ≡ i + n) × (slice_get xs i ≡ Some o.1)
+pub numbered_stands : {A : Type 0} (n : ℕ) (xs : List A) (o : ℕ × A) → In o (enumerate_from n xs) → (i : ℕ) × (o.0 ≡ i + n) × (slice_get xs i ≡ Some o.1)
 numbered_stands n [] o h = elim h [ ]
-numbered_stands {A} n (x ∷ xs) o h = elim (Has-cases (n, x) o (enumerate_from (n + 1) xs) h) [
+numbered_stands {A} n (x ∷ xs) o h = elim h [
   | inl e ↦ let first : n ≡ 0 + n = omega arith in (0, ap (λ (p : ℕ × A). p.0) (sym e) ∙ first, ap (λ (p : ℕ × A). Some p.1) e)
   | inr k ↦
       let rest = numbered_stands (n + 1) xs o k in

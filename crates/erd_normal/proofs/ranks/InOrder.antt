@@ -1,5 +1,5 @@
 -- Entries of a list in the order of their keys, each with its position.
-use Rattle.erd_normal.proofs.Common.{◌≡◌, ℕ, zero, suc, ◌+◌, ◌<◌, Bool, true, false, cond, List, [], ◌∷◌, map, length, get_or, drop, slice_get, Some, filter, Ordering, sym, refl, ap, ◌∙◌, subst, add-one, arith, on_total, IsTotalOrder, enumerate_from, In, rising_list, by_first, rising_list_map, has_from_In, In-rising}
+use Rattle.erd_normal.proofs.Common.{◌≡◌, ℕ, zero, suc, ◌+◌, ◌<◌, Bool, true, false, cond, List, [], ◌∷◌, map, length, get_or, drop, slice_get, Some, filter, Ordering, sym, refl, ap, ◌∙◌, subst, add-one, arith, on_total, IsTotalOrder, enumerate_from, In, rising_list, by_first, rising_list_map, In-rising}
 use Rattle.erd_normal.proofs.lists.FilteredRising.{filter_rising}
 use Rattle.erd_normal.proofs.lists.NumberedKept.{numbered_stands}
 use Rattle.erd_normal.proofs.lists.StableRising.{map_after}
@@ -40,7 +40,7 @@ module _ {A K : Type 0} (cmp : K → K → Ordering) (key : A → K) (xs : List 
   -- each stands at its position
   pub stands : (p : ℕ × A) → In p entries → slice_get xs p.0 ≡ Some p.1
   stands p inside =
-      let place = numbered_stands 0 xs p (has_from_In p (enumerate_from 0 xs) (In-rising (λ (a b : ℕ × A). by_keys a.1 b.1) p (enumerate_from 0 xs) inside)) in
+      let place = numbered_stands 0 xs p ((In-rising (λ (a b : ℕ × A). by_keys a.1 b.1) p (enumerate_from 0 xs) inside)) in
       let count : place.0 + 0 ≡ place.0 = omega arith in
       ap (slice_get xs) (place.1 ∙ count) ∙ place.2
 

@@ -1,7 +1,6 @@
 -- The objects of one election among the sorted objects of a family: they are the objects that it holds, in the order of their keys.
-use Rattle.erd_normal.proofs.Common.{◌≡◌, ℕ, zero, suc, ◌+◌, ◌<◌, ◌≤◌, Bool, true, false, cond, List, [], ◌∷◌, ◌++◌, map, length, if◌then◌else◌, ◌==◌, slice_get, Some, None, codes, filter, Option, option_map, flat_map, option_and_then, bytes_eq, unwrap_or, sym, refl, ap, ◌∙◌, append-nil, arith, ne_eqb, Decides-eqb, length-map, filter-append, slice_get_past, options_total, enumerate_from, option_cmp, option_map_or, Data, Items, no_items, item, Family, family, Step, At, Name, has_at, list_of_items, entries_at, IsAccepted, has_keys, key_cmp, Preference, key_of, key_in, rising_keys, Placed, placed_from, placed_entries, report_of, elections, objects, election_of_place, rising_list, key_cmp_total, option_map-Some, skeleton, values-placed_entries, election_entries, Skeleton, by_first, rising_list_map, In-from_has, rising_election_keys, Key, in_order_of_keys, rising_objects, rising_elections, part_at, objects_in_part, by_key}
+use Rattle.erd_normal.proofs.Common.{◌≡◌, ℕ, zero, suc, ◌+◌, ◌<◌, ◌≤◌, Bool, true, false, cond, List, [], ◌∷◌, ◌++◌, map, length, if◌then◌else◌, ◌==◌, slice_get, Some, None, codes, filter, Option, option_map, flat_map, option_and_then, bytes_eq, unwrap_or, sym, refl, ap, ◌∙◌, append-nil, arith, ne_eqb, Decides-eqb, length-map, filter-append, slice_get_past, options_total, enumerate_from, option_cmp, option_map_or, Data, Items, no_items, item, Family, family, Step, At, Name, list_of_items, entries_at, IsAccepted, has_keys, key_cmp, Preference, key_of, key_in, rising_keys, Placed, placed_from, placed_entries, report_of, elections, objects, election_of_place, rising_list, key_cmp_total, option_map-Some, skeleton, values-placed_entries, election_entries, Skeleton, by_first, rising_list_map, rising_election_keys, Key, in_order_of_keys, rising_objects, rising_elections, part_at, objects_in_part, by_key, In-filter, in_at}
 use Rattle.erd_normal.proofs.built.FamilyNames.{family_name}
-use Rattle.erd_normal.proofs.lists.NumberedKept.{kept_has}
 use Rattle.erd_normal.proofs.lists.StableRising.{map_after}
 use Rattle.erd_normal.proofs.ranks.InOrder.{positions, stands, values_kept}
 
@@ -36,8 +35,8 @@ pub in_part_there : (π : Preference) (t : Data) (f : Family) (part k : ℕ) (o 
 in_part_there π t f part k o =
     (elim (has_keys f) as (λ b. has_keys f ≡ b → slice_get (filter (λ (o : ℕ × Placed). part_at t f o.0 == part) (if b then in_order_of_keys π (objects f t) else [])) k ≡ Some o → (has_keys f ≡ true) × (slice_get (objects f t) o.0 ≡ Some o.1)) [
       | true ↦ λ keyed e.
-          let inside = kept_has (λ (o : ℕ × Placed). part_at t f o.0 == part) (in_order_of_keys π (objects f t)) o (has_at (filter (λ (o : ℕ × Placed). part_at t f o.0 == part) (in_order_of_keys π (objects f t))) k o e) in
-          (keyed, stands (option_cmp key_cmp) (λ (o : Placed). key_of π o.value) (objects f t) o (In-from_has o (in_order_of_keys π (objects f t)) inside))
+          let inside = (In-filter (λ (o : ℕ × Placed). part_at t f o.0 == part) o (in_order_of_keys π (objects f t)) (in_at (filter (λ (o : ℕ × Placed). part_at t f o.0 == part) (in_order_of_keys π (objects f t))) k o e)).0 in
+          (keyed, stands (option_cmp key_cmp) (λ (o : Placed). key_of π o.value) (objects f t) o inside)
       | false ↦ λ none e. cc
     ]) refl
 

@@ -1,5 +1,5 @@
 -- The rank of the object that a reference names.
-use Rattle.erd_normal.proofs.Common.{◌≡◌, ℕ, ◌≤◌, true, false, cond, List, [], ◌∷◌, length, is_none, if◌then◌else◌, ◌==◌, Some, None, filter, Option, option_map, option_and_then, is_lt, is_gt, sym, refl, ap, ◌∙◌, subst, true≢false, arith, options_total, option_cmp, option_map_or, Data, family_number, Family, family, IsAccepted, has_keys, key_cmp, Preference, key_of, key_in, rank_of, id_in, FindsId, Placed, objects, id_of, owner, key_named, key_cmp_total, text_of, owner_is, owned_by, in_at, with_part, place_of, In-from_has, has_from_In, Key, id_of_rank, normal_id, reference_cmp, rank_named}
+use Rattle.erd_normal.proofs.Common.{◌≡◌, ℕ, ◌≤◌, true, false, cond, List, [], ◌∷◌, length, is_none, if◌then◌else◌, ◌==◌, Some, None, filter, Option, option_map, option_and_then, is_lt, is_gt, sym, refl, ap, ◌∙◌, subst, true≢false, arith, options_total, option_cmp, option_map_or, Data, family_number, Family, family, IsAccepted, has_keys, key_cmp, Preference, key_of, key_in, rank_of, id_in, FindsId, Placed, objects, id_of, owner, key_named, key_cmp_total, text_of, owner_is, owned_by, in_at, with_part, place_of, Key, id_of_rank, normal_id, reference_cmp, rank_named}
 use Rattle.erd_meaning.proofs.identity.ObjectFamilies.{family_exact, itself}
 use Rattle.erd_meaning.proofs.finding.OneObject.{ObjectIn}
 use Rattle.erd_normal.proofs.lists.NumbersInOrder.{ranks_climb}
@@ -60,7 +60,7 @@ module _ (π : Preference) (t : Data) (f : Family) (id : List ℕ) where
       let hit = with_part (λ o. id_of o.value) f t i id here in
       let o : ObjectIn f t i = hit.0 in
       let is : id_of o.one.value ≡ Some id = hit.1 in
-      let key : key_named π t f id ≡ key_of π o.one.value = ap (option_and_then (key_of π)) (owner_is π t accepted f o.one id (has_from_In o.one (objects f t) (in_at (objects f t) i o.one o.at)) is) in
+      let key : key_named π t f id ≡ key_of π o.one.value = ap (option_and_then (key_of π)) (owner_is π t accepted f o.one id (in_at (objects f t) i o.one o.at) is) in
       ap (λ x. rank_of π t f (option_and_then (λ (o : Placed). if has_keys f then key_of π o.value else None) x)) o.at
       ∙ (ap (λ b. rank_of π t f (if b then key_of π o.one.value else None)) keyed
       ∙ (ap (rank_of π t f) (sym key) ∙ sym (ap (λ b. if b then rank_of π t f (key_named π t f id) else 0) keyed)))
@@ -72,7 +72,7 @@ module _ (π : Preference) (t : Data) (f : Family) (id : List ℕ) where
         | None ↦ λ e. refl
         | Some d ↦ λ e.
             let x = owned_by t f id d e in
-            let place = place_of x.0 (objects f t) (In-from_has x.0 (objects f t) x.1) in
+            let place = place_of x.0 (objects f t) (x.1) in
             absurd (none place.0 (ap (option_and_then (λ (o : Placed). id_of o.value)) place.1 ∙ (ap id_of x.2 ∙ x.3)))
       ]) refl
 

@@ -1,5 +1,5 @@
 -- The selections of a contest in the order of their names, and their ranks.
-use Rattle.erd_normal.proofs.Common.{◌≡◌, ℕ, ◌+◌, ◌<◌, ◌≤◌, List, [], ◌∷◌, ◌++◌, map, length, take, drop, replicate, slice_get, Some, None, codes, Option, option_map, flat_map, option_copied, Ordering, sym, refl, ap, ◌∙◌, subst, arith, length-take, Bor, on_total, length-map, take_more, same_Some, slice_get-map, slice_get_within, get_or_from_slice_get, IsTotalOrder, options_total, AllByRecursion, enumerate_from, option_cmp, eq_by_cmp, Data, family, Name, Has, entries_at, IsAccepted, Preference, NameParts, Placed, contests, selections_of_contest, objects, rising_list, name_of, name_cmp, positioned, rank_by, positions_by, name_cmp_total, drop_all, values-placed_from, in_at, distinct_map, by_first, rising_list_map, rank_map, rank_of_name, by_name, lent_name_cmp, rising_selections, AreSelectionRanks}
+use Rattle.erd_normal.proofs.Common.{◌≡◌, ℕ, ◌+◌, ◌<◌, ◌≤◌, List, [], ◌∷◌, ◌++◌, map, length, take, drop, replicate, slice_get, Some, None, codes, Option, option_map, flat_map, option_copied, Ordering, sym, refl, ap, ◌∙◌, subst, arith, length-take, Bor, on_total, length-map, take_more, same_Some, slice_get-map, slice_get_within, get_or_from_slice_get, IsTotalOrder, options_total, AllByRecursion, enumerate_from, option_cmp, eq_by_cmp, Data, family, Name, entries_at, IsAccepted, Preference, NameParts, Placed, contests, selections_of_contest, objects, rising_list, name_of, name_cmp, positioned, rank_by, positions_by, name_cmp_total, drop_all, values-placed_from, in_at, distinct_map, by_first, rising_list_map, rank_map, rank_of_name, by_name, lent_name_cmp, rising_selections, AreSelectionRanks, In}
 use Rattle.std.proofs.lemmas.List.Folds.{flat_map-map}
 use Rattle.erd_meaning.specs.NumberedNames.{numbered_name_cmp, numbered_parts}
 use Rattle.erd_meaning.specs.Places.{places_put}
@@ -118,7 +118,7 @@ module _ (π : Preference) (t : Data) where
         drop_all k (rising_list (by_name π t) inside) (omega (arith, end, one, other))
 
   -- the places of the positions are the ranks
-  pub places_are_ranks : IsAccepted π t → (contest : Placed) → Has (objects family.Contest t) contest
+  pub places_are_ranks : IsAccepted π t → (contest : Placed) → In contest (objects family.Contest t)
       → places_put 0 (rising_selections π t contest.value) (replicate (length (rising_selections π t contest.value)) 0) ≡ ranks_in contest.value
   places_are_ranks accepted contest has =
       let ds = entries_at (codes "ContestSelection") contest.value in

@@ -1,5 +1,5 @@
 -- What stands in values that are alike, part by part, and the objects of reports that are alike.
-use Rattle.erd_normal.proofs.Common.{◌≡◌, ℕ, Bool, true, false, List, [], ◌∷◌, Some, None, Option, sym, subst, Data, null, boolean, number, string, array, object, Items, no_items, item, Members, no_members, member, get_member, here, later, Has, IsBeforeFirst, IsTree, AreTrees, AreMembers, list_of_items, scope_inside, want_of_name, entry_want, is_table_set, Scope, Want, reordered-has, if◌then◌else◌, codes, option_map, bytes_eq, refl, ap, ◌∙◌, option_map_or, get, as_str, kind_of_member, is_required, Class, Family, Role, role, kind, At, list_of_items-place, ObjectAt, ObjectIn, Within-step, AsksObject, of_role, of_label, member_within, Within, want_by_kind, ShapeFault, NoneOf, entries_of, entries_at, class_of_object, member_want, is_compared_set, asked, scope, Member, Object, is_id_text, option_and_then, class, object_in, report_class, Within-root, id_of, IsPermutation, IsPermutation-refl, IsPermutation-sym}
+use Rattle.erd_normal.proofs.Common.{◌≡◌, ℕ, Bool, true, false, List, [], ◌∷◌, Some, None, Option, sym, subst, Data, null, boolean, number, string, array, object, Items, no_items, item, Members, no_members, member, get_member, IsBeforeFirst, IsTree, AreTrees, AreMembers, list_of_items, scope_inside, want_of_name, entry_want, is_table_set, Scope, Want, if◌then◌else◌, codes, option_map, bytes_eq, refl, ap, ◌∙◌, option_map_or, get, as_str, kind_of_member, is_required, Class, Family, Role, role, kind, At, list_of_items-place, ObjectAt, ObjectIn, Within-step, AsksObject, of_role, of_label, member_within, Within, want_by_kind, ShapeFault, NoneOf, entries_of, entries_at, class_of_object, member_want, is_compared_set, asked, scope, Member, Object, is_id_text, option_and_then, class, object_in, report_class, Within-root, id_of, IsPermutation, IsPermutation-refl, IsPermutation-sym, In, inl, inr, reordered-In}
 use Rattle.erd_normal.proofs.lists.Matched.{Both, both, neither, Matched, Paired, none, more, matched_none, matched_within}
 use Rattle.erd_normal.proofs.rearranged.AlikeChanges.{Alike, AlikeMembers, AreAlike, IsArranged}
 use Rattle.erd_normal.proofs.same.Lookups.{get_both, asked_of_name}
@@ -49,15 +49,15 @@ before_alike ρ s k (member l d ms) ns h b = subst (IsBeforeFirst k) (sym h.2) b
 
 -- each entry is a tree
 abbrev Trees : List Data → Type 0
-Trees ds = (d : Data) → Has ds d → IsTree d
+Trees ds = (d : Data) → In d ds → IsTree d
 
 trees_of_list : (ds : Items) → Trees (list_of_items ds) → AreTrees ds
 trees_of_list no_items h = tt
-trees_of_list (item d ds) h = (h d here, trees_of_list ds (λ e i. h e (later i)))
+trees_of_list (item d ds) h = (h d (inl refl), trees_of_list ds (λ e i. h e (inr i)))
 
 trees_more : (d : Data) (ds : List Data) → IsTree d → Trees ds → Trees (d ∷ ds)
-trees_more d ds tree trees e here = tree
-trees_more d ds tree trees e (later h) = trees e h
+trees_more d ds tree trees e (inl same) = subst IsTree same tree
+trees_more d ds tree trees e (inr h) = trees e h
 
 -- what is alike to a tree is a tree
 mutual
@@ -69,7 +69,7 @@ mutual
   alike_tree ρ (Some w) (string s) e h tree = subst IsTree (sym h) tt
   alike_tree ρ (Some w) (array ds) e h tree =
       let trees = entries_trees ρ (entry_want w) ds h.0 h.3 tree in
-      subst IsTree (sym h.2) (trees_of_list h.1 (λ d i. trees d (reordered-has d (IsPermutation-sym _ _ (arranged_reordered (is_table_set w) h.0 (list_of_items h.1) h.4)) i)))
+      subst IsTree (sym h.2) (trees_of_list h.1 (λ d i. trees d (reordered-In d (IsPermutation-sym _ _ (arranged_reordered (is_table_set w) h.0 (list_of_items h.1) h.4)) i)))
   alike_tree ρ (Some w) (object ms) e h tree = subst IsTree (sym h.1) (members_trees ρ (scope_inside w (object ms)) ms h.0 h.2 tree)
 
   entries_trees : (ρ : List ℕ → List ℕ) (w : Option Want) (ds : Items) (es : List Data) → AreAlike ρ w ds es → AreTrees ds → Trees es
@@ -100,7 +100,7 @@ pub record Related (ρ : List ℕ → List ℕ) (t : Data) (w : Want) (d e : Dat
   pub is_alike : Alike ρ (Some w) d e
 
 module _ (ρ : List ℕ → List ℕ) (t : Data) where
-  entry_inside : (w v : Want) (d : Data) → entry_want w ≡ Some v → is_compared_set w ≡ false → Within t (asked w d) → (x : Data) → Has (entries_of d) x → Within t (asked v x)
+  entry_inside : (w v : Want) (d : Data) → entry_want w ≡ Some v → is_compared_set w ≡ false → Within t (asked w d) → (x : Data) → In x (entries_of d) → Within t (asked v x)
   entry_inside w v (array ds) asks apart inside x h =
       let j = list_of_items-place ds x h in
       Within-step t (asked w (array ds)) (asked v x) (At j.0) inside (rw (asks, apart, j.1) refl)

@@ -1,5 +1,5 @@
 -- The values of a report's objects, family by family, without their places.
-use Rattle.erd_normal.proofs.Common.{◌≡◌, ℕ, false, List, map, codes, flat_map, bytes_eq, Less, Equal, sym, ap, ◌∙◌, subst, tied_itself, Data, kind_of_member, class, Family, family, kind, has_mapped, map_has, Has, entries_at, values-placed_entries, values-placed_flat, IsBefore, Placed, placed_entries, report_of, elections, contests, objects, Class, Role, MemberKind, role, is_in_envelope, role_of_class, report_class, election_class, contest_selections, is_envelope_name, refl}
+use Rattle.erd_normal.proofs.Common.{◌≡◌, ℕ, false, List, map, codes, flat_map, bytes_eq, Less, Equal, sym, ap, ◌∙◌, subst, tied_itself, Data, kind_of_member, class, Family, family, kind, entries_at, values-placed_entries, values-placed_flat, IsBefore, Placed, placed_entries, report_of, elections, contests, objects, Class, Role, MemberKind, role, is_in_envelope, role_of_class, report_class, election_class, contest_selections, is_envelope_name, refl, In, In-map, In-map_from}
 use Rattle.erd_tables.specs.Places.{place_cmp}
 use Rattle.erd_tables.proofs.PlaceOrder.{place_cmp_total}
 use Rattle.erd_normal.proofs.lists.Matched.{Matched, matched_flat}
@@ -35,11 +35,11 @@ object_values family.Selection t =
     values-placed_flat (codes "ContestSelection") (contests t) ∙ ap (flat_map (entries_at (codes "ContestSelection"))) (values_in_elections t (codes "Contest"))
 
 -- the place of a value that stands among a family's objects
-pub value_placed : (f : Family) (t d : Data) → Has (family_values f t) d → (o : Placed) × Has (objects f t) o × (o.value ≡ d)
-value_placed f t d h = map_has (λ (o : Placed). o.value) (objects f t) d (subst (λ ds. Has ds d) (sym (object_values f t)) h)
+pub value_placed : (f : Family) (t d : Data) → In d (family_values f t) → (o : Placed) × In o (objects f t) × (o.value ≡ d)
+value_placed f t d h = In-map_from (λ (o : Placed). o.value) (objects f t) d (subst (λ ds. In d ds) (sym (object_values f t)) h)
 
-pub placed_value : (f : Family) (t : Data) (o : Placed) → Has (objects f t) o → Has (family_values f t) o.value
-placed_value f t o h = subst (λ ds. Has ds o.value) (object_values f t) (has_mapped (λ (o : Placed). o.value) (objects f t) o h)
+pub placed_value : (f : Family) (t : Data) (o : Placed) → In o (objects f t) → In o.value (family_values f t)
+placed_value f t o h = subst (λ ds. In o.value ds) (object_values f t) (In-map (λ (o : Placed). o.value) o (objects f t) h)
 
 -- no object stands before itself
 pub not_before_itself : (o p : Placed) → o ≡ p → IsBefore o p → ⊥

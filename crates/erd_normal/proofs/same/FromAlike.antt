@@ -1,5 +1,5 @@
 -- Reports that are alike say the same, if each `@id` text that was replaced comes back.
-use Rattle.erd_normal.proofs.Common.{◌≡◌, ℕ, Bool, true, false, cond, ◌&&◌, List, [], ◌∷◌, Some, None, Option, sym, refl, subst, Data, null, boolean, number, string, array, object, Items, no_items, item, Members, no_members, member, get_member, role, At, Name, list_of_items-place, get_member-first, here, later, Has, Within-step, Within-root, within-tree, Within, get_member-later, IsTree, AreTrees, AreMembers, list_of_items, entries_of, scope_inside, want_of_name, entry_want, is_compared_set, is_table_set, Asked, asked, is_repeated, Scope, Want, Object, is_id_text, Sides, not_asked, a_null, a_flag, a_number, a_text, an_id, an_object, no_member, in_both, Same, SameMembers, SaysTheSame, map, IsTrue, Contains, option_map, bytes_eq, unwrap_or, ap, ◌∙◌, Family, kind, Step, text_exact, text_itself, has_mapped, map_has, asked_at, Member, Reference, unrepeated_reference, find-any, Contains-Has, Has-Contains, distinct_one, any-has, IsAccepted, Preference, objects, id_of, Renaming, replaced_text, renamed, exchanged, IsRenaming, ExchangedSaysTheSame, RenamedSaysTheSame}
+use Rattle.erd_normal.proofs.Common.{◌≡◌, ℕ, Bool, true, false, cond, ◌&&◌, List, [], ◌∷◌, Some, None, Option, sym, refl, subst, Data, null, boolean, number, string, array, object, Items, no_items, item, Members, no_members, member, get_member, role, At, Name, list_of_items-place, get_member-first, Within-step, Within-root, within-tree, Within, get_member-later, IsTree, AreTrees, AreMembers, list_of_items, entries_of, scope_inside, want_of_name, entry_want, is_compared_set, is_table_set, Asked, asked, is_repeated, Scope, Want, Object, is_id_text, Sides, not_asked, a_null, a_flag, a_number, a_text, an_id, an_object, no_member, in_both, Same, SameMembers, SaysTheSame, map, IsTrue, Contains, option_map, bytes_eq, unwrap_or, ap, ◌∙◌, Family, kind, Step, text_exact, text_itself, asked_at, Member, Reference, unrepeated_reference, find-any, distinct_one, IsAccepted, Preference, objects, id_of, Renaming, replaced_text, renamed, exchanged, IsRenaming, ExchangedSaysTheSame, RenamedSaysTheSame, In, In-from_contains, In-map, In-map_from, any_at, contains_from_In, inl, inr}
 use Rattle.erd_normal.proofs.lists.Matched.{Paired, none, more}
 use Rattle.erd_normal.proofs.rearranged.AlikeChanges.{Alike, AlikeMembers, AreAlike, IsArranged, as_it_is, exchanged_alike, renamed_alike}
 use Rattle.erd_normal.proofs.rearranged.AlikeParts.{alike_unasked}
@@ -17,7 +17,7 @@ pub record Stands (t : Data) (w : Want) (d : Data) : Type 0 where
   pub inside : Within t (record { want = w; value = d; repeated = repeated })
 
 -- what stands in arrays and objects
-pub entry_stands : (t : Data) (w v : Want) (d : Data) → entry_want w ≡ Some v → Stands t w d → (x : Data) → Has (entries_of d) x → Stands t v x
+pub entry_stands : (t : Data) (w v : Want) (d : Data) → entry_want w ≡ Some v → Stands t w d → (x : Data) → In x (entries_of d) → Stands t v x
 entry_stands t w v (array ds) asks st x h =
     let j = list_of_items-place ds x h in
     let a : Asked = record { want = w; value = array ds; repeated = st.repeated } in
@@ -47,7 +47,7 @@ module _ (ρ σ : List ℕ → List ℕ) (t u : Data) (back : ComesBack ρ σ t)
   array_same w ds fs es false is p arranged = list_says m w ds es is (subst (Paired (Same m (entry_want w)) (list_of_items ds)) arranged p)
 
   abbrev EntriesStand : Option Want → List Data → Type 0
-  EntriesStand o ds = (v : Want) → o ≡ Some v → (x : Data) → Has ds x → Stands t v x
+  EntriesStand o ds = (v : Want) → o ≡ Some v → (x : Data) → In x ds → Stands t v x
 
   abbrev MembersStand : Scope → Members → Type 0
   MembersStand s ms = (k : List ℕ) (v : Want) (d : Data) → want_of_name s k ≡ Some v → get_member k ms ≡ Some d → Stands t v d
@@ -73,7 +73,7 @@ module _ (ρ σ : List ℕ → List ℕ) (t u : Data) (back : ComesBack ρ σ t)
     entries_same o no_items es h stand trees = subst (Paired (Same m o) []) (sym h) none
     entries_same o (item d ds) es h stand trees =
         subst (Paired (Same m o) (d ∷ list_of_items ds)) (sym h.2)
-        (more (by_want o d h.0 h.3 (λ v asks k. alike_same v d h.0 k (stand v asks d here) trees.0)) (entries_same o ds h.1 h.4 (λ v asks x i. stand v asks x (later i)) trees.1))
+        (more (by_want o d h.0 h.3 (λ v asks k. alike_same v d h.0 k (stand v asks d (inl refl)) trees.0)) (entries_same o ds h.1 h.4 (λ v asks x i. stand v asks x (inr i)) trees.1))
 
     members_same : (s : Scope) (ms ns : Members) → AlikeMembers ρ s ms ns → MembersStand s ms → AreMembers ms → SameMembers m s ms ns
     members_same s no_members ns h stand trees = subst (SameMembers m s no_members) (sym h) no_member
@@ -100,15 +100,15 @@ exchanged_says t p i j tree h = alike_says as_it_is as_it_is t (exchanged p i j 
 -- the pair that replaces a text
 record Replaces (pairs : Renaming) (s : List ℕ) : Type 0 where
   pair : List ℕ × List ℕ
-  stands : Has pairs pair
+  stands : In pair pairs
   old : pair.0 ≡ s
   new : replaced_text pairs s ≡ pair.1
 
-replacing_pair : (pairs : Renaming) (s : List ℕ) → Has (map (λ (pair : List ℕ × List ℕ). pair.0) pairs) s → Replaces pairs s
+replacing_pair : (pairs : Renaming) (s : List ℕ) → In s (map (λ (pair : List ℕ × List ℕ). pair.0) pairs) → Replaces pairs s
 replacing_pair pairs s among =
-    let p = map_has (λ (pair : List ℕ × List ℕ). pair.0) pairs s among in
+    let p = In-map_from (λ (pair : List ℕ × List ℕ). pair.0) pairs s among in
     let passes : bytes_eq p.0.0 s ≡ true = subst (λ x. bytes_eq x s ≡ true) (sym p.2) (text_itself s) in
-    let q = find-any (λ pair. bytes_eq pair.0 s) pairs (any-has (λ pair. bytes_eq pair.0 s) pairs p.0 p.1 passes) in
+    let q = find-any (λ pair. bytes_eq pair.0 s) pairs (any_at (λ pair. bytes_eq pair.0 s) p.0 pairs p.1 passes) in
     record {
       pair = q.0;
       stands = q.3;
@@ -122,17 +122,17 @@ flipped p = (p.1, p.0)
 abbrev pub turned_back : Renaming → Renaming
 turned_back pairs = map flipped pairs
 
-firsts_flipped : (pairs : Renaming) (p : List ℕ × List ℕ) → Has pairs p → Has (map (λ (q : List ℕ × List ℕ). q.0) (turned_back pairs)) p.1
-firsts_flipped pairs p h = has_mapped (λ (q : List ℕ × List ℕ). q.0) (turned_back pairs) (flipped p) (has_mapped flipped pairs p h)
+firsts_flipped : (pairs : Renaming) (p : List ℕ × List ℕ) → In p pairs → In p.1 (map (λ (q : List ℕ × List ℕ). q.0) (turned_back pairs))
+firsts_flipped pairs p h = In-map (λ (q : List ℕ × List ℕ). q.0) (flipped p) (turned_back pairs) (In-map flipped p pairs h)
 
 equal_texts : (a b : List ℕ) → a ≡ b → bytes_eq a b ≡ true
 equal_texts a b e = subst (λ x. bytes_eq a x ≡ true) e (text_itself a)
 
 pub comes_back : (t : Data) (pairs : Renaming) → IsRenaming t pairs → (s : List ℕ) → Contains (map (λ (pair : List ℕ × List ℕ). pair.0) pairs) s → replaced_text (turned_back pairs) (replaced_text pairs s) ≡ s
 comes_back t pairs h s among =
-    let p = replacing_pair pairs s (Has-Contains (map (λ (pair : List ℕ × List ℕ). pair.0) pairs) s among) in
-    let q = replacing_pair (turned_back pairs) (replaced_text pairs s) (subst (λ x. Has (map (λ (z : List ℕ × List ℕ). z.0) (turned_back pairs)) x) (sym p.new) (firsts_flipped pairs p.pair p.stands)) in
-    let r = map_has flipped pairs q.pair q.stands in
+    let p = replacing_pair pairs s (In-from_contains s (map (λ (pair : List ℕ × List ℕ). pair.0) pairs) among) in
+    let q = replacing_pair (turned_back pairs) (replaced_text pairs s) (subst (λ x. In x (map (λ (z : List ℕ × List ℕ). z.0) (turned_back pairs))) (sym p.new) (firsts_flipped pairs p.pair p.stands)) in
+    let r = In-map_from flipped pairs q.pair q.stands in
     let tied : p.pair.1 ≡ r.0.1 = sym p.new ∙ sym q.old ∙ ap (λ (z : List ℕ × List ℕ). z.0) (sym r.2) in
     let pair : p.pair ≡ r.0 = distinct_one (λ (z : List ℕ × List ℕ). z.1) bytes_eq pairs h.right p.pair r.0 p.stands r.1 (equal_texts p.pair.1 r.0.1 tied) (equal_texts r.0.1 p.pair.1 (sym tied)) in
     q.new ∙ ap (λ (z : List ℕ × List ℕ). z.1) (sym r.2) ∙ ap (λ (z : List ℕ × List ℕ). z.0) (sym pair) ∙ p.old
@@ -155,7 +155,7 @@ renamed_says t pairs tree covers h =
 pub id_covered : (t : Data) (pairs : Renaming) → IsRenaming t pairs → (s : List ℕ) → IsId t s → Contains (map (λ (pair : List ℕ × List ℕ). pair.0) pairs) s
 id_covered t pairs renames s is =
     let o = value_placed is.family t is.value is.stands in
-    renames.all is.family o.0 s (Contains-Has (objects is.family t) o.0 o.1) (ap id_of o.2 ∙ is.is)
+    renames.all is.family o.0 s (contains_from_In o.0 (objects is.family t) o.1) (ap id_of o.2 ∙ is.is)
 
 module _ (π : Preference) (t : Data) (accepted : IsAccepted π t) (pairs : Renaming) (renames : IsRenaming t pairs) where
   reference_covered : (f : Family) (a : Asked) (s : List ℕ) → Within t a → a.want ≡ Reference f → a.value ≡ string s → IsId t s

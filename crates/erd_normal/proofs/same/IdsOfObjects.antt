@@ -1,5 +1,5 @@
 -- The `@id`s of a report: what shares one, what a text names, and which texts are `@id`s.
-use Rattle.erd_normal.proofs.Common.{◌≡◌, ℕ, Bool, true, false, cond, ◌&&◌, List, [], is_some, Some, None, codes, Option, option_map, flat_map, option_and_then, bytes_eq, sym, refl, ap, ◌∙◌, subst, and_parts, AllByRecursion, option_map_or, Data, string, array, object, Items, Members, get_member, get_item, as_str, role_of_class, family_of_role, family_of_class, kind_of_member, is_required, Class, Family, family, Role, role, MemberKind, kind, Step, At, string_from_text, text_exact, Has, Within-step, wanted_within, Within, list_of_items, entries_of, entries_at, class_of_object, scope_inside, want_of_kind, is_report_class, member_want, want_of_name, entry_want, Asked, asked, is_repeated, asked_at, scope, Want, Carried, ClassText, Member, Object, Reference, Status, no_shape_fault, owned, unrepeated_reference, flat-has, class_role, IsAccepted, has_keys, Preference, owner, slice_get, find, IsDistinct, position_of, no_identity_fault, find-Some, has_id-Some, has_id-from, one_id, distinct_from_one_place, distinct_map, id_in, Placed, objects, id_of, has_id}
+use Rattle.erd_normal.proofs.Common.{◌≡◌, ℕ, Bool, true, false, cond, ◌&&◌, List, [], is_some, Some, None, codes, Option, option_map, flat_map, option_and_then, bytes_eq, sym, refl, ap, ◌∙◌, subst, and_parts, AllByRecursion, option_map_or, Data, string, array, object, Items, Members, get_member, get_item, as_str, role_of_class, family_of_role, family_of_class, kind_of_member, is_required, Class, Family, family, Role, role, MemberKind, kind, Step, At, string_from_text, text_exact, Within-step, wanted_within, Within, list_of_items, entries_of, entries_at, class_of_object, scope_inside, want_of_kind, is_report_class, member_want, want_of_name, entry_want, Asked, asked, is_repeated, asked_at, scope, Want, Carried, ClassText, Member, Object, Reference, Status, no_shape_fault, owned, unrepeated_reference, class_role, IsAccepted, has_keys, Preference, owner, slice_get, find, IsDistinct, position_of, no_identity_fault, find-Some, has_id-Some, has_id-from, one_id, distinct_from_one_place, distinct_map, id_in, Placed, objects, id_of, has_id, In, In-flat_map}
 use Rattle.erd_normal.proofs.built.AskedMembers.{all_items}
 use Rattle.erd_normal.proofs.built.FamilyNames.{family_name, holds, home, is_home, is_report_role}
 use Rattle.erd_normal.proofs.same.FamilyValues.{family_values, object_values, value_placed}
@@ -11,7 +11,7 @@ use Rattle.erd_normal.proofs.lists.FoundInParts.{find_values}
 pub record IsId (t : Data) (id : List ℕ) : Type 0 where
   pub family : Family
   pub value : Data
-  pub stands : Has (family_values family t) value
+  pub stands : In value (family_values family t)
   pub is : id_of value ≡ Some id
 
 -- the two values write one `@id`
@@ -34,7 +34,7 @@ by_one_id d e id a b = rw a (has_id-from id e b)
 pub owner_found : (t : Data) (f : Family) (id : List ℕ) → owner t f id ≡ find (has_id id) (family_values f t)
 owner_found t f id = find_values (has_id id) (λ (o : Placed). o.value) (objects f t) ∙ ap (find (has_id id)) (object_values f t)
 
-pub owner_stands : (t : Data) (f : Family) (id : List ℕ) (o : Data) → owner t f id ≡ Some o → Has (family_values f t) o × (id_of o ≡ Some id)
+pub owner_stands : (t : Data) (f : Family) (id : List ℕ) (o : Data) → owner t f id ≡ Some o → In o (family_values f t) × (id_of o ≡ Some id)
 owner_stands t f id o e = let x = find-Some (has_id id) (family_values f t) o (sym (owner_found t f id) ∙ e) in (x.0, has_id-Some id o x.1)
 
 -- a text that names an object is an `@id` of the report
@@ -57,7 +57,7 @@ module _ (π : Preference) (t : Data) (accepted : IsAccepted π t) where
       (one_id π t s.0 f f i j (no_identity_fault π t accepted) (id_at f i o s.0 a s.1) (id_at f j p s.0 b s.2)).1)))
 
   -- and objects that do are of one family
-  pub one_family : (f g : Family) (d e : Data) (id : List ℕ) → Has (family_values f t) d → Has (family_values g t) e → id_of d ≡ Some id → id_of e ≡ Some id → f ≡ g
+  pub one_family : (f g : Family) (d e : Data) (id : List ℕ) → In d (family_values f t) → In e (family_values g t) → id_of d ≡ Some id → id_of e ≡ Some id → f ≡ g
   one_family f g d e id h k a b =
       let o = value_placed f t d h in
       let p = value_placed g t e k in
@@ -87,16 +87,16 @@ module _ (π : Preference) (t : Data) (accepted : IsAccepted π t) where
 
 abbrev pub IsPart : Data → Want → Data → Type 0
 IsPart t (Object role.Report) d = d ≡ t
-IsPart t (Object role.Election) d = Has (entries_at (codes "Election") t) d
-IsPart t (Object (role.OfFamily f)) d = Has (family_values f t) d
-IsPart t (Member (kind.Keyed f) required) d = (x : Data) → Has (entries_of d) x → Has (family_values f t) x
-IsPart t (Member kind.Elections required) d = (x : Data) → Has (entries_of d) x → Has (entries_at (codes "Election") t) x
+IsPart t (Object role.Election) d = In d (entries_at (codes "Election") t)
+IsPart t (Object (role.OfFamily f)) d = In d (family_values f t)
+IsPart t (Member (kind.Keyed f) required) d = (x : Data) → In x (entries_of d) → In x (family_values f t)
+IsPart t (Member kind.Elections required) d = (x : Data) → In x (entries_of d) → In x (entries_at (codes "Election") t)
 IsPart t (Member kind.Identity required) d = (s : List ℕ) → d ≡ string s → IsId t s
 IsPart t (Member (kind.Many f) required) d = has_keys f ≡ true
 IsPart t w d = Unit {0}
 
-found_entry : (name : List ℕ) (ms : Members) (x y : Data) → get_member name ms ≡ Some x → Has (entries_of x) y → Has (entries_at name (object ms)) y
-found_entry name ms x y found h = subst (λ o. Has (option_map_or entries_of o []) y) (sym found) h
+found_entry : (name : List ℕ) (ms : Members) (x y : Data) → get_member name ms ≡ Some x → In y (entries_of x) → In y (entries_at name (object ms))
+found_entry name ms x y found h = subst (λ o. In y (option_map_or entries_of o [])) (sym found) h
 
 -- the same, where something is asked
 abbrev PartOf : Data → Option Want → Data → Type 0
@@ -104,13 +104,13 @@ PartOf t None x = Unit {0}
 PartOf t (Some w) x = IsPart t w x
 
 module _ (t : Data) (ms : Members) (x : Data) where
-  top_entry : (name : List ℕ) → object ms ≡ t → get_member name ms ≡ Some x → (y : Data) → Has (entries_of x) y → Has (entries_at name t) y
-  top_entry name part found y h = subst (λ z. Has (entries_at name z) y) part (found_entry name ms x y found h)
+  top_entry : (name : List ℕ) → object ms ≡ t → get_member name ms ≡ Some x → (y : Data) → In y (entries_of x) → In y (entries_at name t)
+  top_entry name part found y h = subst (λ z. In y (entries_at name z)) part (found_entry name ms x y found h)
 
-  nested_entry : (name : List ℕ) (ds : List Data) → Has ds (object ms) → get_member name ms ≡ Some x → (y : Data) → Has (entries_of x) y → Has (flat_map (entries_at name) ds) y
-  nested_entry name ds part found y h = flat-has (entries_at name) ds (object ms) y part (found_entry name ms x y found h)
+  nested_entry : (name : List ℕ) (ds : List Data) → In (object ms) ds → get_member name ms ≡ Some x → (y : Data) → In y (entries_of x) → In y (flat_map (entries_at name) ds)
+  nested_entry name ds part found y h = In-flat_map (entries_at name) y (object ms) ds part (found_entry name ms x y found h)
 
-  home_entry : (r : Role) (f : Family) → holds r f ≡ true → IsPart t (Object r) (object ms) → get_member (family_name f) ms ≡ Some x → (y : Data) → Has (entries_of x) y → Has (family_values f t) y
+  home_entry : (r : Role) (f : Family) → holds r f ≡ true → IsPart t (Object r) (object ms) → get_member (family_name f) ms ≡ Some x → (y : Data) → In y (entries_of x) → In y (family_values f t)
   home_entry role.Report family.Unit p part found = top_entry (codes "GpUnit") part found
   home_entry role.Report family.Party p part found = top_entry (codes "Party") part found
   home_entry role.Report family.Person p part found = top_entry (codes "Person") part found
@@ -122,7 +122,7 @@ module _ (t : Data) (ms : Members) (x : Data) where
   home_entry (role.OfFamily family.Contest) family.Selection p part found = nested_entry (codes "ContestSelection") (family_values family.Contest t) part found
   home_entry r f p part found = cc
 
-  elections_part : (r : Role) → is_report_role r ≡ true → IsPart t (Object r) (object ms) → get_member (codes "Election") ms ≡ Some x → (y : Data) → Has (entries_of x) y → Has (entries_at (codes "Election") t) y
+  elections_part : (r : Role) → is_report_role r ≡ true → IsPart t (Object r) (object ms) → get_member (codes "Election") ms ≡ Some x → (y : Data) → In y (entries_of x) → In y (entries_at (codes "Election") t)
   elections_part role.Report p part found = top_entry (codes "Election") part found
   elections_part r p part found = cc
 

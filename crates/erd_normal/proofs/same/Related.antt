@@ -1,5 +1,5 @@
 -- Values of two reports that say the same, and the entries of those that are arrays.
-use Rattle.erd_normal.proofs.Common.{◌≡◌, ℕ, true, false, List, [], Some, None, Option, sym, refl, ap, ◌∙◌, option_map_or, Data, here, later, Has, list_of_items, entries_of, entry_want, Scope, Want, reordered-has, Sides, is_envelope, an_empty_array, of_the_envelope, an_unused_id, a_list, a_set, MayBeAbsent, Same, IsPermutation, IsPermutation-refl, IsPermutation-sym}
+use Rattle.erd_normal.proofs.Common.{◌≡◌, ℕ, true, false, List, [], Some, None, Option, sym, refl, ap, ◌∙◌, option_map_or, Data, list_of_items, entries_of, entry_want, Scope, Want, Sides, is_envelope, an_empty_array, of_the_envelope, an_unused_id, a_list, a_set, MayBeAbsent, Same, IsPermutation, IsPermutation-refl, IsPermutation-sym, In, inl, inr, reordered-In}
 use Rattle.erd_normal.proofs.lists.Matched.{Matched, matched_none, Paired, none, more}
 use Rattle.erd_normal.proofs.same.Back.{entries_paired}
 use Rattle.erd_normal.proofs.same.FromAlike.{Stands}
@@ -8,14 +8,14 @@ use Rattle.erd_normal.proofs.same.Lookups.{MayLack}
 
 -- ---- lists
 
-pub paired_within_both : {A B : Type 0} {R : A → B → Type 0} (S : A → B → Type 0) {xs : List A} {ys : List B} → ((x : A) (y : B) → Has xs x → Has ys y → R x y → S x y) → Paired R xs ys → Paired S xs ys
+pub paired_within_both : {A B : Type 0} {R : A → B → Type 0} (S : A → B → Type 0) {xs : List A} {ys : List B} → ((x : A) (y : B) → In x xs → In y ys → R x y → S x y) → Paired R xs ys → Paired S xs ys
 paired_within_both S h none = none
-paired_within_both S h (more {x = x} {y = y} r rest) = more (h x y here here r) (paired_within_both S (λ a b i j. h a b (later i) (later j)) rest)
+paired_within_both S h (more {x = x} {y = y} r rest) = more (h x y (inl refl) (inl refl) r) (paired_within_both S (λ a b i j. h a b (inr i) (inr j)) rest)
 
-pub matched_within_both : {A B : Type 0} {R : A → B → Type 0} (S : A → B → Type 0) {xs : List A} {ys : List B} → ((x : A) (y : B) → Has xs x → Has ys y → R x y → S x y) → Matched R xs ys → Matched S xs ys
+pub matched_within_both : {A B : Type 0} {R : A → B → Type 0} (S : A → B → Type 0) {xs : List A} {ys : List B} → ((x : A) (y : B) → In x xs → In y ys → R x y → S x y) → Matched R xs ys → Matched S xs ys
 matched_within_both S h m = record {
   middle = m.middle;
-  paired = paired_within_both S (λ x y i j. h x y i (reordered-has y m.reordered j)) m.paired;
+  paired = paired_within_both S (λ x y i j. h x y i (reordered-In y m.reordered j)) m.paired;
   reordered = m.reordered;
 }
 

@@ -1,5 +1,5 @@
 -- What stands in a report that has no fraction has none.
-use Rattle.erd_normal.proofs.Common.{◌≡◌, ℕ, ◌<◌, false, List, [], ◌∷◌, map, length, get_or, slice_get, Some, None, option_map, Ordering, sym, refl, ap, ◌∙◌, or_parts, slice_get-map, slice_get_read, AllByRecursion, option_map_or, Data, array, object, get_item, get, items_of, view, items_view, members_view, has_float, items_have_float, members_have_float, Value, Family, role, has_at, Within, list_of_items, entries_of, entries_at, Asked, asked, IsAccepted, Preference, Placed, elections, objects, rising_list, Entry, all_at, within-holds, Object, option_map-Some, skeleton, election_stands, stands, all_rising}
+use Rattle.erd_normal.proofs.Common.{◌≡◌, ℕ, ◌<◌, false, List, [], ◌∷◌, map, length, get_or, slice_get, Some, None, option_map, Ordering, sym, refl, ap, ◌∙◌, or_parts, slice_get-map, slice_get_read, AllByRecursion, option_map_or, Data, array, object, get_item, get, items_of, view, items_view, members_view, has_float, items_have_float, members_have_float, Value, Family, role, Within, list_of_items, entries_of, entries_at, Asked, asked, IsAccepted, Preference, Placed, elections, objects, rising_list, Entry, all_at, within-holds, Object, option_map-Some, skeleton, election_stands, stands, all_rising, in_at}
 use Rattle.erd_normal.proofs.lists.BuiltLists.{entry_holds, items_again}
 use Rattle.erd_meaning.proofs.selections.MetSelections.{whole_get}
 
@@ -62,9 +62,9 @@ module _ (π : Preference) (t : Data) (accepted : IsAccepted π t) (whole : has_
   pub object_found : (f : Family) (i : ℕ) (d : Data) → Some d ≡ option_map (λ (o : Placed). o.value) (slice_get (objects f t) i) → has_float d ≡ false
   object_found f i d e =
       let o = option_map-Some (λ (o : Placed). o.value) (slice_get (objects f t) i) d (sym e) in
-      ap has_float (sym o.2) ∙ whole_within (asked (Object (role.OfFamily f)) o.0.value) (record { place = o.0.place; is = stands π t accepted f o.0 (has_at (objects f t) i o.0 o.1) })
+      ap has_float (sym o.2) ∙ whole_within (asked (Object (role.OfFamily f)) o.0.value) (record { place = o.0.place; is = stands π t accepted f o.0 (in_at (objects f t) i o.0 o.1) })
 
   pub election_found : (i : ℕ) (d : Data) → Some d ≡ option_map (λ (o : Placed). o.value) (slice_get (elections t) i) → has_float d ≡ false
   election_found i d e =
       let o = option_map-Some (λ (o : Placed). o.value) (slice_get (elections t) i) d (sym e) in
-      ap has_float (sym o.2) ∙ whole_within (asked (Object role.Election) o.0.value) (record { place = o.0.place; is = election_stands t (skeleton π t accepted) o.0 (has_at (elections t) i o.0 o.1) })
+      ap has_float (sym o.2) ∙ whole_within (asked (Object role.Election) o.0.value) (record { place = o.0.place; is = election_stands t (skeleton π t accepted) o.0 (in_at (elections t) i o.0 o.1) })

@@ -1,5 +1,5 @@
 -- What holds of all that is asked inside the order of a ballot, a selection and an object of a family that are built.
-use Rattle.erd_normal.proofs.Common.{◌≡◌, ℕ, zero, suc, Bool, true, false, List, map, Some, codes, bytes_eq, sym, refl, ap, ◌∙◌, subst, inl, inr, Data, string, array, object, Items, no_items, item, Members, no_members, member, get_member, get_item, get, role_of_class, kind_of_member, is_required, Class, class, Family, family, Role, role, MemberKind, kind, text_exact, found_cases, object_in, ObjectAt, ObjectIn, map_has, Has, wanted_within, Within, kind_of_class, want_by_kind, is_array, is_empty_array, ShapeFault, NoneOf, IsTree, entries_of, want_of_kind, member_want, Asked, asked, Member, Object, Status, all_rising, Preference, Placed, objects, rising_list, selection_role, id_of_selection, array_of, normal_value, normal_node_value, normal_content, normal_nodes, normal_node, normal_selection, by_key, by_name, normal_object_value, normal_object, normal_objects, same_Some, Option}
+use Rattle.erd_normal.proofs.Common.{◌≡◌, ℕ, zero, suc, Bool, true, false, List, map, Some, codes, bytes_eq, sym, refl, ap, ◌∙◌, subst, inl, inr, Data, string, array, object, Items, no_items, item, Members, no_members, member, get_member, get_item, get, role_of_class, kind_of_member, is_required, Class, class, Family, family, Role, role, MemberKind, kind, text_exact, found_cases, object_in, ObjectAt, ObjectIn, wanted_within, Within, kind_of_class, want_by_kind, is_array, is_empty_array, ShapeFault, NoneOf, IsTree, entries_of, want_of_kind, member_want, Asked, asked, Member, Object, Status, all_rising, Preference, Placed, objects, rising_list, selection_role, id_of_selection, array_of, normal_value, normal_node_value, normal_content, normal_nodes, normal_node, normal_selection, by_key, by_name, normal_object_value, normal_object, normal_objects, same_Some, Option, In, In-map_from}
 use Rattle.erd_normal.proofs.built.AskedMembers.{entry_asked}
 use Rattle.erd_normal.proofs.built.BuiltFrom.{Builder, BuiltFrom, BuiltObject, inside_built, member_holds}
 use Rattle.erd_normal.proofs.lists.Lists.{IsPart, part_has}
@@ -15,7 +15,7 @@ pub record HoldsOfObjects (π : Preference) (t : Data) (P : Asked → Type 0) : 
   pub identity : (required : Bool) (id : List ℕ) → P (asked (Member kind.Identity required) (string id))
   pub content : (required : Bool) (d : Data) → Within t (asked (Member kind.Content required) d) → is_empty_array d ≡ false → P (asked (Member kind.Content required) (normal_content π t d))
   pub node : (d : Data) → Within t (asked (Object role.Content) d) → P (asked (Object role.Content) (normal_node π t d))
-  pub selections : (contest : Placed) (required : Bool) (d : Data) → Has (objects family.Contest t) contest → get (codes "ContestSelection") contest.value ≡ Some d
+  pub selections : (contest : Placed) (required : Bool) (d : Data) → In contest (objects family.Contest t) → get (codes "ContestSelection") contest.value ≡ Some d
       → Within t (asked (Member (kind.Keyed family.Selection) required) d) → is_empty_array d ≡ false
       → P (asked (Member (kind.Keyed family.Selection) required) (array_of (map (normal_selection π t contest.value) (rising_list (by_name π t) (entries_of d)))))
   pub selection : (contest d : Data) → Within t (asked (Object selection_role) d) → P (asked (Object selection_role) (normal_selection π t contest d))
@@ -52,15 +52,15 @@ kept_word value_of k d v stays is given = same_Some d v (sym stays ∙ ap value_
 
 -- that the object is a contest of the report, and the value its selections
 abbrev pub IsOfContest : Data → Placed → Data → Type 0
-IsOfContest t contest d = Has (objects family.Contest t) contest × (get (codes "ContestSelection") contest.value ≡ Some d)
+IsOfContest t contest d = In contest (objects family.Contest t) × (get (codes "ContestSelection") contest.value ≡ Some d)
 
 -- an object with a member of selections is a contest
-pub is_of_contest : (t : Data) (f : Family) (d : Placed) (o : ObjectIn t (role.OfFamily f) d.value) (name : List ℕ) (from : Data) → Has (objects f t) d → get_member name o.ms ≡ Some from
+pub is_of_contest : (t : Data) (f : Family) (d : Placed) (o : ObjectIn t (role.OfFamily f) d.value) (name : List ℕ) (from : Data) → In d (objects f t) → get_member name o.ms ≡ Some from
     → kind_of_member o.class name ≡ kind.Keyed family.Selection → IsOfContest t d from
 is_of_contest t f d o name from h stands is =
     let named : name ≡ family_name family.Selection = keyed_name o.class name family.Selection is in
     let contest : f ≡ family.Contest = contest_of_selections o.class f o.role (ap (kind_of_member o.class) (sym named) ∙ is) in
-    (subst (λ g. Has (objects g t) d) contest h, ap (get (codes "ContestSelection")) o.is_object ∙ ap (λ n. get_member n o.ms) (sym named) ∙ stands)
+    (subst (λ g. In d (objects g t)) contest h, ap (get (codes "ContestSelection")) o.is_object ∙ ap (λ n. get_member n o.ms) (sym named) ∙ stands)
 
 -- ---- objects
 
@@ -164,7 +164,7 @@ module _ (π : Preference) (t : Data) (clean : NoneOf (ShapeFault t)) (tree : Is
   object_member o (kind.Keyed f) required d v is contest w given = cc
   object_member o k required d v is contest w given = throughout_value π t clean tree P holds.members k required d v is w given
 
-  pub throughout_family_object : (f : Family) (d : Placed) → Has (objects f t) d → Within t (asked (Object (role.OfFamily f)) d.value)
+  pub throughout_family_object : (f : Family) (d : Placed) → In d (objects f t) → Within t (asked (Object (role.OfFamily f)) d.value)
       → Throughout P (asked (Object (role.OfFamily f)) (normal_object π t f d.value))
   throughout_family_object f d h w =
       let o : ObjectIn t (role.OfFamily f) d.value = object_in t clean (role.OfFamily f) d.value w in
@@ -184,8 +184,8 @@ module _ (π : Preference) (t : Data) (clean : NoneOf (ShapeFault t)) (tree : Is
       throughout_built_list t P (Member (kind.Keyed f) required) (Object (role.OfFamily f)) d (wanted_within t clean (asked (Member (kind.Keyed f) required) d) w) refl refl w
       (rising_list (by_key π)) (λ Q xs each. all_rising Q (by_key π) xs each) (normal_object π t f) one here
     where
-      one : (e : Data) → Within t (asked (Object (role.OfFamily f)) e) → Has (entries_of d) e → Throughout P (asked (Object (role.OfFamily f)) (normal_object π t f e))
+      one : (e : Data) → Within t (asked (Object (role.OfFamily f)) e) → In e (entries_of d) → Throughout P (asked (Object (role.OfFamily f)) (normal_object π t f e))
       one e within h =
-          let o = map_has (λ (x : Placed). x.value) (objects f t) e (part_has (entries_of d) (map (λ o. o.value) (objects f t)) part e h) in
+          let o = In-map_from (λ (x : Placed). x.value) (objects f t) e (part_has (entries_of d) (map (λ o. o.value) (objects f t)) part e h) in
           subst (λ x. Throughout P (asked (Object (role.OfFamily f)) (normal_object π t f x))) o.2
           (throughout_family_object f o.0 o.1 (subst (λ x. Within t (asked (Object (role.OfFamily f)) x)) (sym o.2) within))

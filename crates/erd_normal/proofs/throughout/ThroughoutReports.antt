@@ -1,5 +1,5 @@
 -- What holds of all that is asked in the report that is built: it is enough that it holds of each part that is built, by the value that it is built of.
-use Rattle.erd_normal.proofs.Common.{◌≡◌, ℕ, Bool, true, false, List, [], ◌∷◌, map, is_some, if◌then◌else◌, Some, None, codes, bytes_eq, sym, refl, ap, ◌∙◌, subst, AllByRecursion, unsigned, Data, number, string, array, object, Members, get_member, get, Row, envelope_rows, kind_in_rows, is_envelope_name, kind_of_member, class, Family, role, MemberKind, kind, Step, text_exact, ObjectAt, all_by_entry, Has, Within, kind_of_class, is_empty_array, ShapeFault, NoneOf, IsTree, list_of_items, entries_of, entries_at, want_of_kind, member_want, Asked, asked, asked_at, Member, Object, skeleton_of_shape, election_entries, election_within, election_object, Skeleton, all_rising, has_keys, Preference, objects, rising_list, array_of, normal_value, by_key, normal_objects, normal_election_value, normal_election, normal_report_value, normal_tree, same_Some}
+use Rattle.erd_normal.proofs.Common.{◌≡◌, ℕ, Bool, true, false, List, [], ◌∷◌, map, is_some, if◌then◌else◌, Some, None, codes, bytes_eq, sym, refl, ap, ◌∙◌, subst, AllByRecursion, unsigned, Data, number, string, array, object, Members, get_member, get, Row, envelope_rows, kind_in_rows, is_envelope_name, kind_of_member, class, Family, role, MemberKind, kind, Step, text_exact, ObjectAt, Within, kind_of_class, is_empty_array, ShapeFault, NoneOf, IsTree, list_of_items, entries_of, entries_at, want_of_kind, member_want, Asked, asked, asked_at, Member, Object, skeleton_of_shape, election_entries, election_within, election_object, Skeleton, all_rising, has_keys, Preference, objects, rising_list, array_of, normal_value, by_key, normal_objects, normal_election_value, normal_election, normal_report_value, normal_tree, same_Some, In, all_from_In}
 use Rattle.erd_normal.proofs.built.BuiltFrom.{member_holds}
 use Rattle.erd_normal.proofs.built.BuiltObjects.{built_election, built_report, election_builder, no_name}
 use Rattle.erd_normal.proofs.lists.BuiltLists.{all_map}
@@ -57,7 +57,7 @@ of_envelope P format date issuer abbreviation application notes start end identi
 
 -- each array of objects in an election or the report holds objects of its family
 module _ (t : Data) (s : Skeleton t) where
-  pub election_family : (d : Data) → Has (list_of_items s.es) d → (ms : Members) → d ≡ object ms → (name : List ℕ) (from : Data) → get_member name ms ≡ Some from
+  pub election_family : (d : Data) → In d (list_of_items s.es) → (ms : Members) → d ≡ object ms → (name : List ℕ) (from : Data) → get_member name ms ≡ Some from
       → (f : Family) → kind_of_member class.Election name ≡ kind.Keyed f → IsPart (entries_of from) (map (λ o. o.value) (objects f t))
   election_family d h ms is name from stands f keyed =
       let named : name ≡ family_name f = keyed_name class.Election name f keyed in
@@ -101,7 +101,7 @@ module _ (π : Preference) (t : Data) (clean : NoneOf (ShapeFault t)) (tree : Is
       (λ word. kept_word (λ q. normal_election_value π t q b.from) (kind_of_member class.Election name) b.from v refl word b.given))
 
   -- the array of elections
-  throughout_elections : ((d : Data) → Has (list_of_items s.es) d → Throughout P (asked (Object role.Election) (normal_election π t d))) → (required : Bool) (d : Data) → d ≡ array s.es
+  throughout_elections : ((d : Data) → In d (list_of_items s.es) → Throughout P (asked (Object role.Election) (normal_election π t d))) → (required : Bool) (d : Data) → d ≡ array s.es
       → Within t (asked (Member kind.Elections required) d) → Throughout P (asked (Member kind.Elections required) (array_of (map (normal_election π t) (rising_list (by_key π) (entries_of d)))))
   throughout_elections each required d is w =
       let built : Data → Data = λ x. array_of (map (normal_election π t) (rising_list (by_key π) (entries_of x))) in
@@ -110,9 +110,9 @@ module _ (π : Preference) (t : Data) (clean : NoneOf (ShapeFault t)) (tree : Is
       subst (λ x. Throughout P (asked (Member kind.Elections required) (built x))) (sym is)
       (throughout_list P (Member kind.Elections required) (Object role.Election) (map (normal_election π t) (rising_list (by_key π) (list_of_items s.es))) refl refl here
       (all_map holds_of_each (λ e. Throughout P (asked (Object role.Election) e)) (normal_election π t) (rising_list (by_key π) (list_of_items s.es)) (λ e h. h)
-      (all_rising holds_of_each (by_key π) (list_of_items s.es) (all_by_entry holds_of_each (list_of_items s.es) each))))
+      (all_rising holds_of_each (by_key π) (list_of_items s.es) (all_from_In holds_of_each (list_of_items s.es) each))))
 
-  throughout_each : (d : Data) → Has (list_of_items s.es) d → Throughout P (asked (Object role.Election) (normal_election π t d))
+  throughout_each : (d : Data) → In d (list_of_items s.es) → Throughout P (asked (Object role.Election) (normal_election π t d))
   throughout_each d h =
       let this : (ms : Members) × (d ≡ object ms) × ObjectAt t (Object role.Election) role.Election class.Election ms = election_object t clean d (election_within t s d h) in
       subst (λ x. Throughout P (asked (Object role.Election) (normal_election π t x))) (sym this.1) (throughout_election this.0 this.2 (election_family t s d h this.0 this.1))

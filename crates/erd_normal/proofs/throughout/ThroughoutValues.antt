@@ -1,5 +1,5 @@
 -- What holds of all that is asked inside a value, and of all that is asked inside what is built of a value without objects.
-use Rattle.erd_normal.proofs.Common.{◌≡◌, ℕ, Bool, true, false, ◌&&◌, List, [], ◌∷◌, Some, None, Option, option_and_then, sym, refl, ap, subst, AllByRecursion, Data, string, array, Items, get_item, items_of, MemberKind, kind, Step, At, Name, Within-step, Within, want_of_kind, entry_want, is_compared_set, Asked, asked, is_repeated, asked_inside, asked_from, Want, Carried, ClassText, Member, Object, Reference, Status, option_map_or, is_text, is_array, map, Has, all-Has, entries_of, list_of_items, array_of, all_by_entry, is_empty_array, unless_no_entry}
+use Rattle.erd_normal.proofs.Common.{◌≡◌, ℕ, Bool, true, false, ◌&&◌, List, [], ◌∷◌, Some, None, Option, option_and_then, sym, refl, ap, subst, AllByRecursion, Data, string, array, Items, get_item, items_of, MemberKind, kind, Step, At, Name, Within-step, Within, want_of_kind, entry_want, is_compared_set, Asked, asked, is_repeated, asked_inside, asked_from, Want, Carried, ClassText, Member, Object, Reference, Status, option_map_or, is_text, is_array, map, entries_of, list_of_items, array_of, is_empty_array, unless_no_entry, In, In-all, all_from_In}
 use Rattle.erd_normal.proofs.lists.BuiltLists.{entry_holds, all_map, given_unless}
 use Rattle.erd_normal.proofs.throughout.InsideValues.{along, closed_names, is_apart_role, is_closed, one_inside}
 use Rattle.erd_normal.proofs.built.AskedMembers.{entries_asked}
@@ -52,14 +52,14 @@ throughout_list P w v es want apart here all =
 -- an array of what is built of the entries of an array, after they are put in order
 pub throughout_built_list : (t : Data) (P : Asked → Type 0) (w v : Want) (d : Data) → is_array d ≡ true → entry_want w ≡ Some v → is_compared_set w ≡ false → Within t (asked w d)
     → (arrange : List Data → List Data) → ((Q : Data → Type 0) (xs : List Data) → AllByRecursion Q xs → AllByRecursion Q (arrange xs))
-    → (f : Data → Data) → ((e : Data) → Within t (asked v e) → Has (entries_of d) e → Throughout P (asked v (f e))) → P (asked w (array_of (map f (arrange (entries_of d)))))
+    → (f : Data → Data) → ((e : Data) → Within t (asked v e) → In e (entries_of d) → Throughout P (asked v (f e))) → P (asked w (array_of (map f (arrange (entries_of d)))))
     → Throughout P (asked w (array_of (map f (arrange (entries_of d)))))
 throughout_built_list t P w v (array ds) is want apart inside arrange keeps f each here =
     throughout_list P w v (map f (arrange (list_of_items ds))) want apart here
-    (all_map (λ e. Within t (asked v e) × Has (list_of_items ds) e) (λ e. Throughout P (asked v e)) f (arrange (list_of_items ds)) (λ e both. each e both.0 both.1)
-    (keeps (λ e. Within t (asked v e) × Has (list_of_items ds) e) (list_of_items ds)
-    (all_by_entry (λ e. Within t (asked v e) × Has (list_of_items ds) e) (list_of_items ds)
-    (λ e h. (all-Has (λ x. Within t (asked v x)) (list_of_items ds) e (entries_asked t w v ds want apart inside) h, h)))))
+    (all_map (λ e. Within t (asked v e) × In e (list_of_items ds)) (λ e. Throughout P (asked v e)) f (arrange (list_of_items ds)) (λ e both. each e both.0 both.1)
+    (keeps (λ e. Within t (asked v e) × In e (list_of_items ds)) (list_of_items ds)
+    (all_from_In (λ e. Within t (asked v e) × In e (list_of_items ds)) (list_of_items ds)
+    (λ e h. (In-all (λ x. Within t (asked v x)) e (list_of_items ds) (entries_asked t w v ds want apart inside) h, h)))))
 throughout_built_list t P w v d is want apart inside arrange keeps f each here = cc
 
 -- what is built of an array with entries

@@ -1,5 +1,5 @@
 -- Canonical reports that say the same are equal.
-use Rattle.erd_normal.proofs.Common.{◌≡◌, ℕ, zero, suc, ◌≤◌, Bool, true, false, List, map, Some, None, Option, option_and_then, Ordering, sym, refl, ap, ◌∙◌, subst, arith, IsTotalOrder, options_total, IsStrictlySortedBy, option_cmp, Data, string, array, object, Items, Members, depth, items_depth, members_depth, get_member, get, as_str, is_envelope_name, Family, family, role, MemberKind, kind, list_of_items_exact, members_unique, get_member-depth, all-Has, rising_unique, Has, is_empty_array, AreMembers, list_of_items, scope_inside, want_of_name, entry_want, is_table_set, Want, Member, Object, reordered-has, has_keys, key_cmp, Preference, key_of, compact_cmp, name_of, name_cmp, key_cmp_total, compact_cmp_total, name_cmp_total, kind_wanted, RisesAs, HasCanonicalEnvelope, IsCanonical, Sides, IsUnused, is_envelope, an_empty_array, of_the_envelope, an_unused_id, a_null, a_flag, a_number, a_text, an_id, a_list, a_set, an_object, MayBeAbsent, Same, SameMembers, IsPermutation-sym}
+use Rattle.erd_normal.proofs.Common.{◌≡◌, ℕ, zero, suc, ◌≤◌, Bool, true, false, List, map, Some, None, Option, option_and_then, Ordering, sym, refl, ap, ◌∙◌, subst, arith, IsTotalOrder, options_total, IsStrictlySortedBy, option_cmp, Data, string, array, object, Items, Members, depth, items_depth, members_depth, get_member, get, as_str, is_envelope_name, Family, family, role, MemberKind, kind, list_of_items_exact, members_unique, get_member-depth, rising_unique, is_empty_array, AreMembers, list_of_items, scope_inside, want_of_name, entry_want, is_table_set, Want, Member, Object, has_keys, key_cmp, Preference, key_of, compact_cmp, name_of, name_cmp, key_cmp_total, compact_cmp_total, name_cmp_total, kind_wanted, RisesAs, HasCanonicalEnvelope, IsCanonical, Sides, IsUnused, is_envelope, an_empty_array, of_the_envelope, an_unused_id, a_null, a_flag, a_number, a_text, an_id, a_list, a_set, an_object, MayBeAbsent, Same, SameMembers, IsPermutation-sym, In, In-all, reordered-In}
 use Rattle.erd_normal.proofs.lists.BuiltLists.{listed_depth}
 use Rattle.erd_normal.proofs.lists.Matched.{Matched, matched_equal, paired_equal, matched_rising}
 use Rattle.erd_normal.proofs.same.Back.{entries_paired}
@@ -43,7 +43,7 @@ by_one_order cmp order key key' same xs ys rise rise' h = paired_equal (λ x y e
 
 by_texts : (xs ys : List Data) → IsStrictlySortedBy compact_cmp xs → IsStrictlySortedBy compact_cmp ys → Matched (λ x y. x ≡ y) xs ys → xs ≡ ys
 by_texts xs ys rise rise' h =
-    let r = matched_equal (λ x y e. e) h in rising_unique compact_cmp compact_cmp_total xs ys rise rise' (λ d i. reordered-has d r i) (λ d i. reordered-has d (IsPermutation-sym _ _ r) i)
+    let r = matched_equal (λ x y e. e) h in rising_unique compact_cmp compact_cmp_total xs ys rise rise' (λ d i. reordered-In d r i) (λ d i. reordered-In d (IsPermutation-sym _ _ r) i)
 
 module _ (π : Preference) (t u : Data) (canonical : IsCanonical π t) (canonical' : IsCanonical π u) (both : MeanOne π t u) where
   by_keys : (xs ys : List Data) → IsStrictlySortedBy (option_cmp key_cmp) (map (key_of π) xs) → IsStrictlySortedBy (option_cmp key_cmp) (map (key_of π) ys) → Matched (λ x y. x ≡ y) xs ys → xs ≡ ys
@@ -90,10 +90,10 @@ module _ (π : Preference) (t u : Data) (canonical : IsCanonical π t) (canonica
   -- ---- entries
 
   entry_equal : (n : ℕ) → Below n → (w w' : Want) (o : Option Want) → entry_want w ≡ o → entry_want w' ≡ o → (ds es : Items) → suc (items_depth ds) ≤ n → Stands t w (array ds) → Stands u w' (array es)
-      → (x y : Data) → Has (list_of_items ds) x → Has (list_of_items es) y → Same m o x y → x ≡ y
+      → (x y : Data) → In x (list_of_items ds) → In y (list_of_items es) → Same m o x y → x ≡ y
   entry_equal n below w w' None asks asks' ds es small st st' x y i j h = steady_same m h refl
   entry_equal n below w w' (Some v) asks asks' ds es small st st' x y i j h =
-      let low : depth x ≤ items_depth ds = all-Has (λ d. depth d ≤ items_depth ds) (list_of_items ds) x (listed_depth ds (items_depth ds) (omega arith)) i in
+      let low : depth x ≤ items_depth ds = In-all (λ d. depth d ≤ items_depth ds) x (list_of_items ds) (listed_depth ds (items_depth ds) (omega arith)) i in
       below v x y (omega (arith, low, small)) (entry_stands t w v (array ds) asks st x i) (entry_stands u w' v (array es) asks' st' y j) h
 
   -- ---- members
@@ -152,5 +152,5 @@ module _ (π : Preference) (t u : Data) (canonical : IsCanonical π t) (canonica
 
   -- and so are the entries of two arrays
   pub entries_equal : (w w' v : Want) (ds es : Items) → entry_want w ≡ Some v → entry_want w' ≡ Some v → Stands t w (array ds) → Stands u w' (array es)
-      → (x y : Data) → Has (list_of_items ds) x → Has (list_of_items es) y → Same m (Some v) x y → x ≡ y
+      → (x y : Data) → In x (list_of_items ds) → In y (list_of_items es) → Same m (Some v) x y → x ≡ y
   entries_equal w w' v ds es asks asks' st st' x y i j h = same_equal v x y (entry_stands t w v (array ds) asks st x i) (entry_stands u w' v (array es) asks' st' y j) h

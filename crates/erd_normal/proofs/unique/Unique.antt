@@ -1,5 +1,5 @@
 -- Canonical reports that mean the same are equal, since they say the same.
-use Rattle.erd_normal.proofs.Common.{◌≡◌, ℕ, Bool, true, false, List, [], Some, None, sym, refl, ap, ◌∙◌, subst, Data, array, Family, family, Role, role, MemberKind, kind, Step, list_of_items_exact, position_of, Within-root, wanted_within, unrepeated, within-tree, Within, ShapeFault, NoneOf, entries_of, Asked, asked, asked_at, Want, Member, Object, Reference, has-flat, no_shape_fault, Contains-Has, Has-Contains, flat-has, one_object, has_keys, Preference, Placed, contests, selections_of_contest, objects, IsObject, id_of, key_set, content_of, object_record, keys_named, kind_wanted, IsCanonical, ReferencesAgree, ObjectsAgree, CanonicalIsUnique, MeanAlike, Sides, NamesAgree, HaveSameNames}
+use Rattle.erd_normal.proofs.Common.{◌≡◌, ℕ, Bool, true, false, List, [], Some, None, sym, refl, ap, ◌∙◌, subst, Data, array, Family, family, Role, role, MemberKind, kind, Step, list_of_items_exact, position_of, Within-root, wanted_within, unrepeated, within-tree, Within, ShapeFault, NoneOf, entries_of, Asked, asked, asked_at, Want, Member, Object, Reference, no_shape_fault, one_object, has_keys, Preference, Placed, contests, selections_of_contest, objects, IsObject, id_of, key_set, content_of, object_record, keys_named, kind_wanted, IsCanonical, ReferencesAgree, ObjectsAgree, CanonicalIsUnique, MeanAlike, Sides, NamesAgree, HaveSameNames, In-flat_map, In-flat_map_from, In-from_contains, contains_from_In}
 use Rattle.erd_normal.proofs.same.FromAlike.{Stands}
 use Rattle.erd_normal.proofs.same.complete.Objects.{all_says, classes_same, members_value, none_aligned, two_say, within_t, within_u}
 use Rattle.erd_normal.proofs.same.complete.Sets.{MeanOne, references_matched, TextsTied}
@@ -30,9 +30,9 @@ unique π t u alike =
 -- a selection has an `@id`
 selection_id : (π : Preference) (t : Data) → IsCanonical π t → (o : Placed) → IsObject t family.Selection o → (s : List ℕ) × (id_of o.value ≡ Some s)
 selection_id π t canonical o h =
-    let c = has-flat selections_of_contest (contests t) o (Has-Contains (objects family.Selection t) o h) in
+    let c = In-flat_map_from selections_of_contest (contests t) o (In-from_contains o (objects family.Selection t) h) in
     let i = position_of (selections_of_contest c.0) o c.2 in
-    (_, canonical.ids.selections i.0 c.0 o (Contains-Has (contests t) c.0 c.1) i.1)
+    (_, canonical.ids.selections i.0 c.0 o (contains_from_In c.0 (contests t) c.1) i.1)
 
 abbrev style_role : Role
 style_role = role.OfFamily family.Style
@@ -44,8 +44,8 @@ module _ (π : Preference) (t u : Data) (alike : MeanAlike π t u) where
   -- objects with one `@id` are one
   one_by_id : (f : Family) (one other : Placed) → IsObject t f one → IsObject u f other → id_of one.value ≡ id_of other.value → {s : List ℕ} → id_of one.value ≡ Some s → one.value ≡ other.value
   one_by_id f one other h k ids {s} is =
-      ap (λ o. o.value) (one_object π t alike.left.accepted f f one other s (Has-Contains (objects f t) one h)
-      (Has-Contains (objects f t) other (subst (λ x. IsObject x f other) (sym (unique π t u alike)) k)) is (sym ids ∙ is))
+      ap (λ o. o.value) (one_object π t alike.left.accepted f f one other s (In-from_contains one (objects f t) h)
+      (In-from_contains other (objects f t) (subst (λ x. IsObject x f other) (sym (unique π t u alike)) k)) is (sym ids ∙ is))
 
   -- styles have no `@id`, and their records leave out nothing
   style_alike : (one other : Placed) → IsObject t family.Style one → IsObject u family.Style other → object_record π t style_role one.value ≡ object_record π u style_role other.value → id_of one.value ≡ None → id_of other.value ≡ None
@@ -54,8 +54,8 @@ module _ (π : Preference) (t u : Data) (alike : MeanAlike π t u) where
       let alone = none_alone π t u alike.left alike.right both in
       let l = referring_to_all t in
       let r = referring_to_all u in
-      let w = within_t π t u both [] l r alone family.Style one (Has-Contains (objects family.Style t) one h) in
-      let w' = within_u π t u both [] l r alone family.Style other (Has-Contains (objects family.Style u) other k) in
+      let w = within_t π t u both [] l r alone family.Style one (In-from_contains one (objects family.Style t) h) in
+      let w' = within_u π t u both [] l r alone family.Style other (In-from_contains other (objects family.Style u) k) in
       same_equal π t u alike.left alike.right both (Object style_role) one.value other.value (record { repeated = false; inside = w }) (record { repeated = false; inside = w' })
       (two_say π t u both [] l r alone [] style_role one.value other.value w w' (classes_same π t u both [] l r alone style_role one.value other.value records) (leaves family.Style)
       (λ two. none_aligned π t u both [] l r alone style_role two.class two.ms two.ns two.at two.at' (ap id_of (sym two.is) ∙ none) (ap id_of (sym two.is') ∙ none'))
@@ -128,11 +128,11 @@ references_agree π t u alike = record {
       let w' = within_kind u (no_shape_fault π u alike.right.accepted) q b (kind.Many f) is' g in
       set_alike π t u alike f w.0 w'.0 a.value b.value h w.1 w'.1 same;
   selections = λ k n one other a b.
-      let c = Has-Contains (objects family.Contest t) a.contest a.contest_stands in
-      let d = Has-Contains (objects family.Contest u) b.contest b.contest_stands in
-      let x = Has-Contains (selections_of_contest a.contest) one a.stands in
-      let y = Has-Contains (selections_of_contest b.contest) other b.stands in
-      ids_alike π t u alike.left alike.right (mean_one π t u alike) family.Selection one other (flat-has selections_of_contest (contests t) a.contest one c x) (flat-has selections_of_contest (contests u) b.contest other d y)
+      let c = In-from_contains a.contest (objects family.Contest t) a.contest_stands in
+      let d = In-from_contains b.contest (objects family.Contest u) b.contest_stands in
+      let x = In-from_contains one (selections_of_contest a.contest) a.stands in
+      let y = In-from_contains other (selections_of_contest b.contest) b.stands in
+      ids_alike π t u alike.left alike.right (mean_one π t u alike) family.Selection one other (In-flat_map selections_of_contest one a.contest (contests t) c x) (In-flat_map selections_of_contest other b.contest (contests u) d y)
       (by_name refl a.contest b.contest c d (a.contest_key ∙ sym b.contest_key) x y (a.its_name ∙ sym b.its_name));
   contents = λ p q a b is is' e g same.
       let w = within_kind t (no_shape_fault π t alike.left.accepted) p a kind.Content is e in

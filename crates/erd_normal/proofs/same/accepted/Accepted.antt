@@ -1,5 +1,5 @@
 -- A tree that says the same as an accepted report is accepted, where its envelope has no fault of shape and no two of its objects have one `@id`.
-use Rattle.erd_normal.proofs.Common.{accepted_by_phases, SameIsAccepted, Sides, ◌≡◌, true, List, Some, None, codes, is_eq, sym, refl, ap, ◌∙◌, subst, ap₂, tied_itself, on_total, options_total, IsDistinct, option_cmp, eq_by_cmp, Data, Family, Role, role, reason, Step, Has, NoneOf, IsTree, entries_at, Object, values_distinct, no_shape_fault, no_identity_fault, Contains-Has, Has-Contains, distinct_one, IsAccepted, has_keys, is_keyed_role, key_cmp, Preference, key_of, IdentityFault, LacksIdentifier, RepeatsKey, Placed, objects, objects_with_role, needs_key, key_cmp_total, Key, HasDistinctIds, by_key}
+use Rattle.erd_normal.proofs.Common.{accepted_by_phases, SameIsAccepted, Sides, ◌≡◌, true, List, Some, None, codes, is_eq, sym, refl, ap, ◌∙◌, subst, ap₂, tied_itself, on_total, options_total, IsDistinct, option_cmp, eq_by_cmp, Data, Family, Role, role, reason, Step, NoneOf, IsTree, entries_at, Object, values_distinct, no_shape_fault, no_identity_fault, distinct_one, IsAccepted, has_keys, is_keyed_role, key_cmp, Preference, key_of, IdentityFault, LacksIdentifier, RepeatsKey, Placed, objects, objects_with_role, needs_key, key_cmp_total, Key, HasDistinctIds, by_key, In, In-from_contains, contains_from_In}
 use Rattle.erd_normal.proofs.same.accepted.AcceptedReferences.{same_references}
 use Rattle.erd_normal.proofs.same.accepted.AcceptedShape.{same_shape}
 use Rattle.erd_normal.proofs.same.means.Meanings.{two_reports, no_selection_fault}
@@ -26,10 +26,10 @@ module _ (m : Sides) (left_tree : IsTree m.left) (right_tree : IsTree m.right) (
   -- the object of the left report to which one of the right report is related
   record KinOf (f : Family) (o : Placed) : Type 0 where
     of : Placed
-    stands : Has (objects f m.left) of
+    stands : In of (objects f m.left)
     kin : Kin f of.value o.value
 
-  kin_of : (f : Family) (o : Placed) → Has (objects f m.right) o → KinOf f o
+  kin_of : (f : Family) (o : Placed) → In o (objects f m.right) → KinOf f o
   kin_of f o h =
       let b = matched_back o.value (matched f) (placed_value f m.right o h) in
       let p = value_placed f m.left b.0 b.1 in
@@ -48,14 +48,14 @@ module _ (m : Sides) (left_tree : IsTree m.left) (right_tree : IsTree m.right) (
       (subst (Matched (λ d e. key_of π d ≡ key_of π e) (entries_at (codes "Election") m.left)) (sym (election_values_are m.right))
       (matched_within (λ d e. key_of π d ≡ key_of π e) (λ d e h r. related_election_key m left_tree right_tree (no_shape_fault π m.left accepted) π d e r) (elections_matched m left_tree right_tree (no_shape_fault π m.left accepted) root)))
 
-  lacks_none : (r : Role) (p : Placed) → needs_key m.right r ≡ true → Has (objects_with_role r m.right) p → key_of π p.value ≡ None → ⊥
+  lacks_none : (r : Role) (p : Placed) → needs_key m.right r ≡ true → In p (objects_with_role r m.right) → key_of π p.value ≡ None → ⊥
   lacks_none (role.OfFamily f) p needed h none =
       let o = kin_of f p h in
       no_identity_fault π m.left accepted o.of.place reason.NoIdentifier (record {
         role = role.OfFamily f;
         needed = needed;
         placed = o.of;
-        stands = Contains-Has (objects f m.left) o.of o.stands;
+        stands = contains_from_In o.of (objects f m.left) o.stands;
         place = refl;
         keyless = kin_key f o.of.value p.value o.kin ∙ none;
       })
@@ -63,12 +63,12 @@ module _ (m : Sides) (left_tree : IsTree m.left) (right_tree : IsTree m.right) (
   lacks_none r p needed h none = elim h [ ]
 
   none_lacks : (p : List Step) → LacksIdentifier π m.right p → ⊥
-  none_lacks p l = lacks_none l.role l.placed l.needed (Has-Contains (objects_with_role l.role m.right) l.placed l.stands) l.keyless
+  none_lacks p l = lacks_none l.role l.placed l.needed (In-from_contains l.placed (objects_with_role l.role m.right) l.stands) l.keyless
 
   same_key : (k : Key) (d e : Data) → key_of π d ≡ Some k → key_of π e ≡ Some k → eq_by_cmp (by_key π) d e ≡ true
   same_key k d e a b = ap₂ (λ k l. is_eq (option_cmp key_cmp k l)) a b ∙ ap is_eq (tied_itself key_cmp_total k)
 
-  one_with_key : (r : Role) (o p : Placed) (k : Key) → is_keyed_role r ≡ true → Has (objects_with_role r m.right) o → Has (objects_with_role r m.right) p → key_of π o.value ≡ Some k → key_of π p.value ≡ Some k → o ≡ p
+  one_with_key : (r : Role) (o p : Placed) (k : Key) → is_keyed_role r ≡ true → In o (objects_with_role r m.right) → In p (objects_with_role r m.right) → key_of π o.value ≡ Some k → key_of π p.value ≡ Some k → o ≡ p
   one_with_key (role.OfFamily f) o p k keyed h i a b =
       distinct_one (λ o. o.value) (eq_by_cmp (by_key π)) (objects f m.right) (subst (IsDistinct (eq_by_cmp (by_key π))) (sym (object_values f m.right)) (keys_distinct f keyed)) o p h i
       (same_key k o.value p.value a b) (same_key k p.value o.value b a)
@@ -79,7 +79,7 @@ module _ (m : Sides) (left_tree : IsTree m.left) (right_tree : IsTree m.right) (
   no_twin_key p r =
       let os = objects_with_role r.role m.right in
       not_before_itself r.earlier r.later
-      (one_with_key r.role r.earlier r.later r.key r.keyed (Has-Contains os r.earlier r.earlier_stands) (Has-Contains os r.later r.later_stands) r.earlier_key r.later_key) r.before
+      (one_with_key r.role r.earlier r.later r.key r.keyed (In-from_contains r.earlier os r.earlier_stands) (In-from_contains r.later os r.later_stands) r.earlier_key r.later_key) r.before
 
   pub same_identity : HasDistinctIds m.right → NoneOf (IdentityFault π m.right)
   same_identity distinct p reason.NoIdentifier h = none_lacks p h

@@ -1,5 +1,5 @@
 -- A report that says the same as an accepted one has no fault of references, where its envelope has no fault of shape.
-use Rattle.erd_normal.proofs.Common.{◌≡◌, ℕ, Bool, true, false, not, ◌&&◌, ◌⊎◌, List, [], is_some, Some, None, codes, Option, option_and_then, bytes_eq, unwrap_or, sym, refl, ap, ◌∙◌, subst, inl, inr, true≢false, option_map_or, Data, string, object, get_member, as_str, kind_of_member, class, Family, family, role, Reason, reason, kind, Step, ObjectIn, all_by_entry, all-Has, Has, Within, is_reference, NoneOf, IsTree, entries_at, text_of, text_at, member_want, Asked, asked, asked_at, Want, Member, Object, Reference, no_shape_fault, IsAccepted, Preference, is_unresolved, is_of_other_family, is_reference_fault, is_selection_in, is_other_selection, ReferenceFault, has_id, owner, class_of_node, HasSoundEnvelope, IsUsed, Sides, StandsFor, Same, Class, get, is_in_envelope, same_Some, object_in, unrepeated, is_none, families, any-has, is_owned, Has-Contains}
+use Rattle.erd_normal.proofs.Common.{◌≡◌, ℕ, Bool, true, false, not, ◌&&◌, ◌⊎◌, List, [], is_some, Some, None, codes, Option, option_and_then, bytes_eq, unwrap_or, sym, refl, ap, ◌∙◌, subst, inl, inr, true≢false, option_map_or, Data, string, object, get_member, as_str, kind_of_member, class, Family, family, role, Reason, reason, kind, Step, ObjectIn, Within, is_reference, NoneOf, IsTree, entries_at, text_of, text_at, member_want, Asked, asked, asked_at, Want, Member, Object, Reference, no_shape_fault, IsAccepted, Preference, is_unresolved, is_of_other_family, is_reference_fault, is_selection_in, is_other_selection, ReferenceFault, has_id, owner, class_of_node, HasSoundEnvelope, IsUsed, Sides, StandsFor, Same, Class, get, is_in_envelope, same_Some, object_in, unrepeated, is_none, families, is_owned, In, In-all, In-from_contains, all_from_In, any_at}
 use Rattle.erd_normal.proofs.canonical.ChosenEntries.{IsChosen, contest_named, entries_chosen, list_name}
 use Rattle.erd_normal.proofs.same.IdsOfObjects.{Refers, reference_refers}
 use Rattle.erd_normal.proofs.same.accepted.ListedSelections.{IsListSound, IsListed, none_elsewhere}
@@ -29,7 +29,7 @@ pub names_sound : (u : Data) (f : Family) (s : List ℕ) (o : Data) (b : Bool) �
 names_sound u f s o b first owned = record { sound = at }
   where
     known : is_owned u s ≡ true
-    known = any-has (λ g. is_some (owner u g s)) families f (Has-Contains families f (is_family f)) (ap is_some owned)
+    known = any_at (λ g. is_some (owner u g s)) f families (In-from_contains f families (is_family f)) (ap is_some owned)
 
     at : (r : Reason) → is_reference_fault u (record { want = Reference f; value = string s; repeated = b }) r ≡ false
     at reason.Repeated = ap (λ x. x && true) first
@@ -177,13 +177,13 @@ module _ (m : Sides) (left_tree : IsTree m.left) (right_tree : IsTree m.right) (
     lists : Matched (Related m (Reference family.Selection)) (entries_at list_name d) (entries_at list_name e)
     lists = told_entries m class.OrderedContest list_name (Member kind.Ordered false) (Reference family.Selection) (get list_name d) (get list_name e) refl refl refl refl (told list_name refl)
 
-    entry_of_contest : (y : Data) → Has (entries_at list_name e) y → is_other_selection m.right e (Reference family.Selection) y ≡ false
+    entry_of_contest : (y : Data) → In y (entries_at list_name e) → is_other_selection m.right e (Reference family.Selection) y ≡ false
     unfolding contest
     entry_of_contest y h =
         let x = matched_back y lists h in
         let s : RefersToo family.Selection x.0 y = refers_too family.Selection x.0 y x.2 in
         let chosen : IsChosen π m.left accepted o.ms o.at.inside here x.0 =
-        all-Has (IsChosen π m.left accepted o.ms o.at.inside here) (entries_at list_name (object o.ms)) x.0 (entries_chosen π m.left accepted o.ms o.at.inside here) (subst (λ z. Has (entries_at list_name z) x.0) o.is_object x.1) in
+        In-all (IsChosen π m.left accepted o.ms o.at.inside here) x.0 (entries_at list_name (object o.ms)) (entries_chosen π m.left accepted o.ms o.at.inside here) (subst (λ z. In x.0 (entries_at list_name z)) o.is_object x.1) in
         let inside : is_selection_in kin.object s.other.other ≡ true =
         sym (chosen_too s.id s.other.other contest.2.2.0 kin.object s.other.pair s.left_used s.right_used kin.related)
         ∙ sym (ap (λ z. is_selection_in contest.2.2.0 (text_of z)) s.text) ∙ chosen.1 in
@@ -192,7 +192,7 @@ module _ (m : Sides) (left_tree : IsTree m.left) (right_tree : IsTree m.right) (
         ∙ ap (λ b. is_some (owner m.right family.Selection s.other.other) && not b) inside ∙ and_no (is_some (owner m.right family.Selection s.other.other))
 
     list_sound : IsListSound m.right e
-    list_sound = all_by_entry (λ y. is_other_selection m.right e (Reference family.Selection) y ≡ false) (entries_at list_name e) entry_of_contest
+    list_sound = all_from_In (λ y. is_other_selection m.right e (Reference family.Selection) y ≡ false) (entries_at list_name e) entry_of_contest
 
   listed : (p : List Step) (b : Asked) → asked_at m.right p ≡ Some b → IsListed m.right b
   listed p b e = record {

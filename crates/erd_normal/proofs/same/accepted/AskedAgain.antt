@@ -1,5 +1,5 @@
 -- All that is asked in the right report is asked in the left one of a value that says the same and repeats no other, or has no fault of shape.
-use Rattle.erd_normal.proofs.Common.{◌≡◌, ℕ, Bool, true, false, not, ◌&&◌, ◌⊎◌, List, [], ◌∷◌, IsSomeAnd, IsTrue, Some, Option, option_map, option_and_then, bytes_eq, sym, refl, ap, ◌∙◌, subst, ap₂, inl, inr, false_from_ne_true, Data, string, array, object, Items, Members, get_member, get_item, Family, role, reason, kind, Step, At, Name, string_from_text, list_of_items-place, list_of_items-tree, text_itself, is_same_exact, Has, Within-step, Within-root, not_within, faultless, wanted_within, within-tree, Within, is_reference, is_shape_fault, IsTree, is_same_json, list_of_items, scope_inside, want_of_name, entry_want, is_compared_set, Asked, asked, is_repeated, asked_of_member, asked_inside, asked_from, asked_at, Want, Member, Object, Reference, no_shape_fault, no_reference_fault, unrepeated_distinct, reordered-has, IsAccepted, Preference, is_reference_fault, HasSoundEnvelope, Sides, is_envelope, Same, ⊎_elim, true≢false, None}
+use Rattle.erd_normal.proofs.Common.{◌≡◌, ℕ, Bool, true, false, not, ◌&&◌, ◌⊎◌, List, [], ◌∷◌, IsSomeAnd, IsTrue, Some, Option, option_map, option_and_then, bytes_eq, sym, refl, ap, ◌∙◌, subst, ap₂, inl, inr, false_from_ne_true, Data, string, array, object, Items, Members, get_member, get_item, Family, role, reason, kind, Step, At, Name, string_from_text, list_of_items-place, list_of_items-tree, text_itself, is_same_exact, Within-step, Within-root, not_within, faultless, wanted_within, within-tree, Within, is_reference, is_shape_fault, IsTree, is_same_json, list_of_items, scope_inside, want_of_name, entry_want, is_compared_set, Asked, asked, is_repeated, asked_of_member, asked_inside, asked_from, asked_at, Want, Member, Object, Reference, no_shape_fault, no_reference_fault, unrepeated_distinct, IsAccepted, Preference, is_reference_fault, HasSoundEnvelope, Sides, is_envelope, Same, ⊎_elim, true≢false, None, In, reordered-In}
 use Rattle.erd_normal.proofs.same.IdsOfObjects.{IsPart, part_at}
 use Rattle.erd_normal.proofs.same.accepted.RequiredMembers.{IsSoundInside, quiet_lone, IsSound, absent_sound}
 use Rattle.erd_normal.proofs.lists.Matched.{Matched, distinct-paired, distinct-reordered}
@@ -114,7 +114,7 @@ module _ (m : Sides) (left_tree : IsTree m.left) (right_tree : IsTree m.right) (
     inside : Within m.left (asked v x)
     tree : IsTree y
 
-  entry_within : (a : Asked) (ds : Items) (v : Want) → Within m.left a → a.value ≡ array ds → entry_want a.want ≡ Some v → (x : Data) → Has (list_of_items ds) x → Within m.left (asked v x)
+  entry_within : (a : Asked) (ds : Items) (v : Want) → Within m.left a → a.value ≡ array ds → entry_want a.want ≡ Some v → (x : Data) → In x (list_of_items ds) → Within m.left (asked v x)
   entry_within a ds v inside value asks x h =
       let j = list_of_items-place ds x h in
       let b : Asked = record { want = v; value = x; repeated = is_compared_set a.want && is_repeated ds j.0 x } in
@@ -137,8 +137,8 @@ module _ (m : Sides) (left_tree : IsTree m.left) (right_tree : IsTree m.right) (
   unlike a ds es v inside value asks set trees matched =
       let entries : Matched (Entry v) (list_of_items ds) (list_of_items es) =
       matched_within_both (Entry v) (λ x y i j k. record { same = k; inside = entry_within a ds v inside value asks x i; tree = list_of_items-tree es y trees j }) matched in
-      let turned = λ (d f : Data) (i : Has entries.middle d) (j : Has entries.middle f) (h : is_same_json f d ≡ false).
-      same_turned d f (list_of_items-tree es d trees (reordered-has d entries.reordered i)) (list_of_items-tree es f trees (reordered-has f entries.reordered j)) h in
+      let turned = λ (d f : Data) (i : In d entries.middle) (j : In f entries.middle) (h : is_same_json f d ≡ false).
+      same_turned d f (list_of_items-tree es d trees (reordered-In d entries.reordered i)) (list_of_items-tree es f trees (reordered-In f entries.reordered j)) h in
       distinct-reordered (λ d f. is_same_json f d) entries.reordered turned
       (distinct-paired (λ d f. is_same_json f d) (λ d f. is_same_json f d) (λ x x' y y' i j e e' h. one_entry a v asks set x x' y y' e e' h) entries.paired
       (unrepeated_distinct ds (λ i d found. each i d found)))

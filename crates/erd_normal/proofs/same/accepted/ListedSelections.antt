@@ -1,5 +1,5 @@
 -- Where each list of references to selections holds selections of the contest that its object names, none is of another contest.
-use Rattle.erd_normal.proofs.Common.{◌≡◌, ℕ, Bool, true, false, ◌&&◌, List, [], ◌∷◌, ◌++◌, Some, None, Option, option_map, option_and_then, sym, refl, ap, ◌∙◌, subst, true≢false, same_Some, AllByRecursion, option_map_or, Data, array, object, Items, Members, get_member, get_item, role_of_class, Class, class, family, Role, role, kind, Step, At, Name, and_then-Some, list_of_items, entries_of, entries_at, class_of_object, scope_inside, member_want, want_of_name, entry_want, is_compared_set, Asked, asked, is_repeated, asked_of_member, asked_inside, asked_from, asked_at, Want, Carried, Member, Object, Reference, class_role, is_other_selection, NamesOtherContest, class_of_node, all-Has}
+use Rattle.erd_normal.proofs.Common.{◌≡◌, ℕ, Bool, true, false, ◌&&◌, List, [], ◌∷◌, ◌++◌, Some, None, Option, option_map, option_and_then, sym, refl, ap, ◌∙◌, subst, true≢false, same_Some, AllByRecursion, option_map_or, Data, array, object, Items, Members, get_member, get_item, role_of_class, Class, class, family, Role, role, kind, Step, At, Name, and_then-Some, list_of_items, entries_of, entries_at, class_of_object, scope_inside, member_want, want_of_name, entry_want, is_compared_set, Asked, asked, is_repeated, asked_of_member, asked_inside, asked_from, asked_at, Want, Carried, Member, Object, Reference, class_role, is_other_selection, NamesOtherContest, class_of_node, In-all}
 use Rattle.erd_meaning.proofs.references.ReferenceWalks.{asked_from-append}
 use Rattle.erd_normal.proofs.canonical.ChosenEntries.{list_name}
 use Rattle.erd_normal.proofs.same.Lists.{entry_has}
@@ -123,6 +123,6 @@ none_elsewhere u listed p h =
     let entries : entries_at list_name h.ordered_contest.value ≡ list_of_items entry.items =
     ap (entries_at list_name) owner.stands.1 ∙ ap (λ o. option_map_or entries_of o []) (owner.stands.2 ∙ ap Some entry.is_array) in
     let here : is_other_selection u h.ordered_contest.value (Reference family.Selection) h.entry.value ≡ false =
-    all-Has (λ e. is_other_selection u h.ordered_contest.value (Reference family.Selection) e ≡ false) (list_of_items entry.items) h.entry.value
+    In-all (λ e. is_other_selection u h.ordered_contest.value (Reference family.Selection) e ≡ false) h.entry.value (list_of_items entry.items)
     (subst (AllByRecursion (λ e. is_other_selection u h.ordered_contest.value (Reference family.Selection) e ≡ false)) entries all) (entry_has entry.items h.position h.entry.value entry.found) in
     true≢false (sym h.elsewhere ∙ ap (λ w. is_other_selection u h.ordered_contest.value w h.entry.value) wants ∙ here)

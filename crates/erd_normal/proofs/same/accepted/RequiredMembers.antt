@@ -1,29 +1,25 @@
 -- A member that an object must have is none that may be absent, in a report without a fault of shape.
-use Rattle.erd_normal.proofs.Common.{◌≡◌, ℕ, Bool, true, false, cond, not, ◌&&◌, ◌||◌, List, Some, None, codes, Option, bytes_eq, sym, refl, ap, ◌∙◌, subst, true≢false, and_parts, list_all, list_any, Data, array, object, no_items, Members, get_member, get, Row, rows_of_class, is_envelope_name, kind_of_identity, kind_of_member, required_names, is_required, Class, class, Role, reason, MemberKind, kind, Name, text_exact, text_itself, here, later, Has, Within-step, faultless, lacks_none, Within, kind_of_name, kind_of_id, want_unless_status, names_wanted, ShapeFault, NoneOf, scope_inside, want_of_kind, is_report_class, member_want, want_of_name, Asked, asked, Scope, scope, Want, ClassText, Member, Status, any-has, has-any, is_array_kind, is_envelope, an_empty_array, of_the_envelope, an_unused_id, MayBeAbsent, [], ◌∷◌, string, role, Reason, Step, is_shape_fault, carried_want, asked_from, Carried, Object, Reference, has_kind}
+use Rattle.erd_normal.proofs.Common.{◌≡◌, ℕ, Bool, true, false, cond, not, ◌&&◌, ◌||◌, List, Some, None, codes, Option, bytes_eq, sym, refl, ap, ◌∙◌, subst, true≢false, and_parts, list_all, list_any, Data, array, object, no_items, Members, get_member, get, Row, rows_of_class, is_envelope_name, kind_of_identity, kind_of_member, required_names, is_required, Class, class, Role, reason, MemberKind, kind, Name, text_exact, text_itself, Within-step, faultless, lacks_none, Within, kind_of_name, kind_of_id, want_unless_status, names_wanted, ShapeFault, NoneOf, scope_inside, want_of_kind, is_report_class, member_want, want_of_name, Asked, asked, Scope, scope, Want, ClassText, Member, Status, is_array_kind, is_envelope, an_empty_array, of_the_envelope, an_unused_id, MayBeAbsent, [], ◌∷◌, string, role, Reason, Step, is_shape_fault, carried_want, asked_from, Carried, Object, Reference, has_kind, In-any, any_at, each_holds}
 use Rattle.erd_normal.proofs.same.Lookups.{MayLack, type_stays}
 use Rattle.erd_normal.proofs.same.CameFrom.{is_quiet, nothing_after, nothing_empty}
 
 -- ---- the names that a class requires
 
-passes : {A : Type 0} (P : A → Bool) (xs : List A) (x : A) → list_all P xs ≡ true → Has xs x → P x ≡ true
-passes P xs x all (here {xs = ys}) = (and_parts (P x) (list_all P ys) all).0
-passes P xs x all (later {y = y} {xs = ys} h) = passes P ys x (and_parts (P y) (list_all P ys) all).1 h
-
 -- what holds of each name of a list holds of one that is among them
 named_passes : (P : List ℕ → Bool) (n : List ℕ) (ns : List (List ℕ)) → list_all P ns ≡ true → list_any (bytes_eq n) ns ≡ true → P n ≡ true
 named_passes P n ns all among =
-    let x = has-any (bytes_eq n) ns among in subst (λ y. P y ≡ true) (sym (text_exact n x.0 x.2)) (passes P ns x.0 all x.1)
+    let x = In-any (bytes_eq n) ns among in subst (λ y. P y ≡ true) (sym (text_exact n x.0 x.2)) (each_holds P ns x.0 all x.1)
 
 same_either_way : (a b : List ℕ) → bytes_eq a b ≡ true → bytes_eq b a ≡ true
 same_either_way a b h = subst (λ x. bytes_eq x a ≡ true) (text_exact a b h) (text_itself a)
 
 pub required_if_named : (c : Class) (n : List ℕ) → list_any (bytes_eq n) (required_names c) ≡ true → is_required c n ≡ true
 required_if_named c n h =
-    let x = has-any (bytes_eq n) (required_names c) h in any-has (λ r. bytes_eq r n) (required_names c) x.0 x.1 (same_either_way n x.0 x.2)
+    let x = In-any (bytes_eq n) (required_names c) h in any_at (λ r. bytes_eq r n) x.0 (required_names c) x.1 (same_either_way n x.0 x.2)
 
 pub named_if_required : (c : Class) (n : List ℕ) → is_required c n ≡ true → list_any (bytes_eq n) (required_names c) ≡ true
 named_if_required c n h =
-    let x = has-any (λ r. bytes_eq r n) (required_names c) h in any-has (bytes_eq n) (required_names c) x.0 x.1 (same_either_way x.0 n x.2)
+    let x = In-any (λ r. bytes_eq r n) (required_names c) h in any_at (bytes_eq n) x.0 (required_names c) x.1 (same_either_way x.0 n x.2)
 
 -- ---- what the table says of them
 

@@ -1,5 +1,5 @@
 -- Accepted reports that mean the same say the same, and so two preferences agree on which mean the same.
-use Rattle.erd_normal.proofs.Common.{◌≡◌, ℕ, zero, suc, true, false, List, [], ◌∷◌, length, Some, None, option_and_then, sym, refl, ap, ◌∙◌, subst, arith, Data, null, Family, role, Step, At, Name, Has, is_reference, Asked, asked, asked_inside, asked_from, asked_at, Object, one_object, Preference, Placed, objects, id_of, PreferencesAgree, Sides, IsUnused, Same}
+use Rattle.erd_normal.proofs.Common.{◌≡◌, ℕ, zero, suc, true, false, List, [], ◌∷◌, length, Some, None, option_and_then, sym, refl, ap, ◌∙◌, subst, arith, Data, null, Family, role, Step, At, Name, is_reference, Asked, asked, asked_inside, asked_from, asked_at, Object, one_object, Preference, Placed, objects, id_of, PreferencesAgree, Sides, IsUnused, Same, In}
 use Rattle.erd_normal.proofs.same.Back.{same_back, turned}
 use Rattle.erd_normal.proofs.same.CameFrom.{CameFrom, reference_came_from}
 use Rattle.erd_normal.proofs.same.InTurn.{OtherText, id_text, reference_is_id}
@@ -39,14 +39,14 @@ module _ (π : Preference) (t u : Data) (both : MeanOne π t u) where
   idle_says default = all_says π t u both default null null (record { left = λ f o p a h k related is is'. nothing_used a; right = λ f o p b h k related is is'. nothing_used b })
 
   -- the couple of an object, by its `@id`
-  left_couple : (f : Family) (o p : Placed) (a : List ℕ) → Has (objects f t) o → Has (objects f u) p → Counterpart π t u f o p → id_of o.value ≡ Some a → (c : Couple π t u) → c.text ≡ a → c.other ≡ p
+  left_couple : (f : Family) (o p : Placed) (a : List ℕ) → In o (objects f t) → In p (objects f u) → Counterpart π t u f o p → id_of o.value ≡ Some a → (c : Couple π t u) → c.text ≡ a → c.other ≡ p
   left_couple f o p a h k related is c e =
       let one : c.one ≡ o = one_object π t both.left c.family f c.one o a c.one_stands h (c.is ∙ ap Some e) is in
-      let family : c.family ≡ f = one_family π t both.left c.family f o (subst (Has (objects c.family t)) one c.one_stands) h in
-      one_counterpart π t u both.left both.right f o c.other p (subst (λ g. Has (objects g u) c.other) family c.other_stands) k
+      let family : c.family ≡ f = one_family π t both.left c.family f o (subst (λ z. In z (objects c.family t)) one c.one_stands) h in
+      one_counterpart π t u both.left both.right f o c.other p (subst (λ g. In c.other (objects g u)) family c.other_stands) k
       (subst (λ g. Counterpart π t u g o c.other) family (subst (λ x. Counterpart π t u c.family x c.other) one c.related)) related
 
-  alone_left : (f : Family) (o p : Placed) (a : List ℕ) → Has (objects f t) o → Has (objects f u) p → Counterpart π t u f o p → id_of o.value ≡ Some a → id_of p.value ≡ None → IsUnused t a
+  alone_left : (f : Family) (o p : Placed) (a : List ℕ) → In o (objects f t) → In p (objects f u) → Counterpart π t u f o p → id_of o.value ≡ Some a → id_of p.value ≡ None → IsUnused t a
   alone_left f o p a h k related is is' place asked_there stands reference text =
       let m : Sides = idle (other_than a) in
       let from : CameFrom (turned m) u asked_there = reference_came_from (turned m) u t both.right_tree both.left_tree (same_back m (idle_says (other_than a))) place asked_there stands reference in

@@ -1,5 +1,5 @@
 -- Contents of ballots that mean the same say the same, headers inside headers included.
-use Rattle.erd_normal.proofs.Common.{◌≡◌, ℕ, zero, suc, ◌≤◌, max, Bool, true, false, cond, List, [], ◌∷◌, map, Some, None, codes, Option, option_and_then, bytes_eq, sym, refl, ap, ◌∙◌, subst, arith, Data, string, array, object, Items, no_items, item, Members, depth, items_depth, members_depth, get_member, get_item, as_str, kind_of_member, is_required, Class, class, Family, family, role, MemberKind, kind, At, entries_in, text_exact, get_member-tree, get_member-depth, is_absent, is_filled_array, MayBeArray, here, later, Has, Within-step, of_role, member_within, Within, kind_of_unlisted_has, no_strange, no_unknown, IsTree, AreTrees, AreMembers, want_of_kind, member_want, want_of_name, entry_want, is_table_set, asked, Scope, scope, ClassText, Member, Object, Reference, no_shape_fault, resolves, IsAccepted, has_keys, Preference, key_of, JsonMap, Content, no_content, Node, a_contest, a_header, NameParts, if_carried, carried_members, contest_node, header_node, nodes_of, node_of, content_inside, key_named, name_named, Key, Sides, StandsFor, is_array_kind, an_empty_array, a_text, an_id, an_object, no_entry, one_entry, Same, SameEntries, SameMembers}
+use Rattle.erd_normal.proofs.Common.{◌≡◌, ℕ, zero, suc, ◌≤◌, max, Bool, true, false, cond, List, [], ◌∷◌, map, Some, None, codes, Option, option_and_then, bytes_eq, sym, refl, ap, ◌∙◌, subst, arith, Data, string, array, object, Items, no_items, item, Members, depth, items_depth, members_depth, get_member, get_item, as_str, kind_of_member, is_required, Class, class, Family, family, role, MemberKind, kind, At, entries_in, text_exact, get_member-tree, get_member-depth, is_absent, is_filled_array, MayBeArray, Within-step, of_role, member_within, Within, kind_of_unlisted_has, no_strange, no_unknown, IsTree, AreTrees, AreMembers, want_of_kind, member_want, want_of_name, entry_want, is_table_set, asked, Scope, scope, ClassText, Member, Object, Reference, no_shape_fault, resolves, IsAccepted, has_keys, Preference, key_of, JsonMap, Content, no_content, Node, a_contest, a_header, NameParts, if_carried, carried_members, contest_node, header_node, nodes_of, node_of, content_inside, key_named, name_named, Key, Sides, StandsFor, is_array_kind, an_empty_array, a_text, an_id, an_object, no_entry, one_entry, Same, SameEntries, SameMembers, In, inl, inr}
 use Rattle.erd_normal.proofs.lists.Matched.{Matched, matched_back, matched_on, Paired, none, more}
 use Rattle.erd_normal.proofs.same.Back.{entries_paired, set_says, list_says}
 use Rattle.erd_normal.proofs.same.Lookups.{Aligned, both_there, not_both, lacks_none, lacks_one, merged}
@@ -28,9 +28,9 @@ module _ (m : Sides) where
         → MayBeArray P o → MayBeArray Q p → Matched (Same m (entry_want (Member k r))) (entries_in o) (entries_in p) → Aligned m s n o p
     sets_aligned P Q o p set is_absent is_absent h = not_both (lacks_none m.left s n) (lacks_none m.right s n)
     sets_aligned P Q o p set is_absent (is_filled_array {ds = no_items} q) h = right_empty _ refl
-    sets_aligned P Q o p set is_absent (is_filled_array {ds = item e es} q) h = elim (matched_back e h here).1 [ ]
+    sets_aligned P Q o p set is_absent (is_filled_array {ds = item e es} q) h = elim (matched_back e h (inl refl)).1 [ ]
     sets_aligned P Q o p set (is_filled_array {ds = no_items} q) is_absent h = left_empty _ refl
-    sets_aligned P Q o p set (is_filled_array {ds = item d ds} q) is_absent h = elim (matched_on d h here).1 [ ]
+    sets_aligned P Q o p set (is_filled_array {ds = item d ds} q) is_absent h = elim (matched_on d h (inl refl)).1 [ ]
     sets_aligned P Q o p set (is_filled_array {ds = ds} q) (is_filled_array {ds = es} q') h = there_both ds es (set_says m (Member k r) ds es set h)
 
     -- and lists, with paired ones
@@ -86,12 +86,12 @@ header_rest : (k : List ℕ) → bytes_eq k (codes "@type") ≡ false → bytes_
 header_rest k e f g = rw (f, g) (kind_of_unlisted_has is_rest class.OrderedHeader k e refl refl refl)
 
 -- lists with the same values, entry by entry
-paired_by : {A B C : Type 0} (R : A → B → Type 0) (f : A → C) (g : B → C) (xs : List A) (ys : List B) → ((x : A) (y : B) → Has xs x → Has ys y → f x ≡ g y → R x y) → map f xs ≡ map g ys → Paired R xs ys
+paired_by : {A B C : Type 0} (R : A → B → Type 0) (f : A → C) (g : B → C) (xs : List A) (ys : List B) → ((x : A) (y : B) → In x xs → In y ys → f x ≡ g y → R x y) → map f xs ≡ map g ys → Paired R xs ys
 paired_by R f g [] [] each e = none
 paired_by R f g (x ∷ xs) (y ∷ ys) each e =
     let first : f x ≡ g y = cc in
     let rest : map f xs ≡ map g ys = cc in
-    more (each x y here here first) (paired_by R f g xs ys (λ a b i j. each a b (later i) (later j)) rest)
+    more (each x y (inl refl) (inl refl) first) (paired_by R f g xs ys (λ a b i j. each a b (inr i) (inr j)) rest)
 paired_by R f g xs ys each e = cc
 
 abbrev entry_name : Preference → Data → Data → Option NameParts

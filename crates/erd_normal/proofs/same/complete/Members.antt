@@ -1,5 +1,5 @@
 -- Objects of one class say the same if their `@id`s do, what their records leave out does, and the rest means the same.
-use Rattle.erd_normal.proofs.Common.{◌≡◌, ℕ, Bool, true, false, not, ◌&&◌, ◌||◌, ◌⊎◌, List, [], ◌∷◌, is_some, Some, None, codes, Option, option_map, option_and_then, bytes_eq, sym, refl, ap, ◌∙◌, subst, inl, inr, ⊎_elim, not-true, and_parts, list_all, list_any, Data, null, object, Members, get_member, role_of_class, family_of_role, family_of_class, rows_of_class, kind_of_member, is_required, Class, class, Family, family, Role, role, MemberKind, kind, text_exact, get_member-tree, ObjectAt, Has, member_within, Within, kind_of_name, want_unless_status, AreMembers, is_report_class, member_want, asked, scope, ClassText, Object, Status, no_shape_fault, has-any, IsAccepted, Preference, PlainValue, a_json, MemberValue, a_plain, plain_value, is_in_envelope, plain_member, member_value, Sides, an_object, Same, SameMembers}
+use Rattle.erd_normal.proofs.Common.{◌≡◌, ℕ, Bool, true, false, not, ◌&&◌, ◌||◌, ◌⊎◌, List, [], ◌∷◌, is_some, Some, None, codes, Option, option_map, option_and_then, bytes_eq, sym, refl, ap, ◌∙◌, subst, inl, inr, ⊎_elim, not-true, and_parts, list_all, list_any, Data, null, object, Members, get_member, role_of_class, family_of_role, family_of_class, rows_of_class, kind_of_member, is_required, Class, class, Family, family, Role, role, MemberKind, kind, text_exact, get_member-tree, ObjectAt, member_within, Within, kind_of_name, want_unless_status, AreMembers, is_report_class, member_want, asked, scope, ClassText, Object, Status, no_shape_fault, IsAccepted, Preference, PlainValue, a_json, MemberValue, a_plain, plain_value, is_in_envelope, plain_member, member_value, Sides, an_object, Same, SameMembers, In, In-any}
 use Rattle.erd_normal.proofs.same.Labels.{equal_aligned}
 use Rattle.erd_normal.proofs.same.Lookups.{Aligned, asked_of_name, merged}
 use Rattle.erd_normal.proofs.same.complete.Sets.{TextsTied}
@@ -27,13 +27,13 @@ or_false : (a b : Bool) → a || b ≡ true → a ≡ false → b ≡ true
 or_false a b e h = rw h at e
 
 pub apart_named : (names : List (List ℕ)) (c : Class) (k : List ℕ) → bytes_eq k (codes "@type") ≡ false → bytes_eq k (codes "@id") ≡ false → are_apart names c ≡ true
-    → means_itself (kind_of_member c k) ≡ false → Has names k
+    → means_itself (kind_of_member c k) ≡ false → In k names
 apart_named names c k e f all plain =
-    let r = has-any (bytes_eq k) names (or_false (means_itself (kind_of_member c k)) _
+    let r = In-any (bytes_eq k) names (or_false (means_itself (kind_of_member c k)) _
     (kind_of_name (λ m. means_itself m.kind || list_any (bytes_eq m.name) names) (λ x. means_itself x || list_any (bytes_eq k) names) c k e f all
     (λ m h g. subst (λ n. means_itself m.kind || list_any (bytes_eq n) names ≡ true) (sym (text_exact k m.name g)) h) refl refl)
     plain) in
-    subst (Has names) (sym (text_exact k r.0 r.2)) r.1
+    subst (λ z. In z names) (sym (text_exact k r.0 r.2)) r.1
 
 pub apart_cases : (c : Class) (k : List ℕ) → is_apart c k ≡ true → (is_in_envelope c k ≡ true) ⊎ (means_itself (kind_of_member c k) ≡ false)
 apart_cases c k e = at (is_in_envelope c k) (means_itself (kind_of_member c k)) e
@@ -65,7 +65,7 @@ leaves f c e =
     let g : family_of_class c ≡ Some f = ap family_of_role e in
     subst (λ o. leaves_out (left_of o) c ≡ true) g (class_leaves c (ap is_some g))
 
-pub left_out : (names : List (List ℕ)) (c : Class) (k : List ℕ) → leaves_out names c ≡ true → bytes_eq k (codes "@type") ≡ false → bytes_eq k (codes "@id") ≡ false → is_apart c k ≡ true → Has names k
+pub left_out : (names : List (List ℕ)) (c : Class) (k : List ℕ) → leaves_out names c ≡ true → bytes_eq k (codes "@type") ≡ false → bytes_eq k (codes "@id") ≡ false → is_apart c k ≡ true → In k names
 left_out names c k h e f g =
     let both = and_parts (not (is_report_class c)) (are_apart names c) h in
     ⊎_elim (λ i. let x : false ≡ true = sym (no_envelope c k (not-true (is_report_class c) both.0)) ∙ i in cc) (λ i. apart_named names c k e f both.1 i) (apart_cases c k g)

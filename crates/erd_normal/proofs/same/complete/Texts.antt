@@ -1,6 +1,6 @@
 -- The two functions of texts: an `@id` of the one report goes to that of the object with the same key, or of the selection with the
 -- same name of the contest with the same key.
-use Rattle.erd_normal.proofs.Common.{◌≡◌, ℕ, true, List, [], ◌∷◌, map, Some, None, codes, Option, find, flat_map, option_and_then, sym, refl, ap, ◌∙◌, subst, list_any, option_map_or, Data, families, Family, family, role, and_then-Some, here, later, Has, Asked, asked, Object, no_identity_fault, find-Some, find-any, Has-Contains, has_identifier, values-placed_entries, stands, flat-has, one_object, one_keyed, one_named, has_id-Some, owner_is, owned_by, any-has, has-any, IsAccepted, has_keys, Preference, key_of, is_selection_in, Placed, contests, selections_of_contest, objects, id_of, has_id, owner, name_of, name_named, Sides, StandsFor, Bool, ◌&&◌, is_some, unwrap_or, ap₂, and_parts, has_id-from, map_has}
+use Rattle.erd_normal.proofs.Common.{◌≡◌, ℕ, true, List, [], ◌∷◌, map, Some, None, codes, Option, find, flat_map, option_and_then, sym, refl, ap, ◌∙◌, subst, list_any, option_map_or, Data, families, Family, family, role, and_then-Some, Asked, asked, Object, no_identity_fault, find-Some, find-any, has_identifier, values-placed_entries, stands, one_object, one_keyed, one_named, has_id-Some, owner_is, owned_by, IsAccepted, has_keys, Preference, key_of, is_selection_in, Placed, contests, selections_of_contest, objects, id_of, has_id, owner, name_of, name_named, Sides, StandsFor, Bool, ◌&&◌, is_some, unwrap_or, ap₂, and_parts, has_id-from, In, In-any, In-flat_map, In-from_contains, In-map_from, any_at, inl, inr}
 use Rattle.erd_normal.proofs.canonical.ContestSelections.{one_contest}
 use Rattle.erd_normal.proofs.lists.Lists.{is_family}
 use Rattle.erd_normal.proofs.lists.Matched.{Matched, matched_flat, Paired, none, more}
@@ -11,8 +11,8 @@ use Rattle.erd_normal.proofs.same.complete.Sets.{MeanOne, TextsTied}
 -- an object of each report, of one family, with one key; or two selections with one name, of contests with one key
 pub data Counterpart (π : Preference) (t u : Data) (f : Family) (o p : Placed) : Type 0 where
   by_key : has_keys f ≡ true → key_of π o.value ≡ key_of π p.value → Counterpart π t u f o p
-  by_name : f ≡ family.Selection → (c d : Placed) → Has (objects family.Contest t) c → Has (objects family.Contest u) d → key_of π c.value ≡ key_of π d.value
-      → Has (selections_of_contest c) o → Has (selections_of_contest d) p → name_of π t o.value ≡ name_of π u p.value → Counterpart π t u f o p
+  by_name : f ≡ family.Selection → (c d : Placed) → In c (objects family.Contest t) → In d (objects family.Contest u) → key_of π c.value ≡ key_of π d.value
+      → In o (selections_of_contest c) → In p (selections_of_contest d) → name_of π t o.value ≡ name_of π u p.value → Counterpart π t u f o p
 
 pub counterpart_back : (π : Preference) (t u : Data) (f : Family) (o p : Placed) → Counterpart π t u f o p → Counterpart π u t f p o
 counterpart_back π t u f o p (by_key keyed same) = by_key keyed (sym same)
@@ -22,7 +22,7 @@ pub no_keys : (f : Family) → has_keys f ≡ true → f ≡ family.Selection �
 no_keys f keyed is = let h : has_keys family.Selection ≡ true = ap has_keys (sym is) ∙ keyed in cc
 
 -- an object has one counterpart
-pub one_counterpart : (π : Preference) (t u : Data) → IsAccepted π t → IsAccepted π u → (f : Family) (o p q : Placed) → Has (objects f u) p → Has (objects f u) q → Counterpart π t u f o p → Counterpart π t u f o q → p ≡ q
+pub one_counterpart : (π : Preference) (t u : Data) → IsAccepted π t → IsAccepted π u → (f : Family) (o p q : Placed) → In p (objects f u) → In q (objects f u) → Counterpart π t u f o p → Counterpart π t u f o q → p ≡ q
 one_counterpart π t u accepted accepted' f o p q h k (by_key keyed a) (by_key keyed' b) =
     let i = has_identifier π u (no_identity_fault π u accepted') f p keyed h in one_keyed π u accepted' f p q i.0 keyed h k i.1 (sym b ∙ a ∙ i.1)
 one_counterpart π t u accepted accepted' f o p q h k (by_key keyed a) (by_name is c d i j keys l n names) = absurd (no_keys f keyed is)
@@ -32,10 +32,10 @@ one_counterpart π t u accepted accepted' f o p q h k (by_name is c d i j keys l
     let key = has_identifier π u (no_identity_fault π u accepted') family.Contest d refl j in
     let other : d ≡ d' = one_keyed π u accepted' family.Contest d d' key.0 refl j j' key.1 (sym keys' ∙ ap (λ (x : Placed). key_of π x.value) (sym contest) ∙ keys ∙ key.1) in
     let name = selection_name π u accepted' d p j n in
-    one_named π u accepted' d p q name.0 j n (subst (λ x. Has (selections_of_contest x) q) (sym other) n') name.1 (sym names' ∙ names ∙ name.1)
+    one_named π u accepted' d p q name.0 j n (subst (λ x. In q (selections_of_contest x)) (sym other) n') name.1 (sym names' ∙ names ∙ name.1)
 
 -- an object is of one family
-pub one_family : (π : Preference) (t : Data) → IsAccepted π t → (f g : Family) (o : Placed) → Has (objects f t) o → Has (objects g t) o → f ≡ g
+pub one_family : (π : Preference) (t : Data) → IsAccepted π t → (f g : Family) (o : Placed) → In o (objects f t) → In o (objects g t) → f ≡ g
 one_family π t accepted f g o h k =
     let both : Some (asked (Object (role.OfFamily f)) o.value) ≡ Some (asked (Object (role.OfFamily g)) o.value) = sym (stands π t accepted f o h) ∙ stands π t accepted g o k in
     let one : asked (Object (role.OfFamily f)) o.value ≡ asked (Object (role.OfFamily g)) o.value = cc in
@@ -43,13 +43,13 @@ one_family π t accepted f g o h k =
     cc
 
 -- the selection of a contest that a reference names
-pub selection_named : (π : Preference) (v : Data) → IsAccepted π v → (c : Placed) (r : List ℕ) → Has (objects family.Contest v) c → is_selection_in c.value r ≡ true
-    → (x : Placed) × Has (selections_of_contest c) x × (id_of x.value ≡ Some r) × (name_named π v r ≡ name_of π v x.value)
+pub selection_named : (π : Preference) (v : Data) → IsAccepted π v → (c : Placed) (r : List ℕ) → In c (objects family.Contest v) → is_selection_in c.value r ≡ true
+    → (x : Placed) × In x (selections_of_contest c) × (id_of x.value ≡ Some r) × (name_named π v r ≡ name_of π v x.value)
 selection_named π v accepted c r h e =
-    let d = has-any (has_id r) (map (λ (o : Placed). o.value) (selections_of_contest c)) (ap (list_any (has_id r)) (values-placed_entries (codes "ContestSelection") c) ∙ e) in
-    let x = map_has (λ (o : Placed). o.value) (selections_of_contest c) d.0 d.1 in
+    let d = In-any (has_id r) (map (λ (o : Placed). o.value) (selections_of_contest c)) (ap (list_any (has_id r)) (values-placed_entries (codes "ContestSelection") c) ∙ e) in
+    let x = In-map_from (λ (o : Placed). o.value) (selections_of_contest c) d.0 d.1 in
     let id : id_of x.0.value ≡ Some r = ap id_of x.2 ∙ has_id-Some r d.0 d.2 in
-    (x.0, x.1, id, ap (option_and_then (name_of π v)) (owner_is π v accepted family.Selection x.0 r (flat-has selections_of_contest (contests v) c x.0 h x.1) id))
+    (x.0, x.1, id, ap (option_and_then (name_of π v)) (owner_is π v accepted family.Selection x.0 r (In-flat_map selections_of_contest x.0 c (contests v) h x.1) id))
 
 pub some_again : (o : Option (List ℕ)) → is_some o ≡ true → o ≡ Some (unwrap_or o [])
 some_again None h = cc
@@ -60,8 +60,8 @@ pub record Couple (π : Preference) (t u : Data) : Type 0 where
   pub family : Family
   pub one : Placed
   pub other : Placed
-  pub one_stands : Has (objects family t) one
-  pub other_stands : Has (objects family u) other
+  pub one_stands : In one (objects family t)
+  pub other_stands : In other (objects family u)
   pub related : Counterpart π t u family one other
   pub text : List ℕ
   pub other_text : List ℕ
@@ -72,8 +72,8 @@ pub record Couple (π : Preference) (t u : Data) : Type 0 where
 couples_agree : (π : Preference) (t u : Data) → IsAccepted π t → IsAccepted π u → (c d : Couple π t u) → c.text ≡ d.text → c.other_text ≡ d.other_text
 couples_agree π t u accepted accepted' c d e =
     let one : c.one ≡ d.one = one_object π t accepted c.family d.family c.one d.one c.text c.one_stands d.one_stands c.is (d.is ∙ ap Some (sym e)) in
-    let family : d.family ≡ c.family = one_family π t accepted d.family c.family d.one d.one_stands (subst (Has (objects c.family t)) one c.one_stands) in
-    let other : c.other ≡ d.other = one_counterpart π t u accepted accepted' c.family c.one c.other d.other c.other_stands (subst (λ f. Has (objects f u) d.other) family d.other_stands) c.related
+    let family : d.family ≡ c.family = one_family π t accepted d.family c.family d.one d.one_stands (subst (λ z. In z (objects c.family t)) one c.one_stands) in
+    let other : c.other ≡ d.other = one_counterpart π t u accepted accepted' c.family c.one c.other d.other c.other_stands (subst (λ f. In d.other (objects f u)) family d.other_stands) c.related
     (subst (λ o. Counterpart π t u c.family o d.other) (sym one) (subst (λ f. Counterpart π t u f d.one d.other) family d.related)) in
     let texts : Some c.other_text ≡ Some d.other_text = sym c.other_is ∙ ap (λ (x : Placed). id_of x.value) other ∙ d.other_is in
     cc
@@ -96,16 +96,16 @@ module _ (π : Preference) (t u : Data) (both : MeanOne π t u) where
   -- ---- all couples
 
   pub record Fellows (f : Family) (o p : Placed) : Type 0 where
-    pub one_stands : Has (objects f t) o
-    pub other_stands : Has (objects f u) p
+    pub one_stands : In o (objects f t)
+    pub other_stands : In p (objects f u)
     pub related : Counterpart π t u f o p
 
   keyed_fellows : (f : Family) → has_keys f ≡ true → Matched (Fellows f) (objects f t) (objects f u)
   keyed_fellows f keyed = matched_within_both (Fellows f) (λ x y i j r. record { one_stands = i; other_stands = j; related = by_key keyed r.key }) (family_matched π t u both f keyed)
 
   record Contests (c d : Placed) : Type 0 where
-    one_stands : Has (objects family.Contest t) c
-    other_stands : Has (objects family.Contest u) d
+    one_stands : In c (objects family.Contest t)
+    other_stands : In d (objects family.Contest u)
     alike : ObjectsAlike π t u family.Contest c d
 
   chosen_fellows : Matched (Fellows family.Selection) (objects family.Selection t) (objects family.Selection u)
@@ -113,8 +113,8 @@ module _ (π : Preference) (t u : Data) (both : MeanOne π t u) where
       matched_flat selections_of_contest selections_of_contest
       (λ c d i r. matched_within_both (Fellows family.Selection)
       (λ x y j k s. record {
-        one_stands = flat-has selections_of_contest (contests t) c x r.one_stands j;
-        other_stands = flat-has selections_of_contest (contests u) d y r.other_stands k;
+        one_stands = In-flat_map selections_of_contest x c (contests t) r.one_stands j;
+        other_stands = In-flat_map selections_of_contest y d (contests u) r.other_stands k;
         related = by_name refl c d r.one_stands r.other_stands r.alike.key j k s.name;
       })
       (selections_matched π t u both c d r.one_stands r.other_stands r.alike))
@@ -137,18 +137,18 @@ module _ (π : Preference) (t u : Data) (both : MeanOne π t u) where
   pairs : List Pair
   pairs = flat_map (λ f. pairs_in f (fellows f).paired) families
 
-  pair_in : (f : Family) {xs ys : List Placed} (h : Paired (Fellows f) xs ys) (o : Placed) → Has xs o → (p : Pair) × Has (pairs_in f h) p × (p.one ≡ o) × (p.family ≡ f)
+  pair_in : (f : Family) {xs ys : List Placed} (h : Paired (Fellows f) xs ys) (o : Placed) → In o xs → (p : Pair) × In p (pairs_in f h) × (p.one ≡ o) × (p.family ≡ f)
   unfolding pairs_in
   pair_in f none o h = elim h [ ]
-  pair_in f (more r rest) o here = (_, here, refl, refl)
-  pair_in f (more r rest) o (later h) = let p = pair_in f rest o h in (p.0, later p.1, p.2, p.3)
+  pair_in f (more r rest) o (inl e) = (_, inl refl, e, refl)
+  pair_in f (more r rest) o (inr h) = let p = pair_in f rest o h in (p.0, inr p.1, p.2, p.3)
 
   -- the pair of an object
-  pair_of : (f : Family) (o : Placed) → Has (objects f t) o → (p : Pair) × Has pairs p × (p.one ≡ o) × (p.family ≡ f)
+  pair_of : (f : Family) (o : Placed) → In o (objects f t) → (p : Pair) × In p pairs × (p.one ≡ o) × (p.family ≡ f)
   unfolding pairs
   pair_of f o h =
       let p = pair_in f (fellows f).paired o h in
-      (p.0, flat-has (λ f. pairs_in f (fellows f).paired) families f p.0 (Has-Contains families f (is_family f)) p.1, p.2, p.3)
+      (p.0, In-flat_map (λ f. pairs_in f (fellows f).paired) p.0 f families (In-from_contains f families (is_family f)) p.1, p.2, p.3)
 
   -- the couple that a pair with these `@id`s is
   abbrev couple : (p : Pair) (a b : List ℕ) → id_of p.one.value ≡ Some a → id_of p.other.value ≡ Some b → Couple π t u
@@ -185,9 +185,9 @@ module _ (π : Preference) (t u : Data) (both : MeanOne π t u) where
     sides l r = record { left = l; right = r; there = there; back = back }
 
     looked_up : (key other : Pair → Placed) → ((p q : Pair) (s a b : List ℕ) → id_of (key p).value ≡ Some s → id_of (key q).value ≡ Some s → id_of (other p).value ≡ Some a → id_of (other q).value ≡ Some b → a ≡ b)
-        → (p : Pair) → Has pairs p → (s a : List ℕ) → id_of (key p).value ≡ Some s → id_of (other p).value ≡ Some a → a ≡ lookup key other s
+        → (p : Pair) → In p pairs → (s a : List ℕ) → id_of (key p).value ≡ Some s → id_of (other p).value ≡ Some a → a ≡ lookup key other s
     looked_up key other agree p h s a is is' =
-        let x = find-any (passes key other s) pairs (any-has (passes key other s) pairs p h (ap₂ ◌&&◌ (has_id-from s (key p).value is) (ap is_some is'))) in
+        let x = find-any (passes key other s) pairs (any_at (passes key other s) p pairs h (ap₂ ◌&&◌ (has_id-from s (key p).value is) (ap is_some is'))) in
         let both = and_parts (has_id s (key x.0).value) (is_some (id_of (other x.0).value)) x.2 in
         agree p x.0 s a (unwrap_or (id_of (other x.0).value) []) is (has_id-Some s (key x.0).value both.0) is' (some_again (id_of (other x.0).value) both.1)
         ∙ sym (ap (λ o. option_map_or (λ q. unwrap_or (id_of (other q).value) []) o default) x.1)
@@ -204,11 +204,11 @@ module _ (π : Preference) (t u : Data) (both : MeanOne π t u) where
             (p, has_id-Some s (key p).value x.0, some_again (id_of (other p).value) x.1 ∙ ap Some (sym g))
 
     -- the `@id`s of an object and its counterpart stand for one another
-    pub ids_stand : (l r : Data) (f : Family) (o p : Placed) (a b : List ℕ) → Has (objects f t) o → Has (objects f u) p → Counterpart π t u f o p → id_of o.value ≡ Some a → id_of p.value ≡ Some b → StandsFor (sides l r) a b
+    pub ids_stand : (l r : Data) (f : Family) (o p : Placed) (a b : List ℕ) → In o (objects f t) → In p (objects f u) → Counterpart π t u f o p → id_of o.value ≡ Some a → id_of p.value ≡ Some b → StandsFor (sides l r) a b
     unfolding there back
     ids_stand l r f o p a b h k related is is' =
         let x = pair_of f o h in
-        let same : x.0.other ≡ p = one_counterpart π t u both.left both.right f o x.0.other p (subst (λ g. Has (objects g u) x.0.other) x.3 x.0.fellows.other_stands) k
+        let same : x.0.other ≡ p = one_counterpart π t u both.left both.right f o x.0.other p (subst (λ g. In x.0.other (objects g u)) x.3 x.0.fellows.other_stands) k
         (subst (λ g. Counterpart π t u g o x.0.other) x.3 (subst (λ z. Counterpart π t u x.0.family z x.0.other) x.2 x.0.fellows.related)) related in
         let left : id_of x.0.one.value ≡ Some a = ap (λ (z : Placed). id_of z.value) x.2 ∙ is in
         let right : id_of x.0.other.value ≡ Some b = ap (λ (z : Placed). id_of z.value) same ∙ is' in (
@@ -242,6 +242,6 @@ module _ (π : Preference) (t u : Data) (both : MeanOne π t u) where
           let p = owned_by u family.Contest d y g in
           let s = selection_named π t both.left o.0 a o.1 (ap (λ z. is_selection_in z a) o.2 ∙ h) in
           let s' = selection_named π u both.right p.0 b p.1 (ap (λ z. is_selection_in z b) p.2 ∙ l') in
-          ids_stand l r family.Selection s.0 s'.0 a b (flat-has selections_of_contest (contests t) o.0 s.0 o.1 s.1) (flat-has selections_of_contest (contests u) p.0 s'.0 p.1 s'.1)
+          ids_stand l r family.Selection s.0 s'.0 a b (In-flat_map selections_of_contest s.0 o.0 (contests t) o.1 s.1) (In-flat_map selections_of_contest s'.0 p.0 (contests u) p.1 s'.1)
           (by_name refl o.0 p.0 o.1 p.1 (ap (key_of π) o.2 ∙ i ∙ sym j ∙ sym (ap (key_of π) p.2)) s.1 s'.1 (sym s.3 ∙ names ∙ s'.3)) s.2 s'.2;
     }

@@ -1,5 +1,5 @@
 -- The order of a ballot means the same in two reports that say the same, headers inside headers included.
-use Rattle.erd_normal.proofs.Common.{◌≡◌, ℕ, Bool, true, false, cond, ◌⊎◌, List, [], map, Some, None, codes, Option, option_and_then, bytes_eq, nat_cmp, is_eq, Ordering, Equal, unwrap_or, sym, refl, ap, ◌∙◌, subst, ap₂, inl, inr, is_eq-slice_cmp, slice_cmp, list_any, option_map_or, match_ordering, Data, array, object, Items, Members, member, get_member, get, as_str, kind_of_member, required_names, Class, class, Family, family, MemberKind, kind, text_exact, get_member-before, here, later, Has, of_role, wanted_within, lacks_none, text_from_equal, want_by_kind, is_object, names_wanted, AreMembers, list_of_items, entries_of, entries_at, text_at, scope_inside, member_want, want_of_name, entry_want, is_table_set, Scope, scope, Want, Carried, Member, Object, Reference, no_shape_fault, kind_of_type, Preference, Content, no_content, first_node, a_contest, a_header, if_carried, carried_members, class_of_node, is_header_class, contest_node, header_node, content_of, nodes_of, node_of, content_inside, is_in_envelope, key_named, name_named, Sides, a_list, a_set, an_object, no_entry, one_entry, no_member, in_both, left_only, right_only, MayBeAbsent, Same, SameEntries, SameMembers, fun_ext, not_asked}
+use Rattle.erd_normal.proofs.Common.{◌≡◌, ℕ, Bool, true, false, cond, ◌⊎◌, List, [], map, Some, None, codes, Option, option_and_then, bytes_eq, nat_cmp, is_eq, Ordering, Equal, unwrap_or, sym, refl, ap, ◌∙◌, subst, ap₂, inl, inr, is_eq-slice_cmp, slice_cmp, list_any, option_map_or, match_ordering, Data, array, object, Items, Members, member, get_member, get, as_str, kind_of_member, required_names, Class, class, Family, family, MemberKind, kind, text_exact, get_member-before, of_role, wanted_within, lacks_none, text_from_equal, want_by_kind, is_object, names_wanted, AreMembers, list_of_items, entries_of, entries_at, text_at, scope_inside, member_want, want_of_name, entry_want, is_table_set, Scope, scope, Want, Carried, Member, Object, Reference, no_shape_fault, kind_of_type, Preference, Content, no_content, first_node, a_contest, a_header, if_carried, carried_members, class_of_node, is_header_class, contest_node, header_node, content_of, nodes_of, node_of, content_inside, is_in_envelope, key_named, name_named, Sides, a_list, a_set, an_object, no_entry, one_entry, no_member, in_both, left_only, right_only, MayBeAbsent, Same, SameEntries, SameMembers, fun_ext, not_asked, In}
 use Rattle.erd_normal.proofs.canonical.ChosenEntries.{list_name}
 use Rattle.erd_normal.proofs.same.complete.ContentNodes.{content_at, content_class, content_inside-get, inner_name}
 use Rattle.erd_normal.proofs.same.FromAlike.{Stands, entry_stands, stands_tree}
@@ -164,11 +164,11 @@ module _ (m : Sides) (π : Preference) (g : TwoReports m π) where
     content_same required asks not_asked l r = cc
     content_same required asks h l r = refl
 
-    nodes_same : {o : Option Want} {ds es : Items} → o ≡ Some (Object role.Content) → SameEntries m o ds es → ((x : Data) → Has (list_of_items ds) x → Stands m.left (Object role.Content) x)
-        → ((x : Data) → Has (list_of_items es) x → Stands m.right (Object role.Content) x) → nodes_of π m.left ds ≡ nodes_of π m.right es
+    nodes_same : {o : Option Want} {ds es : Items} → o ≡ Some (Object role.Content) → SameEntries m o ds es → ((x : Data) → In x (list_of_items ds) → Stands m.left (Object role.Content) x)
+        → ((x : Data) → In x (list_of_items es) → Stands m.right (Object role.Content) x) → nodes_of π m.left ds ≡ nodes_of π m.right es
     nodes_same asks no_entry l r = refl
     nodes_same asks (one_entry {d = d} {e = e} h rest) l r =
-        ap₂ first_node (node_same asks h (l d here) (r e here)) (nodes_same asks rest (λ x i. l x (later i)) (λ x i. r x (later i)))
+        ap₂ first_node (node_same asks h (l d (inl refl)) (r e (inl refl))) (nodes_same asks rest (λ x i. l x (inr i)) (λ x i. r x (inr i)))
 
     node_same : {o : Option Want} {d e : Data} → o ≡ Some (Object role.Content) → Same m o d e → Stands m.left (Object role.Content) d → Stands m.right (Object role.Content) e → node_of π m.left d ≡ node_of π m.right e
     node_same asks (an_object {w = w} {ms = ms} {ns = ns} h) l r =

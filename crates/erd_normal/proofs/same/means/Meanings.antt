@@ -1,5 +1,5 @@
 -- A report that says the same as an accepted one means the same.
-use Rattle.erd_normal.proofs.Common.{◌≡◌, ℕ, Bool, true, false, List, Some, None, codes, Option, find, option_and_then, is_eq, sym, refl, ap, ◌∙◌, subst, option_cmp, eq_by_cmp, Data, get, role_of_class, kind_of_member, Class, class, Family, family, Role, role, kind, entries_in, report_class, election_class, map_has, Has, Within-root, ShapeFault, NoneOf, IsTree, entries_of, entries_at, Object, no_shape_fault, is_selections, selections_kind, selections_name, selections_family, IsAccepted, has_keys, Preference, a_selection_map, NameParts, objects, meaning, unless_empty, is_in_envelope, plain_member, selection_record, selection_map, member_value, member_of_class, object_record, name_cmp, Sides, SaysTheSame, by_name, fun_ext, ap₂, tied_itself, on_total, options_total, IsDistinct, reason, Step, Has-Contains, values-placed_entries, distinct_one, SelectionFault, RepeatsName, contests, selections_of_contest, name_of, name_cmp_total}
+use Rattle.erd_normal.proofs.Common.{◌≡◌, ℕ, Bool, true, false, List, Some, None, codes, Option, find, option_and_then, is_eq, sym, refl, ap, ◌∙◌, subst, option_cmp, eq_by_cmp, Data, get, role_of_class, kind_of_member, Class, class, Family, family, Role, role, kind, entries_in, report_class, election_class, Within-root, ShapeFault, NoneOf, IsTree, entries_of, entries_at, Object, no_shape_fault, is_selections, selections_kind, selections_name, selections_family, IsAccepted, has_keys, Preference, a_selection_map, NameParts, objects, meaning, unless_empty, is_in_envelope, plain_member, selection_record, selection_map, member_value, member_of_class, object_record, name_cmp, Sides, SaysTheSame, by_name, fun_ext, ap₂, tied_itself, on_total, options_total, IsDistinct, reason, Step, values-placed_entries, distinct_one, SelectionFault, RepeatsName, contests, selections_of_contest, name_of, name_cmp_total, In, In-from_contains, In-map_from}
 use Rattle.erd_meaning.proofs.meanings.HeldValues.{Held, held_of, held_values}
 use Rattle.erd_normal.specs.MeansTheSame.{SayingTheSameMeansTheSame}
 use Rattle.erd_normal.proofs.lists.Matched.{AtMostOne, Matched, apart_distinct, matched_find, matched_within, one_if_apart, said_same, distinct_matched, even_order, matched_back}
@@ -16,7 +16,7 @@ use Rattle.erd_normal.proofs.canonical.RisingReports.{selection_values_distinct}
 module _ (m : Sides) (π : Preference) (g : TwoReports m π) where
   -- an object of the family, and one that is related to it
   pub record Kin (f : Family) (d e : Data) : Type 0 where
-    pub stands : Has (family_values f m.left) d
+    pub stands : In d (family_values f m.left)
     pub related : Related m (Object (role.OfFamily f)) d e
 
   kin_matched : (f : Family) → Matched (Kin f) (family_values f m.left) (family_values f m.right)
@@ -45,12 +45,12 @@ module _ (m : Sides) (π : Preference) (g : TwoReports m π) where
 
   no_twin_name : (p : List Step) → RepeatsName π m.right p → ⊥
   no_twin_name p r =
-      let b = matched_back r.contest.value (kin_matched family.Contest) (placed_value family.Contest m.right r.contest (Has-Contains (contests m.right) r.contest r.contest_stands)) in
+      let b = matched_back r.contest.value (kin_matched family.Contest) (placed_value family.Contest m.right r.contest (In-from_contains r.contest (contests m.right) r.contest_stands)) in
       let os = selections_of_contest r.contest in
       let one : r.earlier ≡ r.later =
       distinct_one (λ o. o.value) (eq_by_cmp (by_name π m.right)) os
       (subst (IsDistinct (eq_by_cmp (by_name π m.right))) (sym (values-placed_entries (codes "ContestSelection") r.contest)) (names_distinct b.0 r.contest.value b.2)) r.earlier r.later
-      (Has-Contains os r.earlier r.earlier_stands) (Has-Contains os r.later r.later_stands)
+      (In-from_contains r.earlier os r.earlier_stands) (In-from_contains r.later os r.later_stands)
       (same_name r.name r.earlier.value r.later.value r.earlier_name r.later_name) (same_name r.name r.later.value r.earlier.value r.later_name r.earlier_name) in
       not_before_itself r.earlier r.later one r.before
 
@@ -135,10 +135,10 @@ module _ (m : Sides) (π : Preference) (g : TwoReports m π) where
   abbrev Means : Family → Held → Held → Type 0
   Means f = HeldAlike (MeanOne π m.left m.right (role.OfFamily f))
 
-  held_alike : (f : Family) (a b : Held) → Has (held_values π f m.left) a → HeldAlike (Related m (Object (role.OfFamily f))) a b → Means f a b
+  held_alike : (f : Family) (a b : Held) → In a (held_values π f m.left) → HeldAlike (Related m (Object (role.OfFamily f))) a b → Means f a b
   held_alike f a b h same =
-      let o = map_has (held_of π m.left) (objects f m.left) a h in
-      let k : Kin m π g f a.1 b.1 = record { stands = subst (Has (family_values f m.left)) (ap (λ (x : Held). x.1) o.2) (placed_value f m.left o.0 o.1); related = same.1 } in
+      let o = In-map_from (held_of π m.left) (objects f m.left) a h in
+      let k : Kin m π g f a.1 b.1 = record { stands = subst (λ z. In z (family_values f m.left)) (ap (λ (x : Held). x.1) o.2) (placed_value f m.left o.0 o.1); related = same.1 } in
       (same.0, record { keys = related_key m g.left_tree g.right_tree clean π f a.1 b.1 same.1; records = object_alike f a.1 b.1 k })
 
   -- related objects stand in related elections

@@ -1,5 +1,5 @@
 -- References and labels of two reports that say the same mean the same.
-use Rattle.erd_normal.proofs.Common.{◌≡◌, ℕ, List, [], ◌∷◌, map, Some, Option, option_and_then, unwrap_or, refl, ap, ◌∙◌, subst, ap₂, Data, string, Items, as_str, Family, here, later, Has, wanted_within, list_of_items, Want, Reference, no_shape_fault, key_cmp, Preference, key_set, rising_list, key_named, keys_named, IsUsed, Sides, StandsFor, an_id, no_entry, one_entry, Same, SameEntries, string_from_text, sym, a_text, a_set, Bool, true, false, cond, ◌||◌, None, codes, bytes_eq, array, object, Members, get, compact_text, kind_of_member, is_required, class, role, kind, of_label, unrepeated, classed, Classed, entries_at, class_of_object, scope_inside, Member, Object, translated, label_of, with_rising_text, a_list, an_object, SameMembers, fun_ext, IsPermutation}
+use Rattle.erd_normal.proofs.Common.{◌≡◌, ℕ, List, [], ◌∷◌, map, Some, Option, option_and_then, unwrap_or, refl, ap, ◌∙◌, subst, ap₂, Data, string, Items, as_str, Family, wanted_within, list_of_items, Want, Reference, no_shape_fault, key_cmp, Preference, key_set, rising_list, key_named, keys_named, IsUsed, Sides, StandsFor, an_id, no_entry, one_entry, Same, SameEntries, string_from_text, sym, a_text, a_set, Bool, true, false, cond, ◌||◌, None, codes, bytes_eq, array, object, Members, get, compact_text, kind_of_member, is_required, class, role, kind, of_label, unrepeated, classed, Classed, entries_at, class_of_object, scope_inside, Member, Object, translated, label_of, with_rising_text, a_list, an_object, SameMembers, fun_ext, IsPermutation, In, inl, inr}
 use Rattle.erd_normal.proofs.lists.Matched.{Matched, paired_kept, matched_equal}
 use Rattle.erd_normal.proofs.lists.NumbersInOrder.{rising_keys_named-reordered}
 use Rattle.erd_normal.proofs.meaning.AlikeRecords.{keys_named-reordered, json_set-reordered}
@@ -29,13 +29,13 @@ module _ (m : Sides) (f : Family) {A : Type 0} (left right : List ℕ → Option
   said_alike d e r = texts_alike r.same r.left r.right
 
   -- and of those in a list, one by one
-  pub said_in_turn : {o : Option Want} {ds es : Items} → o ≡ Some (Reference f) → SameEntries m o ds es → ((x : Data) → Has (list_of_items ds) x → Stands m.left (Reference f) x)
-      → ((x : Data) → Has (list_of_items es) x → Stands m.right (Reference f) x)
+  pub said_in_turn : {o : Option Want} {ds es : Items} → o ≡ Some (Reference f) → SameEntries m o ds es → ((x : Data) → In x (list_of_items ds) → Stands m.left (Reference f) x)
+      → ((x : Data) → In x (list_of_items es) → Stands m.right (Reference f) x)
       → map (λ r. option_and_then left (as_str r)) (list_of_items ds) ≡ map (λ r. option_and_then right (as_str r)) (list_of_items es)
   said_in_turn asks no_entry l r = refl
   said_in_turn asks (one_entry {d = d} {e = e} h rest) l r =
-      ap₂ ◌∷◌ (said_alike d e (record { left = l d here; right = r e here; same = subst (λ o. Same m o d e) asks h }))
-      (said_in_turn asks rest (λ x i. l x (later i)) (λ x i. r x (later i)))
+      ap₂ ◌∷◌ (said_alike d e (record { left = l d (inl refl); right = r e (inl refl); same = subst (λ o. Same m o d e) asks h }))
+      (said_in_turn asks rest (λ x i. l x (inr i)) (λ x i. r x (inr i)))
 
 module _ (m : Sides) (π : Preference) (g : TwoReports m π) where
   named_alike : (f : Family) (s s' : List ℕ) → StandsFor m s s' → IsUsed m.left s → IsUsed m.right s' → key_named π m.left f s ≡ key_named π m.right f s'

@@ -1,6 +1,6 @@
 -- The canonical `@id` of each object of a report. It tells objects apart, and two functions lead from the `@id` texts of the report
 -- to the canonical ones and back.
-use Rattle.erd_normal.proofs.Common.{◌≡◌, ℕ, ◌+◌, ◌^◌, ◌<◌, true, List, [], ◌∷◌, ◌++◌, map, length, is_some, Some, None, decimal, Option, option_map, find, flat_map, bytes_eq, is_eq, Equal, unwrap_or, sym, refl, ap, ◌∙◌, subst, ⊎_elim, arith, tied_back, length-map, same_Some, options_total, IsDistinct, option_map_or, eq_by_cmp, Data, Family, family, text_exact, text_itself, has_mapped, map_has, here, later, all-Has, Has, values_distinct, has-append, has-flat, no_identity_fault, find-any, append-has, has-append_left, flat-has, one_object, has_id-Some, has_id-from, distinct_one, any-has, IsAccepted, has_keys, Preference, key_of, rank_of, Placed, contests, selections_of_contest, objects, id_of, has_id, IsBounded, name_of, key_cmp_total, name_cmp_total, id_prefix, canonical_id, Sides, StandsFor, id_of_key, rank_of_name, id_of_selection, by_key, by_name, normal_tree, Bool, false, ◌&&◌, codes, option_and_then, AllByRecursion, list_all, string, array, object, rows_of_class, kind_of_identity, kind_of_member, is_required, Class, class, role, MemberKind, kind, Step, array_from, wanted_within, Within, kind_of_class, want_unless_status, is_reference, IsTree, list_of_items, text_of, scope_inside, want_of_kind, is_report_class, member_want, want_of_name, entry_want, Asked, asked, asked_from, Scope, scope, Want, Carried, Member, Object, Reference, no_shape_fault, owned, unrepeated_reference, owned_by, all_rising, owner, rising_list, key_named, IsUnused, normal_id, normal_reference, reference_cmp, normal_selection_reference}
+use Rattle.erd_normal.proofs.Common.{◌≡◌, ℕ, ◌+◌, ◌^◌, ◌<◌, true, List, [], ◌∷◌, ◌++◌, map, length, is_some, Some, None, decimal, Option, option_map, find, flat_map, bytes_eq, is_eq, Equal, unwrap_or, sym, refl, ap, ◌∙◌, subst, ⊎_elim, arith, tied_back, length-map, same_Some, options_total, IsDistinct, option_map_or, eq_by_cmp, Data, Family, family, text_exact, text_itself, values_distinct, no_identity_fault, find-any, one_object, has_id-Some, has_id-from, distinct_one, IsAccepted, has_keys, Preference, key_of, rank_of, Placed, contests, selections_of_contest, objects, id_of, has_id, IsBounded, name_of, key_cmp_total, name_cmp_total, id_prefix, canonical_id, Sides, StandsFor, id_of_key, rank_of_name, id_of_selection, by_key, by_name, normal_tree, Bool, false, ◌&&◌, codes, option_and_then, AllByRecursion, list_all, string, array, object, rows_of_class, kind_of_identity, kind_of_member, is_required, Class, class, role, MemberKind, kind, Step, array_from, wanted_within, Within, kind_of_class, want_unless_status, is_reference, IsTree, list_of_items, text_of, scope_inside, want_of_kind, is_report_class, member_want, want_of_name, entry_want, Asked, asked, asked_from, Scope, scope, Want, Carried, Member, Object, Reference, no_shape_fault, owned, unrepeated_reference, owned_by, all_rising, owner, rising_list, key_named, IsUnused, normal_id, normal_reference, reference_cmp, normal_selection_reference, In, In-all, In-append, In-append_left, In-append_right, In-flat_map, In-flat_map_from, In-map, In-map_from, any_at, inl, inr}
 use Rattle.erd_normal.proofs.canonical.CanonicalIds.{canonical_id_exact, selection_id_apart, few_selections, canonical_selection_id_exact}
 use Rattle.erd_normal.proofs.canonical.ContestSelections.{one_contest}
 use Rattle.erd_normal.proofs.canonical.RisingReports.{selection_values_distinct, by_key_total, by_name_total}
@@ -21,14 +21,14 @@ use Rattle.erd_tables.specs.declared.class.Family.TheVariants as family
 
 -- the object of the family has this `@id` in the report that is built
 pub data NewId (π : Preference) (t : Data) (f : Family) (o : Placed) (id : List ℕ) : Type 0 where
-  of_family : has_keys f ≡ true → Has (objects f t) o → id_of_key π t f (key_of π o.value) ≡ Some id → NewId π t f o id
-  of_contest : (contest : Placed) → f ≡ family.Selection → Has (objects family.Contest t) contest → Has (selections_of_contest contest) o
+  of_family : has_keys f ≡ true → In o (objects f t) → id_of_key π t f (key_of π o.value) ≡ Some id → NewId π t f o id
+  of_contest : (contest : Placed) → f ≡ family.Selection → In contest (objects family.Contest t) → In o (selections_of_contest contest)
       → id ≡ id_of_selection π t contest.value o.value → NewId π t f o id
 
 module _ (π : Preference) (t : Data) (accepted : IsAccepted π t) where
-  pub stands_new : (f : Family) (o : Placed) (id : List ℕ) → NewId π t f o id → Has (objects f t) o
+  pub stands_new : (f : Family) (o : Placed) (id : List ℕ) → NewId π t f o id → In o (objects f t)
   stands_new f o id (of_family keyed h is) = h
-  stands_new f o id (of_contest contest is h k its) = subst (λ g. Has (objects g t) o) (sym is) (flat-has selections_of_contest (contests t) contest o h k)
+  stands_new f o id (of_contest contest is h k its) = subst (λ g. In o (objects g t)) (sym is) (In-flat_map selections_of_contest o contest (contests t) h k)
 
   -- an object has one canonical `@id`
   pub new_once : (f g : Family) (o : Placed) (id id' : List ℕ) → NewId π t f o id → NewId π t g o id' → id ≡ id'
@@ -43,16 +43,16 @@ module _ (π : Preference) (t : Data) (accepted : IsAccepted π t) where
 
   -- ---- it tells objects apart
 
-  one_ranked : (f : Family) → has_keys f ≡ true → (o p : Placed) → Has (objects f t) o → Has (objects f t) p → rank_of π t f (key_of π o.value) ≡ rank_of π t f (key_of π p.value) → o ≡ p
+  one_ranked : (f : Family) → has_keys f ≡ true → (o p : Placed) → In o (objects f t) → In p (objects f t) → rank_of π t f (key_of π o.value) ≡ rank_of π t f (key_of π p.value) → o ≡ p
   one_ranked f keyed o p in_o in_p same =
       let tied : by_key π o.value p.value ≡ Equal = rank_exact (λ (x : Placed). key_of π x.value) (options_total key_cmp_total) (objects f t) o p in_o in_p same in
       distinct_one (λ (x : Placed). x.value) (eq_by_cmp (by_key π)) (objects f t) (values_distinct π t (no_identity_fault π t accepted) f keyed) o p in_o in_p (ap is_eq tied)
       (ap is_eq (tied_back (by_key_total π) o.value p.value tied))
 
-  in_values : (c o : Placed) → Has (selections_of_contest c) o → Has (selection_values c) o.value
-  in_values c o h = subst (λ xs. Has xs o.value) (listed c) (has_mapped (λ (x : Placed). x.value) (selections_of_contest c) o h)
+  in_values : (c o : Placed) → In o (selections_of_contest c) → In o.value (selection_values c)
+  in_values c o h = subst (λ xs. In o.value xs) (listed c) (In-map (λ (x : Placed). x.value) o (selections_of_contest c) h)
 
-  one_named_rank : (c o p : Placed) → Has (objects family.Contest t) c → Has (selections_of_contest c) o → Has (selections_of_contest c) p
+  one_named_rank : (c o p : Placed) → In c (objects family.Contest t) → In o (selections_of_contest c) → In p (selections_of_contest c)
       → rank_of_name π t (selection_values c) (name_of π t o.value) ≡ rank_of_name π t (selection_values c) (name_of π t p.value) → o ≡ p
   one_named_rank c o p in_c of_o of_p same =
       let tied : by_name π t o.value p.value ≡ Equal =
@@ -61,13 +61,13 @@ module _ (π : Preference) (t : Data) (accepted : IsAccepted π t) where
       (ap is_eq (tied_back (by_name_total π t) o.value p.value tied))
 
   module _ (bounded : IsBounded t) where
-    low_rank : (f : Family) (o : Placed) → Has (objects f t) o → rank_of π t f (key_of π o.value) + 1 < 2 ^ 64
+    low_rank : (f : Family) (o : Placed) → In o (objects f t) → rank_of π t f (key_of π o.value) + 1 < 2 ^ 64
     low_rank f o h =
         let low : rank_of π t f (key_of π o.value) < length (objects f t) = rank_low (λ (x : Placed). key_of π x.value) (options_total key_cmp_total) (objects f t) o h in
         let few : length (objects f t) < 2 ^ 64 = bounded.few f in
         omega (arith, low, few)
 
-    low_name : (c o : Placed) → Has (objects family.Contest t) c → Has (selections_of_contest c) o → rank_of_name π t (selection_values c) (name_of π t o.value) + 1 < 2 ^ 64
+    low_name : (c o : Placed) → In c (objects family.Contest t) → In o (selections_of_contest c) → rank_of_name π t (selection_values c) (name_of π t o.value) + 1 < 2 ^ 64
     low_name c o in_c of_c =
         let low : rank_of_name π t (selection_values c) (name_of π t o.value) < length (selection_values c) = rank_low (name_of π t) (options_total name_cmp_total) (selection_values c) o.value (in_values c o of_c) in
         let few : length (selections_of_contest c) < 2 ^ 64 = few_selections t bounded c in_c in
@@ -77,13 +77,13 @@ module _ (π : Preference) (t : Data) (accepted : IsAccepted π t) where
     pub new_exact : (f g : Family) (o p : Placed) (id : List ℕ) → NewId π t f o id → NewId π t g p id → o ≡ p
     new_exact f g o p id (of_family keyed h is) (of_family keyed' k its) =
         let n = canonical_id_exact f g _ _ id (low_rank f o h) (low_rank g p k) is its in
-        one_ranked f keyed o p h (subst (λ x. Has (objects x t) p) (sym n.0) k) (n.1 ∙ ap (λ x. rank_of π t x (key_of π p.value)) (sym n.0))
+        one_ranked f keyed o p h (subst (λ x. In p (objects x t)) (sym n.0) k) (n.1 ∙ ap (λ x. rank_of π t x (key_of π p.value)) (sym n.0))
     new_exact f g o p id (of_family keyed h is) (of_contest c sel in_c of_c its) = absurd (selection_id_apart f _ _ _ (is ∙ ap Some its))
     new_exact f g o p id (of_contest c sel in_c of_c its) (of_family keyed h is) = absurd (selection_id_apart g _ _ _ (is ∙ ap Some its))
     new_exact f g o p id (of_contest c sel in_c of_c its) (of_contest d sel' in_d of_d its') =
         let n = canonical_selection_id_exact _ _ _ _ (low_rank family.Contest c in_c) (low_name c o in_c of_c) (low_rank family.Contest d in_d) (low_name d p in_d of_d) (sym its ∙ its') in
         let one : c ≡ d = one_ranked family.Contest refl c d in_c in_d n.0 in
-        one_named_rank c o p in_c of_c (subst (λ x. Has (selections_of_contest x) p) (sym one) of_d) (n.1 ∙ ap (λ x. rank_of_name π t (selection_values x) (name_of π t p.value)) (sym one))
+        one_named_rank c o p in_c of_c (subst (λ x. In p (selections_of_contest x)) (sym one) of_d) (n.1 ∙ ap (λ x. rank_of_name π t (selection_values x) (name_of π t p.value)) (sym one))
 
 -- ---- the objects with their canonical `@id`s
 
@@ -96,14 +96,14 @@ prefixed_keys f h = refl
 abbrev prefixed_families : List Family
 prefixed_families = family.Unit ∷ family.Party ∷ family.Person ∷ family.Office ∷ family.Header ∷ family.Candidate ∷ family.Contest ∷ []
 
-prefixed_listed : (f : Family) → is_prefixed f ≡ true → Has prefixed_families f
-prefixed_listed family.Unit h = here
-prefixed_listed family.Party h = later here
-prefixed_listed family.Person h = later (later here)
-prefixed_listed family.Office h = later (later (later here))
-prefixed_listed family.Header h = later (later (later (later here)))
-prefixed_listed family.Candidate h = later (later (later (later (later here))))
-prefixed_listed family.Contest h = later (later (later (later (later (later here)))))
+prefixed_listed : (f : Family) → is_prefixed f ≡ true → In f prefixed_families
+prefixed_listed family.Unit h = inl refl
+prefixed_listed family.Party h = inr (inl refl)
+prefixed_listed family.Person h = inr (inr (inl refl))
+prefixed_listed family.Office h = inr (inr (inr (inl refl)))
+prefixed_listed family.Header h = inr (inr (inr (inr (inl refl))))
+prefixed_listed family.Candidate h = inr (inr (inr (inr (inr (inl refl)))))
+prefixed_listed family.Contest h = inr (inr (inr (inr (inr (inr (inl refl))))))
 prefixed_listed f h = cc
 
 abbrev family_objects : Preference → Data → Family → List (Placed × List ℕ)
@@ -140,37 +140,37 @@ has_canonical f i = at (id_prefix f)
     at (Some letters) h = refl
 
 module _ (π : Preference) (t : Data) where
-  in_list : (f : Family) (o : Placed) (id : List ℕ) → NewId π t f o id → Has (named_objects π t) (o, id)
+  in_list : (f : Family) (o : Placed) (id : List ℕ) → NewId π t f o id → In (o, id) (named_objects π t)
   in_list f o id (of_family keyed h is) =
-      has-append_left (flat_map (family_objects π t) prefixed_families) (flat_map (contest_objects π t) (contests t)) (o, id)
-      (flat-has (family_objects π t) prefixed_families f (o, id) (prefixed_listed f (has_letters f _ id is))
-      (subst (λ x. Has (family_objects π t f) (o, x)) (ap (λ x. unwrap_or x []) is) (has_mapped (λ (x : Placed). (x, unwrap_or (id_of_key π t f (key_of π x.value)) [])) (objects f t) o h)))
+      In-append_left (o, id) (flat_map (family_objects π t) prefixed_families) (flat_map (contest_objects π t) (contests t))
+      (In-flat_map (family_objects π t) (o, id) f prefixed_families (prefixed_listed f (has_letters f _ id is))
+      (subst (λ x. In (o, x) (family_objects π t f)) (ap (λ x. unwrap_or x []) is) (In-map (λ (x : Placed). (x, unwrap_or (id_of_key π t f (key_of π x.value)) [])) o (objects f t) h)))
   in_list f o id (of_contest c sel in_c of_c its) =
-      append-has (flat_map (family_objects π t) prefixed_families) (flat_map (contest_objects π t) (contests t)) (o, id)
-      (flat-has (contest_objects π t) (contests t) c (o, id) in_c
-      (subst (λ x. Has (contest_objects π t c) (o, x)) (sym its) (has_mapped (λ (x : Placed). (x, id_of_selection π t c.value x.value)) (selections_of_contest c) o of_c)))
+      In-append_right (o, id) (flat_map (family_objects π t) prefixed_families) (flat_map (contest_objects π t) (contests t))
+      (In-flat_map (contest_objects π t) (o, id) c (contests t) in_c
+      (subst (λ x. In (o, x) (contest_objects π t c)) (sym its) (In-map (λ (x : Placed). (x, id_of_selection π t c.value x.value)) o (selections_of_contest c) of_c)))
 
-  from_family : (x : Placed × List ℕ) → Has (flat_map (family_objects π t) prefixed_families) x → (f : Family) × NewId π t f x.0 x.1
+  from_family : (x : Placed × List ℕ) → In x (flat_map (family_objects π t) prefixed_families) → (f : Family) × NewId π t f x.0 x.1
   from_family x h =
-      let f = has-flat (family_objects π t) prefixed_families x h in
-      let o = map_has (λ (y : Placed). (y, unwrap_or (id_of_key π t f.0 (key_of π y.value)) [])) (objects f.0 t) x f.2 in
-      let named : is_prefixed f.0 ≡ true = all-Has (λ g. is_prefixed g ≡ true) prefixed_families f.0 (refl, (refl, (refl, (refl, (refl, (refl, (refl, tt))))))) f.1 in
+      let f = In-flat_map_from (family_objects π t) prefixed_families x h in
+      let o = In-map_from (λ (y : Placed). (y, unwrap_or (id_of_key π t f.0 (key_of π y.value)) [])) (objects f.0 t) x f.2 in
+      let named : is_prefixed f.0 ≡ true = In-all (λ g. is_prefixed g ≡ true) f.0 prefixed_families (refl, (refl, (refl, (refl, (refl, (refl, (refl, tt))))))) f.1 in
       (f.0, subst (λ (z : Placed × List ℕ). NewId π t f.0 z.0 z.1) o.2 (of_family (prefixed_keys f.0 named) o.1 (some_again (id_of_key π t f.0 (key_of π o.0.value)) (has_canonical f.0 _ named))))
 
-  from_contest : (x : Placed × List ℕ) → Has (flat_map (contest_objects π t) (contests t)) x → (f : Family) × NewId π t f x.0 x.1
+  from_contest : (x : Placed × List ℕ) → In x (flat_map (contest_objects π t) (contests t)) → (f : Family) × NewId π t f x.0 x.1
   from_contest x h =
-      let c = has-flat (contest_objects π t) (contests t) x h in
-      let o = map_has (λ (y : Placed). (y, id_of_selection π t c.0.value y.value)) (selections_of_contest c.0) x c.2 in
+      let c = In-flat_map_from (contest_objects π t) (contests t) x h in
+      let o = In-map_from (λ (y : Placed). (y, id_of_selection π t c.0.value y.value)) (selections_of_contest c.0) x c.2 in
       (family.Selection, subst (λ (z : Placed × List ℕ). NewId π t family.Selection z.0 z.1) o.2 (of_contest c.0 refl c.1 o.1 refl))
 
-  from_list : (x : Placed × List ℕ) → Has (named_objects π t) x → (f : Family) × NewId π t f x.0 x.1
-  from_list x h = ⊎_elim (from_family x) (from_contest x) (has-append (flat_map (family_objects π t) prefixed_families) (flat_map (contest_objects π t) (contests t)) x h)
+  from_list : (x : Placed × List ℕ) → In x (named_objects π t) → (f : Family) × NewId π t f x.0 x.1
+  from_list x h = ⊎_elim (from_family x) (from_contest x) (In-append x (flat_map (family_objects π t) prefixed_families) (flat_map (contest_objects π t) (contests t)) h)
 
   module _ (accepted : IsAccepted π t) (bounded : IsBounded t) where
     text_there : (f : Family) (o : Placed) (s id : List ℕ) → NewId π t f o id → id_of o.value ≡ Some s → new_text π t s ≡ id
     text_there f o s id new e =
         let xs = named_objects π t in
-        let x = find-any (λ (y : Placed × List ℕ). has_id s y.0.value) xs (any-has (λ (y : Placed × List ℕ). has_id s y.0.value) xs (o, id) (in_list f o id new) (has_id-from s o.value e)) in
+        let x = find-any (λ (y : Placed × List ℕ). has_id s y.0.value) xs (any_at (λ (y : Placed × List ℕ). has_id s y.0.value) (o, id) xs (in_list f o id new) (has_id-from s o.value e)) in
         let y = from_list x.0 x.3 in
         let one : x.0.0 ≡ o = one_object π t accepted y.0 f x.0.0 o s (stands_new π t accepted y.0 x.0.0 x.0.1 y.1) (stands_new π t accepted f o id new) (has_id-Some s x.0.0.value x.2) e in
         ap (λ z. option_map_or (λ (y : Placed × List ℕ). y.1) z []) x.1 ∙ new_once π t accepted y.0 f o x.0.1 id (subst (λ z. NewId π t y.0 z x.0.1) one y.1) new
@@ -178,7 +178,7 @@ module _ (π : Preference) (t : Data) where
     text_back : (f : Family) (o : Placed) (s id : List ℕ) → NewId π t f o id → id_of o.value ≡ Some s → old_text π t id ≡ s
     text_back f o s id new e =
         let xs = named_objects π t in
-        let x = find-any (λ (y : Placed × List ℕ). bytes_eq y.1 id) xs (any-has (λ (y : Placed × List ℕ). bytes_eq y.1 id) xs (o, id) (in_list f o id new) (text_itself id)) in
+        let x = find-any (λ (y : Placed × List ℕ). bytes_eq y.1 id) xs (any_at (λ (y : Placed × List ℕ). bytes_eq y.1 id) (o, id) xs (in_list f o id new) (text_itself id)) in
         let y = from_list x.0 x.3 in
         let same : x.0.1 ≡ id = text_exact x.0.1 id x.2 in
         let one : x.0.0 ≡ o = new_exact π t accepted bounded y.0 f x.0.0 o id (subst (NewId π t y.0 x.0.0) same y.1) new in
@@ -346,7 +346,7 @@ module _ (π : Preference) (t : Data) (accepted : IsAccepted π t) where
       unrepeated_reference π t accepted g (string s) a.repeated (subst (λ x. Within t (record { want = x; value = string s; repeated = a.repeated })) asks (subst (λ x. Within t (record { want = a.want; value = x; repeated = a.repeated })) value w))
 
   -- nothing refers to a style
-  pub style_unused : (o : Placed) (s : List ℕ) → Has (objects family.Style t) o → id_of o.value ≡ Some s → IsUnused t s
+  pub style_unused : (o : Placed) (s : List ℕ) → In o (objects family.Style t) → id_of o.value ≡ Some s → IsUnused t s
   style_unused o s h own p a stands refers value = at a.want refl refers
     where
       at : (w : Want) → a.want ≡ w → is_reference w ≡ true → ⊥
@@ -355,7 +355,7 @@ module _ (π : Preference) (t : Data) (accepted : IsAccepted π t) where
           let x = owned π t accepted g s w in
           let q = owned_by t g s x.0 x.1 in
           let one : q.0 ≡ o = one_object π t accepted g family.Style q.0 o s q.1 h (ap id_of q.2 ∙ q.3) own in
-          let style : g ≡ family.Style = one_family π t accepted g family.Style o (subst (Has (objects g t)) one q.1) h in
+          let style : g ≡ family.Style = one_family π t accepted g family.Style o (subst (λ z. In z (objects g t)) one q.1) h in
           let free : is_free (Reference g) ≡ true = ap is_free (sym asks) ∙ free_from (asked (Object role.Report) t) p a refl stands in
           let x : false ≡ true = ap (λ f. is_free (Reference f)) (sym style) ∙ free in
           cc

@@ -1,5 +1,5 @@
 -- What is built of the order of a ballot, a selection and an object of a family says what they say.
-use Rattle.erd_normal.proofs.Common.{◌≡◌, ℕ, zero, suc, Bool, true, false, List, map, Some, None, codes, Option, option_map, option_and_then, bytes_eq, sym, refl, ap, ◌∙◌, subst, Data, string, array, object, Items, no_items, item, Members, no_members, member, get_member, get_item, get, as_str, text_of_class, role_of_class, kind_of_member, is_required, Class, class, Family, family, Role, role, MemberKind, kind, entries_in, object_from, string_from_text, array_from, text_exact, found_cases, object_in, ObjectAt, ObjectIn, map_has, Has, of_role, wanted_within, member_within, within-tree, Within, kind_of_class, kind_of_name, want_by_kind, is_array, ShapeFault, NoneOf, IsTree, list_of_items, entries_of, class_of_object, want_of_kind, member_want, want_of_name, asked, Scope, scope, Member, Object, no_shape_fault, stands, flat-has, kind_of_type, IsAccepted, has_keys, Preference, key_of, Placed, contests, selections_of_contest, objects, id_of, IsBounded, rising_list, selection_role, canonical_id, Sides, an_unused_id, a_text, an_id, a_list, an_object, no_entry, one_entry, Same, SameEntries, SameMembers, id_of_key, id_of_selection, array_of, normal_node_value, normal_content, normal_nodes, normal_node, normal_selection, by_key, by_name, normal_object_value, normal_object, normal_objects, normal_tree}
+use Rattle.erd_normal.proofs.Common.{◌≡◌, ℕ, zero, suc, Bool, true, false, List, map, Some, None, codes, Option, option_map, option_and_then, bytes_eq, sym, refl, ap, ◌∙◌, subst, Data, string, array, object, Items, no_items, item, Members, no_members, member, get_member, get_item, get, as_str, text_of_class, role_of_class, kind_of_member, is_required, Class, class, Family, family, Role, role, MemberKind, kind, entries_in, object_from, string_from_text, array_from, text_exact, found_cases, object_in, ObjectAt, ObjectIn, of_role, wanted_within, member_within, within-tree, Within, kind_of_class, kind_of_name, want_by_kind, is_array, ShapeFault, NoneOf, IsTree, list_of_items, entries_of, class_of_object, want_of_kind, member_want, want_of_name, asked, Scope, scope, Member, Object, no_shape_fault, stands, kind_of_type, IsAccepted, has_keys, Preference, key_of, Placed, contests, selections_of_contest, objects, id_of, IsBounded, rising_list, selection_role, canonical_id, Sides, an_unused_id, a_text, an_id, a_list, an_object, no_entry, one_entry, Same, SameEntries, SameMembers, id_of_key, id_of_selection, array_of, normal_node_value, normal_content, normal_nodes, normal_node, normal_selection, by_key, by_name, normal_object_value, normal_object, normal_objects, normal_tree, In, In-flat_map, In-map_from}
 use Rattle.erd_normal.proofs.built.AskedMembers.{entry_asked}
 use Rattle.erd_normal.proofs.built.BuiltFrom.{Builder, BuiltObject}
 use Rattle.erd_normal.proofs.built.BuiltObjects.{built_node, built_object, built_selection, is_id, no_name, node_builder, object_builder, plain_builder}
@@ -131,24 +131,24 @@ module _ (π : Preference) (t : Data) (accepted : IsAccepted π t) (tree : IsTre
         (both_there (subst (λ w. Same m w (string s.0) (string id)) (sym wants_id) (an_id refl (stands_for π t accepted bounded f o s.0 id new own'))))
 
     -- a style loses its `@id`
-    id_lost : (o : Placed) (found : Option Data) → f ≡ family.Style → Has (objects f t) o → id_of o.value ≡ option_and_then as_str found → ((v : Data) → found ≡ Some v → (s : List ℕ) × (v ≡ string s))
+    id_lost : (o : Placed) (found : Option Data) → f ≡ family.Style → In o (objects f t) → id_of o.value ≡ option_and_then as_str found → ((v : Data) → found ≡ Some v → (s : List ℕ) × (v ≡ string s))
         → Aligned m (in_class r c) (codes "@id") found None
     id_lost o None style h own texts = not_both (lacks_none t (in_class r c) (codes "@id")) (lacks_none (normal_tree π t) (in_class r c) (codes "@id"))
     id_lost o (Some v) style h own texts =
         let s = texts v refl in
         let own' : id_of o.value ≡ Some s.0 = own ∙ ap as_str s.1 in
         not_both
-        (lacks_one t (in_class r c) (codes "@id") v (an_unused_id s.0 (is_required c (codes "@id")) wants_id s.1 (style_unused π t accepted o s.0 (subst (λ g. Has (objects g t) o) style h) own')))
+        (lacks_one t (in_class r c) (codes "@id") v (an_unused_id s.0 (is_required c (codes "@id")) wants_id s.1 (style_unused π t accepted o s.0 (subst (λ g. In o (objects g t)) style h) own')))
         (lacks_none (normal_tree π t) (in_class r c) (codes "@id"))
 
-    id_aligned : (o : Placed) (k : Option (List ℕ)) (found given : Option Data) → has_keys f ≡ true → Has (objects f t) o → id_of_key π t f (key_of π o.value) ≡ k → given ≡ option_map string k
+    id_aligned : (o : Placed) (k : Option (List ℕ)) (found given : Option Data) → has_keys f ≡ true → In o (objects f t) → id_of_key π t f (key_of π o.value) ≡ k → given ≡ option_map string k
         → id_of o.value ≡ option_and_then as_str found → ((v : Data) → found ≡ Some v → (s : List ℕ) × (v ≡ string s)) → Aligned m (in_class r c) (codes "@id") found given
     id_aligned o None found given keyed h is its own texts = subst (Aligned m (in_class r c) (codes "@id") found) (sym its) (id_lost o found (style_alone f _ keyed is) h own texts)
     id_aligned o (Some id) found given keyed h is its own texts = subst (Aligned m (in_class r c) (codes "@id") found) (sym its) (id_given o id found (of_family keyed h is) own texts)
 
   -- ---- selections
 
-  pub selection_said : (contest o : Placed) → Has (objects family.Contest t) contest → Has (selections_of_contest contest) o
+  pub selection_said : (contest o : Placed) → In contest (objects family.Contest t) → In o (selections_of_contest contest)
       → Same m (Some (Object selection_role)) o.value (normal_selection π t contest.value o.value)
   selection_said contest o of_report of_c =
       subst (λ x. Same m (Some (Object selection_role)) x (normal_selection π t contest.value o.value)) (sym i.is_object)
@@ -159,7 +159,7 @@ module _ (π : Preference) (t : Data) (accepted : IsAccepted π t) (tree : IsTre
       (λ required within. said_value π t accepted tree bounded (kind_of_member i.class name) required from (selection_kind i.class name other no_id i.role) within) refl))
     where
       w : Within t (asked (Object selection_role) o.value)
-      w = record { place = o.place; is = stands π t accepted family.Selection o (flat-has selections_of_contest (contests t) contest o of_report of_c) }
+      w = record { place = o.place; is = stands π t accepted family.Selection o (In-flat_map selections_of_contest o contest (contests t) of_report of_c) }
 
       i : ObjectIn t selection_role o.value
       i = object_in t clean selection_role o.value w
@@ -227,7 +227,7 @@ module _ (π : Preference) (t : Data) (accepted : IsAccepted π t) (tree : IsTre
       let values : map (λ (o : Placed). o.value) (selections_of_contest contest) ≡ list_of_items ds.0 = listed contest ∙ ap entries_in (holds.1 ∙ ap Some ds.1) in
       subst (λ x. Same m (Some (Member (kind.Keyed family.Selection) required)) x (array_of (map (normal_selection π t contest.value) (rising_list (by_name π t) (entries_of x))))) (sym ds.1)
       (set_built m (Member (kind.Keyed family.Selection) required) (normal_selection π t contest.value) (by_name π t) ds.0 refl (λ x h.
-      let o = map_has (λ (o : Placed). o.value) (selections_of_contest contest) x (subst (λ xs. Has xs x) (sym values) h) in
+      let o = In-map_from (λ (o : Placed). o.value) (selections_of_contest contest) x (subst (λ xs. In x xs) (sym values) h) in
       subst (λ y. Same m (Some (Object selection_role)) y (normal_selection π t contest.value y)) o.2 (selection_said contest o.0 holds.0 o.1)))
 
   object_member : (o : Placed) (k : MemberKind) (required : Bool) (d : Data) → is_object_kind k ≡ true → (k ≡ kind.Keyed family.Selection → IsOfContest t o d) → Within t (asked (want_of_kind k required) d)
@@ -237,7 +237,7 @@ module _ (π : Preference) (t : Data) (accepted : IsAccepted π t) (tree : IsTre
   object_member o (kind.Keyed f) required d is contest w = cc
   object_member o k required d is contest w = said_value π t accepted tree bounded k required d is w
 
-  object_said : (f : Family) → has_keys f ≡ true → (o : Placed) → Has (objects f t) o → Same m (Some (Object (role.OfFamily f))) o.value (normal_object π t f o.value)
+  object_said : (f : Family) → has_keys f ≡ true → (o : Placed) → In o (objects f t) → Same m (Some (Object (role.OfFamily f))) o.value (normal_object π t f o.value)
   object_said f keyed o h =
       subst (λ x. Same m (Some (Object (role.OfFamily f))) x (normal_object π t f o.value)) (sym i.is_object)
       (said_object m t clean (object_builder π t o.value) is_id refl (λ v. refl) (role.OfFamily f) i.class i.ms (normal_object π t f o.value) (built_object π t clean tree f o.value i)
@@ -269,5 +269,5 @@ module _ (π : Preference) (t : Data) (accepted : IsAccepted π t) (tree : IsTre
       let inside : IsPart (list_of_items ds.0) (map (λ (o : Placed). o.value) (objects f t)) = subst (λ x. IsPart (entries_of x) (map (λ (o : Placed). o.value) (objects f t))) ds.1 part in
       subst (λ x. Same m (Some (Member (kind.Keyed f) required)) x (normal_objects π t f (entries_of x))) (sym ds.1)
       (set_built m (Member (kind.Keyed f) required) (normal_object π t f) (by_key π) ds.0 refl (λ x h.
-      let o = map_has (λ (o : Placed). o.value) (objects f t) x (part_has (list_of_items ds.0) (map (λ (o : Placed). o.value) (objects f t)) inside x h) in
+      let o = In-map_from (λ (o : Placed). o.value) (objects f t) x (part_has (list_of_items ds.0) (map (λ (o : Placed). o.value) (objects f t)) inside x h) in
       subst (λ y. Same m (Some (Object (role.OfFamily f))) y (normal_object π t f y)) o.2 (object_said f keyed o.0 o.1)))

@@ -1,5 +1,5 @@
 -- The canonical tree says what the report says.
-use Rattle.erd_normal.proofs.Common.{◌≡◌, ℕ, Bool, true, false, List, map, if◌then◌else◌, Some, None, Option, sym, refl, subst, Data, array, object, Members, get_member, get, is_envelope_name, kind_of_member, class, Family, role, MemberKind, kind, ObjectAt, Has, within-tree, Within, kind_of_class, ShapeFault, NoneOf, IsTree, list_of_items, entries_of, want_of_kind, asked, Member, Object, no_shape_fault, skeleton_of_shape, election_within, election_object, Skeleton, IsAccepted, has_keys, Preference, objects, IsBounded, rising_list, Sides, of_the_envelope, Same, SaysTheSame, array_of, normal_value, by_key, normal_election_value, normal_election, normal_report_value, normal_tree}
+use Rattle.erd_normal.proofs.Common.{◌≡◌, ℕ, Bool, true, false, List, map, if◌then◌else◌, Some, None, Option, sym, refl, subst, Data, array, object, Members, get_member, get, is_envelope_name, kind_of_member, class, Family, role, MemberKind, kind, ObjectAt, within-tree, Within, kind_of_class, ShapeFault, NoneOf, IsTree, list_of_items, entries_of, want_of_kind, asked, Member, Object, no_shape_fault, skeleton_of_shape, election_within, election_object, Skeleton, IsAccepted, has_keys, Preference, objects, IsBounded, rising_list, Sides, of_the_envelope, Same, SaysTheSame, array_of, normal_value, by_key, normal_election_value, normal_election, normal_report_value, normal_tree, In}
 use Rattle.erd_normal.proofs.built.BuiltObjects.{built_election, built_report, election_builder, no_name}
 use Rattle.erd_normal.proofs.built.NormalTrees.{normal_election-tree, normal_tree-tree}
 use Rattle.erd_normal.proofs.lists.Lists.{IsPart}
@@ -41,7 +41,7 @@ module _ (π : Preference) (t : Data) (accepted : IsAccepted π t) (tree : IsTre
   election_member (kind.Keyed f) required d is held w = said_unless m (kind.Keyed f) required d _ refl (objects_said π t accepted tree bounded f is required d (held f refl) w)
   election_member k required d is held w = said_value π t accepted tree bounded k required d is w
 
-  election_with : (d : Data) → Has (list_of_items s.es) d → (this : (ms : Members) × (d ≡ object ms) × ObjectAt t (Object role.Election) role.Election class.Election ms)
+  election_with : (d : Data) → In d (list_of_items s.es) → (this : (ms : Members) × (d ≡ object ms) × ObjectAt t (Object role.Election) role.Election class.Election ms)
       → Same m (Some (Object role.Election)) d (normal_election π t d)
   election_with d h this =
       subst (λ x. Same m (Some (Object role.Election)) x (normal_election π t d)) (sym this.1)

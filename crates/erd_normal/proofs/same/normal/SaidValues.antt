@@ -1,5 +1,5 @@
 -- What is built of the value of a member without objects says what the value says, and where nothing is built of it, it is an empty array.
-use Rattle.erd_normal.proofs.Common.{◌≡◌, ℕ, Bool, true, false, ◌&&◌, List, [], ◌∷◌, map, if◌then◌else◌, Some, None, codes, Option, bytes_eq, Ordering, sym, refl, ap, ◌∙◌, subst, map-id, not-false, Data, string, array, object, Items, no_items, item, Members, put, get_member, kind_of_member, is_required, Class, Family, family, role, reason, MemberKind, kind, text_exact, all-Has, faultless, wanted_within, within-tree, Within, want_unless_status, is_empty_array, IsTree, list_of_items, entries_of, entries_at, text_of, want_of_kind, is_report_class, member_want, want_of_name, entry_want, is_table_set, asked, Scope, scope, Want, Carried, Member, Object, Reference, Status, no_shape_fault, IsAccepted, Preference, IsBounded, rising_list, compact_cmp, with_rising_text, Sides, is_array_kind, an_empty_array, a_text, an_id, an_object, Same, SameMembers, normal_id, normal_reference, reference_cmp, normal_selection_reference, unless_no_entry, array_of, normal_value, is_array, IsPermutation, items_of, list_of_items-items_of, here, later, Has, reordered_rising, reordered-has, a_list, a_set, SameEntries, IsPermutation-sym}
+use Rattle.erd_normal.proofs.Common.{◌≡◌, ℕ, Bool, true, false, ◌&&◌, List, [], ◌∷◌, map, if◌then◌else◌, Some, None, codes, Option, bytes_eq, Ordering, sym, refl, ap, ◌∙◌, subst, map-id, not-false, Data, string, array, object, Items, no_items, item, Members, put, get_member, kind_of_member, is_required, Class, Family, family, role, reason, MemberKind, kind, text_exact, faultless, wanted_within, within-tree, Within, want_unless_status, is_empty_array, IsTree, list_of_items, entries_of, entries_at, text_of, want_of_kind, is_report_class, member_want, want_of_name, entry_want, is_table_set, asked, Scope, scope, Want, Carried, Member, Object, Reference, Status, no_shape_fault, IsAccepted, Preference, IsBounded, rising_list, compact_cmp, with_rising_text, Sides, is_array_kind, an_empty_array, a_text, an_id, an_object, Same, SameMembers, normal_id, normal_reference, reference_cmp, normal_selection_reference, unless_no_entry, array_of, normal_value, is_array, IsPermutation, items_of, list_of_items-items_of, reordered_rising, a_list, a_set, SameEntries, IsPermutation-sym, In, In-all, inl, inr, reordered-In}
 use Rattle.erd_normal.proofs.built.AskedMembers.{entries_asked, status_kind}
 use Rattle.erd_normal.proofs.built.BuiltFrom.{Builder}
 use Rattle.erd_normal.proofs.built.NormalEntries.{no_entry}
@@ -18,17 +18,17 @@ use Rattle.erd_normal.proofs.same.Back.{paired_entries}
 module _ (m : Sides) (w : Want) (g : Data → Data) where
   -- what is built of each of these says the same
   abbrev EachSame : List Data → Type 0
-  EachSame ds = (x : Data) → Has ds x → Same m (entry_want w) x (g x)
+  EachSame ds = (x : Data) → In x ds → Same m (entry_want w) x (g x)
 
   built_entries : (xs : List Data) → EachSame xs → Paired (Same m (entry_want w)) xs (map g xs)
   built_entries [] each = none
-  built_entries (x ∷ xs) each = more (each x here) (built_entries xs (λ y i. each y (later i)))
+  built_entries (x ∷ xs) each = more (each x (inl refl)) (built_entries xs (λ y i. each y (inr i)))
 
   pub set_built : (cmp : Data → Data → Ordering) (ds : Items) → is_table_set w ≡ true → EachSame (list_of_items ds) → Same m (Some w) (array ds) (array_of (map g (rising_list cmp (list_of_items ds))))
   set_built cmp ds is each =
       let xs = rising_list cmp (list_of_items ds) in
       a_set (items_of xs) is (subst (IsPermutation (list_of_items ds)) (sym (list_of_items-items_of xs)) (reordered_rising cmp (list_of_items ds)))
-      (paired_entries m (entry_want w) (built_entries xs (λ x i. each x (reordered-has x (IsPermutation-sym _ _ (reordered_rising cmp (list_of_items ds))) i))))
+      (paired_entries m (entry_want w) (built_entries xs (λ x i. each x (reordered-In x (IsPermutation-sym _ _ (reordered_rising cmp (list_of_items ds))) i))))
 
   pub list_built : (ds : Items) → is_table_set w ≡ false → EachSame (list_of_items ds) → Same m (Some w) (array ds) (array_of (map g (list_of_items ds)))
   list_built ds is each =
@@ -140,7 +140,7 @@ module _ (π : Preference) (t : Data) (accepted : IsAccepted π t) (tree : IsTre
       → Same m (Some (Member (kind.Many f) required)) d (array_of (map (normal_reference π t f) (rising_list (reference_cmp π t f) (entries_of d))))
   references f named required (array ds) is w =
       set_built m (Member (kind.Many f) required) (normal_reference π t f) (reference_cmp π t f) ds refl
-      (λ x h. reference_said f named x (all-Has (Refers t f) (list_of_items ds) x (references_refer π t accepted f required ds w) h))
+      (λ x h. reference_said f named x (In-all (Refers t f) x (list_of_items ds) (references_refer π t accepted f required ds w) h))
   references f named required d is w = cc
 
   -- identifiers or translations
@@ -153,7 +153,7 @@ module _ (π : Preference) (t : Data) (accepted : IsAccepted π t) (tree : IsTre
   ordered required (array ds) is w =
       list_built m (Member kind.Ordered required) (normal_selection_reference π t) ds refl
       (λ x h. selection_reference x (reference_refers π t accepted family.Selection x
-      (all-Has (λ e. Within t (asked (Reference family.Selection) e)) (list_of_items ds) x (entries_asked t (Member kind.Ordered required) (Reference family.Selection) ds refl refl w) h)))
+      (In-all (λ e. Within t (asked (Reference family.Selection) e)) x (list_of_items ds) (entries_asked t (Member kind.Ordered required) (Reference family.Selection) ds refl refl w) h)))
   ordered required d is w = cc
 
   pub said_value : (k : MemberKind) (required : Bool) (d : Data) → is_simple_kind k ≡ true → Within t (asked (want_of_kind k required) d) → Said m (want_of_kind k required) d (normal_value π t k d)

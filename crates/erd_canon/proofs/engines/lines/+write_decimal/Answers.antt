@@ -1,4 +1,4 @@
-use Rattle.erd_canon.proofs.Common.{◌≡◌, ℕ, ◌/◌, ◌%◌, ◌^◌, ◌<◌, ◌≤◌, ◌++◌, decimal, sym, ap, ◌∙◌, arith}
+use Rattle.erd_canon.proofs.Common.{◌≡◌, ℕ, ◌/◌, ◌%◌, ◌^◌, ◌<◌, ◌≤◌, ◌++◌, decimal, sym, ap, ◌∙◌, arith, false}
 use Rattle.std.proofs.lemmas.Fmt.{decimal_digit, decimal_step}
 use Rattle.erd_canon.proofs.runs.Moving.{IsFrontMoved-first, IsMoved-first, last_moved, last_part, on_err}
 use Rattle.erd_canon.proofs.engines.lines.+write_decimal.Goals as goal
