@@ -42,3 +42,24 @@ pub use mir.Val.{vptr, vstruct, vnil, vcons, Val}
 pub use seplogic.Ra.Ura.{Ura}
 pub use types.Kit.{‵, raw, ◌⊛◌, prop, !, ◌$◌, step, move, keep, split, fsplit, fjoin, fpack, feq_l, feq_i, regoal, suffices, done, qed, Goal, Item, Step, ◌∵◌}
 pub use types.Logic.{Logic}
+pub use mir.Syntax.{Fn, Args, a_type}
+pub use mir.MapTy.{inst_fn}
+pub use base.Logic.{SProp, ent}
+pub use prog.Memory.{Memory}
+pub use prog.Routine.{Routine}
+pub use prog.Wp.{Calls, Loops, WpFn, Tables}
+pub use contract.Monad.{Fun}
+pub use sound.WpLaws.{WpFn-mono}
+pub use types.Part.{agg}
+pub use types.Run.{enter, returns, and_then, no_more}
+pub use types.ByLocal.{alloc_all, pass_all, free_all, look_at, get, sets}
+pub use denote.Laws.{Is}
+pub use denote.Param.{param, layouts}
+pub use denote.Signature.{plain, types_at}
+pub use denote.Struct.Laws.{makes}
+pub use denote.Struct.Tuple.{Tuple}
+pub use denote.Triple.Clauses.{Clauses, Ended, closing}
+pub use denote.Triple.Entry.{alive}
+pub use denote.Triple.Spec.{Meets, triple_of}
+pub use denote.Triple.Table.{entered}
+pub use denote.Triple.Walked.{says, Stays, stay_dropped, walk_of, ends_at, walk_Meets, Goes-dropped}

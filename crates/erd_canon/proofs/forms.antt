@@ -1,3 +1,2 @@
 pub mod Refusing
-pub mod CanonicalTexts
 pub mod FormLaws

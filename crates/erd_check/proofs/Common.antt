@@ -1,6 +1,6 @@
 -- The names that the proofs of this crate cite most, passed on from one place. Declares nothing.
 pub use Rattle.std.proofs.Common.{◌≡◌, ℕ, zero, suc, ◌+◌, ◌-◌, ◌^◌, ◌<◌, ◌≤◌, Bool, true, false, cond, not, ◌&&◌, ◌||◌, ◌⊎◌, ◌↔◌, List, [], ◌∷◌, ◌++◌, map, length, take, drop, ℤ, pos, negsuc, neg_ℤ, is_none, IsSomeAnd, IfSome, if◌then◌else◌, IsTrue, nat_lt, nat_le, ◌==◌, slice_get, slice_index, int_lt, Some, None, string_bytes, codes, Contains, filter, Option, String, option_map, find, flat_map, option_and_then, bytes_eq, string_cmp, nat_cmp, int_cmp, is_eq, is_lt, Ordering, Less, Equal, Greater, Global, unwrap_or, sym, refl, ap, ◌∙◌, subst, ap₂, inl, inr, ⊎_elim, true≢false, append_assoc, append-nil, add-zero, zero-add, arith, length-append, Bor, rules}
-pub use Rattle.std.proofs.lemmas.Bool.{not-true, not-false, and_parts, and_from, or_from, or_right, false_from_ne_true}
+pub use Rattle.std.proofs.lemmas.Bool.{not-true, not-false, and_parts, and_from, or_from, or_right, false_from_ne_true, cases_Bool, cond_both}
 pub use Rattle.std.proofs.lemmas.Cmp.{tied_itself, tied_back, int_cmp_total, nat_list_cmp_total}
 pub use Rattle.std.proofs.lemmas.Map.Lookups.{exact_bytes}
 pub use Rattle.std.proofs.lemmas.Slice.Eq.{bytes_eq-Decides}

@@ -1,5 +1,5 @@
 -- Whether a value is a tree, by a test; of a tree the walk's list is that of all faults of the shape.
-use Rattle.erd_check.proofs.Common.{◌≡◌, ℕ, ◌<◌, Bool, true, false, ◌&&◌, List, length, pos, IfSome, Some, None, Option, is_lt, Ordering, Less, refl, arith, and_parts, nat_list_cmp_total, AllByRecursion, IsStrictlySortedBy, Num, negative, Data, number, array, object, Items, no_items, item, Members, no_members, member, ListsAll, text_cmp, Report, Fault, Reason, Step, ShapeFault, NoneOf, fault_at, IsBeforeFirst, IsNumber, IsTree, AreTrees, AreMembers, names, told_of_report, IsInOrder, AreItemsInOrder, AreMembersInOrder, scope_inside, want_of_name, entry_want, reasons, Scope, Want, Object}
+use Rattle.erd_check.proofs.Common.{◌≡◌, ℕ, ◌<◌, Bool, true, false, ◌&&◌, List, length, pos, IfSome, Some, None, Option, is_lt, Ordering, Less, arith, and_parts, nat_list_cmp_total, AllByRecursion, IsStrictlySortedBy, Num, negative, Data, number, array, object, Items, no_items, item, Members, no_members, member, ListsAll, text_cmp, Report, Fault, Reason, Step, ShapeFault, NoneOf, fault_at, IsBeforeFirst, IsNumber, IsTree, AreTrees, AreMembers, names, told_of_report, IsInOrder, AreItemsInOrder, AreMembersInOrder, scope_inside, want_of_name, entry_want, reasons, Scope, Want, Object}
 use Rattle.erd_check.proofs.Walks.{shape_walk_lists}
 
 -- ---- lists of all faults
@@ -39,8 +39,7 @@ abbrev mutual
   are_members (member k d ms) = is_before_first k ms && (is_tree d && are_members ms)
 
 pub less : (o : Ordering) → is_lt o ≡ true → o ≡ Less
-less Less h = refl
-less d h = cc
+less o h = grind arith
 
 before_first_sound : (k : List ℕ) (ms : Members) → is_before_first k ms ≡ true → IsBeforeFirst k ms
 before_first_sound k no_members h = tt

@@ -1,5 +1,5 @@
 -- Equality as JSON: trees that are equal as JSON are one tree.
-use Rattle.erd_check.proofs.Common.{◌≡◌, ℕ, Bool, true, false, ◌&&◌, List, pos, negsuc, bytes_eq, refl, ap, ap₂, and_parts, bytes_eq-Decides, Num, unsigned, negative, float, Data, null, boolean, number, string, array, object, Items, no_items, item, Members, no_members, member, IsNumber, IsTree, AreTrees, AreMembers, same_flag, same_number, is_same_json, are_same_items, are_same_members}
+use Rattle.erd_check.proofs.Common.{◌≡◌, ℕ, Bool, true, ◌&&◌, List, pos, negsuc, bytes_eq, refl, ap, ap₂, and_parts, bytes_eq-Decides, Num, unsigned, negative, float, Data, null, boolean, number, string, array, object, Items, no_items, item, Members, no_members, member, IsNumber, IsTree, AreTrees, AreMembers, same_flag, same_number, is_same_json, are_same_items, are_same_members, arith}
 use Rattle.std.proofs.lemmas.Bool.Decides.{Decides-int_eq}
 
 pub text_exact : (a b : List ℕ) → bytes_eq a b ≡ true → a ≡ b
@@ -9,14 +9,10 @@ pub text_itself : (a : List ℕ) → bytes_eq a a ≡ true
 text_itself a = (bytes_eq-Decides a a).1 refl
 
 pub flag_itself : (b : Bool) → same_flag b b ≡ true
-flag_itself true = refl
-flag_itself false = refl
+flag_itself b = grind arith
 
 pub same_flag_exact : (a b : Bool) → same_flag a b ≡ true → a ≡ b
-same_flag_exact true true e = refl
-same_flag_exact true false e = cc
-same_flag_exact false true e = cc
-same_flag_exact false false e = refl
+same_flag_exact a b h = grind arith
 
 same_number_exact : (m n : Num) → IsNumber m → IsNumber n → same_number m n ≡ true → m ≡ n
 same_number_exact (unsigned m) (unsigned n) p q e = let h : pos m ≡ pos n = (Decides-int_eq (pos m) (pos n)).0 e in cc

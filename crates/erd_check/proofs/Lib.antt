@@ -3,30 +3,18 @@ pub mod Lists
 pub mod Order
 pub mod Reasons
 pub mod Steps
-pub mod AllAsked
 pub mod AskedInside
-pub mod FaultsAsked
 pub mod Walks
 pub mod TwoWalks
 pub mod TextEntries
-pub mod TableKinds
 pub mod Deciding
 pub mod Reports
-pub mod Members
-pub mod Rising
 pub mod Exact
 pub mod JsonTies
 pub mod ValueSets
-pub mod Entries
 pub mod Shapes
-pub mod ObjectsAt
 pub mod Whole
-pub mod Sought
-pub mod Numbers
 pub mod ShapedReports
 pub mod ReadTrees
-mod AskedExamples
-mod FaultExamples
 pub mod WholeExamples
 pub mod Positions
-pub mod Options

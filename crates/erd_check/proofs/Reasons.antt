@@ -1,6 +1,7 @@
 -- The faults of one value: the list of its reasons holds each of them, and rises.
-use Rattle.erd_check.proofs.Common.{◌≡◌, ℕ, ◌<◌, ◌≤◌, Bool, true, false, ◌&&◌, List, [], ◌∷◌, ◌++◌, Some, None, filter, bytes_eq, nat_cmp, Less, sym, refl, subst, inl, inr, true≢false, arith, rules, and_parts, and_from, or_right, bytes_eq-Decides, slice_cmp, AllByRecursion, list_any, IsStrictlySortedBy, Data, reason_number, reason_cmp, required_names, Class, class, Reason, CarriedIdentity, ElectionCount, EmptyArray, MissingMember, NotPreElection, NotWhole, OutsideProfile, Repeated, UnknownReference, WrongClassText, WrongKind, lacks, names_wanted, is_shape_fault, scope_inside, asked_with, missing, other_reasons, reasons, Scope, scope, Want}
-use Rattle.erd_check.proofs.Order.{In, In-append, In-append_left, In-append_right, In-map, In-map_from, In-filter, In-filter_kept, Below, sorted_append, sorted_map, sorted_filter, In-all}
+use Rattle.erd_check.proofs.Common.{◌≡◌, ℕ, ◌<◌, ◌≤◌, Bool, true, false, List, [], ◌∷◌, ◌++◌, Some, None, filter, bytes_eq, nat_cmp, Less, sym, refl, subst, inl, inr, true≢false, arith, rules, and_parts, and_from, or_right, bytes_eq-Decides, slice_cmp, AllByRecursion, list_any, IsStrictlySortedBy, Data, reason_number, reason_cmp, required_names, Class, class, Reason, CarriedIdentity, ElectionCount, EmptyArray, MissingMember, NotPreElection, NotWhole, OutsideProfile, Repeated, UnknownReference, WrongClassText, WrongKind, lacks, names_wanted, is_shape_fault, scope_inside, asked_with, missing, other_reasons, reasons, Scope, scope, Want}
+use Rattle.std.proofs.lemmas.List.Kept.{IsStrictlySortedBy-filter}
+use Rattle.erd_check.proofs.Order.{In, In-append, In-append_left, In-append_right, In-map, In-map_from, In-filter, In-filter_kept, Below, sorted_append, sorted_map, In-all}
 
 -- ---- tests
 
@@ -36,8 +37,8 @@ unrepeated w repeated d r h = h
 missing_sound : (w : Want) (repeated : Bool) (d : Data) (r : Reason) → In r (missing (scope_inside w d) d) → is_shape_fault (asked_with w repeated d) r ≡ true
 missing_sound w repeated d r h =
     let from = In-map_from MissingMember (filter (lacks d) (names_wanted (scope_inside w d))) r h in
-    let kept = In-filter (lacks d) from.from (names_wanted (scope_inside w d)) from.inside in
-    subst (λ q. is_shape_fault (asked_with w repeated d) q ≡ true) from.is (and_from _ _ (any_from_In from.from (names_wanted (scope_inside w d)) kept.0) kept.1)
+    let kept = In-filter (lacks d) from.0 (names_wanted (scope_inside w d)) from.1 in
+    subst (λ q. is_shape_fault (asked_with w repeated d) q ≡ true) from.2 (and_from _ _ (any_from_In from.0 (names_wanted (scope_inside w d)) kept.0) kept.1)
 
 repeats_sound : (w : Want) (repeated : Bool) (d : Data) (r : Reason) → In r (repeats w repeated d) → is_shape_fault (asked_with w repeated d) r ≡ true
 repeats_sound w repeated d r h = (In-filter (is_shape_fault (asked_with w repeated d)) r (Repeated ∷ []) h).1
@@ -111,7 +112,7 @@ unfolding IsStrictlySortedBy
 alone_sorted r = (tt, tt)
 
 by_number : (q r : Reason) → reason_number q < reason_number r → reason_cmp q r ≡ Less
-by_number q r h = grind (arith)
+by_number q r h = grind arith
 
 abbrev Between : ℕ → ℕ → List Reason → Type 0
 Between low high xs = (r : Reason) → In r xs → (low ≤ reason_number r) × (reason_number r ≤ high)
@@ -136,7 +137,7 @@ between_filter low high test xs a r i = In-all (λ r. (low ≤ reason_number r) 
 between_missing : (s : Scope) (d : Data) → Between 2 2 (missing s d)
 between_missing s d r i =
     let from = In-map_from MissingMember (filter (lacks d) (names_wanted s)) r i in
-    subst (λ q. (2 ≤ reason_number q) × (reason_number q ≤ 2)) from.is (omega arith, omega arith)
+    subst (λ q. (2 ≤ reason_number q) × (reason_number q ≤ 2)) from.2 (omega arith, omega arith)
 
 pub reasons_sorted : (w : Want) (repeated : Bool) (d : Data) → IsStrictlySortedBy reason_cmp (reasons w repeated d)
 reasons_sorted w repeated d =
@@ -153,10 +154,10 @@ reasons_sorted w repeated d =
     sorted_append reason_cmp (kinds w d ++ missing s d ++ other_reasons w d) (repeats w repeated d)
     (sorted_append reason_cmp (kinds w d ++ missing s d) (other_reasons w d)
     (sorted_append reason_cmp (kinds w d) (missing s d)
-    (sorted_filter (is_shape_fault (asked_with w false d)) reason_cmp (WrongKind ∷ []) (alone_sorted WrongKind))
-    (sorted_map MissingMember (slice_cmp nat_cmp) reason_cmp (λ x y e. e) (filter (lacks d) (names_wanted s)) (sorted_filter (lacks d) (slice_cmp nat_cmp) (names_wanted s) (needed_sorted s)))
+    (IsStrictlySortedBy-filter reason_cmp (is_shape_fault (asked_with w false d)) (WrongKind ∷ []) (alone_sorted WrongKind))
+    (sorted_map MissingMember (slice_cmp nat_cmp) reason_cmp (λ x y e. e) (filter (lacks d) (names_wanted s)) (IsStrictlySortedBy-filter (slice_cmp nat_cmp) (lacks d) (names_wanted s) (needed_sorted s)))
     (below_between 1 1 2 2 (kinds w d) (missing s d) (omega arith) one two))
-    (sorted_filter (is_shape_fault (asked_with w false d)) reason_cmp others others_sorted)
+    (IsStrictlySortedBy-filter reason_cmp (is_shape_fault (asked_with w false d)) others others_sorted)
     (below_between 1 2 3 10 (kinds w d ++ missing s d) (other_reasons w d) (omega arith) one_two three))
-    (sorted_filter (is_shape_fault (asked_with w repeated d)) reason_cmp (Repeated ∷ []) (alone_sorted Repeated))
+    (IsStrictlySortedBy-filter reason_cmp (is_shape_fault (asked_with w repeated d)) (Repeated ∷ []) (alone_sorted Repeated))
     (below_between 1 10 11 11 (kinds w d ++ missing s d ++ other_reasons w d) (repeats w repeated d) (omega arith) to_three four)

@@ -1,15 +1,177 @@
--- A report without a fault of the shape: all that stands in it is asked for, so each number in it is whole and fits 64 bits, and the names of all its objects
--- rise.
-use Rattle.erd_check.proofs.Common.{◌≡◌, ℕ, suc, Bool, true, false, ◌&&◌, ◌||◌, List, ◌∷◌, length, IfSome, Some, None, Option, nat_cmp, Less, sym, refl, ap, ◌∙◌, subst, or_from, slice_cmp, AllByRecursion, IsStrictlySortedBy, Data, number, array, object, Items, no_items, item, Members, no_members, member, get_member, get_item, view, Value, ListsAll, text_cmp, Role, role, Report, Fault, reason, kind, At, Name, ShapeFault, NoneOf, IsBeforeFirst, IsTree, AreTrees, AreMembers, IsShallow, names, IsInOrder, AreItemsInOrder, AreMembersInOrder, IsKnown, AreItemsKnown, AreMembersKnown, class_of_object, scope_inside, want_of_name, entry_want, is_compared_set, asked, is_repeated, asked_with, IsAskedInRange, Scope, scope, Want, Carried, Member, Object}
+-- A report without a fault of the shape: each number in it is whole and fits 64 bits, and the names of all its objects rise.
+use Rattle.erd_check.proofs.Common.{◌≡◌, true, false, List, [], ◌∷◌, map, pos, int_lt, String, sym, ◌∙◌, subst, true≢false, arith, Data, number, array, object, Items, no_items, item, Members, no_members, member, items_of, members_of, view_step, view, Value, map-Value, IsNumber, ℕ, suc, Bool, not, ◌&&◌, ◌||◌, length, ◌==◌, Some, None, codes, Option, bytes_eq, refl, ap, list_all, Num, is_float, rows_of_class, is_reference_name, kind_of_identity, kind_of_member, is_required, Class, class, family, Role, role, Reason, reason, MemberKind, kind, is_empty_array, wants_whole, is_shape_fault, list_of_items, want_of_kind, is_report_class, member_want, carried_want, want_of_name, entry_want, asked_with, IsAskedInRange, scope, Want, Carried, ClassText, Member, Object, Reference, Status, inl, inr, cases_Bool, cond_both, IfSome, nat_cmp, Less, or_from, slice_cmp, AllByRecursion, IsStrictlySortedBy, get_member, get_item, ListsAll, text_cmp, Report, Fault, At, Name, ShapeFault, NoneOf, IsBeforeFirst, IsTree, AreTrees, AreMembers, IsShallow, names, IsInOrder, AreItemsInOrder, AreMembersInOrder, IsKnown, AreItemsKnown, AreMembersKnown, class_of_object, scope_inside, is_compared_set, asked, is_repeated, Scope}
+use Rattle.std.specs.Prelude.{⊤}
+use Rattle.serde_json.specs.Number.{is_valid, num_of}
+use Rattle.serde_json.specs.declared.number.N.{N}
+use Rattle.serde_json.specs.declared.number.N.TheVariants.{PosInt, NegInt, Float}
+use Rattle.std.specs.declared.alloc.Global.{Global}
+use Rattle.serde_json.specs.declared.value.Value.TheOpen.{Value-F}
+use Rattle.serde_json.specs.declared.value.Value.TheFolds.{fold-roll-Value, ind-Value}
+use Rattle.erd_check.specs.Numbers.{IsFittingNumber, HasFittingNumbers, ItemsHaveFittingNumbers, MembersHaveFittingNumbers}
+use Rattle.erd_check.proofs.Shapes.{kind_of_class, classed, faultless, of_label, of_role, unrepeated, AsksObject, Within, Within-root, Within-step, get_member-first, get_member-later}
 use Rattle.serde_json.specs.Written.{has_float, items_have_float, members_have_float}
-use Rattle.erd_check.specs.Numbers.{HasFittingNumbers, ItemsHaveFittingNumbers, MembersHaveFittingNumbers}
 use Rattle.erd_check.specs.Shapes.{IsShaped}
 use Rattle.erd_check.proofs.Deciding.{no_fault_from_empty}
-use Rattle.erd_check.proofs.Numbers.{has_numbers, HasNumbers, HaveNumbers, MembersHaveNumbers}
-use Rattle.erd_check.proofs.Shapes.{classed, faultless, of_label, of_role, unrepeated, AsksObject, Within, Within-root, Within-step}
-use Rattle.erd_check.proofs.Members.{get_member-first, get_member-later}
-use Rattle.erd_check.proofs.Sought.{array_empty, fitting_number, is_sought, number_whole, sought_carried, sought_entry, sought_named, IsRight, Sought}
 use Rattle.erd_check.proofs.Steps.{found_all}
+
+-- each number in a value that is kept as a negative one is below zero
+abbrev mutual
+  pub HasNumbers : Data → Type 0
+  HasNumbers (number n) = IsNumber n
+  HasNumbers (array ds) = HaveNumbers ds
+  HasNumbers (object ms) = MembersHaveNumbers ms
+  HasNumbers d = ⊤
+
+  pub HaveNumbers : Items → Type 0
+  HaveNumbers no_items = ⊤
+  HaveNumbers (item d ds) = HasNumbers d × HaveNumbers ds
+
+  pub MembersHaveNumbers : Members → Type 0
+  MembersHaveNumbers no_members = ⊤
+  MembersHaveNumbers (member k d ms) = HasNumbers d × MembersHaveNumbers ms
+
+valid : (m : N) → is_valid m ≡ true → IsNumber (num_of m)
+valid (PosInt n) h = tt
+valid (NegInt (pos n)) h = let below : int_lt (pos n) (pos 0) ≡ false = grind arith in let x : true ≡ false = sym h ∙ below in absurd (true≢false x)
+valid (NegInt z) h = tt
+valid (Float x) h = tt
+
+-- a value with what is known of it
+abbrev Known : Type 0
+Known = (v : Value) × HasNumbers (view v)
+
+items_have : (es : List Known) → HaveNumbers (items_of (map view (map (λ e. e.0) es)))
+items_have [] = tt
+items_have (e ∷ es) = (e.1, items_have es)
+
+members_have : (es : List (String Global × Known)) → MembersHaveNumbers (members_of (map (λ (m : String Global × Value). (m.0, view m.1)) (map (λ (e : String Global × Known). (e.0, e.1.0)) es)))
+members_have [] = tt
+members_have (e ∷ es) = (e.1.1, members_have es)
+
+layer : (y : Value-F Known) → HasNumbers (view_step (map-Value Value Data view (map-Value Known Value (λ e. e.0) y)))
+layer (Value-F.Number n) = valid n.n n.valid
+layer (Value-F.Array v) = items_have v.items
+layer (Value-F.Object m) = members_have m.entries
+layer d = tt
+
+pub has_numbers : (v : Value) → HasNumbers (view v)
+has_numbers =
+    ind-Value (λ v. HasNumbers (view v)) (λ x y is.
+    subst HasNumbers (sym (fold-roll-Value Data view_step x)) (subst (λ z. HasNumbers (view_step (map-Value Value Data view z))) is (layer y)))
+
+-- ---- what is asked of the values of a report, and of a value that gives no reason: its number is whole and in range, and an array of which nothing is asked inside is empty
+
+-- a value that gives no reason
+pub record IsRight (w : Want) (repeated : Bool) (d : Data) : Type 0 where
+  pub none : (r : Reason) → is_shape_fault (asked_with w repeated d) r ≡ false
+
+-- ---- what is asked at the places of a report
+
+-- not of these kinds, of which something else is asked
+abbrev pub is_sought : Want → Bool
+is_sought (Member kind.ClassText required) = false
+is_sought (Member (kind.One f) required) = false
+is_sought (Member kind.Carried required) = false
+is_sought w = true
+
+pub record Sought (o : Option Want) : Type 0 where
+  pub want : Want
+  pub is : o ≡ Some want
+  pub sought : is_sought want ≡ true
+
+abbrev is_untyped : MemberKind → Bool
+is_untyped kind.ClassText = false
+is_untyped k = true
+
+untyped_rows : (c : Class) → list_all (λ m. is_untyped m.kind) (rows_of_class c) ≡ true
+untyped_rows class.ElectionReport = refl
+untyped_rows c = refl
+
+untyped_identity : (c : Class) → is_untyped (kind_of_identity c) ≡ true
+untyped_identity class.ElectionReport = refl
+untyped_identity c = refl
+
+sought_kind : (k : MemberKind) (required : Bool) → is_untyped k ≡ true → is_sought (want_of_kind k required) ≡ true
+sought_kind kind.ClassText required e = cc
+sought_kind k required e = refl
+
+sought_member : (c : Class) (name : List ℕ) → bytes_eq name (codes "@type") ≡ false → is_sought (member_want c name) ≡ true
+sought_member c name other =
+    cond_both (is_report_class c && bytes_eq name (codes "Status")) Status (want_of_kind (kind_of_member c name) (is_required c name)) (λ w. is_sought w ≡ true) (λ is. refl)
+    (λ is. sought_kind (kind_of_member c name) (is_required c name) (kind_of_class is_untyped c name other (untyped_rows c) (untyped_identity c) refl refl))
+
+pub sought_named : (r : Role) (c : Class) (name : List ℕ) → Sought (want_of_name (scope.Members r (Some c)) name)
+sought_named r c name = elim (cases_Bool (bytes_eq name (codes "@type"))) [
+  | inl is ↦ record { want = ClassText r; is = rw is; sought = refl }
+  | inr is ↦ record { want = member_want c name; is = rw is; sought = sought_member c name is }
+]
+
+pub sought_carried : (name : List ℕ) → Sought (want_of_name scope.Carried name)
+sought_carried name = record { want = carried_want name; is = refl; sought = cond_both (bytes_eq name (codes "@id") || is_reference_name name) (Member kind.StrangeIdentity false) Carried (λ w. is_sought w ≡ true) (λ is. refl) (λ is. refl) }
+
+pub sought_entry : (w v : Want) → entry_want w ≡ Some v → is_sought v ≡ true
+sought_entry (Member (kind.Many f) required) v e = let h : Reference f ≡ v = cc in ap is_sought (sym h)
+sought_entry (Member (kind.Keyed f) required) v e = let h : Object (role.OfFamily f) ≡ v = cc in ap is_sought (sym h)
+sought_entry (Member kind.Identifiers required) v e = let h : Object role.Identifier ≡ v = cc in ap is_sought (sym h)
+sought_entry (Member kind.Languages required) v e = let h : Object role.Language ≡ v = cc in ap is_sought (sym h)
+sought_entry (Member kind.Elections required) v e = let h : Object role.Election ≡ v = cc in ap is_sought (sym h)
+sought_entry (Member kind.Content required) v e = let h : Object role.Content ≡ v = cc in ap is_sought (sym h)
+sought_entry (Member kind.Ordered required) v e = let h : Reference family.Selection ≡ v = cc in ap is_sought (sym h)
+sought_entry Carried v e = let h : Carried ≡ v = cc in ap is_sought (sym h)
+sought_entry w v e = cc
+
+-- ---- one value
+
+pub number_whole : (w : Want) (repeated : Bool) (n : Num) → is_sought w ≡ true → IsRight w repeated (number n) → is_float n ≡ false
+number_whole (Member kind.Whole required) repeated n s h = h.none reason.NotWhole
+number_whole Carried repeated n s h = h.none reason.NotWhole
+number_whole (Member kind.Outside required) repeated n s h = let x : true ≡ false = h.none reason.OutsideProfile in cc
+number_whole (Member kind.StrangeReference required) repeated n s h = let x : true ≡ false = h.none reason.UnknownReference in cc
+number_whole (Member kind.StrangeIdentity required) repeated n s h = let x : true ≡ false = h.none reason.CarriedIdentity in cc
+number_whole (Member kind.ClassText required) repeated n s h = cc
+number_whole (Member (kind.One f) required) repeated n s h = cc
+number_whole (Member kind.Carried required) repeated n s h = cc
+number_whole w repeated n s h = let x : true ≡ false = h.none reason.WrongKind in cc
+
+-- an array of which nothing is asked inside has no entry
+no_entry : (ds : Items) → not (is_empty_array (array ds)) ≡ false → ds ≡ no_items
+no_entry no_items e = refl
+no_entry (item d ds) e =
+    let some : (suc (length (list_of_items ds)) == 0) ≡ false = grind arith in
+    let x : true ≡ false = sym (ap not some) ∙ e in
+    cc
+
+pub array_empty : (w : Want) (repeated : Bool) (ds : Items) → is_sought w ≡ true → entry_want w ≡ None → IsRight w repeated (array ds) → ds ≡ no_items
+array_empty (Member kind.Outside required) repeated ds s e h = no_entry ds (h.none reason.OutsideProfile)
+array_empty (Member kind.StrangeReference required) repeated ds s e h = let x : true ≡ false = h.none reason.UnknownReference in cc
+array_empty (Member kind.StrangeIdentity required) repeated ds s e h = let x : true ≡ false = h.none reason.CarriedIdentity in cc
+array_empty (Member kind.ClassText required) repeated ds s e h = cc
+array_empty (Member (kind.One f) required) repeated ds s e h = cc
+array_empty (Member kind.Carried required) repeated ds s e h = cc
+array_empty (Member kind.Identity required) repeated ds s e h = let x : true ≡ false = h.none reason.WrongKind in cc
+array_empty (Member kind.Word required) repeated ds s e h = let x : true ≡ false = h.none reason.WrongKind in cc
+array_empty (Member kind.Label required) repeated ds s e h = let x : true ≡ false = h.none reason.WrongKind in cc
+array_empty (Member kind.Flag required) repeated ds s e h = let x : true ≡ false = h.none reason.WrongKind in cc
+array_empty (Member kind.Whole required) repeated ds s e h = let x : true ≡ false = h.none reason.WrongKind in cc
+array_empty (Member k required) repeated ds s e h = cc
+array_empty Carried repeated ds s e h = cc
+array_empty w repeated ds s e h = let x : true ≡ false = h.none reason.WrongKind in cc
+
+-- of each number that gives no reason it is asked that it is whole
+asks_whole : (w : Want) (repeated : Bool) (n : Num) → is_sought w ≡ true → IsRight w repeated (number n) → wants_whole w ≡ true
+asks_whole (Member kind.Whole required) repeated n s h = refl
+asks_whole Carried repeated n s h = refl
+asks_whole (Member kind.Outside required) repeated n s h = let x : true ≡ false = h.none reason.OutsideProfile in cc
+asks_whole (Member kind.StrangeReference required) repeated n s h = let x : true ≡ false = h.none reason.UnknownReference in cc
+asks_whole (Member kind.StrangeIdentity required) repeated n s h = let x : true ≡ false = h.none reason.CarriedIdentity in cc
+asks_whole (Member kind.ClassText required) repeated n s h = cc
+asks_whole (Member (kind.One f) required) repeated n s h = cc
+asks_whole (Member kind.Carried required) repeated n s h = cc
+asks_whole w repeated n s h = let x : true ≡ false = h.none reason.WrongKind in cc
+
+-- so each such number is whole and fits
+pub fitting_number : (w : Want) (repeated : Bool) (n : Num) → is_sought w ≡ true → IsRight w repeated (number n) → IsAskedInRange w (number n) → IsFittingNumber n
+fitting_number w repeated n s h range = range (asks_whole w repeated n s h) (number_whole w repeated n s h)
 
 -- ---- the members of an object
 

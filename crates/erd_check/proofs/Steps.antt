@@ -1,12 +1,9 @@
 -- The steps inside a value: the names of members, and the positions of entries.
-use Rattle.erd_check.proofs.Common.{◌≡◌, ℕ, suc, ◌+◌, ◌<◌, List, [], ◌∷◌, ◌++◌, length, Some, nat_cmp, is_eq, Less, Equal, sym, ap, ◌∙◌, subst, arith, length-append, tied_itself, nat_list_cmp_total, bytes_eq-Decides, slice_cmp, AllByRecursion, Data, Members, no_members, member, get_member, names}
+use Rattle.erd_check.proofs.Common.{◌≡◌, ℕ, suc, ◌+◌, ◌<◌, List, [], ◌∷◌, ◌++◌, length, Some, nat_cmp, is_eq, Less, Equal, sym, ap, ◌∙◌, subst, arith, length-append, bytes_eq-Decides, slice_cmp, AllByRecursion, Data, Members, no_members, member, get_member, names}
 use Rattle.std.proofs.lemmas.Map.Text.{is_eq-slice_cmp}
-use Rattle.erd_check.proofs.Members.{found_cases}
+use Rattle.erd_check.proofs.Shapes.{found_cases}
 
 -- ---- names
-
-pub same_text : (xs : List ℕ) → slice_cmp nat_cmp xs xs ≡ Equal
-same_text xs = tied_itself nat_list_cmp_total xs
 
 pub text_from_equal : (k l : List ℕ) → slice_cmp nat_cmp k l ≡ Equal → k ≡ l
 text_from_equal k l e = (bytes_eq-Decides k l).0 (sym (is_eq-slice_cmp k l) ∙ ap is_eq e)

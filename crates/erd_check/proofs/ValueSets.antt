@@ -1,5 +1,5 @@
 -- A set of values: one value more, and the value that is tied with a given one.
-use Rattle.erd_check.proofs.Common.{◌≡◌, Bool, true, false, not, ◌||◌, List, [], ◌∷◌, ◌++◌, map, Some, None, find, is_eq, Ordering, Less, Equal, Greater, sym, refl, ap, ◌∙◌, true≢false, or_right, Equal-is, list_any, match_ordering, Data, view, is_same_json, StandsFor, json_cmp}
+use Rattle.erd_check.proofs.Common.{◌≡◌, Bool, true, false, not, ◌||◌, List, [], ◌∷◌, ◌++◌, map, Some, None, find, is_eq, Ordering, Less, Equal, Greater, sym, refl, ap, ◌∙◌, true≢false, or_right, Equal-is, list_any, match_ordering, Data, view, is_same_json, StandsFor, json_cmp, inl, inr, false_from_ne_true, cases_Bool, arith}
 use Rattle.std.specs.BTreeSet.{insert_key}
 use Rattle.std.proofs.lemmas.List.Folds.{list_any-append}
 use Rattle.erd_check.specs.declared.ordered_value.OrderedValue.{OrderedValue}
@@ -16,15 +16,10 @@ value_cmp a b = json_cmp (view a.value.now) (view b.value.now)
 -- ---- one value more
 
 pub or_exchanged : (a b c : Bool) → a || (b || c) ≡ b || (a || c)
-or_exchanged true true c = refl
-or_exchanged true false c = refl
-or_exchanged false b c = refl
+or_exchanged a b c = grind arith
 
 absorbed : (a b c : Bool) → (b ≡ true → a ≡ true) → a || c ≡ b || (a || c)
-absorbed true true c h = refl
-absorbed true false c h = refl
-absorbed false true c h = let clash : false ≡ true = h refl in cc
-absorbed false false c h = refl
+absorbed a b c h = grind arith
 
 put : (vs : List OrderedValue) (v : OrderedValue) (d : Data) → list_any (is_same_json d) (map data_of (insert_key value_cmp vs v)) ≡ is_same_json d (data_of v) || list_any (is_same_json d) (map data_of vs)
 put [] v d = refl
@@ -40,10 +35,7 @@ put (w ∷ vs) v d = at (value_cmp v w) refl (put vs v d)
         rw is (ap (λ b. is_same_json d (data_of w) || b) later ∙ or_exchanged (is_same_json d (data_of w)) (is_same_json d (data_of v)) (list_any (is_same_json d) (map data_of vs)))
 
 swapped : (a b : Bool) → a || b ≡ b || (a || false)
-swapped true true = refl
-swapped true false = refl
-swapped false true = refl
-swapped false false = refl
+swapped a b = grind arith
 
 pub one_more : (s n : ValueSet) (v : OrderedValue) (ds : List Data) → n.ordered.keys ≡ insert_key value_cmp s.ordered.keys v → StandsFor ds s → StandsFor (ds ++ data_of v ∷ []) n
 one_more s n v ds keys h d =
@@ -56,37 +48,27 @@ one_more s n v ds keys h d =
 -- ---- the value that is tied with one
 
 untied : (d e : Data) → is_eq (json_cmp d e) ≡ false → is_same_json d e ≡ false
-untied d e apart = at (is_same_json d e) refl
-  where
-    at : (b : Bool) → is_same_json d e ≡ b → b ≡ false
-    at false is = refl
-    at true is = absurd (true≢false (sym (ap is_eq (same_tied d e is)) ∙ apart))
+untied d e apart = false_from_ne_true (is_same_json d e) (λ is. true≢false (sym (ap is_eq (same_tied d e is)) ∙ apart))
 
 -- a value that is new is equal to none
 pub new_untied : (vs : List OrderedValue) (d : Data) → true ≡ not (list_any (λ v. is_eq (json_cmp d (data_of v))) vs) → list_any (is_same_json d) (map data_of vs) ≡ false
 new_untied [] d e = refl
-new_untied (w ∷ vs) d e = at (is_eq (json_cmp d (data_of w))) refl (new_untied vs d)
-  where
-    at : (b : Bool) → is_eq (json_cmp d (data_of w)) ≡ b → (true ≡ not (list_any (λ v. is_eq (json_cmp d (data_of v))) vs) → list_any (is_same_json d) (map data_of vs) ≡ false) → list_any (is_same_json d) (map data_of (w ∷ vs)) ≡ false
-    at true is later = let clash : true ≡ false = rw is at e in cc
-    at false is later = rw (untied d (data_of w) is) (later (rw is at e))
+new_untied (w ∷ vs) d e = elim (cases_Bool (is_eq (json_cmp d (data_of w)))) [
+  | inl is ↦ let clash : true ≡ false = rw is at e in cc
+  | inr is ↦ rw (untied d (data_of w) is) (new_untied vs d (rw is at e))
+]
 
 -- none is tied
 pub none_tied : (vs : List OrderedValue) (d : Data) → find (λ v. is_eq (json_cmp d (data_of v))) vs ≡ None → list_any (is_same_json d) (map data_of vs) ≡ false
 none_tied [] d e = refl
-none_tied (w ∷ vs) d e = at (is_eq (json_cmp d (data_of w))) refl (none_tied vs d)
-  where
-    at : (b : Bool) → is_eq (json_cmp d (data_of w)) ≡ b → (find (λ v. is_eq (json_cmp d (data_of v))) vs ≡ None → list_any (is_same_json d) (map data_of vs) ≡ false) → list_any (is_same_json d) (map data_of (w ∷ vs)) ≡ false
-    at true is later = let clash : Some w ≡ None = rw is at e in cc
-    at false is later = rw (untied d (data_of w) is) (later (rw is at e))
+none_tied (w ∷ vs) d e = elim (cases_Bool (is_eq (json_cmp d (data_of w)))) [
+  | inl is ↦ let clash : Some w ≡ None = rw is at e in cc
+  | inr is ↦ rw (untied d (data_of w) is) (none_tied vs d (rw is at e))
+]
 
 -- a value that is not equal to itself is equal to none
 unequal_one : (d e : Data) → is_same_json d d ≡ false → is_same_json d e ≡ false
-unequal_one d e own = at (is_same_json d e) refl
-  where
-    at : (b : Bool) → is_same_json d e ≡ b → b ≡ false
-    at true is = absurd (true≢false (sym (same_itself d e is) ∙ own))
-    at false is = refl
+unequal_one d e own = false_from_ne_true (is_same_json d e) (λ is. true≢false (sym (same_itself d e is) ∙ own))
 
 unequal : (vs : List OrderedValue) (d : Data) → is_same_json d d ≡ false → list_any (is_same_json d) (map data_of vs) ≡ false
 unequal [] d own = refl
@@ -95,21 +77,15 @@ unequal (w ∷ vs) d own = rw (unequal_one d (data_of w) own) (unequal vs d own)
 -- a value that is equal to itself is equal to the one that it is tied with
 found : (vs : List OrderedValue) (d : Data) (w : OrderedValue) → is_same_json d d ≡ true → find (λ v. is_eq (json_cmp d (data_of v))) vs ≡ Some w → (list_any (is_same_json d) (map data_of vs) ≡ true) × (is_same_json d (data_of w) ≡ true)
 found [] d w own e = cc
-found (x ∷ xs) d w own e = step (is_eq (json_cmp d (data_of x))) refl (found xs d w own)
-  where
-    step : (b : Bool) → is_eq (json_cmp d (data_of x)) ≡ b → (find (λ v. is_eq (json_cmp d (data_of v))) xs ≡ Some w → (list_any (is_same_json d) (map data_of xs) ≡ true) × (is_same_json d (data_of w) ≡ true))
-        → (list_any (is_same_json d) (map data_of (x ∷ xs)) ≡ true) × (is_same_json d (data_of w) ≡ true)
-    step true is later =
-        let told : Some x ≡ Some w = rw is at e in
-        let one : x ≡ w = cc in
-        let same : is_same_json d (data_of x) ≡ true = tied_same d (data_of x) ((Equal-is (json_cmp d (data_of x))).0 is) own in
-        (ap (λ b. b || list_any (is_same_json d) (map data_of xs)) same, ap (λ v. is_same_json d (data_of v)) (sym one) ∙ same)
-    step false is later = let r = later (rw is at e) in (or_right (is_same_json d (data_of x)) (list_any (is_same_json d) (map data_of xs)) r.0, r.1)
+found (x ∷ xs) d w own e = elim (cases_Bool (is_eq (json_cmp d (data_of x)))) [
+  | inl is ↦
+      let told : Some x ≡ Some w = rw is at e in
+      let one : x ≡ w = cc in
+      let same : is_same_json d (data_of x) ≡ true = tied_same d (data_of x) ((Equal-is (json_cmp d (data_of x))).0 is) own in
+      (ap (λ b. b || list_any (is_same_json d) (map data_of xs)) same, ap (λ v. is_same_json d (data_of v)) (sym one) ∙ same)
+  | inr is ↦ let r = found xs d w own (rw is at e) in (or_right (is_same_json d (data_of x)) (list_any (is_same_json d) (map data_of xs)) r.0, r.1)
+]
 
 -- one is
 pub one_tied : (vs : List OrderedValue) (d : Data) (w : OrderedValue) → find (λ v. is_eq (json_cmp d (data_of v))) vs ≡ Some w → list_any (is_same_json d) (map data_of vs) ≡ is_same_json d (data_of w)
-one_tied vs d w e = at (is_same_json d d) refl
-  where
-    at : (b : Bool) → is_same_json d d ≡ b → list_any (is_same_json d) (map data_of vs) ≡ is_same_json d (data_of w)
-    at true own = let both = found vs d w own e in both.0 ∙ sym both.1
-    at false own = unequal vs d own ∙ sym (unequal_one d (data_of w) own)
+one_tied vs d w e = elim (cases_Bool (is_same_json d d)) [ inl own ↦ (let both = found vs d w own e in both.0 ∙ sym both.1) | inr own ↦ unequal vs d own ∙ sym (unequal_one d (data_of w) own) ]

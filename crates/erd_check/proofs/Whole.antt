@@ -1,11 +1,8 @@
 -- Values in which every number is whole are equal to themselves as JSON.
-use Rattle.erd_check.proofs.Common.{◌≡◌, ℕ, zero, suc, Bool, true, false, not, ◌&&◌, ◌||◌, List, pos, Some, None, codes, bytes_eq, Ordering, Equal, sym, refl, ap, ◌∙◌, subst, not-true, and_parts, and_from, exact_bytes, list_all, Num, unsigned, negative, float, Data, null, boolean, number, string, array, object, Items, no_items, item, Members, no_members, member, get_member, get_item, get, text_of_class, role_of_class, rows_of_class, is_reference_name, kind_of_identity, kind_of_member, is_required, text_cmp, Class, Role, reason, MemberKind, kind, At, Name, is_not_whole, ShapeFault, NoneOf, IsTree, AreTrees, AreMembers, same_number, is_same_json, are_same_items, are_same_members, class_of_object, want_of_kind, is_report_class, carried_want, asked, Carried, Member, Object}
+use Rattle.erd_check.proofs.Common.{◌≡◌, ℕ, zero, suc, Bool, true, false, not, ◌&&◌, ◌||◌, List, pos, Some, None, codes, bytes_eq, Ordering, Equal, sym, refl, ap, ◌∙◌, subst, not-true, and_parts, and_from, exact_bytes, list_all, Num, unsigned, negative, float, Data, null, boolean, number, string, array, object, Items, no_items, item, Members, no_members, member, get_member, get_item, get, text_of_class, role_of_class, rows_of_class, is_reference_name, kind_of_identity, kind_of_member, is_required, text_cmp, Class, Role, reason, MemberKind, kind, At, Name, is_not_whole, ShapeFault, NoneOf, IsTree, AreTrees, AreMembers, same_number, is_same_json, are_same_items, are_same_members, class_of_object, want_of_kind, is_report_class, carried_want, asked, Carried, Member, Object, inl, inr, cases_Bool}
 use Rattle.std.proofs.lemmas.Bool.Decides.{Decides-int_eq}
-use Rattle.erd_check.proofs.Members.{get_member-first, get_member-before}
+use Rattle.erd_check.proofs.Shapes.{get_member-first, get_member-before, string_from_text, Within, Within-step, faultless, wanted_within, classed, Classed, member_within, of_role, kind_of_class, want_unless_status}
 use Rattle.erd_check.proofs.Exact.{text_itself, text_exact, flag_itself}
-use Rattle.erd_check.proofs.Entries.{string_from_text}
-use Rattle.erd_check.proofs.Shapes.{Within, Within-step, faultless, wanted_within, classed, Classed, member_within, of_role}
-use Rattle.erd_check.proofs.TableKinds.{kind_of_class, want_unless_status}
 
 -- a member of the rest is a member
 pub get_member-later : (k q : List ℕ) (d v : Data) (ms : Members) → AreMembers (member k d ms) → get_member q ms ≡ Some v → get_member q (member k d ms) ≡ Some v
@@ -39,11 +36,7 @@ module _ (t : Data) (clean : NoneOf (ShapeFault t)) where
   no_unknown v r w = let h : true ≡ false = faultless t clean (asked (Member kind.StrangeReference r) v) reason.UnknownReference w in cc
 
   carried_member : (name : List ℕ) (v : Data) → Within t (asked (carried_want name) v) → Within t (asked Carried v)
-  carried_member name v = at (bytes_eq name (codes "@id") || is_reference_name name) refl
-    where
-      at : (b : Bool) → (bytes_eq name (codes "@id") || is_reference_name name) ≡ b → Within t (asked (carried_want name) v) → Within t (asked Carried v)
-      at true is w = absurd (no_strange v false (subst (Within t) (rw is) w))
-      at false is w = subst (Within t) (rw is) w
+  carried_member name v w = elim (cases_Bool (bytes_eq name (codes "@id") || is_reference_name name)) [ inl is ↦ absurd (no_strange v false (subst (Within t) (rw is) w)) | inr is ↦ subst (Within t) (rw is) w ]
 
   mutual
     pub carried_itself : (d : Data) → IsTree d → Within t (asked Carried d) → is_same_json d d ≡ true

@@ -1,6 +1,4 @@
 mod DifferenceExamples
-pub mod OrderExamples
 pub mod FirstDifferenceExamples
 mod BallotDifferenceExamples
 mod ElectionDifferenceExamples
-mod DataExamples

@@ -6,5 +6,4 @@ pub mod KeyedRecords
 pub mod RisingKeys
 pub mod SharedRanks
 pub mod KeyWalks
-pub mod WalksByRank
 pub mod PartsInOrder

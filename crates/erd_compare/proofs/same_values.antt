@@ -1,6 +1,5 @@
 pub mod JsonSets
 pub mod ChosenMembers
-pub mod Labels
 pub mod ReferencedKeys
 pub mod EqualOptions
 pub mod MeantValues

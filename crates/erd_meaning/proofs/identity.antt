@@ -4,8 +4,4 @@ pub mod ObjectPlaces
 pub mod ObjectFamilies
 pub mod ToldFaults
 pub mod MetLists
-pub mod MetElections
-pub mod MetSources
-pub mod SeenKeys
 pub mod IdentityFaults
-pub mod Resolved

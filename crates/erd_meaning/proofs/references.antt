@@ -1,9 +1,6 @@
 -- The walk that judges references tells exactly the faults of references.
 pub mod ReferenceFaultLists
-pub mod SelectionEntries
 pub mod ReferenceLookups
-pub mod SelectionsElsewhere
 pub mod SilentWalks
 pub mod ReferenceWalks
-pub mod ReasonsFound
 pub mod ClearArrays  -- arrays of references in which no reason is told

@@ -1,13 +1,11 @@
 -- The tree that is built, part by part: what stands under each name, that it is a tree, and how deep it nests.
 pub mod NormalMembers
-pub mod BuiltMembers
 pub mod NormalTrees
 pub mod NormalDepths
 pub mod NormalGets
 pub mod NormalReports
 pub mod NormalObjects
 pub mod LeastKeys
-pub mod ContentParts
 pub mod NormalEntries
 pub mod BuiltFrom
 pub mod BuiltObjects

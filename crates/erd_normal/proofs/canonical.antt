@@ -1,7 +1,5 @@
 -- The report that is built of an accepted one is accepted, and canonical.
-pub mod Bounds
 pub mod CanonicalIds
-pub mod SelectionTexts
 pub mod DistinctSets
 pub mod RisingReports
 pub mod NormalKeys

@@ -2,11 +2,7 @@
 pub mod EqualTrees
 pub mod CanonicalReports
 pub mod CanonicalExamples
-pub mod CanonicalPartExamples
-pub mod MeaningExamples
-pub mod BallotMeaningExamples
 pub mod RearrangedExamples
 mod StableOrderExamples
-mod NormalTreeExamples
-mod ElectionExamples
+pub mod NormalTreeExamples
 mod PreferencesAgreeExamples

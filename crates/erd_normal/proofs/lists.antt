@@ -7,5 +7,4 @@ pub mod KeyedRanks
 pub mod Lists
 pub mod FoundInParts
 pub mod Matched
-pub mod NumberedParts
 pub mod NumberedKept

@@ -5,6 +5,5 @@ pub mod PartObjects
 pub mod SelectionRanks
 pub mod RankedReferences
 pub mod SelectionReferences
-pub mod NamesInTurn
 pub mod SelectionsInTurn
 pub mod WrittenTrees

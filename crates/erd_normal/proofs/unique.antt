@@ -1,6 +1,4 @@
 -- Canonical reports that mean the same say the same, and are equal.
 pub mod Ids
-pub mod Closed
 pub mod SameTrees
-pub mod NamesAlike
 pub mod Unique

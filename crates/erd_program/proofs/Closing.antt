@@ -1,5 +1,5 @@
 -- What was done with files, from the lists of closed files before they were opened.
-use Rattle.std.proofs.Common.{◌≡◌, ◌++◌, ◌∷◌, ◌∙◌, [], ℕ, List, ap, ap₂, append_assoc}
+use Rattle.std.proofs.Common.{◌≡◌, ◌++◌, ◌∷◌, ◌∙◌, [], ℕ, List, ap, ap₂, append_assoc, subst}
 use Rattle.erd_meaning.specs.Keys.{Preference}
 use Rattle.erd_program.specs.Files.{AreFilesCompared, IsFileCanonicalised, IsFileChecked}
 use Rattle.erd_program.specs.World.{BeforeAfter, Outside, between}
@@ -19,35 +19,13 @@ one_beside a b name x u p is_u = p ∙ ap (λ x. a ++ (name, x) ∷ []) is_u
 
 pub checked_from : {F File I O E : Type 0} {known : Outside F File I O E} {π : Preference} {name : List ℕ} {file : File} {status : ℕ} {a b c : List (List ℕ × File)} {out : BeforeAfter O} {err : BeforeAfter E}
     → b ≡ a → IsFileChecked known π name file status (between b c) out err → IsFileChecked known π name file status (between a c) out err
-checked_from {name = name} e is = record {
-  answer = is.answer;
-  file_left = is.file_left;
-  run = is.run;
-  is_closed = is.is_closed ∙ ap (λ l. l ++ (name, is.file_left) ∷ []) e;
-  status_is = is.status_is;
-  told = is.told;
-}
+checked_from {known = known} {π} {name} {file} {status} {c = c} {out} {err} e is = subst (λ closed. IsFileChecked known π name file status (between closed c) out err) e is
 
 pub canonicalised_from : {F File I O E : Type 0} {known : Outside F File I O E} {π : Preference} {name : List ℕ} {file : File} {status : ℕ} {a b c : List (List ℕ × File)} {out : BeforeAfter O} {err : BeforeAfter E}
     → b ≡ a → IsFileCanonicalised known π name file status (between b c) out err → IsFileCanonicalised known π name file status (between a c) out err
-canonicalised_from {name = name} e is = record {
-  answer = is.answer;
-  file_left = is.file_left;
-  err_left = is.err_left;
-  run = is.run;
-  is_closed = is.is_closed ∙ ap (λ l. l ++ (name, is.file_left) ∷ []) e;
-  status_is = is.status_is;
-  told = is.told;
-}
+canonicalised_from {known = known} {π} {name} {file} {status} {c = c} {out} {err} e is = subst (λ closed. IsFileCanonicalised known π name file status (between closed c) out err) e is
 
 pub compared_from : {F File I O E : Type 0} {known : Outside F File I O E} {π : Preference} {left_name right_name : List ℕ} {left right : File} {status : ℕ} {a b c : List (List ℕ × File)} {out : BeforeAfter O} {err : BeforeAfter E}
     → b ≡ a → AreFilesCompared known π left_name right_name left right status (between b c) out err → AreFilesCompared known π left_name right_name left right status (between a c) out err
-compared_from {left_name = left_name} {right_name = right_name} e is = record {
-  answer = is.answer;
-  left_left = is.left_left;
-  right_left = is.right_left;
-  run = is.run;
-  are_closed = is.are_closed ∙ ap (λ l. l ++ (left_name, is.left_left) ∷ (right_name, is.right_left) ∷ []) e;
-  status_is = is.status_is;
-  told = is.told;
-}
+compared_from {known = known} {π} {left_name} {right_name} {left} {right} {status} {c = c} {out} {err} e is =
+    subst (λ closed. AreFilesCompared known π left_name right_name left right status (between closed c) out err) e is

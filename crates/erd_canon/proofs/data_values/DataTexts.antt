@@ -1,5 +1,5 @@
 -- The texts of the values that calls answer as data.
-use Rattle.erd_canon.proofs.Common.{◌≡◌, ℕ, ◌^◌, ◌<◌, ◌≤◌, false, ◌⊎◌, List, [], ◌++◌, pos, negsuc, Some, codes, IsUtf8, sym, refl, ap, ◌∙◌, subst, inl, inr, append_assoc, arith, digits, signed_decimal, serde_json_on_literals, Num, unsigned, negative, float, Data, number, string, array, object, Items, no_items, item, Members, no_members, member, depth, read, max_depth, number_text, outline, items_outline, members_outline, has_float, compact_text, IsFittingNumber, HasFittingNumbers, ItemsHaveFittingNumbers, MembersHaveFittingNumbers, IsTree, Preference, Difference, refused_data, IsComparison, IsSomeReport, RefusedAs, TellsRefusalAs, AppendsRefusal, IsRefusalAnswer, IsSideAnswer, Refusal, refusal, Outcome, Bad, Good, NotJson}
+use Rattle.erd_canon.proofs.Common.{◌≡◌, ℕ, ◌^◌, ◌<◌, ◌≤◌, false, ◌⊎◌, List, [], ◌++◌, pos, negsuc, Some, codes, IsUtf8, sym, refl, ap, ◌∙◌, subst, inl, inr, append_assoc, arith, Num, unsigned, negative, float, Data, number, string, array, object, Items, no_items, item, Members, no_members, member, depth, read, max_depth, number_text, outline, items_outline, members_outline, has_float, compact_text, IsFittingNumber, HasFittingNumbers, ItemsHaveFittingNumbers, MembersHaveFittingNumbers, IsTree, Preference, digits, serde_json_on_literals, signed_decimal, Difference, refused_data, IsComparison, IsSomeReport, RefusedAs, TellsRefusalAs, AppendsRefusal, IsRefusalAnswer, IsSideAnswer, Refusal, refusal, Outcome, Bad, Good, NotJson}
 use Rattle.std.proofs.lemmas.Bool.{cases_eq}
 use Rattle.serde_json.proofs.Texts.{print-outline}
 use Rattle.json.specs.Lex.{tokens}
@@ -110,16 +110,11 @@ refusal_data : (π : Preference) (bytes : List ℕ) (refused : Refusal) (outcome
     → IsRefusalData π bytes outcome why
 refusal_data π bytes (refusal.Faults faults) Bad why (is, none) tells = (faults, is, tells)
 refusal_data π bytes refusal.NotJson NotJson why not tells = (not, tells)
-refusal_data π bytes (refusal.Faults faults) Good why is tells = absurd tells
-refusal_data π bytes (refusal.Faults faults) NotJson why is tells = absurd tells
-refusal_data π bytes refusal.NotJson Good why is tells = absurd tells
-refusal_data π bytes refusal.NotJson Bad why is tells = absurd tells
-refusal_data π bytes refusal.Memory outcome why is tells = absurd tells
+refusal_data π bytes refused outcome why is tells = absurd tells
 
 check_data : (π : Preference) (bytes : List ℕ) (outcome : Outcome) (why : Data) → IsRefusalData π bytes outcome why → IsCheckData π bytes outcome why
 check_data π bytes Good why is = absurd is
-check_data π bytes Bad why is = is
-check_data π bytes NotJson why is = is
+check_data π bytes outcome why is = is
 
 -- the answer of a check if the bytes are refused
 pub refused_check : (π : Preference) (bytes : List ℕ) (refused : Refusal) (outcome : Outcome) (text : List ℕ) → RefusedAs π bytes refused → IsRefusalAnswer refused outcome text

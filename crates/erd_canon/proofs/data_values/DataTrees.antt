@@ -1,11 +1,11 @@
 -- The values that calls answer as data are trees, nest little, and have no number that is not whole.
-use Rattle.erd_canon.proofs.Common.{◌≡◌, ℕ, ◌≤◌, false, List, [], ◌∷◌, map, Some, None, Option, sym, refl, subst, arith, Data, depth, items_depth, items_of, has_float, items_have_float, Fault, Reason, reason, IsTree, AreTrees, Difference, step_data, fault_data, refused_data, TellsRefusalAs, Refusal, refusal, Outcome, Bad, Good, NotJson}
+use Rattle.erd_canon.proofs.Common.{◌≡◌, ℕ, ◌≤◌, false, List, [], ◌∷◌, map, Some, None, Option, sym, refl, subst, arith, Data, depth, items_depth, items_of, has_float, items_have_float, Reason, reason, IsTree, AreTrees, Fault, Difference, step_data, fault_data, refused_data, TellsRefusalAs, Refusal, refusal, Outcome, Bad, NotJson}
 use Rattle.erd_tables.specs.declared.place.Step.{Step}
 use Rattle.erd_tables.specs.declared.place.Step.TheVariants.{Name, At}
 use Rattle.erd_meaning.specs.declared.keys.key.Key.{Key}
 use Rattle.erd_compare.specs.DifferenceData.{difference_data}
 use Rattle.erd_compare.specs.declared.difference.How.{How}
-use Rattle.erd_compare.specs.declared.difference.How.TheVariants.{OnlyLeft, OnlyRight, OtherClass, Member}
+use Rattle.erd_compare.specs.declared.difference.How.TheVariants.{OnlyLeft}
 use Rattle.erd_compare.specs.declared.difference.Part.{Part}
 
 -- ---- trees
@@ -71,21 +71,12 @@ pub refusal_value : (refused : Refusal) (outcome : Outcome) (value : Data) → T
 refusal_value (refusal.Faults faults) Bad value is =
     subst (λ d. IsTree d × (depth d ≤ 3)) (sym is) (faults_tree faults, omega (arith, faults_depth faults))
 refusal_value refusal.NotJson NotJson value is = subst (λ d. IsTree d × (depth d ≤ 3)) (sym is) (tt, omega arith)
-refusal_value (refusal.Faults faults) Good value is = absurd is
-refusal_value (refusal.Faults faults) NotJson value is = absurd is
-refusal_value refusal.NotJson Good value is = absurd is
-refusal_value refusal.NotJson Bad value is = absurd is
-refusal_value refusal.Memory outcome value is = absurd is
+refusal_value refused outcome value is = absurd is
 
 difference_at : (p : Part) (k : Option Key) (h : How) → let d = difference_data (record { part = p; key = k; how = h }) in (depth d ≤ 2) × (has_float d ≡ false)
 difference_at p None OnlyLeft = (omega arith, refl)
-difference_at p None OnlyRight = (omega arith, refl)
-difference_at p None OtherClass = (omega arith, refl)
-difference_at p None (Member name) = (omega arith, refl)
 difference_at p (Some k) OnlyLeft = (omega arith, refl)
-difference_at p (Some k) OnlyRight = (omega arith, refl)
-difference_at p (Some k) OtherClass = (omega arith, refl)
-difference_at p (Some k) (Member name) = (omega arith, refl)
+difference_at p k h = (omega arith, refl)
 
 -- the object of a difference
 pub difference_value : (d : Difference) → (depth (difference_data d) ≤ 2) × (has_float (difference_data d) ≡ false)

@@ -1,5 +1,5 @@
 -- The answers as data on worked rows, by computation.
-use Rattle.erd_canon.proofs.Common.{◌≡◌, ℕ, List, [], ◌∷◌, map, Some, None, codes, refl, inl, inr, digits, serde_json_on_literals, Data, null, string, read, compact_text, Fault, reason, IsAcceptedReport, fault_data, faults_data, refused_data, comparison_data, Bad, Good, NotJson}
+use Rattle.erd_canon.proofs.Common.{◌≡◌, ℕ, List, [], ◌∷◌, Some, None, codes, refl, inl, inr, digits, serde_json_on_literals, Data, string, read, compact_text, Fault, reason, IsAcceptedReport, faults_data, refused_data, comparison_data, Bad, Good, NotJson}
 use Rattle.erd_tables.specs.declared.place.Step.TheVariants.{Name, At}
 use Rattle.erd_canon.specs.DataAnswers.{IsCheckedData, IsComparedData, IsDataText}
 use Rattle.erd_canon.proofs.examples.EngineExamples.{no_bytes, null_refused, root_kind}

@@ -1,5 +1,5 @@
 -- What the engines write for bytes that are no JSON, and for the JSON `null`, which has one fault.
-use Rattle.erd_canon.proofs.Common.{◌≡◌, ℕ, zero, suc, List, [], ◌∷◌, None, codes, Contains, refl, subst, inl, inr, arith, lit<, serde_json_on_literals, Data, null, fault_cmp, Fault, Reason, reason, IsFault, IsNotJson, IsAcceptedReport, IsRefusal, IsCheckText, IsCanonicalOutput, IsCanonicalErrors, IsCompareText, IsRefusedReport, IsCompared, Bad, Good, NotJson}
+use Rattle.erd_canon.proofs.Common.{◌≡◌, ℕ, zero, suc, List, [], ◌∷◌, None, codes, Contains, refl, subst, inl, inr, arith, lit<, Data, null, Reason, reason, fault_cmp, Fault, IsFault, serde_json_on_literals, IsNotJson, IsAcceptedReport, IsRefusal, IsCheckText, IsCanonicalOutput, IsCanonicalErrors, IsCompareText, IsRefusedReport, IsCompared, Bad, Good, NotJson}
 use Rattle.std.proofs.lemmas.Option.{none-some}
 use Rattle.std.specs.List.Sorted.{IsStrictlySortedBy}
 use Rattle.erd_tables.specs.declared.place.Step.{Step}
@@ -47,23 +47,7 @@ root_kind = record { place = []; reason = reason.WrongKind }
 fault_is : (p : List Step) (r : Reason) → ShapeFault null p r → root_kind ≡ record { place = p; reason = r }
 unfolding root_kind
 fault_is [] reason.WrongKind h = refl
-fault_is [] (reason.MissingMember name) h = absurd (cc h)
-fault_is [] reason.WrongClassText h = absurd (cc h)
-fault_is [] reason.NotWhole h = absurd (cc h)
-fault_is [] reason.OutsideProfile h = absurd (cc h)
-fault_is [] reason.UnknownReference h = absurd (cc h)
-fault_is [] reason.CarriedIdentity h = absurd (cc h)
-fault_is [] reason.NotPreElection h = absurd (cc h)
-fault_is [] reason.ElectionCount h = absurd (cc h)
-fault_is [] reason.EmptyArray h = absurd (cc h)
-fault_is [] reason.Repeated h = absurd (cc h)
-fault_is [] reason.NoIdentifier h = absurd (cc h)
-fault_is [] reason.TwinIdentifier h = absurd (cc h)
-fault_is [] reason.DuplicateId h = absurd (cc h)
-fault_is [] reason.Unresolved h = absurd (cc h)
-fault_is [] reason.WrongFamily h = absurd (cc h)
-fault_is [] reason.SelectionOfOtherContest h = absurd (cc h)
-fault_is [] reason.TwinSelection h = absurd (cc h)
+fault_is [] r h = absurd (cc h)
 fault_is (s ∷ ss) r h = absurd h
 
 listed : (f : Fault) → Contains (root_kind ∷ []) f → IsFault None null f.place f.reason

@@ -1,9 +1,9 @@
 -- The report of one unit as bytes: it is accepted, these are its canonical bytes, and the engines write these texts.
 use Rattle.erd_canon.proofs.Common.{[], None, codes, sym, refl, inl, inr, digits, serde_json_on_literals, IsTreeOf, IsAcceptedReport, IsCanonicalBytes, IsCheckText, IsCanonicalOutput, IsCanonicalErrors, IsCompareText, IsComparison}
 use Rattle.erd_check.proofs.Reports.{one_unit, tree_of}
-use Rattle.erd_meaning.proofs.examples.AcceptedExamples.{one_unit_is_accepted}
-use Rattle.erd_normal.proofs.examples.CanonicalReports.{form_of_one_unit, one_unit_canonical_is_accepted, one_unit_is_canonical}
-use Rattle.erd_normal.proofs.examples.MeaningExamples.{canonical_means_the_same, one_unit_canonical}
+use Rattle.erd_normal.proofs.examples.CanonicalReports.{form_of_one_unit}
+use Rattle.erd_normal.proofs.examples.NormalTreeExamples.{one_unit_canonical}
+use Rattle.erd_meaning.proofs.examples.RefusedExamples.{one_unit_is_accepted}
 
 tree_of_one_unit : IsTreeOf one_unit (tree_of one_unit)
 unfolding serde_json_on_literals
@@ -17,7 +17,7 @@ accepted : IsAcceptedReport None one_unit (tree_of one_unit)
 accepted = record { read = tree_of_one_unit; accepted = one_unit_is_accepted }
 
 canonical_accepted : IsAcceptedReport None one_unit_canonical (tree_of one_unit_canonical)
-canonical_accepted = record { read = tree_of_canonical; accepted = one_unit_canonical_is_accepted }
+canonical_accepted = record { read = tree_of_canonical; accepted = form_of_one_unit.canonical.accepted }
 
 canonical_bytes : IsCanonicalBytes None one_unit one_unit_canonical
 unfolding serde_json_on_literals digits
@@ -37,7 +37,7 @@ own_form = record {
   report = tree_of one_unit_canonical;
   is_accepted = canonical_accepted;
   tree = tree_of one_unit_canonical;
-  is_canonical = record { canonical = one_unit_is_canonical; same = refl };
+  is_canonical = record { canonical = form_of_one_unit.canonical; same = refl };
   written = refl;
   reads_back = tree_of_canonical;
 }
@@ -58,7 +58,7 @@ comparison = record {
   right_tree = tree_of one_unit_canonical;
   left_accepted = accepted;
   right_accepted = canonical_accepted;
-  difference = sym canonical_means_the_same;
+  difference = sym form_of_one_unit.same;
 }
 
 compared : IsCompareText None one_unit one_unit_canonical (codes "same\n")

@@ -1,9 +1,11 @@
 -- Canonical bytes are equal exactly for equal meanings, and for reports that say the same. They are their own canonical bytes, and those of each rearrangement.
-use Rattle.erd_canon.proofs.Common.{◌≡◌, ℕ, List, sym, refl, ap, ◌∙◌, subst, Data, compact_text, IsAccepted, Preference, meaning, IsTreeOf, IsCanonicalBytes}
+use Rattle.erd_canon.proofs.Common.{◌≡◌, ℕ, List, sym, refl, ap, ◌∙◌, subst, arith, Data, compact_text, IsShallow, IsNoDeeper, IsAccepted, Preference, meaning, IsTreeOf, IsCanonicalBytes}
 use Rattle.erd_check.proofs.ReadTrees.{read_is_tree}
 use Rattle.erd_normal.proofs.rearranged.RearrangedReports.{rearranged_means_the_same}
 use Rattle.erd_normal.proofs.same.complete.Complete.{says_and_means}
 use Rattle.erd_normal.proofs.unique.Unique.{unique}
+use Rattle.erd_normal.specs.Canonical.{IsCanonicalFormOf}
+use Rattle.erd_normal.specs.CanonicalText.{IsCanonicalText}
 use Rattle.erd_normal.specs.Laws.{MeanAlike}
 use Rattle.erd_canon.proofs.forms.Refusing.{one_tree}
 use Rattle.erd_canon.specs.ByteLaws.{OneFormForOneMeaning, IsItsOwnForm, SameFormWhenRearranged}
@@ -89,4 +91,15 @@ headline π b c k = record {
   equal_sayings = equal_sayings π b c k;
   own_form = is_its_own_form π b c k;
   rearranged = same_form_when_rearranged π b c k;
+}
+
+-- the text of the canonical form of what was read, which is the report r
+pub canonical_text : (π : Preference) (b : List ℕ) (t r : Data) (text : List ℕ) → IsTreeOf b t → IsAccepted π t → IsShallow t → r ≡ t → IsCanonicalText π r text → IsCanonicalBytes π b text
+canonical_text π b t r text is_read accepted shallow same form = record {
+  report = t;
+  is_accepted = record { read = is_read; accepted = accepted };
+  tree = form.tree;
+  is_canonical = subst (λ d. IsCanonicalFormOf π d form.tree) same form.form;
+  written = form.written;
+  reads_back = (form.utf8, form.reads_back (let deep = subst (IsNoDeeper form.tree) same form.no_deeper in omega (arith, shallow, deep)));
 }

@@ -58,81 +58,36 @@ type_passes x xs = ap (λ (b : Bool). ((b && true) && true) && true) (lt-ltb 0 (
 
 -- ---- one file
 
-one_passes-check : (prefer : Option Text) (word : Text) → IsPreferenceWord prefer
-    → ((step_passes (subcommand 0) 1 (held_first prefer) value && true) && ends (subcommand 0) (first (subcommand 0) (held_first prefer) word).held) ≡ true
+-- the subcommand of this place and name takes one file after a preference
+record TakesFile (i : ℕ) (name : Text) (prefer : Option Text) : Type 0 where
+  passes : (word : Text) → IsPreferenceWord prefer
+      → ((step_passes (subcommand i) 1 (held_first prefer) value && true) && ends (subcommand i) (first (subcommand i) (held_first prefer) word).held) ≡ true
+  enters : (program_name word : Text) → takes program (program_name ∷ name ∷ (preference_words prefer ++ word ∷ []))
+      ≡ (level_passes (subcommand i) [] nothing_held (preference_words prefer ++ word ∷ []) false && true)
+  named : (program_name word : Text) → subcommand_of program (program_name ∷ name ∷ (preference_words prefer ++ word ∷ []))
+      ≡ Some (name, rows_after (subcommand i).rules [] (preference_words prefer ++ word ∷ []))
+  words : (word : Text) → (first_of (codes "FILE") (rows_one i prefer word) ≡ Some word) × (first_of (codes "TYPE") (rows_one i prefer word) ≡ prefer)
+
+check_takes : (prefer : Option Text) → TakesFile 0 (codes "check") prefer
 unfolding clap_on_literals
-one_passes-check None word h = refl
-one_passes-check (Some []) word h = absurd h
-one_passes-check (Some (x ∷ xs)) word h = type_passes x xs
+check_takes None = record { passes = λ word h. refl; enters = λ name word. refl; named = λ name word. refl; words = λ word. (refl, refl) }
+check_takes (Some []) = record { passes = λ word h. absurd h; enters = λ name word. refl; named = λ name word. refl; words = λ word. (refl, refl) }
+check_takes (Some (x ∷ xs)) = record { passes = λ word h. type_passes x xs; enters = λ name word. refl; named = λ name word. refl; words = λ word. (refl, refl) }
 
-enters-check : (name word : Text) (prefer : Option Text)
-    → takes program (name ∷ codes "check" ∷ (preference_words prefer ++ word ∷ []))
-    ≡ (level_passes (subcommand 0) [] nothing_held (preference_words prefer ++ word ∷ []) false && true)
+canon_takes : (prefer : Option Text) → TakesFile 1 (codes "canon") prefer
 unfolding clap_on_literals
-enters-check name word None = refl
-enters-check name word (Some type) = refl
+canon_takes None = record { passes = λ word h. refl; enters = λ name word. refl; named = λ name word. refl; words = λ word. (refl, refl) }
+canon_takes (Some []) = record { passes = λ word h. absurd h; enters = λ name word. refl; named = λ name word. refl; words = λ word. (refl, refl) }
+canon_takes (Some (x ∷ xs)) = record { passes = λ word h. type_passes x xs; enters = λ name word. refl; named = λ name word. refl; words = λ word. (refl, refl) }
 
-pub takes-check : (name word : Text) (prefer : Option Text) → IsPlainWord word → IsPreferenceWord prefer
-    → takes program (name ∷ codes "check" ∷ (preference_words prefer ++ word ∷ [])) ≡ true
-takes-check name word prefer plain h =
-    enters-check name word prefer
-    ∙ ap (λ b. b && true) (level_preferring (subcommand 0) prefer (word ∷ []) check_prefers h ∙ (level_one (subcommand 0) (held_first prefer) word plain ∙ one_passes-check prefer word h))
+module _ (i : ℕ) (name : Text) (knows : Prefers (subcommand i)) (prefer : Option Text) (file : TakesFile i name prefer) (program_name word : Text) (plain : IsPlainWord word) (h : IsPreferenceWord prefer) where
+  takes-file : takes program (program_name ∷ name ∷ (preference_words prefer ++ word ∷ [])) ≡ true
+  takes-file =
+      file.enters program_name word
+      ∙ ap (λ b. b && true) (level_preferring (subcommand i) prefer (word ∷ []) knows h ∙ (level_one (subcommand i) (held_first prefer) word plain ∙ file.passes word h))
 
-names-check : (name word : Text) (prefer : Option Text)
-    → subcommand_of program (name ∷ codes "check" ∷ (preference_words prefer ++ word ∷ []))
-    ≡ Some (codes "check", rows_after (subcommand 0).rules [] (preference_words prefer ++ word ∷ []))
-unfolding clap_on_literals
-names-check name word None = refl
-names-check name word (Some type) = refl
-
-pub check_found : (name word : Text) (prefer : Option Text) → IsPlainWord word → IsPreferenceWord prefer
-    → subcommand_of program (name ∷ codes "check" ∷ (preference_words prefer ++ word ∷ [])) ≡ Some (codes "check", rows_one 0 prefer word)
-check_found name word prefer plain h =
-    names-check name word prefer ∙ ap (λ (r : List Row). Some (codes "check", r)) (one_found 0 prefer word check_prefers h plain)
-
-pub check_words : (prefer : Option Text) (word : Text)
-    → (first_of (codes "FILE") (rows_one 0 prefer word) ≡ Some word) × (first_of (codes "TYPE") (rows_one 0 prefer word) ≡ prefer)
-unfolding clap_on_literals
-check_words None word = (refl, refl)
-check_words (Some type) word = (refl, refl)
-
-one_passes-canon : (prefer : Option Text) (word : Text) → IsPreferenceWord prefer
-    → ((step_passes (subcommand 1) 1 (held_first prefer) value && true) && ends (subcommand 1) (first (subcommand 1) (held_first prefer) word).held) ≡ true
-unfolding clap_on_literals
-one_passes-canon None word h = refl
-one_passes-canon (Some []) word h = absurd h
-one_passes-canon (Some (x ∷ xs)) word h = type_passes x xs
-
-enters-canon : (name word : Text) (prefer : Option Text)
-    → takes program (name ∷ codes "canon" ∷ (preference_words prefer ++ word ∷ []))
-    ≡ (level_passes (subcommand 1) [] nothing_held (preference_words prefer ++ word ∷ []) false && true)
-unfolding clap_on_literals
-enters-canon name word None = refl
-enters-canon name word (Some type) = refl
-
-pub takes-canon : (name word : Text) (prefer : Option Text) → IsPlainWord word → IsPreferenceWord prefer
-    → takes program (name ∷ codes "canon" ∷ (preference_words prefer ++ word ∷ [])) ≡ true
-takes-canon name word prefer plain h =
-    enters-canon name word prefer
-    ∙ ap (λ b. b && true) (level_preferring (subcommand 1) prefer (word ∷ []) canon_prefers h ∙ (level_one (subcommand 1) (held_first prefer) word plain ∙ one_passes-canon prefer word h))
-
-names-canon : (name word : Text) (prefer : Option Text)
-    → subcommand_of program (name ∷ codes "canon" ∷ (preference_words prefer ++ word ∷ []))
-    ≡ Some (codes "canon", rows_after (subcommand 1).rules [] (preference_words prefer ++ word ∷ []))
-unfolding clap_on_literals
-names-canon name word None = refl
-names-canon name word (Some type) = refl
-
-pub canon_found : (name word : Text) (prefer : Option Text) → IsPlainWord word → IsPreferenceWord prefer
-    → subcommand_of program (name ∷ codes "canon" ∷ (preference_words prefer ++ word ∷ [])) ≡ Some (codes "canon", rows_one 1 prefer word)
-canon_found name word prefer plain h =
-    names-canon name word prefer ∙ ap (λ (r : List Row). Some (codes "canon", r)) (one_found 1 prefer word canon_prefers h plain)
-
-pub canon_words : (prefer : Option Text) (word : Text)
-    → (first_of (codes "FILE") (rows_one 1 prefer word) ≡ Some word) × (first_of (codes "TYPE") (rows_one 1 prefer word) ≡ prefer)
-unfolding clap_on_literals
-canon_words None word = (refl, refl)
-canon_words (Some type) word = (refl, refl)
+  file_found : subcommand_of program (program_name ∷ name ∷ (preference_words prefer ++ word ∷ [])) ≡ Some (name, rows_one i prefer word)
+  file_found = file.named program_name word ∙ ap (λ (r : List Row). Some (name, r)) (one_found i prefer word knows h plain)
 
 -- ---- two files
 
@@ -224,16 +179,18 @@ compare_words (Some type) left right = (refl, (refl, refl))
 
 pub takes-line : (request : Request) (name : Text) → HasPlainWords request → takes program (name ∷ words_of request) ≡ true
 takes-line Filter name h = takes-none name
-takes-line (Check file prefer) name h = takes-check name file prefer (file_plain file h.0) h.1
-takes-line (Canon file prefer) name h = takes-canon name file prefer (file_plain file h.0) h.1
+takes-line (Check file prefer) name h = takes-file 0 (codes "check") check_prefers prefer (check_takes prefer) name file (file_plain file h.0) h.1
+takes-line (Canon file prefer) name h = takes-file 1 (codes "canon") canon_prefers prefer (canon_takes prefer) name file (file_plain file h.0) h.1
 takes-line (Compare left right prefer) name h = takes-compare name left right prefer (file_plain left h.0) (file_plain right h.1) h.2
 
 pub line_found : (request : Request) (name : Text) → HasPlainWords request → IsAskedBy (subcommand_of program (name ∷ words_of request)) request
 line_found Filter name h = subst (λ (o : Option (Text × List Row)). IsAskedBy o Filter) (sym (none_found name)) tt
 line_found (Check file prefer) name h =
-    subst (λ (o : Option (Text × List Row)). IsAskedBy o (Check file prefer)) (sym (check_found name file prefer (file_plain file h.0) h.1)) (refl, check_words prefer file)
+    subst (λ (o : Option (Text × List Row)). IsAskedBy o (Check file prefer)) (sym (file_found 0 (codes "check") check_prefers prefer (check_takes prefer) name file (file_plain file h.0) h.1))
+    (refl, (check_takes prefer).words file)
 line_found (Canon file prefer) name h =
-    subst (λ (o : Option (Text × List Row)). IsAskedBy o (Canon file prefer)) (sym (canon_found name file prefer (file_plain file h.0) h.1)) (refl, canon_words prefer file)
+    subst (λ (o : Option (Text × List Row)). IsAskedBy o (Canon file prefer)) (sym (file_found 1 (codes "canon") canon_prefers prefer (canon_takes prefer) name file (file_plain file h.0) h.1))
+    (refl, (canon_takes prefer).words file)
 line_found (Compare left right prefer) name h =
     subst (λ (o : Option (Text × List Row)). IsAskedBy o (Compare left right prefer))
     (sym (compare_found name left right prefer (file_plain left h.0) (file_plain right h.1) h.2)) (refl, compare_words prefer left right)

@@ -4,17 +4,16 @@ use Rattle.erd_meaning.specs.Meaning.{Meaning, ObjectRecord}
 use Rattle.erd_check.proofs.ReadTrees.{read_is_tree}
 use Rattle.erd_normal.proofs.same.complete.Complete.{preferences_agree, says_and_means}
 use Rattle.erd_compare.specs.declared.difference.How.{How}
-use Rattle.erd_compare.specs.declared.difference.How.TheVariants.{Member, OnlyLeft, OnlyRight, OtherClass}
+use Rattle.erd_compare.specs.declared.difference.How.TheVariants.{Member, OtherClass}
 use Rattle.erd_canon.specs.ByteLaws.{AgreesUnderEach, TellsWhatIsSaid}
 use Rattle.erd_canon.proofs.forms.Refusing.{one_tree}
 
 -- no record differs from itself
 not_itself : (r : Option ObjectRecord) (how : How) → Differ r r how → ⊥
 not_itself None how is = is
-not_itself (Some a) OnlyLeft is = is
-not_itself (Some a) OnlyRight is = is
 not_itself (Some a) OtherClass is = is refl
 not_itself (Some a) (Member name) is = is.differ refl
+not_itself (Some a) how is = is
 
 -- nothing differs exactly if the meanings are equal
 none_differs : (m n : Meaning) (found : Option Difference) → IsDifference m n found → (found ≡ None) ↔ (m ≡ n)

@@ -1,5 +1,6 @@
 -- What checking and canonicalising write is what they are to write.
-use Rattle.erd_canon.proofs.Common.{◌≡◌, ℕ, List, [], ◌∷◌, map, IfOk, OnOk, Ok, Err, codes, Option, Result, sym, refl, subst, inl, inr, Appends, fault_line, Fault, Preference, text_of_lines, IsCheckText, IsCanonicalOutput, IsCanonicalErrors, IsRefusedReport, IsReadWhole, IsChecked, IsAnswered, IsAnswerWritten, IsCheckWritten, IsToldCheck, IsToldRun, IsWholeCheck, IsWholeRun, Outcome, Bad, Good, NotJson, RunFault}
+use Rattle.erd_canon.proofs.Common.{◌≡◌, ℕ, List, [], ◌∷◌, map, OnOk, codes, Option, sym, refl, subst, inl, inr, Preference, ◌≢◌, IfOk, Ok, Err, Result, Fault, IsErrAnd, Appends, fault_line, text_of_lines, IsCheckText, IsCanonicalOutput, IsCanonicalErrors, IsRefusedReport, IsReadWhole, IsChecked, IsAnswered, IsAnswerWritten, IsCheckWritten, IsToldCheck, IsToldRun, Outcome, Bad, Good, NotJson, RunFault}
+use Rattle.erd_canon.specs.declared.engines.outcome.RunFault.TheVariants.{Write}
 use Rattle.erd_canon.proofs.forms.Refusing.{refused_is_none}
 
 -- the text of a check
@@ -16,45 +17,28 @@ answered_texts π bytes Bad out err ((faults, refused, is), none) =
 answered_texts π bytes NotJson out err ((not, is), none) =
     (inr (λ t accepted. not t accepted.read, none), inr (codes "not JSON" ∷ [], inl (not, refl), is))
 
--- a whole check
-pub told_check : (π : Preference) (limit : ℕ) (outcome : Outcome) (before after out_before out_after : Option (List ℕ)) → IsWholeCheck π limit outcome before after out_before out_after
-    → IsToldCheck π limit before after out_before out_after
-told_check π limit outcome before after out_before out_after run = record {
-  input = run.input;
-  text = run.written.text;
-  whole = run.whole;
-  is_text = checked_text π run.input outcome run.written.text run.written.checked;
-  wrote = run.written.wrote;
-}
-
--- a whole run
-pub told_run : (π : Preference) (limit : ℕ) (outcome : Outcome) (before after out_before out_after err_before err_after : Option (List ℕ))
-    → IsWholeRun π limit outcome before after out_before out_after err_before err_after → IsToldRun π limit before after out_before out_after err_before err_after
-told_run π limit outcome before after out_before out_after err_before err_after run =
-    let texts = answered_texts π run.input outcome run.written.out_text run.written.err_text run.written.answered in
-    record {
-      input = run.input;
-      out_text = run.written.out_text;
-      err_text = run.written.err_text;
-      whole = run.whole;
-      output = texts.0;
-      errors = texts.1;
-      wrote_out = run.written.wrote_out;
-      wrote_err = run.written.wrote_err;
-    }
-
 -- where an answer holds a whole check
 pub told_of_check : (π : Preference) (limit : ℕ) (r : Result Outcome RunFault) (bytes : List ℕ) (before after out_before out_after : Option (List ℕ)) → IsReadWhole limit before after bytes
     → IfOk r (λ outcome. IsCheckWritten π bytes outcome out_before out_after) → IfOk r (λ outcome. IsToldCheck π limit before after out_before out_after)
 told_of_check π limit (Ok outcome) bytes before after out_before out_after whole written =
-    told_check π limit outcome before after out_before out_after (record { input = bytes; whole = whole; written = written })
+    record { input = bytes; text = written.text; whole = whole; is_text = checked_text π bytes outcome written.text written.checked; wrote = written.wrote }
 told_of_check π limit (Err fault) bytes before after out_before out_after whole written = tt
 
 -- where an answer holds a whole run
 pub told_of_run : (π : Preference) (limit : ℕ) (r : Result Outcome RunFault) (bytes : List ℕ) (before after out_before out_after err_before err_after : Option (List ℕ)) → IsReadWhole limit before after bytes
     → IfOk r (λ outcome. IsAnswerWritten π bytes outcome out_before out_after err_before err_after) → IfOk r (λ outcome. IsToldRun π limit before after out_before out_after err_before err_after)
 told_of_run π limit (Ok outcome) bytes before after out_before out_after err_before err_after whole written =
-    told_run π limit outcome before after out_before out_after err_before err_after (record { input = bytes; whole = whole; written = written })
+    let texts = answered_texts π bytes outcome written.out_text written.err_text written.answered in
+    record {
+      input = bytes;
+      out_text = written.out_text;
+      err_text = written.err_text;
+      whole = whole;
+      output = texts.0;
+      errors = texts.1;
+      wrote_out = written.wrote_out;
+      wrote_err = written.wrote_err;
+    }
 told_of_run π limit (Err fault) bytes before after out_before out_after err_before err_after whole written = tt
 
 -- where an answer holds that the lines of all faults were written
@@ -80,3 +64,8 @@ check_faults_written π bytes text faults (Ok outcome) out_before out_after refu
   wrote = wrote;
 }
 check_faults_written π bytes text faults (Err fault) out_before out_after refused text_is outcome_is wrote = tt
+
+-- a run that ended by another fault has no failed write
+pub not_of_fault : (r : Result Outcome RunFault) (fault : RunFault) → IsErrAnd r (λ found. found ≡ fault) → fault ≢ Write → r ≡ Err Write → ⊥
+not_of_fault (Ok outcome) fault is other e = absurd is
+not_of_fault (Err found) fault is other e = other cc

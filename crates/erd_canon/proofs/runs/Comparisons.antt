@@ -1,5 +1,5 @@
 -- What a comparison of two accepted reports answers, and what is written of it.
-use Rattle.erd_canon.proofs.Common.{◌≡◌, ℕ, List, [], ◌∷◌, map, IfOk, OnOk, Some, Ok, Err, codes, Option, Result, refl, subst, inl, inr, Appends, Data, fault_line, IsAccepted, Preference, meaning, IsDifference, Difference, IsTreeOf, text_of_lines, IsRefusal, lines_of_side, IsCompareText, IsComparison, IsReadWhole, IsSomeReport, RefusedAs, IsSideRefused, IsCompared, IsCompareWritten, IsToldCompare, Refusal, refusal, Outcome, Bad, Good, NotJson, RunFault}
+use Rattle.erd_canon.proofs.Common.{◌≡◌, ℕ, List, [], ◌∷◌, map, OnOk, Some, codes, Option, refl, subst, inl, inr, Data, IsAccepted, Preference, meaning, IfOk, Ok, Err, Result, IsDifference, Appends, fault_line, Difference, IsTreeOf, text_of_lines, IsRefusal, lines_of_side, IsCompareText, IsComparison, IsReadWhole, IsSomeReport, RefusedAs, IsSideRefused, IsCompared, IsCompareWritten, IsToldCompare, Refusal, refusal, Outcome, Bad, Good, NotJson, RunFault}
 use Rattle.erd_compare.specs.DifferenceLine.{difference_line}
 use Rattle.erd_canon.specs.code.SideRefusals.{IsRefusalWritten, TellsRefusal}
 
@@ -19,11 +19,7 @@ pub side_refused : (π : Preference) (side bytes : List ℕ) (refused : Refusal)
     → IsSideRefused π side bytes outcome text
 side_refused π side bytes (refusal.Faults faults) Bad text (refused, none) is = (faults, refused, is)
 side_refused π side bytes refusal.NotJson NotJson text not is = (not, is)
-side_refused π side bytes (refusal.Faults faults) Good text refused is = absurd is
-side_refused π side bytes (refusal.Faults faults) NotJson text refused is = absurd is
-side_refused π side bytes refusal.NotJson Good text not is = absurd is
-side_refused π side bytes refusal.NotJson Bad text not is = absurd is
-side_refused π side bytes refusal.Memory outcome text unsaid is = absurd is
+side_refused π side bytes refused outcome text said is = absurd is
 
 -- where an answer holds what was written of the refusal of the left bytes
 pub left_refusal_written : (π : Preference) (left right : List ℕ) (refused : Refusal) (r : Result Outcome RunFault) (before after : Option (List ℕ)) → RefusedAs π left refused

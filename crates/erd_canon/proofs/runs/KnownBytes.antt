@@ -1,5 +1,6 @@
 -- What a loop of reads or writes keeps of the known bytes.
-use Rattle.erd_canon.proofs.Common.{◌≡◌, ℕ, ◌+◌, ◌<◌, ◌≤◌, Bool, false, List, ◌++◌, length, take, drop, Option, sym, subst, arith, length-append, take-add, Appends, Consumes, Exceeds}
+use Rattle.erd_canon.proofs.Common.{◌≡◌, ℕ, ◌+◌, ◌<◌, ◌≤◌, Bool, false, List, ◌++◌, length, take, drop, Option, sym, subst, arith, length-append, take-add, Appends, Consumes, Exceeds, IsReadWhole}
+use Rattle.std.specs.Io.KnownBytes.{IsAtEnd}
 use Rattle.std.proofs.KnownBytes.{Appends-trans, Consumes-trans}
 
 -- the reads so far: no more bytes than the limit, each read gave one at least, and none failed
@@ -18,3 +19,7 @@ Appends-more a b c xs i n p q = subst (Appends a c) (sym (take-add i n xs)) (App
 -- more bytes than the limit
 pub Exceeds-more : (limit : ℕ) (a b c : Option (List ℕ)) (xs more : List ℕ) → Consumes a b xs → Consumes b c more → limit < length xs + length more → Exceeds limit a c
 Exceeds-more limit a b c xs more p q lt = (xs ++ more, Consumes-trans a b c xs more p q, omega (arith, length-append xs more))
+
+-- a reader was read to its end
+pub read_whole : {limit n : ℕ} {before after : Option (List ℕ)} {bytes : List ℕ} → Consumes before after bytes × IsAtEnd after → n ≡ length bytes → n ≤ limit → IsReadWhole limit before after bytes
+read_whole {limit} all same few = record { came = all.0; ended = all.1; in_limit = subst (λ m. m ≤ limit) same few }

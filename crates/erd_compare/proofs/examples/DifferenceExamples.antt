@@ -1,21 +1,30 @@
--- Differences of the small ballot and edits of it, and the lines that tell them, by computation.
-use Rattle.erd_compare.proofs.Common.{◌≡◌, ℕ, true, false, List, [], ◌∷◌, ◌++◌, map, is_some, Some, None, codes, Option, option_map, refl, serde_json_on_literals, tree_of, small_ballot_with, header_node, contest_node, small_ballot, local_key, MemberValue, ObjectRecord, Meaning, meaning, Key, part_cmp, record_at, Differ, Difference, How, Member, OnlyLeft, OnlyRight, OtherClass, Part, part}
-use Rattle.std.specs.declared.cmp.Ordering.TheVariants.{Less}
-use Rattle.erd_compare.proofs.examples.OrderExamples.{begins_with_header}
+-- Differences of the small ballot and edits of it, and the lines and JSON objects that tell differences, by computation.
+use Rattle.erd_compare.proofs.Common.{◌≡◌, ℕ, true, false, List, [], ◌∷◌, ◌++◌, map, is_some, Some, None, codes, Option, Less, refl, compact_text, tree_of, small_ballot_with, header_node, contest_node, small_ballot, ObjectRecord, meaning, serde_json_on_literals, local_key, Meaning, Key, part_cmp, record_at, Differ, Difference, How, Member, OnlyLeft, OnlyRight, OtherClass, Part, part}
+use Rattle.erd_compare.specs.DifferenceData.{difference_data}
 use Rattle.erd_compare.specs.DifferenceLine.{difference_line}
 use Rattle.erd_tables.specs.declared.class.Class.TheVariants as class
 
--- ---- lines
+-- ---- lines and objects
 
 abbrev difference : Part → Option Key → How → Difference
 difference p k h = record { part = p; key = k; how = h }
 
 lines : map difference_line (difference part.Style (Some (local_key (codes "S1"))) (Member (codes "OrderedContent")) ∷ difference part.Candidate (Some (local_key (codes "K3"))) OnlyLeft
-    ∷ difference part.Unit (Some (local_key (codes "a\"b"))) OnlyRight ∷ difference part.Report None (Member (codes "IsTest")) ∷ difference part.Party (Some (local_key (codes "P1"))) OtherClass ∷ [])
+    ∷ difference part.Unit (Some (local_key (codes "a\"b"))) OnlyRight ∷ difference part.Report None (Member (codes "IsTest")) ∷ difference part.Party (Some (local_key (codes "P1"))) OtherClass
+    ∷ difference part.Election None OnlyRight ∷ [])
     ≡ (codes "style [\"local-level\",\"\",\"S1\"]: member \"OrderedContent\"") ∷ (codes "candidate [\"local-level\",\"\",\"K3\"]: only left")
-    ∷ (codes "unit [\"local-level\",\"\",\"a\\\"b\"]: only right") ∷ (codes "report: member \"IsTest\"") ∷ (codes "party [\"local-level\",\"\",\"P1\"]: other class") ∷ []
+    ∷ (codes "unit [\"local-level\",\"\",\"a\\\"b\"]: only right") ∷ (codes "report: member \"IsTest\"") ∷ (codes "party [\"local-level\",\"\",\"P1\"]: other class") ∷ (codes "election: only right") ∷ []
 unfolding serde_json_on_literals
 lines = refl
+
+-- each way to differ, with a key and without one, and a key with a quotation mark
+texts : map (λ d. compact_text (difference_data d)) (difference part.Contest (Some (local_key (codes "C1"))) (Member (codes "Name")) ∷ difference part.Report None (Member (codes "IsTest"))
+    ∷ difference part.Candidate (Some (local_key (codes "K3"))) OnlyLeft ∷ difference part.Unit (Some (local_key (codes "a\"b"))) OnlyRight ∷ difference part.Election None OtherClass ∷ [])
+    ≡ (codes "{\"how\":\"member\",\"key\":[\"local-level\",\"\",\"C1\"],\"member\":\"Name\",\"part\":\"contest\"}") ∷ (codes "{\"how\":\"member\",\"key\":null,\"member\":\"IsTest\",\"part\":\"report\"}")
+    ∷ (codes "{\"how\":\"only left\",\"key\":[\"local-level\",\"\",\"K3\"],\"part\":\"candidate\"}")
+    ∷ (codes "{\"how\":\"only right\",\"key\":[\"local-level\",\"\",\"a\\\"b\"],\"part\":\"unit\"}") ∷ (codes "{\"how\":\"other class\",\"key\":null,\"part\":\"election\"}") ∷ []
+unfolding serde_json_on_literals
+texts = refl
 
 -- parts in their order, then keys; the report has no key
 parts_in_order : (part_cmp part.Header (Some (local_key (codes "Z"))) part.Election None ≡ Less) × (part_cmp part.Report None part.Unit (Some (local_key (codes "A"))) ≡ Less)
@@ -23,33 +32,10 @@ parts_in_order : (part_cmp part.Header (Some (local_key (codes "Z"))) part.Elect
     × (part_cmp part.Candidate (Some (local_key (codes "K4"))) part.Contest (Some (local_key (codes "C1"))) ≡ Less)
 parts_in_order = (refl, refl, refl, refl)
 
--- ---- the entries of the ballot's order exchanged
+-- ---- the key of a candidate changed
 
 abbrev left : Meaning
 left = meaning None (tree_of small_ballot)
-
-abbrev right : Meaning
-right = meaning None (tree_of (small_ballot_with (codes "K3") (contest_node ++ codes "," ++ header_node)))
-
-abbrev members_at : Meaning → Part → Key → List (List ℕ) → Option (List (Option MemberValue))
-members_at m p k names = option_map (λ r. map (λ name. r.members name) names) (record_at m p (Some k))
-
--- the style is of one class and has the same identifiers, parties and units; its content begins with the header, and then with the contest
-other_order : (let k = local_key (codes "S1") in
-    (option_map (λ r. r.class) (record_at left part.Style (Some k)) ≡ option_map (λ r. r.class) (record_at right part.Style (Some k)))
-    × (members_at left part.Style k (codes "@type" ∷ codes "ExternalIdentifier" ∷ codes "GpUnitIds" ∷ codes "PartyIds" ∷ []) ≡ members_at right part.Style k (codes "@type" ∷ codes "ExternalIdentifier" ∷ codes "GpUnitIds" ∷ codes "PartyIds" ∷ []))
-    × (option_map (λ r. begins_with_header (r.members (codes "OrderedContent"))) (record_at left part.Style (Some k)) ≡ Some true)
-    × (option_map (λ r. begins_with_header (r.members (codes "OrderedContent"))) (record_at right part.Style (Some k)) ≡ Some false))
-unfolding serde_json_on_literals
-other_order = (refl, refl, refl, refl)
-
--- the members of objects that come before the style are the same
-same_before : (members_at left part.Candidate (local_key (codes "K3")) (codes "BallotName" ∷ codes "PartyId" ∷ codes "ExternalIdentifier" ∷ []) ≡ members_at right part.Candidate (local_key (codes "K3")) (codes "BallotName" ∷ codes "PartyId" ∷ codes "ExternalIdentifier" ∷ []))
-    × (members_at left part.Contest (local_key (codes "C2")) (codes "ElectionDistrictId" ∷ codes "Name" ∷ []) ≡ members_at right part.Contest (local_key (codes "C2")) (codes "ElectionDistrictId" ∷ codes "Name" ∷ []))
-unfolding serde_json_on_literals
-same_before = (refl, refl)
-
--- ---- the key of a candidate changed
 
 abbrev other : Meaning
 other = meaning None (tree_of (small_ballot_with (codes "K4") (header_node ++ codes "," ++ contest_node)))

@@ -1,9 +1,8 @@
 -- The first difference of reports of elections: a contest in another election, and an election that has lost its key.
-use Rattle.erd_compare.proofs.Common.{◌≡◌, ℕ, Bool, true, false, List, [], ◌∷◌, ◌++◌, map, slice_get, Some, None, codes, Option, find, option_and_then, bytes_eq, is_eq, unwrap_or, sym, refl, ap, ◌∙◌, subst, true≢false, option_cmp, serde_json_on_literals, Data, null, family, role, tree_of, one_unit_report, status, unit, election, one_unit, identifier, other_election, report_of_two, party_contest, local_key, same_object, is_key_in, same_at_every_key, no_record, value_with_key, same_at_key, HaveKeys, keys_of_family, nothing_at, election_has_key, no_election_id, equal_keys, key_cmp, key_of, ObjectRecord, Placed, report_of, elections, meaning, member_of_class, object_record, record_in_election, records_of, Key, part_cmp, record_at, DifferFirstAt, IsFirstDifference, Member, OnlyLeft, OnlyRight, Part}
+use Rattle.erd_compare.proofs.Common.{◌≡◌, ℕ, Bool, true, false, List, [], ◌∷◌, ◌++◌, slice_get, Some, None, codes, Option, find, option_and_then, bytes_eq, is_eq, unwrap_or, sym, refl, ap, ◌∙◌, subst, true≢false, option_cmp, Data, null, family, role, tree_of, election, one_unit, report_of_two, key_cmp, key_of, ObjectRecord, Placed, report_of, elections, meaning, member_of_class, object_record, record_in_election, records_of, serde_json_on_literals, one_unit_report, status, unit, identifier, other_election, party_contest, local_key, same_object, is_key_in, same_at_every_key, no_record, value_with_key, same_at_key, HaveKeys, keys_of_family, nothing_at, election_has_key, no_election_id, equal_keys, Key, part_cmp, record_at, DifferFirstAt, IsFirstDifference, Member, OnlyLeft, OnlyRight, Part}
 use Rattle.std.specs.Prelude.{⊤}
 use Rattle.std.specs.declared.cmp.Ordering.TheVariants.{Less}
-use Rattle.erd_compare.specs.DifferenceLine.{difference_line}
-use Rattle.erd_compare.proofs.examples.FirstDifferenceExamples.{not_in}
+use Rattle.erd_compare.proofs.examples.FirstDifferenceExamples.{before_itself, not_in}
 use Rattle.erd_compare.proofs.least_difference.HeldRecords.{told_at_election}
 use Rattle.erd_tables.specs.declared.class.Class.TheVariants as class
 use Rattle.erd_compare.specs.declared.difference.Part.TheVariants as part
@@ -44,16 +43,6 @@ same_elections t u (d ∷ ds) (e ∷ es) h k = at (election_has_key None k d) re
     at false is also rest = let other : election_has_key None k e ≡ false = also ∙ is in rw (is, other) rest
 same_elections t u [] (e ∷ es) h k = absurd h
 same_elections t u (d ∷ ds) [] h k = absurd h
-
-same_report : object_record None left role.Report left ≡ object_record None moved role.Report moved
-unfolding serde_json_on_literals
-same_report = same_object None left moved left moved role.Report class.ElectionReport refl refl refl
-
-same_unit : (k : Key) → records_of None left family.Unit k ≡ records_of None moved family.Unit k
-unfolding serde_json_on_literals
-same_unit =
-    same_at_every_key (records_of None left family.Unit) (records_of None moved family.Unit) (local_key (codes "U1") ∷ [])
-    (same_at_key None left moved family.Unit (local_key (codes "U1")) class.ReportingUnit refl (refl, refl, refl, refl, refl, refl), tt) (no_record None left family.Unit) (no_record None moved family.Unit)
 
 -- the election at a position
 abbrev election_at : Data → ℕ → Data
@@ -125,24 +114,22 @@ contests_below k less = at (is_eq (key_cmp (local_key (codes "C1")) k)) refl
 
 before_contest : (p : Part) (k : Option Key) → part_cmp p k part.Contest (Some key) ≡ Less → record_at (meaning None left) p k ≡ record_at (meaning None moved) p k
 unfolding serde_json_on_literals
-before_contest part.Report None less = same_report
+before_contest part.Report None less = same_object None left moved left moved role.Report class.ElectionReport refl refl refl
 before_contest part.Report (Some k) less = refl
 before_contest part.Unit None less = refl
-before_contest part.Unit (Some k) less = same_unit k
+before_contest part.Unit (Some k) less =
+    same_at_every_key (records_of None left family.Unit) (records_of None moved family.Unit) (local_key (codes "U1") ∷ [])
+    (same_at_key None left moved family.Unit (local_key (codes "U1")) class.ReportingUnit refl (refl, refl, refl, refl, refl, refl), tt) (no_record None left family.Unit) (no_record None moved family.Unit) k
 before_contest part.Election k less = same_elections left moved (elections left) (elections moved) both_elections k
 before_contest part.Contest None less = refl
 before_contest part.Contest (Some k) less = contests_below k less
-before_contest part.Style None less = absurd (cc less)
-before_contest part.Style (Some k) less = absurd (cc less)
+before_contest part.Style k less = absurd (cc less)
 before_contest p None less = refl
 before_contest p (Some k) less = refl
 
 first_is_election : IsFirstDifference (meaning None left) (meaning None moved) (record { part = part.Contest; key = Some key; how = Member (codes "ElectionId") })
 unfolding serde_json_on_literals
-first_is_election = record {
-  differ = differs_in_election;
-  least = before_contest;
-}
+first_is_election = record { differ = differs_in_election; least = before_contest }
 
 -- ---- an election that has lost its key
 
@@ -153,52 +140,26 @@ with_key = tree_of (one_unit_report status unit (election ++ codes "," ++ identi
 abbrev without_key : Data
 without_key = tree_of one_unit
 
-report_without : object_record None with_key role.Report with_key ≡ object_record None without_key role.Report without_key
-unfolding serde_json_on_literals
-report_without = same_object None with_key without_key with_key without_key role.Report class.ElectionReport refl refl refl
-
-unit_without : (k : Key) → records_of None with_key family.Unit k ≡ records_of None without_key family.Unit k
-unfolding serde_json_on_literals
-unit_without =
-    same_at_every_key (records_of None with_key family.Unit) (records_of None without_key family.Unit) (local_key (codes "U1") ∷ [])
-    (same_at_key None with_key without_key family.Unit (local_key (codes "U1")) class.ReportingUnit refl (refl, refl, refl, refl, refl, refl), tt) (no_record None with_key family.Unit) (no_record None without_key family.Unit)
-
 before_election : (p : Part) (k : Option Key) → part_cmp p k part.Election None ≡ Less → record_at (meaning None with_key) p k ≡ record_at (meaning None without_key) p k
 unfolding serde_json_on_literals
-before_election part.Report None less = report_without
+before_election part.Report None less = same_object None with_key without_key with_key without_key role.Report class.ElectionReport refl refl refl
 before_election part.Report (Some k) less = refl
 before_election part.Unit None less = refl
-before_election part.Unit (Some k) less = unit_without k
-before_election part.Election None less = absurd (cc less)
-before_election part.Election (Some k) less = absurd (cc less)
-before_election part.Candidate None less = absurd (cc less)
-before_election part.Candidate (Some k) less = absurd (cc less)
-before_election part.Contest None less = absurd (cc less)
-before_election part.Contest (Some k) less = absurd (cc less)
-before_election part.Style None less = absurd (cc less)
-before_election part.Style (Some k) less = absurd (cc less)
+before_election part.Unit (Some k) less =
+    same_at_every_key (records_of None with_key family.Unit) (records_of None without_key family.Unit) (local_key (codes "U1") ∷ [])
+    (same_at_key None with_key without_key family.Unit (local_key (codes "U1")) class.ReportingUnit refl (refl, refl, refl, refl, refl, refl), tt) (no_record None with_key family.Unit) (no_record None without_key family.Unit) k
+before_election part.Election k less = absurd (before_itself k less)
+before_election part.Candidate k less = absurd (cc less)
+before_election part.Contest k less = absurd (cc less)
+before_election part.Style k less = absurd (cc less)
 before_election p None less = refl
 before_election p (Some k) less = refl
 
 -- no key comes before each key, so the election on the right is told
 first_is_without : IsFirstDifference (meaning None with_key) (meaning None without_key) (record { part = part.Election; key = None; how = OnlyRight })
 unfolding serde_json_on_literals
-first_is_without = record {
-  differ = refl;
-  least = before_election;
-}
+first_is_without = record { differ = refl; least = before_election }
 
 first_is_without_left : IsFirstDifference (meaning None without_key) (meaning None with_key) (record { part = part.Election; key = None; how = OnlyLeft })
 unfolding serde_json_on_literals
-first_is_without_left = record {
-  differ = refl;
-  least = λ p k less. sym (before_election p k less);
-}
-
--- ---- lines
-
-lines : map difference_line (record { part = part.Contest; key = Some key; how = Member (codes "ElectionId") } ∷ record { part = part.Election; key = None; how = OnlyRight }
-    ∷ record { part = part.Election; key = Some (local_key (codes "E1")); how = OnlyLeft } ∷ [])
-    ≡ (codes "contest [\"local-level\",\"\",\"C2\"]: member \"ElectionId\"") ∷ (codes "election: only right") ∷ (codes "election [\"local-level\",\"\",\"E1\"]: only left") ∷ []
-unfolding serde_json_on_literals
-lines = refl
+first_is_without_left = record { differ = refl; least = λ p k less. sym (before_election p k less) }

@@ -1,17 +1,7 @@
 -- The first difference of whole reports, each of one unit: none, and one for each of some edits.
-use Rattle.erd_compare.proofs.Common.{◌≡◌, ℕ, Bool, true, false, ◌≢◌, List, [], ◌∷◌, is_some, slice_get, Some, None, codes, Option, option_and_then, bytes_eq, is_eq, is_lt, Equal, unwrap_or, sym, refl, ap, ◌∙◌, true≢false, bytes_eq-Decides, serde_json_on_literals, Data, null, string, text_cmp, class, Family, family, role, tree_of, one_unit_report, status, unit, election, one_unit, local_key, same_but_one, same_object, is_key_in, same_at_every_key, no_record, same_at_key, same_sole_election, same_meaning, absent_member, equal_keys, key_cmp, untranslated, a_json, a_label, MemberValue, a_plain, ObjectRecord, Placed, report_of, elections, meaning, member_of_class, object_record, records_of, election_records, Key, part_cmp, record_at, IsDifference, IsFirstDifference, How, Member, OnlyLeft, OnlyRight, Part}
+use Rattle.erd_compare.proofs.Common.{◌≡◌, ℕ, Bool, true, false, ◌≢◌, List, [], ◌∷◌, is_some, slice_get, Some, None, codes, Option, option_and_then, bytes_eq, is_eq, is_lt, unwrap_or, sym, refl, ap, ◌∙◌, true≢false, option_cmp, Data, null, string, class, Family, family, role, tree_of, election, one_unit, key_cmp, untranslated, a_json, a_label, MemberValue, a_plain, ObjectRecord, Placed, report_of, elections, meaning, member_of_class, records_of, serde_json_on_literals, is_eq-slice_cmp, one_unit_report, status, unit, local_key, same_but_one, same_object, is_key_in, same_at_every_key, no_record, same_at_key, same_sole_election, same_meaning, absent_member, equal_keys, Key, part_cmp, record_at, IsDifference, IsFirstDifference, How, Member, OnlyLeft, OnlyRight, Part}
 use Rattle.std.specs.declared.cmp.Ordering.TheVariants.{Less}
 use Rattle.erd_compare.specs.declared.difference.Part.TheVariants as part
-
--- ---- members
-
--- a name that is less is another
-other_if_less : (name one : List ℕ) → text_cmp one one ≡ Equal → text_cmp name one ≡ Less → bytes_eq name one ≡ false
-other_if_less name one itself less = at (bytes_eq name one) refl
-  where
-    at : (b : Bool) → bytes_eq name one ≡ b → bytes_eq name one ≡ false
-    at true is = let same : Equal ≡ Less = sym itself ∙ (ap (λ n. text_cmp n one) (sym ((bytes_eq-Decides name one).0 is)) ∙ less) in absurd (cc same)
-    at false is = is
 
 -- ---- reports of one unit
 
@@ -29,29 +19,20 @@ key = local_key (codes "U1")
 abbrev respelled : Data
 respelled = tree_of (codes "{\"Election\":[{\"ElectionScopeId\":\"k\",\"Name\":\"Test\",\"EndDate\":\"2026-11-03\",\"StartDate\":\"2026-11-03\",\"Type\":\"general\",\"@type\":\"ElectionResults.Election\",\"Contest\":[]}],\"Issuer\":\"Vendor A\",\"SequenceStart\":1,\"Status\":\"pre-election\",\"Party\":[],\"GpUnit\":[{\"Type\":\"county\",\"ComposingGpUnitIds\":[],\"ExternalIdentifier\":[{\"Value\":\"U1\",\"Type\":\"local-level\",\"@type\":\"ElectionResults.ExternalIdentifier\"}],\"@type\":\"ElectionResults.ReportingUnit\",\"@id\":\"k\"}],\"@type\":\"ElectionResults.ElectionReport\"}")
 
-respelled_report : object_record None left role.Report left ≡ object_record None respelled role.Report respelled
-unfolding serde_json_on_literals
-respelled_report = same_object None left respelled left respelled role.Report class.ElectionReport refl refl refl
-
-respelled_election : (k : Option Key) → election_records None left k ≡ election_records None respelled k
-unfolding serde_json_on_literals
-respelled_election =
-    same_sole_election None None left respelled (election_in left) (election_in respelled) refl refl refl
-    (same_object None left respelled (election_in left).value (election_in respelled).value role.Election class.Election refl refl refl)
-
-respelled_unit : records_of None left family.Unit key ≡ records_of None respelled family.Unit key
-unfolding serde_json_on_literals
-respelled_unit = same_at_key None left respelled family.Unit key class.ReportingUnit refl (refl, refl, refl, refl, refl, refl)
-
 respelled_objects : (f : Family) (k : Key) → records_of None left f k ≡ records_of None respelled f k
 unfolding serde_json_on_literals
 respelled_objects family.Unit k =
-    same_at_every_key (records_of None left family.Unit) (records_of None respelled family.Unit) (key ∷ []) (respelled_unit, tt) (no_record None left family.Unit) (no_record None respelled family.Unit) k
+    same_at_every_key (records_of None left family.Unit) (records_of None respelled family.Unit) (key ∷ [])
+    (same_at_key None left respelled family.Unit key class.ReportingUnit refl (refl, refl, refl, refl, refl, refl), tt) (no_record None left family.Unit) (no_record None respelled family.Unit) k
 respelled_objects f k = refl
 
 -- no difference
 no_difference : IsDifference (meaning None left) (meaning None respelled) None
-no_difference = same_meaning None None left respelled respelled_report respelled_election respelled_objects
+unfolding serde_json_on_literals
+no_difference =
+    same_meaning None None left respelled (same_object None left respelled left respelled role.Report class.ElectionReport refl refl refl)
+    (same_sole_election None None left respelled (election_in left) (election_in respelled) refl refl refl
+    (same_object None left respelled (election_in left).value (election_in respelled).value role.Election class.Election refl refl refl)) respelled_objects
 
 -- ---- another name of the election
 
@@ -66,16 +47,12 @@ abbrev is_labelled : List ℕ → Option MemberValue → Bool
 is_labelled text (Some (a_plain (a_label (untranslated s)))) = bytes_eq s text
 is_labelled text v = false
 
-old_name : is_labelled (codes "Test") (election_member left (codes "Name")) ≡ true
+names : (is_labelled (codes "Test") (election_member left (codes "Name")) ≡ true) × (is_labelled (codes "Test") (election_member renamed (codes "Name")) ≡ false)
 unfolding serde_json_on_literals
-old_name = refl
-
-new_name : is_labelled (codes "Test") (election_member renamed (codes "Name")) ≡ false
-unfolding serde_json_on_literals
-new_name = refl
+names = (refl, refl)
 
 other_name : election_member left (codes "Name") ≢ election_member renamed (codes "Name")
-other_name e = true≢false (sym old_name ∙ ap (is_labelled (codes "Test")) e ∙ new_name)
+other_name e = true≢false (sym names.0 ∙ ap (is_labelled (codes "Test")) e ∙ names.1)
 
 same_but_name : (name : List ℕ) → bytes_eq name (codes "Name") ≡ false → election_member left name ≡ election_member renamed name
 unfolding serde_json_on_literals
@@ -83,35 +60,25 @@ same_but_name =
     same_but_one (election_member left) (election_member renamed) (election_in left).value (election_in renamed).value (codes "Name") (absent_member None left (election_in left).value class.Election)
     (absent_member None renamed (election_in renamed).value class.Election) refl
 
-renamed_report : object_record None left role.Report left ≡ object_record None renamed role.Report renamed
-unfolding serde_json_on_literals
-renamed_report = same_object None left renamed left renamed role.Report class.ElectionReport refl refl refl
-
-renamed_unit : records_of None left family.Unit key ≡ records_of None renamed family.Unit key
-unfolding serde_json_on_literals
-renamed_unit = same_at_key None left renamed family.Unit key class.ReportingUnit refl (refl, refl, refl, refl, refl, refl)
-
-renamed_units : (k : Key) → records_of None left family.Unit k ≡ records_of None renamed family.Unit k
-unfolding serde_json_on_literals
-renamed_units = same_at_every_key (records_of None left family.Unit) (records_of None renamed family.Unit) (key ∷ []) (renamed_unit, tt) (no_record None left family.Unit) (no_record None renamed family.Unit)
+pub before_itself : (k : Option Key) → option_cmp key_cmp k None ≡ Less → ⊥
+before_itself None less = cc
+before_itself (Some k) less = cc
 
 -- all that comes before the election is the same
 before_election : (p : Part) (k : Option Key) → part_cmp p k part.Election None ≡ Less → record_at (meaning None left) p k ≡ record_at (meaning None renamed) p k
 unfolding serde_json_on_literals
-before_election part.Report None less = renamed_report
+before_election part.Report None less = same_object None left renamed left renamed role.Report class.ElectionReport refl refl refl
 before_election part.Report (Some k) less = refl
 before_election part.Unit None less = refl
-before_election part.Unit (Some k) less = renamed_units k
-before_election part.Party None less = refl
-before_election part.Party (Some k) less = refl
-before_election part.Person None less = refl
-before_election part.Person (Some k) less = refl
-before_election part.Office None less = refl
-before_election part.Office (Some k) less = refl
-before_election part.Header None less = refl
-before_election part.Header (Some k) less = refl
-before_election p None less = absurd (cc less)
-before_election p (Some k) less = absurd (cc less)
+before_election part.Unit (Some k) less =
+    same_at_every_key (records_of None left family.Unit) (records_of None renamed family.Unit) (key ∷ [])
+    (same_at_key None left renamed family.Unit key class.ReportingUnit refl (refl, refl, refl, refl, refl, refl), tt) (no_record None left family.Unit) (no_record None renamed family.Unit) k
+before_election part.Election k less = absurd (before_itself k less)
+before_election part.Candidate k less = absurd (cc less)
+before_election part.Contest k less = absurd (cc less)
+before_election part.Style k less = absurd (cc less)
+before_election p None less = refl
+before_election p (Some k) less = refl
 
 first_is_name : IsFirstDifference (meaning None left) (meaning None renamed) (record { part = part.Election; key = None; how = Member (codes "Name") })
 unfolding serde_json_on_literals
@@ -119,7 +86,7 @@ first_is_name = record {
   differ = record {
     same_class = refl;
     differ = other_name;
-    least = λ name less. same_but_name name (other_if_less name (codes "Name") refl less);
+    least = λ name less. same_but_name name (sym (is_eq-slice_cmp name (codes "Name")) ∙ ap is_eq less);
   };
   least = before_election;
 }
@@ -149,17 +116,13 @@ is_county v = false
 abbrev unit_type : Option ObjectRecord → Bool
 unit_type r = is_county (option_and_then (λ r. r.members (codes "Type")) r)
 
-county : unit_type (records_of None left family.Unit key) ≡ true
+counties : (unit_type (records_of None left family.Unit key) ≡ true) × (unit_type (records_of None both_changed family.Unit key) ≡ false)
 unfolding serde_json_on_literals
-county = refl
-
-no_county : unit_type (records_of None both_changed family.Unit key) ≡ false
-unfolding serde_json_on_literals
-no_county = refl
+counties = (refl, refl)
 
 -- the difference of the election is not the first
 not_the_election : (h : How) → IsFirstDifference (meaning None left) (meaning None both_changed) (record { part = part.Election; key = None; how = h }) → ⊥
-not_the_election h d = true≢false (sym county ∙ ap unit_type (d.least part.Unit (Some key) refl) ∙ no_county)
+not_the_election h d = true≢false (sym counties.0 ∙ ap unit_type (d.least part.Unit (Some key) refl) ∙ counties.1)
 
 -- ---- another key of the unit
 
@@ -169,10 +132,6 @@ other_key = local_key (codes "U2")
 abbrev rekeyed : Data
 rekeyed = tree_of (one_unit_report status (codes "\"@type\":\"ElectionResults.ReportingUnit\",\"Type\":\"county\",\"ExternalIdentifier\":[{\"@type\":\"ElectionResults.ExternalIdentifier\",\"Type\":\"local-level\",\"Value\":\"U2\"}]") election)
 
-rekeyed_report : object_record None left role.Report left ≡ object_record None rekeyed role.Report rekeyed
-unfolding serde_json_on_literals
-rekeyed_report = same_object None left rekeyed left rekeyed role.Report class.ElectionReport refl refl refl
-
 -- a key below a bound is none that is not below it
 pub not_in : (l k bound : Key) → key_cmp k bound ≡ Less → is_lt (key_cmp l bound) ≡ false → is_key_in (l ∷ []) k ≡ false
 not_in l k bound less not_less = at (is_eq (key_cmp l k)) refl
@@ -181,32 +140,21 @@ not_in l k bound less not_less = at (is_eq (key_cmp l k)) refl
     at true is = absurd (true≢false (sym (ap is_lt less) ∙ (ap (λ q. is_lt (key_cmp q bound)) (sym (equal_keys l k is)) ∙ not_less)))
     at false is = rw is
 
-units_below : (k : Key) → key_cmp k key ≡ Less → records_of None left family.Unit k ≡ records_of None rekeyed family.Unit k
-unfolding serde_json_on_literals
-units_below k less = no_record None left family.Unit k (not_in key k key less refl) ∙ sym (no_record None rekeyed family.Unit k (not_in other_key k key less refl))
-
 before_unit : (p : Part) (k : Option Key) → part_cmp p k part.Unit (Some key) ≡ Less → record_at (meaning None left) p k ≡ record_at (meaning None rekeyed) p k
 unfolding serde_json_on_literals
-before_unit part.Report None less = rekeyed_report
+before_unit part.Report None less = same_object None left rekeyed left rekeyed role.Report class.ElectionReport refl refl refl
 before_unit part.Report (Some k) less = refl
 before_unit part.Unit None less = refl
-before_unit part.Unit (Some k) less = units_below k less
-before_unit p None less = absurd (cc less)
-before_unit p (Some k) less = absurd (cc less)
+before_unit part.Unit (Some k) less = no_record None left family.Unit k (not_in key k key less refl) ∙ sym (no_record None rekeyed family.Unit k (not_in other_key k key less refl))
+before_unit p k less = absurd (cc less)
 
 first_is_unit : IsFirstDifference (meaning None left) (meaning None rekeyed) (record { part = part.Unit; key = Some key; how = OnlyLeft })
 unfolding serde_json_on_literals
-first_is_unit = record {
-  differ = refl;
-  least = before_unit;
-}
+first_is_unit = record { differ = refl; least = before_unit }
 
 first_is_unit_right : IsFirstDifference (meaning None rekeyed) (meaning None left) (record { part = part.Unit; key = Some key; how = OnlyRight })
 unfolding serde_json_on_literals
-first_is_unit_right = record {
-  differ = refl;
-  least = λ p k less. sym (before_unit p k less);
-}
+first_is_unit_right = record { differ = refl; least = λ p k less. sym (before_unit p k less) }
 
 -- the unit that the right side alone has comes later
 not_the_later_unit : IsFirstDifference (meaning None left) (meaning None rekeyed) (record { part = part.Unit; key = Some other_key; how = OnlyRight }) → ⊥

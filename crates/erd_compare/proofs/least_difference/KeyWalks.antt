@@ -1,9 +1,13 @@
 -- The rising keys of two reports in a part, walked in step: the first entries that differ tell the least key.
-use Rattle.erd_compare.proofs.Common.{◌≡◌, ℕ, zero, suc, ◌+◌, true, List, [], ◌∷◌, map, drop, slice_get, Some, None, Option, option_map, is_eq, Ordering, Less, Equal, Greater, sym, refl, ap, ◌∙◌, subst, drop_more, slice_get_within, get_or_from_slice_get, AllByRecursion, Data, options_exact, equal_keys, greater_turned, KeyPosition, key_cmp, Preference, meaning, Key, record_at, Differ, RecordMap, DifferAtKey, role_of_part, is_ranked, rising_in_role, TellsAtPositions, TellsLeast, IsOnly, IsOnlyLesser, TellsNext, HasKeyAt, IsComparable, How, OnlyLeft, OnlyRight, Part, part}
+use Rattle.erd_compare.proofs.Common.{◌≡◌, ℕ, zero, suc, ◌+◌, true, List, [], ◌∷◌, map, drop, slice_get, Some, None, Option, option_map, is_eq, Ordering, Less, Equal, Greater, sym, refl, ap, ◌∙◌, subst, drop_more, slice_get_within, get_or_from_slice_get, AllByRecursion, Data, key_cmp, Preference, meaning, options_exact, equal_keys, greater_turned, KeyPosition, Key, record_at, Differ, RecordMap, DifferAtKey, role_of_part, is_ranked, rising_in_role, TellsAtPositions, TellsLeast, IsOnly, IsOnlyLesser, TellsNext, HasKeyAt, IsComparable, How, OnlyLeft, OnlyRight, Part, part}
 use Rattle.erd_compare.specs.declared.first.tables.KeyedDifference.{KeyedDifference}
-use Rattle.erd_compare.proofs.least_difference.KeyedRecords.{differ_left, differ_right, none_beside, some_record}
+use Rattle.erd_compare.proofs.least_difference.KeyedRecords.{none_beside, some_record, tells_as}
 use Rattle.erd_compare.proofs.least_difference.RisingKeys.{all_rise, all_stand, by_key, by_key_total, entries, entry_keys, keys_rise}
-use Rattle.erd_compare.proofs.least_difference.StepWalks.{IsInStep, NoneLess, all_left, below_head, equal_all, equal_below, lacks_left, lacks_right, none_less-before, none_less-empty, none_less-head, pass_both}
+use Rattle.erd_compare.proofs.least_difference.StepWalks.{IsBelow, IsInStep, IsPast, NoneLess, all_left, below_head, equal_all, equal_below, lacks_left, lacks_right, none_less-below, none_less-head, pass, past_head}
+
+-- what is left from an entry on
+pub heads : {A : Type 0} (xs : List A) (i : ℕ) (x : A) → slice_get xs i ≡ Some x → drop i xs ≡ x ∷ drop (i + 1) xs
+heads xs i x here = drop_more xs i x (slice_get_within xs i x here) ∙ ap (λ y. y ∷ drop (i + 1) xs) (get_or_from_slice_get xs i x x here)
 
 -- a key with the position of its object
 abbrev pub Entry : Type 0
@@ -53,74 +57,39 @@ module _ (π ρ : Preference) (t u : Data) (p : Part) (c : IsComparable π t) (d
     least = equal_below by_key_total (map_of π t p) (map_of ρ u p) (keys_of ls) (keys_of rs) h.step k left right;
   }
 
-  only_left : (e : Entry) (ls rs : List Entry) → AreLeft π ρ t u p (e ∷ ls) rs → AllByRecursion (λ k. by_key e.0 k ≡ Less) (keys_of rs)
-      → Differ (map_of π t p e.0) (map_of ρ u p e.0) OnlyLeft
-  only_left e ls rs h below =
+  -- the first key of the left table is less than all of the right one, which may have come to its end
+  left_first : (e : Entry) (ls rs : List Entry) → AreLeft π ρ t u p (e ∷ ls) rs → IsBelow by_key e.0 (keys_of rs) → DifferAtKey (map_of π t p) (map_of ρ u p) e.0 OnlyLeft
+  left_first e ls rs h below =
       let its = some_record π t c p e.0 e.1 h.left.0 in
-      differ_left (map_of π t p e.0) (map_of ρ u p e.0) its.0 its.1
-      (lacks_right by_key_total (map_of π t p) (map_of ρ u p) e.0 (keys_of ls) (keys_of rs) h.step below)
-
-  only_right : (e : Entry) (ls rs : List Entry) → AreLeft π ρ t u p ls (e ∷ rs) → AllByRecursion (λ k. by_key e.0 k ≡ Less) (keys_of ls)
-      → Differ (map_of π t p e.0) (map_of ρ u p e.0) OnlyRight
-  only_right e ls rs h below =
-      let its = some_record ρ u d p e.0 e.1 h.right.0 in
-      differ_right (map_of π t p e.0) (map_of ρ u p e.0) its.0
-      (lacks_left by_key_total (map_of π t p) (map_of ρ u p) e.0 (keys_of ls) (keys_of rs) h.step below) its.1
-
-  -- the first key of the left table is less than that of the right one, which may have come to its end
-  pub left_less : (e g : Entry) (ls rs : List Entry) → AreLeft π ρ t u p (e ∷ ls) (g ∷ rs) → by_key e.0 g.0 ≡ Less
-      → DifferAtKey (map_of π t p) (map_of ρ u p) e.0 OnlyLeft
-  left_less e g ls rs h less =
-      least_at (e ∷ ls) (g ∷ rs) h e.0 OnlyLeft (none_less-head by_key_total e.0 (keys_of ls) h.step.left)
-      (none_less-before by_key_total e.0 g.0 (keys_of (g ∷ rs)) less (none_less-head by_key_total g.0 (keys_of rs) h.step.right))
-      (only_left e ls (g ∷ rs) h (below_head by_key_total e.0 g.0 (keys_of rs) less h.step.right))
-
-  pub left_more : (e : Entry) (ls : List Entry) → AreLeft π ρ t u p (e ∷ ls) [] → DifferAtKey (map_of π t p) (map_of ρ u p) e.0 OnlyLeft
-  left_more e ls h =
-      least_at (e ∷ ls) [] h e.0 OnlyLeft (none_less-head by_key_total e.0 (keys_of ls) h.step.left) (none_less-empty by_key_total e.0) (only_left e ls [] h tt)
+      least_at (e ∷ ls) rs h e.0 OnlyLeft (none_less-head by_key_total e.0 (keys_of ls) h.step.left) (none_less-below by_key_total e.0 (keys_of rs) below)
+      (tells_as (map_of π t p e.0) (map_of ρ u p e.0) (Some its.0) None (Some OnlyLeft) its.1 (lacks_right by_key_total (map_of π t p) (map_of ρ u p) e.0 (keys_of ls) (keys_of rs) h.step below) refl)
 
   -- and the other way round
-  pub right_less : (e g : Entry) (ls rs : List Entry) → AreLeft π ρ t u p (e ∷ ls) (g ∷ rs) → by_key e.0 g.0 ≡ Greater
-      → DifferAtKey (map_of π t p) (map_of ρ u p) g.0 OnlyRight
-  right_less e g ls rs h greater =
-      let less = greater_turned by_key_total e.0 g.0 greater in
-      least_at (e ∷ ls) (g ∷ rs) h g.0 OnlyRight (none_less-before by_key_total g.0 e.0 (keys_of (e ∷ ls)) less (none_less-head by_key_total e.0 (keys_of ls) h.step.left))
-      (none_less-head by_key_total g.0 (keys_of rs) h.step.right)
-      (only_right g (e ∷ ls) rs h (below_head by_key_total g.0 e.0 (keys_of ls) less h.step.left))
-
-  pub right_more : (g : Entry) (rs : List Entry) → AreLeft π ρ t u p [] (g ∷ rs) → DifferAtKey (map_of π t p) (map_of ρ u p) g.0 OnlyRight
-  right_more g rs h =
-      least_at [] (g ∷ rs) h g.0 OnlyRight (none_less-empty by_key_total g.0) (none_less-head by_key_total g.0 (keys_of rs) h.step.right) (only_right g [] rs h tt)
+  right_first : (g : Entry) (ls rs : List Entry) → AreLeft π ρ t u p ls (g ∷ rs) → IsBelow by_key g.0 (keys_of ls) → DifferAtKey (map_of π t p) (map_of ρ u p) g.0 OnlyRight
+  right_first g ls rs h below =
+      let its = some_record ρ u d p g.0 g.1 h.right.0 in
+      least_at ls (g ∷ rs) h g.0 OnlyRight (none_less-below by_key_total g.0 (keys_of ls) below) (none_less-head by_key_total g.0 (keys_of rs) h.step.right)
+      (tells_as (map_of π t p g.0) (map_of ρ u p g.0) None (Some its.0) (Some OnlyRight) (lacks_left by_key_total (map_of π t p) (map_of ρ u p) g.0 (keys_of ls) (keys_of rs) h.step below) its.1 refl)
 
   -- both have the first key
   module _ (e g : Entry) (ls rs : List Entry) (h : AreLeft π ρ t u p (e ∷ ls) (g ∷ rs)) (same : e.0 ≡ g.0) where
-    one_key : g.0 ≡ e.0
-    one_key = sym same
-
     its_key : HasKeyAt ρ u (role_of_part p) g.1 e.0
-    its_key = subst (HasKeyAt ρ u (role_of_part p) g.1) one_key h.right.0
-
-    right_rises : NoneLess by_key e.0 (keys_of (g ∷ rs))
-    right_rises = subst (λ k. NoneLess by_key k (keys_of (g ∷ rs))) one_key (none_less-head by_key_total g.0 (keys_of rs) h.step.right)
+    its_key = subst (HasKeyAt ρ u (role_of_part p) g.1) (sym same) h.right.0
 
     pub both_differ : (how : How) → TellsAtPositions π ρ t u p e.1 g.1 (Some how) → DifferAtKey (map_of π t p) (map_of ρ u p) e.0 how
-    both_differ how told = least_at (e ∷ ls) (g ∷ rs) h e.0 how (none_less-head by_key_total e.0 (keys_of ls) h.step.left) right_rises (told e.0 h.left.0 its_key)
+    both_differ how told =
+        least_at (e ∷ ls) (g ∷ rs) h e.0 how (none_less-head by_key_total e.0 (keys_of ls) h.step.left)
+        (subst (λ k. NoneLess by_key k (keys_of (g ∷ rs))) (sym same) (none_less-head by_key_total g.0 (keys_of rs) h.step.right)) (told e.0 h.left.0 its_key)
 
     pub both_same : TellsAtPositions π ρ t u p e.1 g.1 None → AreLeft π ρ t u p ls rs
     both_same told = record {
       left = h.left.1;
       right = h.right.1;
-      step = pass_both by_key_total (map_of π t p) (map_of ρ u p) e.0 (keys_of ls) (keys_of rs)
-          (subst (λ k. IsInStep by_key (map_of π t p) (map_of ρ u p) (keys_of (e ∷ ls)) (k ∷ keys_of rs)) one_key h.step) (told e.0 h.left.0 its_key);
+      step = pass by_key_total (map_of π t p) (map_of ρ u p) e.0 (keys_of (e ∷ ls)) (keys_of (g ∷ rs)) (keys_of ls) (keys_of rs) h.step (past_head by_key_total e.0 (keys_of ls) h.step.left)
+          (subst (λ k. IsPast by_key k (keys_of (g ∷ rs)) (keys_of rs)) (sym same) (past_head by_key_total g.0 (keys_of rs) h.step.right)) (told e.0 h.left.0 its_key);
     }
 
-  pub none_left : AreLeft π ρ t u p [] [] → TellsLeast (map_of π t p) (map_of ρ u p) None
-  none_left h = equal_all by_key_total (map_of π t p) (map_of ρ u p) h.step
-
   -- ---- what is left at a rank
-
-  heads : (es : List Entry) (i : ℕ) (e : Entry) → slice_get es i ≡ Some e → drop i es ≡ e ∷ drop (i + 1) es
-  heads es i e here = drop_more es i e (slice_get_within es i e here) ∙ ap (λ x. x ∷ drop (i + 1) es) (get_or_from_slice_get es i e e here)
 
   -- both have an entry there
   pub both_heads : (es gs : List Entry) (i : ℕ) (e g : Entry) → slice_get es i ≡ Some e → slice_get gs i ≡ Some g → AreLeft π ρ t u p (drop i es) (drop i gs) → AreLeft π ρ t u p (e ∷ drop (i + 1) es) (g ∷ drop (i + 1) gs)
@@ -141,17 +110,19 @@ module _ (π ρ : Preference) (t u : Data) (p : Part) (c : IsComparable π t) (d
       → TellsNext (option_map (λ e. e.0) (slice_get es i)) (option_map (λ e. e.0) (slice_get gs i)) d → TellsLeast (map_of π t p) (map_of ρ u p) d
   told_next es gs i d h apart told = at (slice_get es i) refl (slice_get gs i) refl told
     where
+      left_at : (xs ys : List Entry) → drop i es ≡ xs → drop i gs ≡ ys → AreLeft π ρ t u p xs ys
+      left_at xs ys left right = subst (AreLeft π ρ t u p xs) right (subst (λ zs. AreLeft π ρ t u p zs (drop i gs)) left h)
+
       by : (e g : Entry) → AreLeft π ρ t u p (e ∷ drop (i + 1) es) (g ∷ drop (i + 1) gs) → (e.0 ≡ g.0 → ⊥) → (o : Ordering) → by_key e.0 g.0 ≡ o → IsOnlyLesser o e.0 g.0 d → TellsLeast (map_of π t p) (map_of ρ u p) d
-      by e g left other Less is told = only e.0 OnlyLeft d told (left_less e g (drop (i + 1) es) (drop (i + 1) gs) left is)
+      by e g left other Less is told = only e.0 OnlyLeft d told (left_first e (drop (i + 1) es) (g ∷ drop (i + 1) gs) left (below_head by_key_total e.0 g.0 (keys_of (drop (i + 1) gs)) is left.step.right))
       by e g left other Equal is told = absurd (other (options_exact key_cmp equal_keys e.0 g.0 (ap is_eq is)))
-      by e g left other Greater is told = only g.0 OnlyRight d told (right_less e g (drop (i + 1) es) (drop (i + 1) gs) left is)
+      by e g left other Greater is told =
+          only g.0 OnlyRight d told (right_first g (e ∷ drop (i + 1) es) (drop (i + 1) gs) left
+          (below_head by_key_total g.0 e.0 (keys_of (drop (i + 1) es)) (greater_turned by_key_total e.0 g.0 is) left.step.left))
 
       at : (x : Option Entry) → slice_get es i ≡ x → (y : Option Entry) → slice_get gs i ≡ y → TellsNext (option_map (λ e. e.0) x) (option_map (λ e. e.0) y) d → TellsLeast (map_of π t p) (map_of ρ u p) d
       at None here None there told =
-          subst (TellsLeast (map_of π t p) (map_of ρ u p)) (sym told)
-          (none_left (subst (AreLeft π ρ t u p []) (ended gs i there) (subst (λ xs. AreLeft π ρ t u p xs (drop i gs)) (ended es i here) h)))
-      at (Some e) here None there told =
-          only e.0 OnlyLeft d told (left_more e (drop (i + 1) es) (subst (AreLeft π ρ t u p (e ∷ drop (i + 1) es)) (ended gs i there) (subst (λ xs. AreLeft π ρ t u p xs (drop i gs)) (heads es i e here) h)))
-      at None here (Some g) there told =
-          only g.0 OnlyRight d told (right_more g (drop (i + 1) gs) (subst (AreLeft π ρ t u p []) (heads gs i g there) (subst (λ xs. AreLeft π ρ t u p xs (drop i gs)) (ended es i here) h)))
+          subst (TellsLeast (map_of π t p) (map_of ρ u p)) (sym told) (equal_all by_key_total (map_of π t p) (map_of ρ u p) (left_at [] [] (ended es i here) (ended gs i there)).step)
+      at (Some e) here None there told = only e.0 OnlyLeft d told (left_first e (drop (i + 1) es) [] (left_at (e ∷ drop (i + 1) es) [] (heads es i e here) (ended gs i there)) tt)
+      at None here (Some g) there told = only g.0 OnlyRight d told (right_first g [] (drop (i + 1) gs) (left_at [] (g ∷ drop (i + 1) gs) (ended es i here) (heads gs i g there)) tt)
       at (Some e) here (Some g) there told = by e g (both_heads es gs i e g here there h) (apart e g here there) (by_key e.0 g.0) refl told

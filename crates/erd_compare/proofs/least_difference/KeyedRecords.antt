@@ -1,15 +1,13 @@
 -- What a report means at the keys of a part are the records of its objects: each object of an accepted report has a record,
 -- and no two of a part have one key.
-use Rattle.erd_compare.proofs.Common.{◌≡◌, ℕ, zero, suc, ◌≤◌, Bool, true, false, ◌⊎◌, List, [], ◌∷◌, length, nat_lt, slice_get, Some, None, Option, option_map, find, option_and_then, is_eq, sym, refl, ap, ◌∙◌, subst, inl, inr, arith, tied_itself, slice_get_within, Equal-is, option_cmp, Data, Class, Family, family, Role, role, In, any_at, position_of, has_at, find-Some, find-any, option_map-Some, has_identifier, in_at, one_key, no_election_id, options_exact, equal_keys, has_keys, key_cmp, Preference, key_of, election_key_in, election_in, ObjectRecord, Placed, report_of, elections, objects, has_several, election_of_place, meaning, member_of_class, object_record, record_in_election, placed_record, records_of, election_records, key_cmp_total, Key, record_with_key, record_without_key, record_at, Differ, TellsHow, RecordMap, IsWholeTree, HasNoElectionId, TellsHeld, role_of_part, objects_in, key_with_role, holder_key_in, is_ranked, TellsAtPositions, HasKeyAt, IsComparable, How, OnlyLeft, OnlyRight, Part, part}
+use Rattle.erd_compare.proofs.Common.{◌≡◌, ℕ, zero, suc, ◌≤◌, Bool, true, false, ◌⊎◌, List, [], ◌∷◌, length, nat_lt, slice_get, Some, None, Option, option_map, find, option_and_then, is_eq, sym, refl, ap, ◌∙◌, subst, inl, inr, arith, tied_itself, slice_get_within, option_cmp, Data, Family, family, Role, role, In, any_at, position_of, has_keys, key_cmp, Preference, key_of, election_key_in, election_in, ObjectRecord, Placed, report_of, elections, objects, has_several, election_of_place, meaning, object_record, record_in_election, placed_record, records_of, election_records, key_cmp_total, find-Some, find-any, option_map-Some, has_identifier, in_at, one_key, no_election_id, options_exact, equal_keys, Key, record_with_key, record_without_key, record_at, TellsHow, RecordMap, IsWholeTree, HasNoElectionId, TellsHeld, role_of_part, objects_in, key_with_role, holder_key_in, is_ranked, TellsAtPositions, HasKeyAt, IsComparable, record_of_class, How, Part, part}
+use Rattle.std.specs.Cmp.Lexicographic.{options_total}
 use Rattle.erd_check.specs.Wants.{asked, class_of_object}
 use Rattle.erd_check.specs.declared.want.Want.TheVariants.{Object}
-use Rattle.erd_check.proofs.ObjectsAt.{ObjectIn, object_in}
-use Rattle.erd_check.proofs.Shapes.{Within, Within-root}
-use Rattle.erd_meaning.proofs.finding.TwinElections.{one_election_key}
+use Rattle.erd_check.proofs.Shapes.{ObjectIn, object_in, Within, Within-root}
+use Rattle.erd_meaning.proofs.finding.Found.{one_election_key}
 use Rattle.erd_meaning.proofs.accepted.DistinctKeys.{election_has_identifier}
-use Rattle.erd_meaning.proofs.accepted.Phases.{no_identity_fault, no_shape_fault}
-use Rattle.erd_meaning.proofs.accepted.Skeleton.{election_stands, skeleton}
-use Rattle.erd_meaning.proofs.accepted.Standing.{stands}
+use Rattle.erd_meaning.proofs.accepted.Standing.{no_identity_fault, no_shape_fault, election_stands, skeleton, stands}
 use Rattle.erd_compare.proofs.least_difference.StepWalks.{IsNoneBeside}
 use Rattle.erd_compare.proofs.whole_trees.WholeTrees.{whole_election, whole_object}
 
@@ -18,10 +16,6 @@ use Rattle.erd_compare.proofs.whole_trees.WholeTrees.{whole_election, whole_obje
 -- the object has this key, or none
 abbrev has_key : Preference → Option Key → Placed → Bool
 has_key π k o = is_eq (option_cmp key_cmp (key_of π o.value) k)
-
-key_itself : (k : Option Key) → is_eq (option_cmp key_cmp k k) ≡ true
-key_itself None = refl
-key_itself (Some k) = (Equal-is (key_cmp k k)).1 (tied_itself key_cmp_total k)
 
 -- objects with one key, or with none, stand at one position
 abbrev AreApart : Preference → List Placed → Type 0
@@ -32,7 +26,7 @@ module _ (π : Preference) (os : List Placed) where
   find_here : AreApart π os → (i : ℕ) (o : Placed) → slice_get os i ≡ Some o → find (has_key π (key_of π o.value)) os ≡ Some o
   find_here apart i o at =
       let k = key_of π o.value in
-      let found = find-any (has_key π k) os (any_at (has_key π k) o os (in_at os i o at) (key_itself k)) in
+      let found = find-any (has_key π k) os (any_at (has_key π k) o os (in_at os i o at) (ap is_eq (tied_itself (options_total key_cmp_total) k))) in
       let place = position_of os found.0 found.3 in
       let same : place.0 ≡ i = apart place.0 i found.0 o place.1 at (options_exact key_cmp equal_keys (key_of π found.0.value) k found.2) in
       found.1 ∙ (sym place.1 ∙ (ap (slice_get os) same ∙ at))
@@ -69,7 +63,7 @@ module _ (π : Preference) (t : Data) (c : IsComparable π t) (f : Family) (keye
   kept d = rw keyed
 
   identified : (i : ℕ) (o : Placed) → slice_get (objects f t) i ≡ Some o → (k : Key) × (key_of π o.value ≡ Some k)
-  identified i o at = has_identifier π t (no_identity_fault π t c.accepted) f o keyed (has_at (objects f t) i o at)
+  identified i o at = has_identifier π t (no_identity_fault π t c.accepted) f o keyed (in_at (objects f t) i o at)
 
   apart_in_family : AreApart π (objects f t)
   apart_in_family i j o p at there same =
@@ -100,8 +94,8 @@ module _ (π : Preference) (t : Data) (c : IsComparable π t) (f : Family) (keye
     at_key = family_at_key;
     beside = family_beside;
     one = λ i j k h g. apart_in_family i j h.object g.object h.stands g.stands (sym (kept h.object.value) ∙ (h.key ∙ sym (sym (kept g.object.value) ∙ g.key)));
-    within = λ i o at. record { place = o.place; is = stands π t c.accepted f o (has_at (objects f t) i o at) };
-    whole = λ i o at. whole_object t f c.whole o (has_at (objects f t) i o at);
+    within = λ i o at. record { place = o.place; is = stands π t c.accepted f o (in_at (objects f t) i o at) };
+    whole = λ i o at. whole_object t f c.whole o (in_at (objects f t) i o at);
   }
 
 -- a record that no election holds
@@ -117,7 +111,7 @@ module _ (π : Preference) (t : Data) (c : IsComparable π t) where
   apart_elections i j o p at there same = by_key (key_of π o.value) refl
     where
       sole : (b : Bool) → has_several t ≡ b → key_of π o.value ≡ None → i ≡ j
-      sole true is none = let its = election_has_identifier π t (no_identity_fault π t c.accepted) is o (has_at (elections t) i o at) in let clash : None ≡ Some its.0 = sym none ∙ its.1 in absurd (cc clash)
+      sole true is none = let its = election_has_identifier π t (no_identity_fault π t c.accepted) is o (in_at (elections t) i o at) in let clash : None ≡ Some its.0 = sym none ∙ its.1 in absurd (cc clash)
       sole false is none = omega (arith, few (length (elections t)) is, slice_get_within (elections t) i o at, slice_get_within (elections t) j p there)
 
       by_key : (k : Option Key) → key_of π o.value ≡ k → i ≡ j
@@ -140,8 +134,8 @@ module _ (π : Preference) (t : Data) (c : IsComparable π t) where
     at_key = election_at_key;
     beside = election_beside;
     one = λ i j k h g. apart_elections i j h.object g.object h.stands g.stands (h.key ∙ sym g.key);
-    within = λ i o at. record { place = o.place; is = election_stands t (skeleton π t c.accepted) o (has_at (elections t) i o at) };
-    whole = λ i o at. whole_election t o c.whole (has_at (elections t) i o at);
+    within = λ i o at. record { place = o.place; is = election_stands t (skeleton π t c.accepted) o (in_at (elections t) i o at) };
+    whole = λ i o at. whole_election t o c.whole (in_at (elections t) i o at);
   }
 
   -- the report is the only object with its role
@@ -170,27 +164,16 @@ module _ (π : Preference) (t : Data) (c : IsComparable π t) where
 
   pub records_at : (p : Part) → HoldsRecords π t (role_of_part p) (record_at (meaning π t) p)
   records_at part.Report = report_record
-  records_at part.Unit = family_records π t c family.Unit refl
-  records_at part.Party = family_records π t c family.Party refl
-  records_at part.Person = family_records π t c family.Person refl
-  records_at part.Office = family_records π t c family.Office refl
-  records_at part.Header = family_records π t c family.Header refl
   records_at part.Election = elections_records
-  records_at part.Candidate = family_records π t c family.Candidate refl
-  records_at part.Contest = family_records π t c family.Contest refl
-  records_at part.Style = family_records π t c family.Style refl
+  records_at p = family_records π t c _ refl
 
 -- ---- each object has a record
-
--- the record of an object of this class
-abbrev made_with : Preference → Data → Data → Class → ObjectRecord
-made_with π t d c = record { class = c; members = member_of_class π t d c }
 
 own_record : (π : Preference) (t : Data) (c : IsComparable π t) (r : Role) (d : Data) → Within t (asked (Object r) d) → (a : ObjectRecord) × (object_record π t r d ≡ Some a) × HasNoElectionId a
 own_record π t c r d w =
     let i : ObjectIn t r d = object_in t (no_shape_fault π t c.accepted) r d w in
     let class : class_of_object r d ≡ Some i.class = ap (class_of_object r) i.is_object ∙ i.at.among in
-    (made_with π t d i.class, ap (option_map (made_with π t d)) class, no_election_id π t d i.class)
+    (record_of_class π t i.class d, ap (option_map (λ x. record_of_class π t x d)) class, no_election_id π t d i.class)
 
 module _ (π : Preference) (t : Data) (c : IsComparable π t) (p : Part) where
   -- the record at the key of the object at a position
@@ -224,13 +207,7 @@ module _ (π : Preference) (t : Data) (c : IsComparable π t) (p : Part) where
 
 -- ---- two reports
 
-pub differ_left : (a b : Option ObjectRecord) (r : ObjectRecord) → a ≡ Some r → b ≡ None → Differ a b OnlyLeft
-differ_left a b r e g = subst (λ x. Differ x b OnlyLeft) (sym e) (subst (λ x. Differ (Some r) x OnlyLeft) (sym g) refl)
-
-pub differ_right : (a b : Option ObjectRecord) (r : ObjectRecord) → a ≡ None → b ≡ Some r → Differ a b OnlyRight
-differ_right a b r e g = subst (λ x. Differ x b OnlyRight) (sym e) (subst (λ x. Differ None x OnlyRight) (sym g) refl)
-
-tells_as : (a b x y : Option ObjectRecord) (how : Option How) → a ≡ x → b ≡ y → TellsHow x y how → TellsHow a b how
+pub tells_as : (a b x y : Option ObjectRecord) (how : Option How) → a ≡ x → b ≡ y → TellsHow x y how → TellsHow a b how
 tells_as a b x y how e g h = subst (λ z. TellsHow z b how) (sym e) (subst (λ z. TellsHow x z how) (sym g) h)
 
 -- what is told of the objects at two positions, and of the keys of their elections, is told of their records at a key that

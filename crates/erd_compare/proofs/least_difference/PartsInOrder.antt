@@ -1,6 +1,7 @@
 -- The first difference of two meanings, as the parts are gone over in their order.
-use Rattle.erd_compare.proofs.Common.{◌≡◌, ℕ, zero, suc, ◌+◌, ◌<◌, ◌≤◌, ◌⊎◌, List, [], ◌∷◌, length, get_or, Some, None, Option, nat_cmp, Ordering, Less, Equal, Greater, sym, refl, ap, ◌∙◌, subst, inl, inr, arith, cases_order, nat_cmp_is, option_cmp, ordering_then, Data, Family, family, same_meaning, key_cmp, Preference, Meaning, meaning, records_of, Key, part_number, part_cmp, record_at, Differ, IsFirstDifference, DifferAtPart, Difference, Part, part}
-use Rattle.std.specs.Prelude.{⊤}
+use Rattle.erd_compare.proofs.Common.{◌≡◌, ℕ, ◌+◌, ◌<◌, ◌≤◌, ◌⊎◌, List, [], ◌∷◌, get_or, Some, None, Option, nat_cmp, Ordering, Less, Equal, Greater, sym, refl, ap, ◌∙◌, subst, inl, inr, arith, cases_order, option_cmp, ordering_then, Data, Family, family, key_cmp, Preference, meaning, records_of, nat_cmp_is, same_meaning, Meaning, Key, part_number, part_cmp, record_at, Differ, IsFirstDifference, DifferAtPart, Difference, Part, part}
+use Rattle.std.proofs.lemmas.List.{get_or-map}
+use Rattle.std.proofs.lemmas.List.FromFn.{get_or-range_with_len}
 
 -- ---- the parts
 
@@ -11,21 +12,8 @@ parts = part.Report ∷ part.Unit ∷ part.Party ∷ part.Person ∷ part.Office
 abbrev pub part_at : ℕ → Part
 part_at i = get_or parts i part.Report
 
--- the numbers of these parts count up
-abbrev AreCounted : ℕ → List Part → Type 0
-AreCounted n [] = ⊤
-AreCounted n (p ∷ ps) = (part_number p ≡ n) × AreCounted (n + 1) ps
-
-counted_at : (n : ℕ) (ps : List Part) (i : ℕ) (p : Part) → AreCounted n ps → i < length ps → part_number (get_or ps i p) ≡ n + i
-counted_at n [] i p h low = absurd (omega arith)
-counted_at n (q ∷ ps) zero p h low = let count : n ≡ n + 0 = omega arith in h.0 ∙ count
-counted_at n (q ∷ ps) (suc i) p h low =
-    let rest : part_number (get_or ps i p) ≡ (n + 1) + i = counted_at (n + 1) ps i p h.1 (omega arith) in let count : (n + 1) + i ≡ n + suc i = omega arith in rest ∙ count
-
 number_at : (i : ℕ) → i < 10 → part_number (part_at i) ≡ i
-number_at i low =
-    let is : part_number (part_at i) ≡ 0 + i = counted_at 0 parts i part.Report (refl, (refl, (refl, (refl, (refl, (refl, (refl, (refl, (refl, (refl, tt)))))))))) low in
-    let count : 0 + i ≡ i = omega arith in is ∙ count
+number_at i low = let count : 0 + i ≡ i = omega arith in sym (get_or-map part_number parts i part.Report 0 low) ∙ (get_or-range_with_len 0 10 i 0 low ∙ count)
 
 part_itself : (p : Part) → part_at (part_number p) ≡ p
 part_itself part.Report = refl

@@ -1,9 +1,8 @@
 -- The keys of the objects with a role, in rising order: no key stands twice, and each stands at its rank.
-use Rattle.erd_compare.proofs.Common.{◌≡◌, ℕ, ◌+◌, true, cond, List, map, length, slice_get, Some, None, filter, Option, option_map, option_and_then, is_lt, Ordering, sym, refl, ap, ◌∙◌, arith, slice_get-map, IsTotalOrder, AllByRecursion, IsDistinct, IsStrictlySortedBy, option_cmp, eq_by_cmp, Data, Family, Role, role, In, In-all, all_weakened, option_map-Some, in_at, distinct_from_one_place, options_exact, equal_keys, all_rising, rising_strictly, stands_at_rank, KeyPosition, positioned_made, positioned_keys, all_positioned, rising_positioned, has_keys, key_cmp, Preference, key_of, rank_of, rising_keys, election_rank_of, rising_election_keys, Placed, elections, objects, rising_list, positioned, rank_in_keys, rising_positions, key_cmp_total, Key, objects_in, key_with_role, keys_in_role, key_in_role, is_ranked, rising_in_role, HasKeyAt, IsComparable}
+use Rattle.erd_compare.proofs.Common.{◌≡◌, ℕ, ◌+◌, true, cond, List, map, length, slice_get, Some, None, filter, Option, option_map, option_and_then, is_lt, Ordering, sym, refl, ap, ◌∙◌, arith, slice_get-map, IsTotalOrder, AllByRecursion, IsStrictlySortedBy, option_cmp, eq_by_cmp, Data, Family, Role, role, In, In-all, all_weakened, has_keys, key_cmp, Preference, key_of, rank_of, rising_keys, election_rank_of, Placed, elections, objects, rising_list, positioned, rank_in_keys, rising_positions, key_cmp_total, IsDistinct, option_map-Some, in_at, distinct_from_one_place, options_exact, equal_keys, all_rising, rising_strictly, stands_at_rank, KeyPosition, positioned_made, positioned_keys, all_positioned, rising_positioned, rising_election_keys, Key, objects_in, key_with_role, keys_in_role, key_in_role, is_ranked, rising_in_role, HasKeyAt, IsComparable}
 use Rattle.std.specs.Cmp.Lexicographic.{options_total}
-use Rattle.erd_meaning.proofs.orders.Counted.{count_map}
+use Rattle.erd_meaning.proofs.orders.RisingOrders.{count_map, rising-In}
 use Rattle.erd_meaning.proofs.orders.RisingLists.{rising_list_map}
-use Rattle.erd_meaning.proofs.orders.RisingSets.{rising-In}
 use Rattle.erd_compare.proofs.least_difference.KeyedRecords.{one_object}
 
 -- keys are compared, and none comes before each
@@ -47,6 +46,10 @@ module _ (π : Preference) (t : Data) (r : Role) where
   pub entry_keys : map (λ (e : KeyPosition). e.0) entries ≡ rising
   entry_keys = rising_list_map (λ (e : KeyPosition). e.0) by_key (positioned 0 keys) ∙ ap (rising_list by_key) (positioned_keys 0 keys)
 
+  -- the key at a rank is that of the entry
+  pub key_at : (n : ℕ) → slice_get rising n ≡ option_map (λ (e : KeyPosition). e.0) (slice_get entries n)
+  key_at n = ap (λ ks. slice_get ks n) (sym entry_keys) ∙ slice_get-map (λ (e : KeyPosition). e.0) entries n
+
   pub all_stand : AllByRecursion (λ (e : KeyPosition). HasKeyAt π t r e.1 e.0) entries
   all_stand =
       all_weakened (λ (e : KeyPosition). slice_get keys e.1 ≡ Some e.0) (λ (e : KeyPosition). HasKeyAt π t r e.1 e.0) entries (λ e is. listed_key π t r e.1 e.0 is)
@@ -62,9 +65,7 @@ module _ (π : Preference) (t : Data) (r : Role) where
   -- the keys at the ranks are those of the objects at the rising positions
   pub keys_at : is_ranked r ≡ true → (n : ℕ) → slice_get rising n ≡ option_map (key_in_role π r t) (slice_get (rising_positions keys) n)
   keys_at ranked n =
-      ap (λ ks. slice_get ks n) (sym entry_keys)
-      ∙ (slice_get-map (λ (e : KeyPosition). e.0) entries n
-      ∙ (at (slice_get entries n) refl ∙ ap (option_map (key_in_role π r t)) (sym (slice_get-map (λ (e : KeyPosition). e.1) entries n))))
+      key_at n ∙ (at (slice_get entries n) refl ∙ ap (option_map (key_in_role π r t)) (sym (slice_get-map (λ (e : KeyPosition). e.1) entries n)))
     where
       at : (o : Option KeyPosition) → slice_get entries n ≡ o → option_map (λ (e : KeyPosition). e.0) o ≡ option_map (key_in_role π r t) (option_map (λ (e : KeyPosition). e.1) o)
       at None is = refl

@@ -1,38 +1,29 @@
 -- At a rank both reports have the same key if and only if the common rank there is the rank.
-use Rattle.erd_compare.proofs.Common.{◌≡◌, ℕ, Bool, true, false, cond, List, ◌++◌, map, ◌==◌, slice_get, Some, None, Option, option_map, sym, refl, ap, ◌∙◌, Decides-eqb, same_Some, slice_get-map, view, Role, option_map-Some, KeyPosition, Judged, rising_positions, Key, place_of, common_rank, AreCommonRanks, keys_in_role, is_ranked, rising_in_role, shared, shared_at, IsComparable}
-use Rattle.erd_compare.proofs.least_difference.RisingKeys.{entries, entry_keys, keys_rise}
+use Rattle.erd_compare.proofs.Common.{◌≡◌, ℕ, Bool, true, false, cond, List, ◌++◌, map, ◌==◌, slice_get, Some, None, Option, option_map, sym, refl, ap, ◌∙◌, Decides-eqb, same_Some, slice_get-map, view, Role, Judged, rising_positions, option_map-Some, KeyPosition, Key, place_of, common_rank, AreCommonRanks, keys_in_role, is_ranked, rising_in_role, shared, shared_at, IsComparable}
+use Rattle.erd_compare.proofs.least_difference.RisingKeys.{entries, key_at, keys_rise}
 use Rattle.erd_compare.proofs.same_ranks.KeyPlaces.{first_at, place_first, place_stands, place_there, stands_second}
 
 -- ---- positions that are told
 
 -- the three that are told are there
-pub record AreShared (x y z : Option ℕ) (n i j : ℕ) : Type 0 where
-  pub one : x ≡ Some i
-  pub other : y ≡ Some j
-  pub common : z ≡ Some n
-
-told_shared : (x y z : Option ℕ) (n i j : ℕ) → shared x y z n ≡ Some (i, j) → AreShared x y z n i j
-told_shared None y z n i j h = cc
-told_shared (Some k) None z n i j h = cc
-told_shared (Some k) (Some l) None n i j h = cc
+told_shared : (x y z : Option ℕ) (n i j : ℕ) → shared x y z n ≡ Some (i, j) → (x ≡ Some i) × (y ≡ Some j) × (z ≡ Some n)
 told_shared (Some k) (Some l) (Some m) n i j h = at (m == n) refl h
   where
-    at : (b : Bool) → (m == n) ≡ b → cond {A = Option (ℕ × ℕ)} b (Some (k, l)) None ≡ Some (i, j) → AreShared (Some k) (Some l) (Some m) n i j
+    at : (b : Bool) → (m == n) ≡ b → cond {A = Option (ℕ × ℕ)} b (Some (k, l)) None ≡ Some (i, j) → (Some k ≡ Some i) × (Some l ≡ Some j) × (Some m ≡ Some n)
     at true is h =
         let pair : ◌≡◌ {A = ℕ × ℕ} (k, l) (i, j) = cc in
-        record { one = ap (λ (x : ℕ × ℕ). Some x.0) pair; other = ap (λ (x : ℕ × ℕ). Some x.1) pair; common = ap Some ((Decides-eqb m n).0 is) }
+        (ap (λ (x : ℕ × ℕ). Some x.0) pair, ap (λ (x : ℕ × ℕ). Some x.1) pair, ap Some ((Decides-eqb m n).0 is))
     at false is h = cc
+told_shared x y z n i j h = cc
 
 no_some : {A : Type 0} {x : A} → Some x ≡ None → ⊥
 no_some e = cc
 
 none_shared : (x y z : Option ℕ) (n i j : ℕ) → x ≡ Some i → y ≡ Some j → z ≡ Some n → shared x y z n ≡ None → ⊥
-none_shared None y z n i j a b c h = cc
-none_shared (Some k) None z n i j a b c h = cc
-none_shared (Some k) (Some l) None n i j a b c h = cc
 none_shared (Some k) (Some l) (Some m) n i j a b c h =
     let same : m ≡ n = cc in
     absurd (no_some (sym (ap (λ t. cond {A = Option (ℕ × ℕ)} t (Some (k, l)) None) ((Decides-eqb m n).1 same)) ∙ h))
+none_shared x y z n i j a b c h = cc
 
 -- ---- keys at a rank
 
@@ -50,10 +41,10 @@ module _ (a b : Judged) (r : Role) (c : IsComparable a.prefer (view a.tree)) (ra
   keys_right = rising_in_role b.prefer (view b.tree) r
 
   left_key : (n : ℕ) (e : KeyPosition) → slice_get ones n ≡ Some e → slice_get keys_left n ≡ Some e.0
-  left_key n e here = ap (λ ks. slice_get ks n) (sym (entry_keys a.prefer (view a.tree) r)) ∙ (slice_get-map (λ (x : KeyPosition). x.0) ones n ∙ ap (option_map (λ (x : KeyPosition). x.0)) here)
+  left_key n e here = key_at a.prefer (view a.tree) r n ∙ ap (option_map (λ (x : KeyPosition). x.0)) here
 
   right_key : (n : ℕ) (g : KeyPosition) → slice_get others n ≡ Some g → slice_get keys_right n ≡ Some g.0
-  right_key n g here = ap (λ ks. slice_get ks n) (sym (entry_keys b.prefer (view b.tree) r)) ∙ (slice_get-map (λ (x : KeyPosition). x.0) others n ∙ ap (option_map (λ (x : KeyPosition). x.0)) here)
+  right_key n g here = key_at b.prefer (view b.tree) r n ∙ ap (option_map (λ (x : KeyPosition). x.0)) here
 
   common_at : (n : ℕ) (g : KeyPosition) → slice_get others n ≡ Some g → slice_get ranks n ≡ Some (common_rank a b r g.0)
   common_at n g there = ap (λ ns. slice_get ns n) are ∙ (slice_get-map (common_rank a b r) keys_right n ∙ ap (option_map (common_rank a b r)) (right_key n g there))
@@ -100,9 +91,9 @@ module _ (a b : Judged) (r : Role) (c : IsComparable a.prefer (view a.tree)) (ra
   pub found_shared : (n i j : ℕ) → shared_at positions_left positions_right ranks n ≡ Some (i, j) → HaveShared n i j
   found_shared n i j is =
       let told = told_shared (slice_get positions_left n) (slice_get positions_right n) (slice_get ranks n) n i j is in
-      let e = entry_at ones n i told.one in
-      let g = entry_at others n j told.other in
-      record { one = e.0; other = g.0; here = e.1; there = g.1; first = e.2; second = g.2; same = same_key n e.0 g.0 e.1 g.1 told.common }
+      let e = entry_at ones n i told.0 in
+      let g = entry_at others n j told.1 in
+      record { one = e.0; other = g.0; here = e.1; there = g.1; first = e.2; second = g.2; same = same_key n e.0 g.0 e.1 g.1 told.2 }
 
   pub none_found : (n : ℕ) → shared_at positions_left positions_right ranks n ≡ None → (e g : KeyPosition) → slice_get ones n ≡ Some e → slice_get others n ≡ Some g → e.0 ≡ g.0 → ⊥
   none_found n is e g here there same =

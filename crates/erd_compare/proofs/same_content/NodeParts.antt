@@ -1,19 +1,18 @@
 -- What a node of a ballot's order is, by its class, and what stands inside it.
-use Rattle.erd_compare.proofs.Common.{◌≡◌, ℕ, zero, suc, ◌<◌, ◌≤◌, Bool, true, false, List, [], ◌∷◌, length, get_or, Some, None, codes, Option, is_eq, Ordering, Equal, sym, refl, ap, ◌∙◌, arith, Data, object, Members, no_members, member, depth, items_depth, members_depth, get_member, get, view, items_view, Value, text_cmp, get_member-depth, Preference, Content, no_content, class_of_node, is_header_class, content_of, node_of, content_inside, Decides}
-use Rattle.std.proofs.lemmas.Map.Text.{is_eq-slice_cmp}
+use Rattle.erd_compare.proofs.Common.{◌≡◌, ℕ, zero, suc, ◌<◌, ◌≤◌, Bool, true, false, List, [], ◌∷◌, length, get_or, Some, None, codes, Option, is_eq, Ordering, Equal, sym, refl, ap, ◌∙◌, arith, Data, object, Members, no_members, member, get_member, get, view, items_view, Value, text_cmp, Judged, Preference, Content, no_content, content_of, depth, members_depth, is_eq-slice_cmp, items_depth, get_member-depth, class_of_node, is_header_class, node_of, content_inside, Decides}
+use Rattle.erd_compare.proofs.same_values.EqualOptions.{decides_as}
 use Rattle.erd_meaning.specs.Records.{contest_node, header_node}
 use Rattle.erd_compare.specs.code.ContentParts.{content_within}
 
 -- ---- what stands inside
 
 -- the content of a member that may be absent
-content_at : (π : Preference) → Data → Option Data → Content
+abbrev pub content_at : Preference → Data → Option Data → Content
 content_at π t None = no_content
 content_at π t (Some v) = content_of π t v
 
 -- what stands inside is that of the member
 inside_get : (π : Preference) (t : Data) (ms : Members) → content_inside π t ms ≡ content_at π t (get_member (codes "OrderedContent") ms)
-unfolding content_at
 inside_get π t no_members = refl
 inside_get π t (member k d ms) = at (text_cmp (codes "OrderedContent") k) refl (inside_get π t ms)
   where
@@ -22,20 +21,14 @@ inside_get π t (member k d ms) = at (text_cmp (codes "OrderedContent") k) refl 
     at Equal is h = rw (is, sym (is_eq-slice_cmp (codes "OrderedContent") k) ∙ ap is_eq is)
     at e is h = rw (is, sym (is_eq-slice_cmp (codes "OrderedContent") k) ∙ ap is_eq is) h
 
-within_get : (π : Preference) (t d : Data) → content_within π t d ≡ content_at π t (get (codes "OrderedContent") d)
-unfolding content_at
-within_get π t (object ms) = inside_get π t ms
-within_get π t d = refl
+within_get : (π : Preference) (t d : Data) {o : Option Data} → get (codes "OrderedContent") d ≡ o → content_at π t o ≡ content_within π t d
+within_get π t (object ms) e = sym (inside_get π t ms ∙ ap (content_at π t) e)
+within_get π t d e = ap (content_at π t) (sym e)
 
--- where there is such a member
-pub within_some : (π : Preference) (t d v : Data) → get (codes "OrderedContent") d ≡ Some v → content_within π t d ≡ content_of π t v
-unfolding content_at
-within_some π t d v e = within_get π t d ∙ ap (content_at π t) e
-
--- and where there is none
-pub within_none : (π : Preference) (t d : Data) → get (codes "OrderedContent") d ≡ None → content_within π t d ≡ no_content
-unfolding content_at
-within_none π t d e = within_get π t d ∙ ap (content_at π t) e
+-- what stands inside two values is the same exactly if their members are
+pub within_decides : (a b : Judged) (d e : Data) {o p : Option Data} (answer : Bool) → get (codes "OrderedContent") d ≡ o → get (codes "OrderedContent") e ≡ p
+    → Decides answer (content_at a.prefer (view a.tree) o) (content_at b.prefer (view b.tree) p) → Decides answer (content_within a.prefer (view a.tree) d) (content_within b.prefer (view b.tree) e)
+within_decides a b d e answer left right h = decides_as refl (within_get a.prefer (view a.tree) d left) (within_get b.prefer (view b.tree) e right) h
 
 -- ---- headers and contests
 

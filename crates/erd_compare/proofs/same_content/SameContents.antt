@@ -1,11 +1,8 @@
 -- When two orders of a ballot are the same: node by node, and each node part by part.
-use Rattle.erd_compare.proofs.Common.{◌≡◌, suc, Bool, true, false, List, [], ◌∷◌, map, length, ◌==◌, Option, sym, refl, ap, ◌∙◌, ap₂, true≢false, arith, Decides-eqb, Data, array, Items, no_items, item, view, Value, list_of_items, entries_of, Preference, JsonMap, Content, no_content, first_node, Node, a_contest, a_header, NameParts, content_of, nodes_of, node_of, Key, Decides}
+use Rattle.erd_compare.proofs.Common.{◌≡◌, suc, Bool, true, false, List, [], ◌∷◌, map, length, ◌==◌, Option, sym, refl, ap, ◌∙◌, ap₂, arith, Decides-eqb, Data, array, Items, no_items, item, view, Value, list_of_items, entries_of, Preference, Content, no_content, first_node, Node, a_contest, a_header, NameParts, content_of, JsonMap, nodes_of, node_of, Key, Decides}
 use Rattle.std.proofs.lemmas.Simd.{map-map}
 
 -- ---- content as a list of nodes
-
-first_same : (a b : Node) (x y : Content) → first_node a x ≡ first_node b y → (a ≡ b) × (x ≡ y)
-first_same a b x y e = let first : a ≡ b = cc in let rest : x ≡ y = cc in (first, rest)
 
 -- the nodes of an array, as a list
 abbrev pub nodes : Preference → Data → Items → List Node
@@ -14,55 +11,29 @@ nodes π t ds = map (node_of π t) (list_of_items ds)
 -- contents with the same nodes are the same
 pub nodes-same : (π ρ : Preference) (t u : Data) (ds es : Items) → nodes π t ds ≡ nodes ρ u es → nodes_of π t ds ≡ nodes_of ρ u es
 nodes-same π ρ t u no_items no_items e = refl
-nodes-same π ρ t u no_items (item d es) e = cc
-nodes-same π ρ t u (item c ds) no_items e = cc
 nodes-same π ρ t u (item c ds) (item d es) e =
     let first : node_of π t c ≡ node_of ρ u d = cc in
     let rest : nodes π t ds ≡ nodes ρ u es = cc in
     ap₂ first_node first (nodes-same π ρ t u ds es rest)
+nodes-same π ρ t u ds es e = cc
 
 -- and the other way round
 pub same-nodes : (π ρ : Preference) (t u : Data) (ds es : Items) → nodes_of π t ds ≡ nodes_of ρ u es → nodes π t ds ≡ nodes ρ u es
 same-nodes π ρ t u no_items no_items e = refl
-same-nodes π ρ t u no_items (item d es) e = cc
-same-nodes π ρ t u (item c ds) no_items e = cc
 same-nodes π ρ t u (item c ds) (item d es) e =
-    let both = first_same (node_of π t c) (node_of ρ u d) (nodes_of π t ds) (nodes_of ρ u es) e in
-    ap₂ ◌∷◌ both.0 (same-nodes π ρ t u ds es both.1)
+    let first : node_of π t c ≡ node_of ρ u d = cc in
+    let rest : nodes_of π t ds ≡ nodes_of ρ u es = cc in
+    ap₂ ◌∷◌ first (same-nodes π ρ t u ds es rest)
+same-nodes π ρ t u ds es e = cc
 
 -- ---- nodes by their parts
-
--- the key of a node
-abbrev node_key : Node → Option Key
-node_key (a_contest key names others) = key
-node_key (a_header key inside others) = key
-
--- the names of the selections of a contest
-abbrev node_names : Node → List (Option NameParts)
-node_names (a_contest key names others) = names
-node_names (a_header key inside others) = []
-
--- the content inside a header
-abbrev node_inside : Node → Content
-node_inside (a_contest key names others) = no_content
-node_inside (a_header key inside others) = inside
-
--- the carried members of a node
-abbrev node_others : Node → JsonMap
-node_others (a_contest key names others) = others
-node_others (a_header key inside others) = others
-
--- whether a node is a header
-abbrev is_header_node : Node → Bool
-is_header_node (a_contest key names others) = false
-is_header_node (a_header key inside others) = true
 
 -- contests are the same exactly if their parts are
 pub contest-Decides : (answer : Bool) (k l : Option Key) (xs ys : List (Option NameParts)) (m n : JsonMap)
     → (answer ≡ true → (k ≡ l) × (m ≡ n) × (xs ≡ ys)) → (k ≡ l → m ≡ n → xs ≡ ys → answer ≡ true) → Decides answer (a_contest k xs m) (a_contest l ys n)
 contest-Decides answer k l xs ys m n to from = (
   λ h. let parts = to h in ap (λ x. a_contest x xs m) parts.0 ∙ (ap (λ x. a_contest l x m) parts.2 ∙ ap (λ x. a_contest l ys x) parts.1),
-  λ same. from (ap node_key same) (ap node_others same) (ap node_names same),
+  λ same. let key : k ≡ l = cc in let others : m ≡ n = cc in let names : xs ≡ ys = cc in from key others names,
 )
 
 -- headers are the same exactly if their parts are
@@ -70,15 +41,15 @@ pub header-Decides : (answer : Bool) (k l : Option Key) (x y : Content) (m n : J
     → (answer ≡ true → (k ≡ l) × (m ≡ n) × (x ≡ y)) → (k ≡ l → m ≡ n → x ≡ y → answer ≡ true) → Decides answer (a_header k x m) (a_header l y n)
 header-Decides answer k l x y m n to from = (
   λ h. let parts = to h in ap (λ z. a_header z x m) parts.0 ∙ (ap (λ z. a_header l z m) parts.2 ∙ ap (λ z. a_header l y z) parts.1),
-  λ same. from (ap node_key same) (ap node_others same) (ap node_inside same),
+  λ same. let key : k ≡ l = cc in let others : m ≡ n = cc in let inside : x ≡ y = cc in from key others inside,
 )
 
 -- no contest is a header
 pub contest-header : {k l : Option Key} {xs : List (Option NameParts)} {y : Content} {m n : JsonMap} → Decides false (a_contest k xs m) (a_header l y n)
-contest-header = (λ h. absurd (true≢false (sym h)), λ same. ap is_header_node same)
+contest-header = (λ h. cc, λ same. cc)
 
 pub header-contest : {k l : Option Key} {x : Content} {ys : List (Option NameParts)} {m n : JsonMap} → Decides false (a_header k x m) (a_contest l ys n)
-header-contest = (λ h. absurd (true≢false (sym h)), λ same. sym (ap is_header_node same))
+header-contest = (λ h. cc, λ same. cc)
 
 -- ---- content of any value
 

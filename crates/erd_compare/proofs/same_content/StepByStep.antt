@@ -6,12 +6,6 @@ pub record AreSameIfLeft {B : Type 0} (all all' left left' : List B) : Type 0 wh
   pub to_left : all ≡ all' → left ≡ left'
   pub to_all : left ≡ left' → all ≡ all'
 
-first_equal : {B : Type 0} (b c : B) (bs cs : List B) → b ∷ bs ≡ c ∷ cs → b ≡ c
-first_equal b c bs cs e = cc
-
-rest_equal : {B : Type 0} (b c : B) (bs cs : List B) → b ∷ bs ≡ c ∷ cs → bs ≡ cs
-rest_equal b c bs cs e = cc
-
 module _ {A B : Type 0} (f g : A → B) where
   -- the list that is left at an index
   left_at : (xs : List A) (i : ℕ) (x : A) → i < length xs → x ≡ get_or xs i x → map f (drop i xs) ≡ f x ∷ map f (drop (i + 1) xs)
@@ -21,7 +15,7 @@ module _ {A B : Type 0} (f g : A → B) where
   pub one_further : (xs : List A) (i : ℕ) (x y : A) (left left' : List A) (all all' : List B) → i < length xs → x ≡ get_or xs i x → left ≡ y ∷ left' → f x ≡ g y
       → AreSameIfLeft all all' (map f (drop i xs)) (map g left) → AreSameIfLeft all all' (map f (drop (i + 1) xs)) (map g left')
   one_further xs i x y left left' all all' low here next same so_far = record {
-    to_left = λ e. rest_equal (f x) (g y) (map f (drop (i + 1) xs)) (map g left') (sym (left_at xs i x low here) ∙ (so_far.to_left e ∙ ap (map g) next));
+    to_left = λ e. let both : f x ∷ map f (drop (i + 1) xs) ≡ g y ∷ map g left' = sym (left_at xs i x low here) ∙ (so_far.to_left e ∙ ap (map g) next) in cc;
     to_all = λ e. so_far.to_all (left_at xs i x low here ∙ (ap₂ ◌∷◌ same e ∙ sym (ap (map g) next)));
   }
 
@@ -30,5 +24,7 @@ module _ {A B : Type 0} (f g : A → B) where
       → AreSameIfLeft all all' (map f (drop i xs)) (map g left) → Decides false all all'
   differ_here xs i x y left left' all all' low here next differ so_far = (
     λ e. absurd (true≢false (sym e)),
-    λ e. differ (first_equal (f x) (g y) (map f (drop (i + 1) xs)) (map g left') (sym (left_at xs i x low here) ∙ (so_far.to_left e ∙ ap (map g) next))),
+    λ e.
+        let both : f x ∷ map f (drop (i + 1) xs) ≡ g y ∷ map g left' = sym (left_at xs i x low here) ∙ (so_far.to_left e ∙ ap (map g) next) in
+        let same : f x ≡ g y = cc in differ same,
   )

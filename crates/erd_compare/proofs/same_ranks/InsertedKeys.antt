@@ -1,7 +1,10 @@
 -- The positions of keys that are added to a list one after another, each once.
-use Rattle.erd_compare.proofs.Common.{◌≡◌, ℕ, ◌+◌, ◌≤◌, Bool, true, false, cond, not, ◌||◌, eqb, List, [], ◌∷◌, ◌++◌, map, length, drop, slice_get, Some, None, Option, option_map, filter_map, is_eq, Ordering, sym, refl, ap, ◌∙◌, subst, ap₂, inl, inr, append-nil, arith, Decides-eqb, tied_itself, map-append, drop_more, drop_all, CmpEqualImpliesEq, slice_get_within, get_or_from_slice_get, Equal-is, IsTotalOrder, cons_option, list_any, position_or_len, eq_by_cmp, In}
+use Rattle.erd_compare.proofs.Common.{◌≡◌, ℕ, ◌+◌, ◌≤◌, Bool, true, false, cond, not, ◌||◌, List, [], ◌∷◌, ◌++◌, map, length, drop, slice_get, Some, None, Option, option_map, filter_map, is_eq, Ordering, sym, refl, ap, ◌∙◌, subst, ap₂, inl, inr, append-nil, arith, tied_itself, map-append, CmpEqualImpliesEq, Equal-is, IsTotalOrder, cons_option, list_any, position_or_len, eq_by_cmp, In, eqb, drop_all}
 use Rattle.std.proofs.lemmas.List.Folds.{list_any-append, position_or_len_push}
+use Rattle.std.proofs.Common.{append_assoc}
+use Rattle.std.proofs.lemmas.Bool.Decides.{nat_tests}
 use Rattle.indexmap.specs.IndexSet.{insert_all, insert_key}
+use Rattle.erd_compare.proofs.least_difference.KeyWalks.{heads}
 
 -- ---- the first that passes a test
 
@@ -73,19 +76,15 @@ module _ {K : Type 0} (cmp : K → K → Ordering) (total : IsTotalOrder cmp) (e
       or_own true = refl
       or_own false = refl
 
-      pushed : cond (eqb (position_or_len (eq k) ks) (length ks)) (length ks + 0) (position_or_len (eq k) ks) ≡ position_or_len (eq k) ks
-      pushed = by (eqb (position_or_len (eq k) ks) (length ks)) refl
-        where
-          by : (b : Bool) → eqb (position_or_len (eq k) ks) (length ks) ≡ b → cond b (length ks + 0) (position_or_len (eq k) ks) ≡ position_or_len (eq k) ks
-          by true e = let same : position_or_len (eq k) ks ≡ length ks = (Decides-eqb (position_or_len (eq k) ks) (length ks)).0 e in omega arith
-          by false e = refl
+      pushed : (n m : ℕ) → cond (eqb n m) (m + 0) n ≡ n
+      pushed n m = grind (arith, nat_tests)
 
       at : (b : Bool) → list_any (eq k) ks ≡ b → StandsAt k (cond b ks (ks ++ k ∷ [])) (position_or_len (eq k) ks)
       at true e = record { any = e; place = refl }
       at false e = record {
         any = list_any-append (eq k) ks (k ∷ []) ∙ (ap (λ b. list_any (eq k) ks || b) own ∙ or_own (list_any (eq k) ks));
         place = position_or_len_push (eq k) ks k
-            ∙ (ap (λ b. cond (eqb (position_or_len (eq k) ks) (length ks)) (length ks + cond b 0 1) (position_or_len (eq k) ks)) (itself k) ∙ pushed);
+            ∙ (ap (λ b. cond (eqb (position_or_len (eq k) ks) (length ks)) (length ks + cond b 0 1) (position_or_len (eq k) ks)) (itself k) ∙ pushed (position_or_len (eq k) ks) (length ks));
       }
 
   -- each key that is added is in the list
@@ -125,57 +124,34 @@ module _ {K : Type 0} (cmp : K → K → Ordering) (total : IsTotalOrder cmp) (e
       pub keys : insert_all eq ks (filter_map told left) ≡ insert_all eq old (filter_map told all)
       pub positions : ns ++ map (position_in (insert_all eq old (filter_map told all))) left ≡ map (position_in (insert_all eq old (filter_map told all))) all
 
-    behind : {A : Type 0} (xs ys : List A) (x : A) → (xs ++ x ∷ []) ++ ys ≡ xs ++ x ∷ ys
-    behind [] ys x = refl
-    behind (z ∷ zs) ys x = ap (λ ws. z ∷ ws) (behind zs ys x)
-
-    -- an object without a key
-    pub none_added : (old ks : List K) (all left : List O) (o : O) (ns : List (Option ℕ)) → told o ≡ None → IsAdding old all (o ∷ left) ks ns → IsAdding old all left ks (ns ++ None ∷ [])
-    none_added old ks all left o ns e h = record {
-      keys = sym (ap (λ y. insert_all eq ks (cons_option y (filter_map told left))) e) ∙ h.keys;
-      positions = behind ns (map (position_in all_keys) left) None
-          ∙ (ap (λ y. ns ++ option_map (λ k. position_or_len (eq k) all_keys) y ∷ map (position_in all_keys) left) (sym e) ∙ h.positions);
+    -- the object at the next position, with its key, if it has one, which is added
+    pub next : (old ks ks' : List K) (all : List O) (i : ℕ) (o : O) (n : Option ℕ) (ns ns' : List (Option ℕ)) → slice_get all i ≡ Some o → IsAdding old all (drop i all) ks ns → ns' ≡ ns ++ n ∷ []
+        → (y : Option K) → told o ≡ y → ks' ≡ insert_all eq ks (cons_option y []) → n ≡ option_map (λ k. position_or_len (eq k) ks) y → IsAdding old all (drop (i + 1) all) ks' ns'
+    next old ks ks' all i o n ns ns' here h pushed y is added number = record {
+      keys = ap (λ xs. insert_all eq xs (filter_map told left)) added ∙ one_more;
+      positions = ap (λ xs. xs ++ map (position_in all_keys) left) pushed ∙ (append_assoc ns (n ∷ []) (map (position_in all_keys) left)
+          ∙ (ap (λ m. ns ++ m ∷ map (position_in all_keys) left) (number ∙ (place y one_more ∙ ap (option_map (λ k. position_or_len (eq k) all_keys)) (sym is))) ∙ step.positions));
     }
       where
+        left : List O
+        left = drop (i + 1) all
+
         all_keys : List K
         all_keys = insert_all eq old (filter_map told all)
 
-    -- an object with a key, which is added
-    pub one_added : (old ks : List K) (all left : List O) (o : O) (k : K) (ns : List (Option ℕ)) → told o ≡ Some k → IsAdding old all (o ∷ left) ks ns
-        → IsAdding old all left (insert_key eq ks k) (ns ++ Some (position_or_len (eq k) ks) ∷ [])
-    one_added old ks all left o k ns e h = record {
-      keys = added;
-      positions = behind ns (map (position_in all_keys) left) (Some (position_or_len (eq k) ks))
-          ∙ (ap (λ n. ns ++ Some n ∷ map (position_in all_keys) left) (sym place)
-          ∙ (ap (λ y. ns ++ option_map (λ x. position_or_len (eq x) all_keys) y ∷ map (position_in all_keys) left) (sym e) ∙ h.positions));
-    }
-      where
-        all_keys : List K
-        all_keys = insert_all eq old (filter_map told all)
+        step : IsAdding old all (o ∷ left) ks ns
+        step = subst (λ xs. IsAdding old all xs ks ns) (heads all i o here) h
 
-        added : insert_all eq (insert_key eq ks k) (filter_map told left) ≡ all_keys
-        added = sym (ap (λ y. insert_all eq ks (cons_option y (filter_map told left))) e) ∙ h.keys
+        in_turn : (y : Option K) (ls : List K) → insert_all eq (insert_all eq ks (cons_option y [])) ls ≡ insert_all eq ks (cons_option y ls)
+        in_turn None ls = refl
+        in_turn (Some k) ls = refl
 
-        place : position_or_len (eq k) all_keys ≡ position_or_len (eq k) ks
-        place = ap (position_or_len (eq k)) (sym added) ∙ (stands_all k (filter_map told left) (insert_key eq ks k) (position_or_len (eq k) ks) (stands_added k ks)).place
+        one_more : insert_all eq (insert_all eq ks (cons_option y [])) (filter_map told left) ≡ all_keys
+        one_more = in_turn y (filter_map told left) ∙ (ap (λ z. insert_all eq ks (cons_option z (filter_map told left))) (sym is) ∙ step.keys)
 
-    next_left : (all : List O) (i : ℕ) (o : O) → slice_get all i ≡ Some o → drop i all ≡ o ∷ drop (i + 1) all
-    next_left all i o here = drop_more all i o (slice_get_within all i o here) ∙ ap (λ x. x ∷ drop (i + 1) all) (get_or_from_slice_get all i o o here)
-
-    -- the object at the next position
-    module _ (old ks ks' : List K) (all : List O) (i : ℕ) (o : O) (n : Option ℕ) (ns ns' : List (Option ℕ)) (here : slice_get all i ≡ Some o) (h : IsAdding old all (drop i all) ks ns) (pushed : ns' ≡ ns ++ n ∷ []) where
-      now_left : IsAdding old all (o ∷ drop (i + 1) all) ks ns
-      now_left = subst (λ left. IsAdding old all left ks ns) (next_left all i o here) h
-
-      pub next_none : told o ≡ None → ks' ≡ ks → n ≡ None → IsAdding old all (drop (i + 1) all) ks' ns'
-      next_none e same number =
-          subst (IsAdding old all (drop (i + 1) all) ks') (sym (pushed ∙ ap (λ x. ns ++ x ∷ []) number))
-          (subst (λ xs. IsAdding old all (drop (i + 1) all) xs (ns ++ None ∷ [])) (sym same) (none_added old ks all (drop (i + 1) all) o ns e now_left))
-
-      pub next_one : (k : K) → told o ≡ Some k → ks' ≡ insert_key eq ks k → n ≡ Some (position_or_len (eq k) ks) → IsAdding old all (drop (i + 1) all) ks' ns'
-      next_one k e added number =
-          subst (IsAdding old all (drop (i + 1) all) ks') (sym (pushed ∙ ap (λ x. ns ++ x ∷ []) number))
-          (subst (λ xs. IsAdding old all (drop (i + 1) all) xs (ns ++ Some (position_or_len (eq k) ks) ∷ [])) (sym added) (one_added old ks all (drop (i + 1) all) o k ns e now_left))
+        place : (y : Option K) → insert_all eq (insert_all eq ks (cons_option y [])) (filter_map told left) ≡ all_keys → option_map (λ k. position_or_len (eq k) ks) y ≡ option_map (λ k. position_or_len (eq k) all_keys) y
+        place None e = refl
+        place (Some k) e = ap Some (sym (ap (position_or_len (eq k)) (sym e) ∙ (stands_all k (filter_map told left) (insert_key eq ks k) (position_or_len (eq k) ks) (stands_added k ks)).place))
 
     -- no object is left
     pub none_left : (old ks : List K) (all : List O) (i : ℕ) (ns : List (Option ℕ)) → length all ≤ i → IsAdding old all (drop i all) ks ns → ns ≡ map (position_in ks) all

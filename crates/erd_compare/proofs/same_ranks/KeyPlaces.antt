@@ -1,5 +1,5 @@
 -- The first position of a key in a list.
-use Rattle.erd_compare.proofs.Common.{◌≡◌, ℕ, zero, suc, ◌+◌, ◌<◌, Bool, true, false, cond, ◌⊎◌, List, [], ◌∷◌, ◌++◌, length, slice_get, Some, Option, is_eq, Less, Equal, sym, refl, ap, ◌∙◌, subst, inl, inr, true≢false, arith, cases_order, tied_itself, same_Some, IsStrictlySortedBy, option_cmp, sorted_at, options_exact, equal_keys, key_cmp, Key, place_of}
+use Rattle.erd_compare.proofs.Common.{◌≡◌, ℕ, zero, suc, ◌+◌, ◌<◌, Bool, true, false, cond, ◌⊎◌, List, [], ◌∷◌, ◌++◌, length, slice_get, Some, Option, is_eq, Less, Equal, sym, refl, ap, ◌∙◌, subst, inl, inr, true≢false, arith, cases_order, tied_itself, same_Some, IsStrictlySortedBy, option_cmp, key_cmp, sorted_at, options_exact, equal_keys, Key, place_of}
 use Rattle.erd_compare.proofs.least_difference.RisingKeys.{by_key, by_key_total}
 
 -- the key is in the list

@@ -1,7 +1,8 @@
 -- The common ranks of the keys of two reports: equal ranks for equal keys.
-use Rattle.erd_compare.proofs.Common.{◌≡◌, ℕ, true, List, ◌++◌, ◌==◌, slice_get, Some, None, Option, option_map, sym, refl, ap, ◌∙◌, true≢false, Decides-eqb, slice_get-map, option_eq, Data, view, Role, Judged, Preference, rank_in_keys, Key, place_of, common_rank, rank_of_key, AreCommonRanks, common_ranks_in, AreAllCommonRanks, Decides, keys_in_role, is_ranked, rising_in_role, HasKeyAt, IsComparable, on_side, AreCommonByRank, CommonRanks, Side, Left, Right}
+use Rattle.erd_compare.proofs.Common.{◌≡◌, ℕ, true, List, ◌++◌, ◌==◌, slice_get, Some, Option, option_map, sym, ap, ◌∙◌, slice_get-map, Data, view, Role, Judged, Preference, rank_in_keys, option_eq, Key, place_of, common_rank, rank_of_key, AreCommonRanks, common_ranks_in, AreAllCommonRanks, Decides, keys_in_role, is_ranked, rising_in_role, HasKeyAt, IsComparable, on_side, AreCommonByRank, CommonRanks, Side, Left, Right}
 use Rattle.erd_meaning.proofs.orders.DistinctEntries.{place_of as place_in}
 use Rattle.erd_compare.proofs.least_difference.RisingKeys.{all_rise, at_rank, keys_rise}
+use Rattle.erd_compare.proofs.same_values.EqualOptions.{options_decide}
 use Rattle.erd_compare.proofs.same_ranks.KeyPlaces.{Stands, one_place, place_first, place_there, stands_first, stands_second}
 
 module _ (a b : Judged) (r : Role) where
@@ -37,25 +38,12 @@ module _ (a b : Judged) (r : Role) where
   abbrev pub IsKnown : Option Key → Type 0
   IsKnown o = (k : Key) → o ≡ Some k → Stands (Some k) both_keys
 
-  known_left : (i : ℕ) (k : Option Key) → HasKeyAt a.prefer (view a.tree) r i k → Stands k both_keys
-  known_left i k h = stands_first k keys_left keys_right (place_in k keys_left (all_rise a.prefer (view a.tree) r i k h))
-
-  known_right : (i : ℕ) (k : Option Key) → HasKeyAt b.prefer (view b.tree) r i k → Stands k both_keys
-  known_right i k h = stands_second k keys_left keys_right (place_in k keys_right (all_rise b.prefer (view b.tree) r i k h))
-
   pub one_rank : (k l : Key) → Stands (Some k) both_keys → Stands (Some l) both_keys → rank_of_key a b r k ≡ rank_of_key a b r l → k ≡ l
   one_rank k l mine its e = let same : Some k ≡ Some l = one_place (Some k) (Some l) both_keys mine its e in cc
 
   -- equal ranks are those of equal keys
   pub ranks_decide : (o q : Option Key) → IsKnown o → IsKnown q → Decides (option_eq ◌==◌ (option_map (rank_of_key a b r) o) (option_map (rank_of_key a b r) q)) o q
-  ranks_decide None None mine its = (λ h. refl, λ e. refl)
-  ranks_decide None (Some l) mine its = (λ h. absurd (true≢false (sym h)), λ e. cc)
-  ranks_decide (Some k) None mine its = (λ h. absurd (true≢false (sym h)), λ e. cc)
-  ranks_decide (Some k) (Some l) mine its =
-      let one = Decides-eqb (rank_of_key a b r k) (rank_of_key a b r l) in (
-        λ h. ap Some (one_rank k l (mine k refl) (its l refl) (one.0 h)),
-        λ e. let same : k ≡ l = cc in one.1 (ap (rank_of_key a b r) same),
-      )
+  ranks_decide o q mine its = options_decide (rank_of_key a b r) o q (λ k l e g. one_rank k l (mine k e) (its l g))
 
 -- ---- on a side
 
@@ -67,8 +55,8 @@ module _ (a b : Judged) where
   tree_on side = view (on_side side a b).tree
 
   pub known_on : (side : Side) (r : Role) (i : ℕ) (k : Option Key) → HasKeyAt (prefer_on side) (tree_on side) r i k → Stands k (both_keys a b r)
-  known_on Left r i k h = known_left a b r i k h
-  known_on Right r i k h = known_right a b r i k h
+  known_on Left r i k h = stands_first k (keys_left a b r) (keys_right a b r) (place_in k (keys_left a b r) (all_rise a.prefer (view a.tree) r i k h))
+  known_on Right r i k h = stands_second k (keys_left a b r) (keys_right a b r) (place_in k (keys_right a b r) (all_rise b.prefer (view b.tree) r i k h))
 
   -- the common rank of a key by its rank
   module _ (common : CommonRanks) (are : AreAllCommonRanks a b common) (c : IsComparable a.prefer (view a.tree)) (d : IsComparable b.prefer (view b.tree)) where

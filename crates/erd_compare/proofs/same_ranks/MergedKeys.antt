@@ -1,5 +1,7 @@
 -- Two rising lists of keys are merged: how far the merge has come, and its steps.
-use Rattle.erd_compare.proofs.Common.{◌≡◌, ℕ, zero, suc, ◌+◌, ◌<◌, ◌≤◌, ◌⊎◌, List, [], ◌∷◌, ◌++◌, map, length, take, slice_get, Some, None, Option, is_eq, Ordering, Less, Equal, Greater, sym, refl, ap, ◌∙◌, subst, inl, inr, arith, take_all, cases_order, map-append, take_more, same_Some, slice_get_within, get_or_from_slice_get, IsStrictlySortedBy, sorted_at, options_exact, equal_keys, greater_turned, key_cmp, Key, place_of, next_cmp}
+use Rattle.erd_compare.proofs.Common.{◌≡◌, ℕ, ◌+◌, ◌<◌, ◌≤◌, ◌⊎◌, List, [], ◌∷◌, ◌++◌, map, length, take, slice_get, Some, None, Option, is_eq, Ordering, Less, Equal, Greater, sym, refl, ap, ◌∙◌, subst, inl, inr, arith, take_all, cases_order, map-append, take_more, same_Some, slice_get_within, get_or_from_slice_get, IsStrictlySortedBy, key_cmp, sorted_at, options_exact, equal_keys, greater_turned, Key, place_of, next_cmp}
+use Rattle.std.proofs.lemmas.List.{length_push}
+use Rattle.std.proofs.lemmas.Option.{slice_get-get_or}
 use Rattle.erd_compare.proofs.least_difference.RisingKeys.{by_key, by_key_total}
 use Rattle.erd_compare.proofs.same_ranks.KeyPlaces.{StandsNowhere, not_itself, place_first, place_second, place_there}
 
@@ -45,7 +47,7 @@ module _ (ones others : List (Option Key)) (up : IsStrictlySortedBy by_key ones)
 
   one_done : (r : ℕ) → r ≡ rank ones others key → IsMergedTo ones others passed (ranks ++ r ∷ [])
   one_done r is =
-      let long : length (ranks ++ r ∷ []) ≡ length ranks + 1 = length_more ranks r in record {
+      let long : length (ranks ++ r ∷ []) ≡ length ranks + 1 = length_push ranks r in record {
         inside = m.inside;
         few = omega (arith, long, low);
         below = λ i j k l under over e g. m.below i j k l under (omega (arith, long, over)) e g;
@@ -57,10 +59,6 @@ module _ (ones others : List (Option Key)) (up : IsStrictlySortedBy by_key ones)
             (sym (take_more others (length ranks) key low ∙ ap (λ x. take (length ranks) others ++ x ∷ []) (get_or_from_slice_get others (length ranks) key key here))
             ∙ ap (λ c. take c others) (sym long))));
       }
-    where
-      length_more : (ns : List ℕ) (v : ℕ) → length (ns ++ v ∷ []) ≡ length ns + 1
-      length_more [] v = refl
-      length_more (x ∷ ns) v = let rest = length_more ns v in omega (arith, rest)
 
   -- a key of both lists
   pub both_done : slice_get ones passed ≡ Some key → IsMergedTo ones others passed (ranks ++ passed ∷ [])
@@ -86,15 +84,7 @@ module _ (ones others : List (Option Key)) (up : IsStrictlySortedBy by_key ones)
           at (inr (inr h)) = high (slice_get ones passed) refl
             where
               high : (o : Option (Option Key)) → slice_get ones passed ≡ o → ⊥
-              high None is = beyond is (slice_get_within ones i key e)
-                where
-                  beyond : slice_get ones passed ≡ None → i < length ones → ⊥
-                  beyond none inside = absurd (some_there ones passed (omega (arith, h, inside)) none)
-                    where
-                      some_there : (ks : List (Option Key)) (j : ℕ) → j < length ks → slice_get ks j ≡ None → ⊥
-                      some_there [] j l e = absurd (omega (arith, l))
-                      some_there (x ∷ ks) zero l e = cc
-                      some_there (x ∷ ks) (suc j) l e = some_there ks j (omega (arith, l)) e
+              high None is = let there = sym is ∙ slice_get-get_or ones passed key (omega (arith, h, slice_get_within ones i key e)) in absurd (cc there)
               high (Some k) is = not_itself key (by_key_total.trans key k key (above k is) (sorted_at by_key ones passed i k key up h is e))
 
 -- all are done

@@ -1,9 +1,10 @@
 -- The numbers of the names of selections: names of two reports are equal if and only if their numbers are.
-use Rattle.erd_compare.proofs.Common.{◌≡◌, ℕ, true, List, [], ◌∷◌, map, ◌==◌, Some, None, Option, option_map, filter_map, option_and_then, sym, refl, ap, ◌∙◌, subst, ap₂, true≢false, Decides-eqb, option_and_then_some, cons_option, list_any, position_or_len, option_eq, Data, family, In, position_of, find-Some, option_map-Some, in_at, Judged, NameParts, NumberedParts, numbered_name_cmp, Placed, objects, has_id, owner_at, owner, name_of, name_named, numbered_name_cmp_total, numbered_name_cmp_exact, name_by_ranks, name_by_ranks_of, name_told, name_eq, names_on, names_of_both, number_of_name, number_of_selection, numbers_on, AreNameNumbers, Decides, on_side, AreCommonByRank, CommonRanks, Side, Left, Right}
+use Rattle.erd_compare.proofs.Common.{◌≡◌, ℕ, true, List, [], map, ◌==◌, Some, None, Option, option_map, filter_map, option_and_then, sym, refl, ap, ◌∙◌, subst, ap₂, fun_ext, list_any, position_or_len, Data, family, In, position_of, Judged, NameParts, NumberedParts, numbered_name_cmp, Placed, objects, has_id, owner_at, owner, name_of, name_named, option_and_then_some, option_eq, find-Some, option_map-Some, in_at, numbered_name_cmp_total, numbered_name_cmp_exact, name_by_ranks, name_by_ranks_of, name_told, name_eq, names_on, names_of_both, number_of_name, number_of_selection, numbers_on, AreNameNumbers, Decides, on_side, AreCommonByRank, CommonRanks, Side, Left, Right}
 use Rattle.indexmap.specs.IndexSet.{insert_all}
-use Rattle.erd_meaning.proofs.selections.KeysInNames.{known_name}
+use Rattle.erd_meaning.proofs.selections.RankedReports.{known_name}
 use Rattle.erd_meaning.specs.code.RanksAmong.{HasKeysIn}
 use Rattle.erd_compare.specs.declared.ranks.name_numbers.NameNumbers.{NameNumbers}
+use Rattle.erd_compare.proofs.same_values.EqualOptions.{options_decide}
 use Rattle.erd_compare.proofs.same_ranks.InsertedKeys.{added_any, in_told, one_position, positions_stay, stands_all}
 use Rattle.erd_compare.proofs.same_ranks.NamesOnSides.{from_ranks, name_is_told}
 use Rattle.erd_compare.proofs.same_ranks.KeyRanks.{prefer_on, tree_on}
@@ -13,14 +14,6 @@ module _ (a b : Judged) where
   selections_on side = objects family.Selection (tree_on a b side)
 
   -- ---- the numbers that are made
-
-  same_map : {A B : Type 0} (f g : A → B) (xs : List A) → ((x : A) → f x ≡ g x) → map f xs ≡ map g xs
-  same_map f g [] h = refl
-  same_map f g (x ∷ xs) h = ap₂ ◌∷◌ (h x) (same_map f g xs h)
-
-  same_filter_map : {A B : Type 0} (f g : A → Option B) (xs : List A) → ((x : A) → f x ≡ g x) → filter_map f xs ≡ filter_map g xs
-  same_filter_map f g [] h = refl
-  same_filter_map f g (x ∷ xs) h = ap₂ cons_option (h x) (same_filter_map f g xs h)
 
   -- the position of a name
   abbrev place : List NumberedParts → Option NumberedParts → Option ℕ
@@ -41,12 +34,11 @@ module _ (a b : Judged) where
     is_told side o = name_is_told a b common are side o.value
 
     names_told : (side : Side) → filter_map (told side) (selections_on side) ≡ names_on a b side
-    names_told side = same_filter_map (told side) (λ o. name_by_ranks_of a b side o.value) (selections_on side) (is_told side)
+    names_told side = ap (λ f. filter_map f (selections_on side)) (fun_ext (is_told side))
 
     numbers_told : (side : Side) (ks : List NumberedParts) → ks ≡ names_of_both a b → map (λ o. place ks (told side o)) (selections_on side) ≡ map (λ o. number_of_selection a b side o.value) (selections_on side)
     numbers_told side ks both =
-        same_map (λ o. place ks (told side o)) (λ o. number_of_selection a b side o.value) (selections_on side)
-        (λ o. ap (place ks) (is_told side o) ∙ (ap (λ ls. place ls (name_by_ranks_of a b side o.value)) both ∙ by_names side o.value))
+        ap (λ f. map f (selections_on side)) (fun_ext (λ (o : Placed). ap (place ks) (is_told side o) ∙ (ap (λ ls. place ls (name_by_ranks_of a b side o.value)) both ∙ by_names side o.value)))
 
     pub are_name_numbers : (js ks ls : List NumberedParts) (n : NameNumbers) → js ≡ [] → ks ≡ insert_all name_eq js (filter_map (told Left) (selections_on Left)) → ls ≡ insert_all name_eq ks (filter_map (told Right) (selections_on Right))
         → n.left.items ≡ map (λ o. place ks (told Left o)) (selections_on Left) → n.right.items ≡ map (λ o. place ls (told Right o)) (selections_on Right) → AreNameNumbers a b n
@@ -113,11 +105,4 @@ module _ (a b : Judged) where
   -- names are equal if and only if their numbers are
   pub names_decide : (o q : Option NameParts) → ((n : NameParts) → o ≡ Some n → IsNameOn Left n) → ((n : NameParts) → q ≡ Some n → IsNameOn Right n)
       → Decides (option_eq ◌==◌ (option_map (number_of_name a b) o) (option_map (number_of_name a b) q)) o q
-  names_decide None None mine its = (λ h. refl, λ e. refl)
-  names_decide None (Some n) mine its = (λ h. absurd (true≢false (sym h)), λ e. cc)
-  names_decide (Some m) None mine its = (λ h. absurd (true≢false (sym h)), λ e. cc)
-  names_decide (Some m) (Some n) mine its =
-      let one = Decides-eqb (number_of_name a b m) (number_of_name a b n) in (
-        λ h. ap Some (one_name Left Right m n (mine m refl) (its n refl) (one.0 h)),
-        λ e. let same : m ≡ n = cc in one.1 (ap (number_of_name a b) same),
-      )
+  names_decide o q mine its = options_decide (number_of_name a b) o q (λ m n e g. one_name Left Right m n (mine m e) (its n g))

@@ -1,8 +1,7 @@
 -- The common ranks of the keys that references name, and of the keys of the elections that hold objects.
-use Rattle.erd_compare.proofs.Common.{◌≡◌, ℕ, Bool, true, false, List, ◌==◌, slice_get, Some, None, Option, option_map, option_and_then, sym, refl, ap, ◌∙◌, ap₂, option_and_then_some, option_eq, Data, view, family_number, Family, Role, role, position_of, find-Some, option_map-Some, Judged, has_keys, Preference, key_of, election_key_in, FindsId, Placed, elections, objects, has_id, owner_at, owner, key_named, rank_in_keys, Key, rank_of_key, common_rank_of, Decides, key_with_role, keys_in_role, key_in_role, holder_in, holder_key_in, is_ranked, HasKeyAt, on_side, rank_with_id, AreCommonByRank, CommonRanks, Side, Left, Right}
+use Rattle.erd_compare.proofs.Common.{◌≡◌, ℕ, Bool, true, List, ◌==◌, slice_get, Some, None, Option, option_map, option_and_then, sym, refl, ap, ◌∙◌, ap₂, Data, view, Family, Role, role, position_of, Judged, has_keys, Preference, key_of, election_key_in, Placed, elections, objects, has_id, owner_at, owner, key_named, rank_in_keys, option_and_then_some, option_eq, find-Some, option_map-Some, Key, rank_of_key, common_rank_of, Decides, key_with_role, keys_in_role, key_in_role, holder_in, holder_key_in, is_ranked, HasKeyAt, on_side, rank_with_id, AreCommonByRank, CommonRanks, Side, Left, Right}
 use Rattle.erd_compare.proofs.same_ranks.KeyRanks.{IsKnown, known_on, ranks_decide}
 use Rattle.erd_compare.proofs.same_values.EqualOptions.{decides_as}
-use Rattle.erd_compare.proofs.same_values.ReferencedKeys.{key_elsewhere, key_here, key_nowhere}
 
 -- ---- keys by role
 
@@ -28,28 +27,6 @@ rank_found a b common are side r ranked i rank (Some k) at is =
     let same : rank ≡ rank_in_keys (keys_in_role (on_side side a b).prefer (view (on_side side a b).tree) r) (Some k) = cc in
     ap (common_rank_of common side r) same ∙ are side r ranked i (Some k) (stands_there (on_side side a b).prefer (view (on_side side a b).tree) r i k at)
 
--- ---- what references name
-
-module _ (a b : Judged) (side : Side) (f : Family) (keyed : has_keys f ≡ true) (id : List ℕ) where
-  abbrev π' : Preference
-  π' = (on_side side a b).prefer
-
-  abbrev t' : Data
-  t' = view (on_side side a b).tree
-
-  abbrev ranks : Option Key → Option ℕ
-  ranks o = option_map (rank_of_key a b (role.OfFamily f)) o
-
-  pub named_here : (g : Family) (i : ℕ) → FindsId t' id (Some (g, i)) → (family_number g == family_number f) ≡ true
-      → ranks (key_in_role π' (role.OfFamily f) t' i) ≡ rank_with_id a b side f id
-  named_here g i finds same = ap ranks (key_here π' t' f id g i keyed finds same)
-
-  pub named_elsewhere : (g : Family) (i : ℕ) → FindsId t' id (Some (g, i)) → (family_number g == family_number f) ≡ false → None ≡ rank_with_id a b side f id
-  named_elsewhere g i finds other = ap ranks (key_elsewhere π' t' f id g i finds other)
-
-  pub named_nowhere : FindsId t' id None → None ≡ rank_with_id a b side f id
-  named_nowhere finds = ap ranks (key_nowhere π' t' f id finds)
-
 -- ---- which keys have common ranks
 
 pub kept : (π : Preference) (f : Family) (d : Data) → has_keys f ≡ true → key_with_role π (role.OfFamily f) d ≡ key_of π d
@@ -64,16 +41,12 @@ named_stands π t f id k keyed e =
     (place.0, record { object = o.0; stands = place.1; key = kept π f o.0.value keyed ∙ (ap (key_of π) o.2 ∙ key) }))
 
 module _ (a b : Judged) (side : Side) where
-  -- a key that a reference names is known
-  pub named_known : (f : Family) (id : List ℕ) → has_keys f ≡ true → IsKnown a b (role.OfFamily f) (key_named (on_side side a b).prefer (view (on_side side a b).tree) f id)
-  named_known f id keyed k e =
-      let stands = named_stands (on_side side a b).prefer (view (on_side side a b).tree) f id k keyed e in
-      known_on a b side (role.OfFamily f) stands.0 (Some k) stands.1
-
-  -- so has one that a value names
+  -- a key that a value names is known
   pub value_known : (f : Family) (text : Option (List ℕ)) → has_keys f ≡ true → IsKnown a b (role.OfFamily f) (option_and_then (key_named (on_side side a b).prefer (view (on_side side a b).tree) f) text)
   value_known f None keyed k e = cc
-  value_known f (Some id) keyed k e = named_known f id keyed k e
+  value_known f (Some id) keyed k e =
+      let stands = named_stands (on_side side a b).prefer (view (on_side side a b).tree) f id k keyed e in
+      known_on a b side (role.OfFamily f) stands.0 (Some k) stands.1
 
   -- and the key of an election that holds an object
   pub holder_known : (r : Role) (i : ℕ) → IsKnown a b role.Election (holder_key_in (on_side side a b).prefer r (view (on_side side a b).tree) i)

@@ -2,9 +2,8 @@
 -- found by its rank.
 use Rattle.erd_compare.proofs.Common.{◌≡◌, ℕ, true, List, [], ◌∷◌, map, slice_get, Some, None, Option, option_map, filter_map, option_and_then, sym, refl, ap, ◌∙◌, subst, ap₂, AllByRecursion, cons_option, Data, view, Family, family, Role, role, In-from_contains, all_weakened, Judged, has_keys, rank_of, NameParts, NumberedParts, without_keys, numbered_parts, Placed, objects, numbered_selections, family_chosen, ranked_name, PlacedName, ranked_selection_in, name_of, Key, role_of_name, ranks_in_name, name_by_ranks, name_by_ranks_of, ranks_told, name_told, rank_of_key, common_rank_of, HasKeyAt, on_side, AreCommonByRank, CommonRanks, Side}
 use Rattle.erd_meaning.proofs.orders.DistinctEntries.{place_of as place_in}
-use Rattle.erd_meaning.proofs.selections.NumberedSelections.{numbered_at}
-use Rattle.erd_meaning.proofs.selections.KeysInNames.{known_name}
-use Rattle.erd_meaning.proofs.selections.RankedReports.{chosen_keyed}
+use Rattle.erd_meaning.proofs.selections.NamesTold.{numbered_at}
+use Rattle.erd_meaning.proofs.selections.RankedReports.{known_name, chosen_keyed}
 use Rattle.erd_meaning.specs.code.RanksAmong.{HasKeysIn, IsKeyIn}
 use Rattle.erd_compare.proofs.least_difference.RisingKeys.{family_rank}
 use Rattle.erd_compare.proofs.same_ranks.KeyRanks.{both_keys, known_on, one_rank, prefer_on, tree_on}
@@ -31,12 +30,11 @@ module _ (a b : Judged) where
 
   one_keys : (r : Role) (ks ls : List Key) → AllByRecursion (λ k. Stands (Some k) (both_keys a b r)) ks → AllByRecursion (λ k. Stands (Some k) (both_keys a b r)) ls → map (rank_of_key a b r) ks ≡ map (rank_of_key a b r) ls → ks ≡ ls
   one_keys r [] [] mine its e = refl
-  one_keys r [] (l ∷ ls) mine its e = cc
-  one_keys r (k ∷ ks) [] mine its e = cc
   one_keys r (k ∷ ks) (l ∷ ls) mine its e =
       let first : rank_of_key a b r k ≡ rank_of_key a b r l = cc in
       let later : map (rank_of_key a b r) ks ≡ map (rank_of_key a b r) ls = cc in
       ap₂ ◌∷◌ (one_rank a b r k l mine.0 its.0 first) (one_keys r ks ls mine.1 its.1 later)
+  one_keys r ks ls mine its e = cc
 
   -- names that differ in their keys alone
   one_name : (m n : NameParts) → without_keys m ≡ without_keys n → m.keys ≡ n.keys → m ≡ n

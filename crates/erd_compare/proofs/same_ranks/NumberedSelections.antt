@@ -1,22 +1,16 @@
 -- The selections of a contest by the numbers of their names: numbers are equal if and only if the names are. So two contests
 -- mean the same by numbers if and only if they do by names.
-use Rattle.erd_compare.proofs.Common.{◌≡◌, ℕ, Bool, true, cond, List, [], ◌∷◌, ◌==◌, Some, None, Option, option_map, find, option_and_then, is_eq, sym, refl, ap, ◌∙◌, subst, inl, inr, fun_ext, Decides-eqb, tied_itself, Equal-is, both_ways, option_cmp, option_eq, Data, view, In, position_of, find-Some, in_at, Judged, SelectionRecord, NameParts, selection_record, selection_map, name_of, name_cmp, name_cmp_total, name_cmp_exact, number_of_name, number_of_selection, Decides, on_side, has_number, numbered_map, Side, Left, Right}
+use Rattle.erd_compare.proofs.Common.{◌≡◌, ℕ, Bool, true, cond, List, [], ◌∷◌, ◌==◌, Some, None, Option, option_map, find, option_and_then, is_eq, sym, refl, ap, ◌∙◌, subst, inl, inr, fun_ext, Decides-eqb, tied_itself, both_ways, option_cmp, Data, view, In, position_of, Judged, NameParts, selection_record, selection_map, name_of, name_cmp, name_cmp_total, option_eq, find-Some, in_at, options_exact, SelectionRecord, number_of_name, number_of_selection, Decides, on_side, has_number, numbered_map, Side, Left, Right}
 use Rattle.erd_compare.proofs.same_ranks.NameNumbers.{IsNameOn, one_name}
+use Rattle.erd_meaning.proofs.orders.DistinctEntries.{equal_names}
 
 same_find : {A : Type 0} (p q : A → Bool) (xs : List A) → ((x : A) → In x xs → p x ≡ q x) → find p xs ≡ find q xs
 same_find p q [] same = refl
 same_find p q (x ∷ xs) same = ap (λ b. cond b (Some x) (find p xs)) (same x (inl refl)) ∙ ap (λ r. cond (q x) (Some x) r) (same_find p q xs (λ y i. same y (inr i)))
 
 -- what is found is in the list, and passes the test
-record Found {A : Type 0} (test : A → Bool) (xs : List A) (x : A) : Type 0 where
-  inside : In x xs
-  passes : test x ≡ true
-
-found : {A : Type 0} (test : A → Bool) (xs : List A) (x : A) → find test xs ≡ Some x → Found test xs x
-found test xs x e =
-    let h = find-Some test xs x e in
-    let place = position_of xs x h.0 in
-    record { inside = in_at xs place.0 x place.1; passes = h.1 }
+found : {A : Type 0} (test : A → Bool) (xs : List A) (x : A) → find test xs ≡ Some x → In x xs × (test x ≡ true)
+found test xs x e = let h = find-Some test xs x e in let place = position_of xs x h.0 in (in_at xs place.0 x place.1, h.1)
 
 module _ (a b : Judged) where
   abbrev name_on : Side → Data → Option NameParts
@@ -28,8 +22,7 @@ module _ (a b : Judged) where
 
   -- a tested name is the name
   name_tested : (o : Option NameParts) (k : NameParts) → is_eq (option_cmp name_cmp o (Some k)) ≡ true → o ≡ Some k
-  name_tested None k h = cc
-  name_tested (Some n) k h = ap Some (name_cmp_exact n k ((Equal-is (name_cmp n k)).0 h))
+  name_tested o k h = options_exact name_cmp equal_names o (Some k) h
 
   name_passes : (o : Option NameParts) (k : NameParts) → o ≡ Some k → is_eq (option_cmp name_cmp o (Some k)) ≡ true
   name_passes o k e = subst (λ x. is_eq (option_cmp name_cmp x (Some k)) ≡ true) (sym e) (ap is_eq (tied_itself name_cmp_total k))
@@ -80,7 +73,7 @@ module _ (a b : Judged) where
     names_same same k = at (find (is_named Left k) ds) refl (find (is_named Right k) es) refl
       where
         its_name : (r : Side) (xs : List Data) (e : Data) → AreNamed r xs → find (is_named r k) xs ≡ Some e → IsNameOn a b r k
-        its_name r xs e named is = let h = found (is_named r k) xs e is in named e h.inside k (name_tested (name_on r e) k h.passes)
+        its_name r xs e named is = let h = found (is_named r k) xs e is in named e h.0 k (name_tested (name_on r e) k h.1)
 
         at : (o : Option Data) → find (is_named Left k) ds ≡ o → (p : Option Data) → find (is_named Right k) es ≡ p → map_on Left ds k ≡ map_on Right es k
         at (Some d) is p other = names_at Left k (its_name Left ds d mine is) (same (number_of_name a b k))
@@ -88,26 +81,24 @@ module _ (a b : Judged) where
         at None is None other = ap (option_and_then (record_on Left)) is ∙ sym (ap (option_and_then (record_on Right)) other)
 
     -- the name of a number that a selection has
-    record Named (r : Side) (q : ℕ) : Type 0 where
-      name : NameParts
-      stands : IsNameOn a b r name
-      number : number_of_name a b name ≡ q
+    abbrev Named : Side → ℕ → Type 0
+    Named r q = (name : NameParts) × IsNameOn a b r name × (number_of_name a b name ≡ q)
 
     has_its_name : (r : Side) (xs : List Data) (e : Data) (q : ℕ) → AreNamed r xs → find (has_number a b r q) xs ≡ Some e → Named r q
-    has_its_name r xs e q named is = at (name_on r e) refl (number_tested (number_of_selection a b r e) q h.passes)
+    has_its_name r xs e q named is = at (name_on r e) refl (number_tested (number_of_selection a b r e) q h.1)
       where
-        h : Found (has_number a b r q) xs e
+        h : In e xs × (has_number a b r q e ≡ true)
         h = found (has_number a b r q) xs e is
 
         at : (o : Option NameParts) → name_on r e ≡ o → option_map (number_of_name a b) o ≡ Some q → Named r q
         at None here none = cc
-        at (Some n) here some = let same : number_of_name a b n ≡ q = cc in record { name = n; stands = named e h.inside n here; number = same }
+        at (Some n) here some = let same : number_of_name a b n ≡ q = cc in (n, named e h.0 n here, same)
 
     numbered_same : ((k : NameParts) → map_on Left ds k ≡ map_on Right es k) → (q : ℕ) → numbered_map a b Left ds q ≡ numbered_map a b Right es q
     numbered_same same q = at (find (has_number a b Left q) ds) refl (find (has_number a b Right q) es) refl
       where
         by : (r : Side) → Named r q → numbered_map a b Left ds q ≡ numbered_map a b Right es q
-        by r n = subst (λ x. numbered_map a b Left ds x ≡ numbered_map a b Right es x) n.number (numbers_at r n.name n.stands (same n.name))
+        by r n = subst (λ x. numbered_map a b Left ds x ≡ numbered_map a b Right es x) n.2 (numbers_at r n.0 n.1 (same n.0))
 
         at : (o : Option Data) → find (has_number a b Left q) ds ≡ o → (p : Option Data) → find (has_number a b Right q) es ≡ p → numbered_map a b Left ds q ≡ numbered_map a b Right es q
         at (Some d) is p other = by Left (has_its_name Left ds d q mine is)

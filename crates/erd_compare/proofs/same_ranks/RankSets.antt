@@ -1,10 +1,10 @@
 -- The common ranks of the keys that references name are put into a set one after another, and two such sets are equal if and
 -- only if the sets of the keys are.
-use Rattle.erd_compare.proofs.Common.{◌≡◌, ℕ, Bool, true, false, ◌||◌, List, [], ◌∷◌, map, ◌==◌, Some, None, Option, option_map, IsPermutation, IsSorted, filter_map, option_and_then, nat_cmp, is_eq, Ordering, Equal, sym, refl, ap, ◌∙◌, subst, ap₂, inl, inr, fun_ext, and_parts, and_from, Decides-eqb, tied_itself, nat_cmp_total, CmpEqualImpliesEq, exact_unsigned, IsTotalOrder, both_ways, unsigned_ties, cons_option, dedup, list_any, Data, as_str, view, Value, Family, Role, role, In, In-map, In-map_from, In-from_contains, contains_from_In, Judged, has_keys, key_cmp, KeySet, key_set, key_named, keys_named, key_cmp_total, key_cmp_exact, Key, rank_of_key, Decides, on_side, rank_with_id, list_of_ranks, rank_set, IsRankSet, Side}
+use Rattle.erd_compare.proofs.Common.{◌≡◌, ℕ, Bool, true, List, [], ◌∷◌, map, ◌==◌, Some, None, Option, option_map, IsPermutation, IsSorted, filter_map, option_and_then, nat_cmp, is_eq, Ordering, sym, refl, ap, ◌∙◌, subst, ap₂, inl, inr, fun_ext, tied_itself, nat_cmp_total, CmpEqualImpliesEq, exact_unsigned, Equal-is, IsTotalOrder, both_ways, cons_option, list_any, Data, as_str, view, Value, Family, Role, role, In, In-map, In-map_from, any_at, In-from_contains, contains_from_In, Judged, has_keys, key_cmp, key_named, keys_named, key_cmp_total, key_cmp_exact, unsigned_ties, dedup, KeySet, key_set, Key, rank_of_key, Decides, on_side, rank_with_id, list_of_ranks, rank_set, IsRankSet, Side}
 use Rattle.std.proofs.lemmas.List.Kept.{Contains-dedup_nat, Contains-from_dedup, IsStrictlySortedBy-dedup}
 use Rattle.std.proofs.lemmas.List.Sorted.{list_any-IsPermutation}
-use Rattle.std.specs.Cmp.Lexicographic.{pointwise}
-use Rattle.erd_meaning.proofs.orders.Sets.{set_unique}
+use Rattle.std.proofs.lemmas.Map.Views.{Contains-from_any}
+use Rattle.erd_meaning.proofs.orders.DistinctEntries.{set_unique}
 use Rattle.erd_compare.proofs.same_ranks.KeyRanks.{both_keys, one_rank}
 use Rattle.erd_compare.proofs.same_ranks.KeyPlaces.{Stands}
 use Rattle.erd_compare.proofs.same_ranks.NamedRanks.{value_named, value_known}
@@ -27,26 +27,11 @@ module _ (a b : Judged) (side : Side) (f : Family) where
 -- ---- what is in a list
 
 module _ {K : Type 0} (cmp : K → K → Ordering) (total : IsTotalOrder cmp) (exact : CmpEqualImpliesEq cmp) where
-  or_later : (p q : Bool) → q ≡ true → p || q ≡ true
-  or_later true q h = refl
-  or_later false q h = h
-
-  or_first : (p q : Bool) → p ≡ true → p || q ≡ true
-  or_first true q h = refl
-  or_first false q h = cc
-
   any_from_in : (k : K) (ks : List K) → In k ks → list_any (λ l. is_eq (cmp l k)) ks ≡ true
-  any_from_in k [] inside = absurd inside
-  any_from_in k (l ∷ ls) (inl e) = or_first (is_eq (cmp l k)) (list_any (λ x. is_eq (cmp x k)) ls) (subst (λ x. is_eq (cmp x k) ≡ true) (sym e) (ap is_eq (tied_itself total k)))
-  any_from_in k (l ∷ ls) (inr inside) = or_later (is_eq (cmp l k)) (list_any (λ x. is_eq (cmp x k)) ls) (any_from_in k ls inside)
+  any_from_in k ks inside = any_at (λ l. is_eq (cmp l k)) k ks inside (ap is_eq (tied_itself total k))
 
   in_from_any : (k : K) (ks : List K) → list_any (λ l. is_eq (cmp l k)) ks ≡ true → In k ks
-  in_from_any k [] h = cc
-  in_from_any k (l ∷ ls) h = at (cmp l k) refl h (in_from_any k ls)
-    where
-      at : (o : Ordering) → cmp l k ≡ o → is_eq o || list_any (λ x. is_eq (cmp x k)) ls ≡ true → (list_any (λ x. is_eq (cmp x k)) ls ≡ true → In k ls) → In k (l ∷ ls)
-      at Equal is h rest = inl (exact l k is)
-      at d is h rest = inr (rest h)
+  in_from_any k ks h = In-from_contains k ks (Contains-from_any {eq = λ q l. is_eq (cmp l q)} (λ q l e. sym (exact l q ((Equal-is (cmp l q)).0 e))) k ks h)
 
 -- ranks that were sorted, each of them once
 pub sorted_once : (ns sorted once : List ℕ) → IsPermutation ns sorted → IsSorted nat_cmp sorted → once ≡ dedup ◌==◌ sorted → IsRankSet ns once
@@ -76,14 +61,14 @@ module _ (a b : Judged) (r : Role) where
       let inside = in_from_any key_cmp key_cmp_total key_cmp_exact k ks h in
       let any = sym (same (rank k)) ∙ any_from_in nat_cmp nat_cmp_total exact_unsigned (rank k) (map rank ks) (In-map rank k ks inside) in
       let image = In-map_from rank ls (rank k) (in_from_any nat_cmp nat_cmp_total exact_unsigned (rank k) (map rank ls) any) in
-      let one : image.from ≡ k = one_rank a b r image.from k (its image.from image.inside) (mine k inside) image.is in
-      any_from_in key_cmp key_cmp_total key_cmp_exact k ls (subst (λ x. In x ls) one image.inside)
+      let one : image.0 ≡ k = one_rank a b r image.0 k (its image.0 image.1) (mine k inside) image.2 in
+      any_from_in key_cmp key_cmp_total key_cmp_exact k ls (subst (λ x. In x ls) one image.1)
 
   ranks_over : (ks ls : List Key) → ((k : Key) → key_set ks k ≡ key_set ls k) → (n : ℕ) → rank_set (map rank ks) n ≡ true → rank_set (map rank ls) n ≡ true
   ranks_over ks ls same n h =
       let image = In-map_from rank ks n (in_from_any nat_cmp nat_cmp_total exact_unsigned n (map rank ks) h) in
-      let inside = in_from_any key_cmp key_cmp_total key_cmp_exact image.from ls (sym (same image.from) ∙ any_from_in key_cmp key_cmp_total key_cmp_exact image.from ks image.inside) in
-      any_from_in nat_cmp nat_cmp_total exact_unsigned n (map rank ls) (subst (λ x. In x (map rank ls)) image.is (In-map rank image.from ls inside))
+      let inside = in_from_any key_cmp key_cmp_total key_cmp_exact image.0 ls (sym (same image.0) ∙ any_from_in key_cmp key_cmp_total key_cmp_exact image.0 ks image.1) in
+      any_from_in nat_cmp nat_cmp_total exact_unsigned n (map rank ls) (subst (λ x. In x (map rank ls)) image.2 (In-map rank image.0 ls inside))
 
   pub same_keys : (ks ls : List Key) → AllKnown ks → AllKnown ls → ((n : ℕ) → rank_set (map rank ks) n ≡ rank_set (map rank ls) n) → (k : Key) → key_set ks k ≡ key_set ls k
   same_keys ks ls mine its same k = both_ways (key_set ks k) (key_set ls k) (keys_over ks ls mine its same k) (keys_over ls ks its mine (λ n. sym (same n)) k)
@@ -117,19 +102,3 @@ module _ (a b : Judged) (side : Side) (f : Family) (keyed : has_keys f ≡ true)
       at None is inside rest = rest inside
       at (Some x) is (inl e) rest = subst IsKnownKey e (value_known a b side f (as_str d) keyed x is)
       at (Some x) is (inr inside) rest = rest inside
-
--- ---- numbers one by one
-
--- lists of numbers are equal exactly if their numbers are, one after another
-pub each_decide : (xs ys : List ℕ) → Decides (pointwise ◌==◌ xs ys) xs ys
-each_decide [] [] = (λ h. refl, λ e. refl)
-each_decide [] (y ∷ ys) = (λ h. cc, λ e. cc)
-each_decide (x ∷ xs) [] = (λ h. cc, λ e. cc)
-each_decide (x ∷ xs) (y ∷ ys) =
-    let rest = each_decide xs ys in (
-      λ h. let both = and_parts (x == y) (pointwise ◌==◌ xs ys) h in ap₂ ◌∷◌ ((Decides-eqb x y).0 both.0) (rest.0 both.1),
-      λ e.
-          let first : x ≡ y = cc in
-          let later : xs ≡ ys = cc in
-          and_from (x == y) (pointwise ◌==◌ xs ys) ((Decides-eqb x y).1 first) (rest.1 later),
-    )

@@ -1,11 +1,12 @@
 -- The selections of a contest among those of their report.
-use Rattle.erd_compare.proofs.Common.{◌≡◌, ℕ, ◌+◌, Bool, true, false, cond, List, ◌==◌, slice_get, Some, None, codes, Option, option_map, option_and_then, sym, refl, ap, ◌∙◌, subst, slice_get-map, option_and_then_some, Data, get, view, role_of_class, kind_of_member, Class, class, family, role, MemberKind, kind, In, In-flat_map, entries_of, entries_at, option_map-Some, in_at, Judged, Placed, contests, selections_of_contest, objects, numbered_selections, name_of, IsPairOf, IsPlaced, AreSelectionsAt, AreSelectionsIn, on_side, is_selections, MemberPair, Side}
-use Rattle.erd_meaning.proofs.accepted.Skeleton.{values-placed_entries}
-use Rattle.erd_meaning.proofs.selections.NumberedSelections.{numbered_at}
+use Rattle.erd_compare.proofs.Common.{◌≡◌, ℕ, ◌+◌, Bool, true, false, cond, List, map, ◌==◌, slice_get, Some, None, codes, Option, option_map, option_and_then, sym, refl, ap, ◌∙◌, subst, slice_get-map, Data, get, view, role_of_class, kind_of_member, Class, class, family, role, MemberKind, kind, In, In-flat_map, entries_of, entries_at, Judged, Placed, contests, selections_of_contest, objects, numbered_selections, selection_map, name_of, option_and_then_some, option_map-Some, in_at, Decides, IsPairOf, IsPlaced, AreSelectionsAt, AreSelectionsIn, on_side, is_selections, numbered_map, MemberPair, Side, Left, Right}
+use Rattle.erd_meaning.proofs.selections.NamesTold.{numbered_at}
+use Rattle.erd_meaning.proofs.accepted.Standing.{values-placed_entries}
 use Rattle.erd_meaning.specs.code.SelectionWalk.{StandFrom, if_of_contest, selection_of}
 use Rattle.erd_meaning.proofs.orders.DistinctEntries.{place_of as place_in}
 use Rattle.erd_compare.proofs.same_ranks.NameNumbers.{selection_named}
-use Rattle.erd_compare.proofs.same_ranks.NumberedSelections.{AreNamed}
+use Rattle.erd_compare.proofs.same_ranks.NumberedSelections.{AreNamed, maps_decide}
+use Rattle.erd_compare.specs.declared.objects.placed.Selections.{Selections}
 use Rattle.erd_meaning.proofs.meanings.SelectionKinds as kinds
 
 -- ---- the member of a contest
@@ -93,9 +94,18 @@ module _ (a : Judged) (c : ℕ) (ds : List Data) (are : AreSelectionsIn a c ds) 
 
 -- ---- the names of the selections of a contest have numbers
 
-pub contest_named : (a b : Judged) (side : Side) (c : ℕ) (ds : List Data) → AreSelectionsIn (on_side side a b) c ds → AreNamed a b side ds
+contest_named : (a b : Judged) (side : Side) (c : ℕ) (ds : List Data) → AreSelectionsIn (on_side side a b) c ds → AreNamed a b side ds
 contest_named a b side c ds are d inside n is =
     let j = on_side side a b in
     let place = place_in d ds inside in
     let o = stands_among j c ds are place.0 d place.1 in
     selection_named a b side o.0 n o.1 (ap (name_of j.prefer (view j.tree)) o.2 ∙ is)
+
+-- so what is decided of them by numbers is decided
+pub contests_decide : (a b : Judged) (one other : Selections) → AreSelectionsIn a one.contest (map view one.values.now) → AreSelectionsIn b other.contest (map view other.values.now) → (answer : Bool)
+    → Decides answer (numbered_map a b Left (map view one.values.now)) (numbered_map a b Right (map view other.values.now))
+    → Decides answer (selection_map a.prefer (view a.tree) (map view one.values.now)) (selection_map b.prefer (view b.tree) (map view other.values.now))
+contests_decide a b one other mine its answer told =
+    let ds = map view one.values.now in
+    let es = map view other.values.now in
+    maps_decide a b ds es (contest_named a b Left one.contest ds mine) (contest_named a b Right other.contest es its) answer told

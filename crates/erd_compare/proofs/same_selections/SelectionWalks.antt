@@ -1,5 +1,5 @@
 -- The selections of two contests by the numbers of their names: what the right has at each name of the left is taken out.
-use Rattle.erd_compare.proofs.Common.{◌≡◌, ℕ, suc, Bool, true, false, cond, ◌⊎◌, ◌↔◌, List, [], ◌∷◌, length, ◌==◌, Some, None, Option, option_map, find, option_and_then, sym, refl, ap, ◌∙◌, subst, inl, inr, true≢false, Bor, fun_ext, AllByRecursion, IsDistinct, option_eq, Data, view, Value, Class, all-Has, find-Some, Judged, Preference, SelectionRecord, plain_member, selection_record, name_in_class, selection_role, number_of_name, Decides, IsWholeTree, on_side, has_number, IsByNumber, numbered_map, Side, Left, Right}
+use Rattle.erd_compare.proofs.Common.{◌≡◌, ℕ, suc, Bool, true, false, cond, ◌⊎◌, List, [], ◌∷◌, length, ◌==◌, Some, None, Option, option_map, find, option_and_then, sym, refl, ap, ◌∙◌, subst, inl, inr, arith, Bor, fun_ext, AllByRecursion, Data, view, Value, Class, Judged, Preference, plain_member, selection_record, name_in_class, selection_role, ◌↔◌, IsDistinct, option_eq, find-Some, SelectionRecord, number_of_name, Decides, IsWholeTree, on_side, has_number, IsByNumber, numbered_map, Side, Left, Right, In-all}
 use Rattle.std.specs.Map.{keys_of, lookup}
 use Rattle.erd_check.specs.Wants.{class_of_object}
 use Rattle.erd_meaning.proofs.identity.ObjectFamilies.{itself}
@@ -18,11 +18,7 @@ seen_at q es = option_map (λ (v : Bor Value). view v.now) (lookup (λ l. q == l
 
 -- and names apart are so either way
 apart_either : (k q : ℕ) → (k == q) ≡ false → (q == k) ≡ false
-apart_either k q apart = at (q == k) refl
-  where
-    at : (b : Bool) → (q == k) ≡ b → b ≡ false
-    at true e = absurd (true≢false (sym (itself k) ∙ (ap (λ l. k == l) (sym (one_number q k e)) ∙ apart)))
-    at false e = refl
+apart_either k q apart = grind arith
 
 -- the first entry is found at its name
 found_first : (e : Entry) (es : List Entry) → lookup (λ l. e.0 == l) (e ∷ es) ≡ Some e.1
@@ -70,7 +66,11 @@ module _ (a b : Judged) (side : Side) (ds : List Data) where
   nothing_at name h = ap (option_and_then (selection_record π t)) (sym h)
 
   pub whole_at : AreWholeTrees ds → (name : ℕ) (d : Data) → find (has_number a b side name) ds ≡ Some d → IsWholeTree d
-  whole_at whole name d h = all-Has IsWholeTree ds d whole (find-Some (has_number a b side name) ds d h).0
+  whole_at whole name d h = In-all IsWholeTree d ds whole (find-Some (has_number a b side name) ds d h).0
+
+-- different maps are told so
+decided_not : {A : Type 0} {x y : A} → (x ≡ y → ⊥) → Decides false x y
+decided_not apart = (λ h. cc, λ same. absurd (apart same))
 
 -- ---- two contests
 
@@ -98,86 +98,89 @@ module _ (a b : Judged) (ds es : List Data) where
     distinct : IsDistinct ◌==◌ (keys_of ls)
     each : (q : ℕ) → IsPassed ls rs q ⊎ IsLeft ls rs q
 
-  pub both_maps : (ls rs : List Entry) → IsDistinct ◌==◌ (keys_of ls) → IsByNumber a b Left ds ls → IsByNumber a b Right es rs → AreSelectionsLeft ls rs
-  both_maps ls rs distinct mine its = record { distinct = distinct; each = λ q. inr (record { left = mine q; right = its q }) }
+module _ {a b : Judged} {ds es : List Data} where
+  pub both_maps : {all ls rs : List Entry} → all ≡ ls → IsDistinct ◌==◌ (keys_of ls) → IsByNumber a b Left ds ls → IsByNumber a b Right es rs → AreSelectionsLeft a b ds es all rs
+  both_maps {rs = rs} begun distinct mine its = subst (λ xs. AreSelectionsLeft a b ds es xs rs) (sym begun) (record { distinct = distinct; each = λ q. inr (record { left = mine q; right = its q }) })
 
-  -- what the selections have at the name of the next entry
-  next_left : (e : Entry) (ls rs : List Entry) → AreSelectionsLeft (e ∷ ls) rs → IsLeft (e ∷ ls) rs e.0
-  next_left e ls rs h = at (h.each e.0)
-    where
-      at : IsPassed (e ∷ ls) rs e.0 ⊎ IsLeft (e ∷ ls) rs e.0 → IsLeft (e ∷ ls) rs e.0
-      at (inl passed) = let clash : Some e.1 ≡ None = sym (found_first e ls) ∙ passed.left in cc
-      at (inr left) = left
+  -- the next entry
+  module _ (e : Entry) {all ls rs : List Entry} (next : all ≡ e ∷ ls) (left : AreSelectionsLeft a b ds es all rs) where
+    h : AreSelectionsLeft a b ds es (e ∷ ls) rs
+    h = subst (λ xs. AreSelectionsLeft a b ds es xs rs) next left
 
-  pub own_left : (e : Entry) (ls rs : List Entry) → AreSelectionsLeft (e ∷ ls) rs → find (has_number a b Left e.0) ds ≡ Some (view e.1.now)
-  own_left e ls rs h = sym (next_left e ls rs h).left ∙ ap (option_map (λ (v : Bor Value). view v.now)) (found_first e ls)
+    -- what the selections have at its name
+    next_left : IsLeft a b ds es (e ∷ ls) rs e.0
+    next_left = elim (h.each e.0) [
+      | inl passed ↦ let clash : Some e.1 ≡ None = sym (found_first e ls) ∙ passed.left in cc
+      | inr here ↦ here
+    ]
 
-  pub own_right : (e : Entry) (w : Bor Value) (ls rs : List Entry) → AreSelectionsLeft (e ∷ ls) rs → Some w ≡ lookup (λ l. e.0 == l) rs → find (has_number a b Right e.0) es ≡ Some (view w.now)
-  own_right e w ls rs h taken = sym (next_left e ls rs h).right ∙ ap (option_map (λ (v : Bor Value). view v.now)) (sym taken)
+    own_left : find (has_number a b Left e.0) ds ≡ Some (view e.1.now)
+    own_left = sym next_left.left ∙ ap (option_map (λ (v : Bor Value). view v.now)) (found_first e ls)
 
-  -- an entry of the left alone
-  pub left_alone : (e : Entry) (ls rs : List Entry) → AreSelectionsLeft (e ∷ ls) rs → None ≡ lookup (λ l. e.0 == l) rs → ones ≡ others → ⊥
-  left_alone e ls rs h none same =
-      something_at a b Left ds e.0 (view e.1.now) (own_left e ls rs h)
-      (ap (λ m. m e.0) same ∙ nothing_at a b Right es e.0 (ap (option_map (λ (v : Bor Value). view v.now)) none ∙ (next_left e ls rs h).right))
+    pub whole_left : AreWholeTrees ds → IsWholeTree (view e.1.now)
+    whole_left whole = whole_at a b Left ds whole e.0 (view e.1.now) own_left
 
-  -- entries of one name, which mean different things
-  pub differ : (e : Entry) (w : Bor Value) (ls rs : List Entry) → AreSelectionsLeft (e ∷ ls) rs → Some w ≡ lookup (λ l. e.0 == l) rs
-      → (selection_record a.prefer (view a.tree) (view e.1.now) ≡ selection_record b.prefer (view b.tree) (view w.now) → ⊥) → ones ≡ others → ⊥
-  differ e w ls rs h taken unequal same =
-      unequal (sym (record_at a b Left ds e.0 (view e.1.now) (own_left e ls rs h)) ∙ (ap (λ m. m e.0) same ∙ record_at a b Right es e.0 (view w.now) (own_right e w ls rs h taken)))
+    -- an entry of the left alone
+    pub left_alone : None ≡ lookup (λ l. e.0 == l) rs → Decides false (ones a b ds es) (others a b ds es)
+    left_alone none =
+        decided_not (λ same. something_at a b Left ds e.0 (view e.1.now) own_left
+        (ap (λ m. m e.0) same ∙ nothing_at a b Right es e.0 (ap (option_map (λ (v : Bor Value). view v.now)) none ∙ next_left.right)))
 
-  -- entries of one name, which mean the same
-  pub both_passed : (e : Entry) (w : Bor Value) (ls rs rs' : List Entry) → AreSelectionsLeft (e ∷ ls) rs → Some w ≡ lookup (λ l. e.0 == l) rs
-      → ((q : ℕ) → lookup (λ l. q == l) rs' ≡ cond (e.0 == q) None (lookup (λ l. q == l) rs))
-      → selection_record a.prefer (view a.tree) (view e.1.now) ≡ selection_record b.prefer (view b.tree) (view w.now) → AreSelectionsLeft ls rs'
-  unfolding IsDistinct
-  both_passed e w ls rs rs' h taken updates equal = record { distinct = h.distinct.1; each = λ q. at q (e.0 == q) refl }
-    where
-      here : IsPassed ls rs' e.0
-      here = record {
-        left = found_none e.0 ls h.distinct.0;
-        right = updates e.0 ∙ ap (λ b. cond b None (lookup (λ l. e.0 == l) rs)) (itself e.0);
-        same = record_at a b Left ds e.0 (view e.1.now) (own_left e ls rs h) ∙ (equal ∙ sym (record_at a b Right es e.0 (view w.now) (own_right e w ls rs h taken)));
-      }
+    -- an entry of each
+    module _ (w : Bor Value) (taken : Some w ≡ lookup (λ l. e.0 == l) rs) where
+      own_right : find (has_number a b Right e.0) es ≡ Some (view w.now)
+      own_right = sym next_left.right ∙ ap (option_map (λ (v : Bor Value). view v.now)) (sym taken)
 
-      elsewhere : (q : ℕ) → (e.0 == q) ≡ false → lookup (λ l. q == l) rs' ≡ lookup (λ l. q == l) rs
-      elsewhere q apart = updates q ∙ ap (λ b. cond b None (lookup (λ l. q == l) rs)) apart
+      pub whole_right : AreWholeTrees es → IsWholeTree (view w.now)
+      whole_right whole = whole_at a b Right es whole e.0 (view w.now) own_right
 
-      at : (q : ℕ) (b : Bool) → (e.0 == q) ≡ b → IsPassed ls rs' q ⊎ IsLeft ls rs' q
-      at q true e' = inl (subst (IsPassed ls rs') (one_number e.0 q e') here)
-      at q false e' = by (h.each q)
+      -- they mean different things
+      pub differ : (selection_record a.prefer (view a.tree) (view e.1.now) ≡ selection_record b.prefer (view b.tree) (view w.now) → ⊥) → Decides false (ones a b ds es) (others a b ds es)
+      differ unequal =
+          decided_not (λ same. unequal (sym (record_at a b Left ds e.0 (view e.1.now) own_left) ∙ (ap (λ m. m e.0) same ∙ record_at a b Right es e.0 (view w.now) own_right)))
+
+      -- they mean the same
+      pub both_passed : {rs' : List Entry} → ((q : ℕ) → lookup (λ l. q == l) rs' ≡ cond (e.0 == q) None (lookup (λ l. q == l) rs))
+          → selection_record a.prefer (view a.tree) (view e.1.now) ≡ selection_record b.prefer (view b.tree) (view w.now) → AreSelectionsLeft a b ds es ls rs'
+      unfolding IsDistinct
+      both_passed {rs' = rs'} updates equal = record { distinct = h.distinct.1; each = λ q. at q (e.0 == q) refl }
         where
-          by : IsPassed (e ∷ ls) rs q ⊎ IsLeft (e ∷ ls) rs q → IsPassed ls rs' q ⊎ IsLeft ls rs' q
-          by (inl passed) = inl (record { left = sym (found_later e ls q e') ∙ passed.left; right = elsewhere q e' ∙ passed.right; same = passed.same })
-          by (inr left) = inr (record {
-            left = ap (option_map (λ (v : Bor Value). view v.now)) (sym (found_later e ls q e')) ∙ left.left;
-            right = ap (option_map (λ (v : Bor Value). view v.now)) (elsewhere q e') ∙ left.right;
-          })
+          here : IsPassed a b ds es ls rs' e.0
+          here = record {
+            left = found_none e.0 ls h.distinct.0;
+            right = updates e.0 ∙ ap (λ b. cond b None (lookup (λ l. e.0 == l) rs)) (itself e.0);
+            same = record_at a b Left ds e.0 (view e.1.now) own_left ∙ (equal ∙ sym (record_at a b Right es e.0 (view w.now) own_right));
+          }
+
+          elsewhere : (q : ℕ) → (e.0 == q) ≡ false → lookup (λ l. q == l) rs' ≡ lookup (λ l. q == l) rs
+          elsewhere q apart = updates q ∙ ap (λ b. cond b None (lookup (λ l. q == l) rs)) apart
+
+          at : (q : ℕ) (c : Bool) → (e.0 == q) ≡ c → IsPassed a b ds es ls rs' q ⊎ IsLeft a b ds es ls rs' q
+          at q true is = inl (subst (IsPassed a b ds es ls rs') (one_number e.0 q is) here)
+          at q false is = elim (h.each q) [
+            | inl passed ↦ inl (record { left = sym (found_later e ls q is) ∙ passed.left; right = elsewhere q is ∙ passed.right; same = passed.same })
+            | inr more ↦ inr (record {
+              left = ap (option_map (λ (v : Bor Value). view v.now)) (sym (found_later e ls q is)) ∙ more.left;
+              right = ap (option_map (λ (v : Bor Value). view v.now)) (elsewhere q is) ∙ more.right;
+            })
+          ]
 
   -- nothing is left of either
-  all_passed : AreSelectionsLeft [] [] → ones ≡ others
-  all_passed h = fun_ext (λ q. at q (h.each q))
-    where
-      at : (q : ℕ) → IsPassed [] [] q ⊎ IsLeft [] [] q → ones q ≡ others q
-      at q (inl passed) = passed.same
-      at q (inr left) = nothing_at a b Left ds q left.left ∙ sym (nothing_at a b Right es q left.right)
+  all_passed : AreSelectionsLeft a b ds es [] [] → ones a b ds es ≡ others a b ds es
+  all_passed h = fun_ext (λ q. elim (h.each q) [
+    | inl passed ↦ passed.same
+    | inr left ↦ nothing_at a b Left ds q left.left ∙ sym (nothing_at a b Right es q left.right)
+  ])
 
   -- an entry of the right alone
-  right_alone : (g : Entry) (rs : List Entry) → AreSelectionsLeft [] (g ∷ rs) → ones ≡ others → ⊥
-  right_alone g rs h same = at (h.each g.0)
-    where
-      at : IsPassed [] (g ∷ rs) g.0 ⊎ IsLeft [] (g ∷ rs) g.0 → ⊥
-      at (inl passed) = let clash : Some g.1 ≡ None = sym (found_first g rs) ∙ passed.right in cc
-      at (inr left) =
-          something_at a b Right es g.0 (view g.1.now) (sym left.right ∙ ap (option_map (λ (v : Bor Value). view v.now)) (found_first g rs))
-          (sym (ap (λ m. m g.0) same) ∙ nothing_at a b Left ds g.0 left.left)
+  right_alone : (g : Entry) (rs : List Entry) → AreSelectionsLeft a b ds es [] (g ∷ rs) → ones a b ds es ≡ others a b ds es → ⊥
+  right_alone g rs h same = elim (h.each g.0) [
+    | inl passed ↦ let clash : Some g.1 ≡ None = sym (found_first g rs) ∙ passed.right in cc
+    | inr left ↦ something_at a b Right es g.0 (view g.1.now) (sym left.right ∙ ap (option_map (λ (v : Bor Value). view v.now)) (found_first g rs))
+        (sym (ap (λ m. m g.0) same) ∙ nothing_at a b Left ds g.0 left.left)
+  ]
 
   -- at the end nothing is left of the right exactly if both mean the same
-  pub ended : (answer : Bool) (rs : List Entry) → AreSelectionsLeft [] rs → ((answer ≡ true) ↔ (length rs ≡ 0)) → Decides answer ones others
-  ended answer [] h empty = (λ _. all_passed h, λ _. empty.1 refl)
-  ended answer (g ∷ rs) h empty = (λ told. let none : suc (length rs) ≡ 0 = empty.0 told in cc, λ same. absurd (right_alone g rs h same))
-
--- different maps are told so
-pub decided_not : {A : Type 0} (a b : A) → (a ≡ b → ⊥) → Decides false a b
-decided_not a b apart = (λ h. cc, λ same. absurd (apart same))
+  pub ended : (answer : Bool) {ls : List Entry} (rs : List Entry) → ls ≡ [] → AreSelectionsLeft a b ds es ls rs → ((answer ≡ true) ↔ (length rs ≡ 0)) → Decides answer (ones a b ds es) (others a b ds es)
+  ended answer [] end h empty = (λ _. all_passed (subst (λ xs. AreSelectionsLeft a b ds es xs []) end h), λ _. empty.1 refl)
+  ended answer (g ∷ rs) end h empty = (λ told. let none : suc (length rs) ≡ 0 = empty.0 told in cc, λ same. absurd (right_alone g rs (subst (λ xs. AreSelectionsLeft a b ds es xs (g ∷ rs)) end h) same))

@@ -1,5 +1,5 @@
 -- The chosen members of whole trees are the same, member by member, exactly if they are the same under each name.
-use Rattle.erd_compare.proofs.Common.{◌≡◌, ℕ, Bool, true, false, cond, List, Some, None, Option, Ordering, Equal, sym, refl, ap, ◌∙◌, subst, fun_ext, or_parts, or_from, nat_list_cmp_total, exact_bytes, match_ordering, Data, null, object, Members, no_members, member, get_member, get, has_float, members_have_float, text_cmp, are_same_members_exact, members_unique, IsBeforeFirst, AreMembers, are_same_members, JsonMap, takes_name, chosen_members, members_in, chosen_in, Decides, IsWholeTree}
+use Rattle.erd_compare.proofs.Common.{◌≡◌, ℕ, Bool, true, false, cond, List, Some, None, Option, Ordering, Equal, sym, refl, ap, ◌∙◌, subst, fun_ext, or_parts, or_from, nat_list_cmp_total, exact_bytes, match_ordering, Data, null, object, Members, no_members, member, get_member, get, has_float, members_have_float, text_cmp, IsBeforeFirst, AreMembers, are_same_members, are_same_members_exact, members_unique, JsonMap, takes_name, chosen_members, members_in, chosen_in, Decides, IsWholeTree}
 use Rattle.erd_compare.specs.declared.values.chosen_members.Choice.{Choice}
 use Rattle.erd_compare.proofs.whole_trees.WholeTrees.{members_themselves}
 

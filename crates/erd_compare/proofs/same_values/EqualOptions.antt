@@ -1,6 +1,15 @@
 -- Answers that decide whether two values are equal.
-use Rattle.erd_compare.proofs.Common.{◌≡◌, Bool, sym, ◌∙◌, Decides}
+use Rattle.erd_compare.proofs.Common.{◌≡◌, ℕ, Bool, ◌==◌, Some, None, Option, option_map, sym, refl, ap, ◌∙◌, Decides-eqb, option_eq, Decides}
 
 -- an answer about equal values
 pub decides_as : {A : Type 0} {p q : Bool} {a a' b b' : A} → q ≡ p → a ≡ a' → b ≡ b' → Decides p a b → Decides q a' b'
 decides_as answer one other h = (λ e. sym one ∙ (h.0 (sym answer ∙ e) ∙ other), λ e. answer ∙ h.1 (one ∙ (e ∙ sym other)))
+
+-- numbers decide whether what may be there is the same, if equal numbers are those of equal things
+pub options_decide : {A : Type 0} (number : A → ℕ) (o q : Option A) → ((x y : A) → o ≡ Some x → q ≡ Some y → number x ≡ number y → x ≡ y) → Decides (option_eq ◌==◌ (option_map number o) (option_map number q)) o q
+options_decide number None None one = (λ h. refl, λ e. refl)
+options_decide number (Some x) (Some y) one = (
+  λ h. ap Some (one x y refl refl ((Decides-eqb (number x) (number y)).0 h)),
+  λ e. let same : x ≡ y = cc in (Decides-eqb (number x) (number y)).1 (ap number same),
+)
+options_decide number o q one = (λ h. cc, λ e. cc)

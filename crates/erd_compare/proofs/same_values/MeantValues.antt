@@ -1,5 +1,5 @@
 -- A value that means something by itself means what its kind says.
-use Rattle.erd_compare.proofs.Common.{◌≡◌, ℕ, Bool, true, false, cond, List, [], ◌∷◌, is_some, IfOk, Some, codes, Result, bytes_eq, unwrap_or, sym, refl, ap, and_parts, IfOk-weaker, list_all, Data, null, boolean, number, string, array, object, no_items, item, family_of_class, kind_in_rows, is_reference_name, kind_of_identity, kind_of_unlisted, kind_of_member, Class, class, MemberKind, kind, has_keys, Preference, unless_empty, plain_value, NamesKeys, Decides, means_nothing, meant_value}
+use Rattle.erd_compare.proofs.Common.{◌≡◌, ℕ, Bool, true, false, cond, List, [], ◌∷◌, is_some, IfOk, Some, codes, Result, bytes_eq, unwrap_or, sym, refl, ap, and_parts, IfOk-weaker, list_all, Data, array, no_items, item, family_of_class, is_reference_name, kind_of_identity, kind_of_member, Class, class, MemberKind, kind, has_keys, Preference, plain_value, kind_in_rows, kind_of_unlisted, unless_empty, NamesKeys, Decides, means_nothing, meant_value}
 use Rattle.erd_tables.specs.Rows.{Row, rows_of_class}
 use Rattle.erd_check.specs.Faults.{is_empty_array}
 use Rattle.erd_compare.proofs.same_values.EqualOptions.{decides_as}
@@ -48,21 +48,11 @@ member_keyed c name = keyed_from (kind_of_member c name) (listed_keyed name (row
 
 -- a value that is no empty array
 filled : {V : Type 0} (v : V) (d : Data) → is_empty_array d ≡ false → unless_empty v d ≡ Some v
-filled v null e = refl
-filled v (boolean b) e = refl
-filled v (number n) e = refl
-filled v (string s) e = refl
 filled v (array no_items) e = cc
 filled v (array (item d ds)) e = refl
-filled v (object ms) e = refl
+filled v d e = refl
 
 plain_meant : (π : Preference) (t : Data) (k : MemberKind) (d : Data) → means_nothing k d ≡ false → plain_value π t k d ≡ Some (meant_value π t k d)
-plain_meant π t kind.Word d e = refl
-plain_meant π t kind.Flag d e = refl
-plain_meant π t kind.Whole d e = refl
-plain_meant π t kind.Carried d e = refl
-plain_meant π t kind.Label d e = refl
-plain_meant π t (kind.One f) d e = refl
 plain_meant π t (kind.Many f) d e = filled _ d e
 plain_meant π t kind.Identifiers d e = filled _ d e
 plain_meant π t kind.Languages d e = filled _ d e

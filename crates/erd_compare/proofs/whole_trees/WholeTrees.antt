@@ -1,9 +1,8 @@
 -- Whole trees: their members and entries are whole trees, and equality as JSON decides equality on them.
-use Rattle.erd_compare.proofs.Common.{◌≡◌, ℕ, zero, suc, ◌+◌, ◌<◌, true, false, ◌&&◌, List, [], ◌∷◌, ◌++◌, map, length, get_or, pos, IfSome, Some, None, codes, Option, option_map, flat_map, sym, refl, subst, arith, Bor, and_from, or_parts, Decides-int_eq, AllByRecursion, option_map_or, Num, unsigned, negative, float, Data, null, boolean, number, string, array, object, Items, no_items, item, Members, no_members, member, get, is_float, view, has_float, items_have_float, members_have_float, Value, Family, family, text_itself, flag_itself, is_same_exact, get_member-tree, all-Has, Has, IsTree, AreTrees, same_number, is_same_json, are_same_items, are_same_members, list_of_items, entries_of, entries_at, Placed, placed_from, placed_entries, report_of, elections, contests, objects, Decides, IsWholeTree, IsPairOf, MemberPair}
+use Rattle.erd_compare.proofs.Common.{◌≡◌, ℕ, zero, suc, ◌+◌, ◌<◌, true, false, ◌&&◌, List, [], ◌∷◌, ◌++◌, map, length, get_or, pos, IfSome, Some, None, codes, Option, option_map, flat_map, sym, refl, subst, arith, Bor, and_from, or_parts, Decides-int_eq, AllByRecursion, option_map_or, Data, null, boolean, string, array, object, Items, no_items, item, Members, no_members, member, get, view, has_float, items_have_float, members_have_float, Value, Family, family, IsTree, is_same_json, list_of_items, entries_of, entries_at, Placed, placed_from, placed_entries, report_of, elections, contests, objects, Num, unsigned, negative, float, number, is_float, AreTrees, same_number, are_same_items, are_same_members, text_itself, flag_itself, is_same_exact, get_member-tree, Decides, IsWholeTree, IsPairOf, MemberPair, In, In-all, In-flat_map_from}
 use Rattle.erd_tables.specs.declared.place.Step.{Step}
 use Rattle.erd_tables.specs.declared.place.Step.TheVariants.{Name}
-use Rattle.erd_meaning.proofs.selections.WholeParts.{whole_get}
-use Rattle.erd_meaning.proofs.accepted.HeldObjects.{has-flat}
+use Rattle.erd_meaning.proofs.selections.MetSelections.{whole_get}
 
 -- values that are whole trees
 abbrev pub AreWholeTrees : List Data → Type 0
@@ -132,30 +131,30 @@ whole_placed : (p : List Step) (i : ℕ) (ds : List Data) → AreWholeTrees ds �
 whole_placed p i [] h = tt
 whole_placed p i (d ∷ ds) h = (h.0, whole_placed p (i + 1) ds h.1)
 
-whole_entries : (name : List ℕ) (parent o : Placed) → IsWholeTree parent.value → Has (placed_entries name parent) o → IsWholeTree o.value
+whole_entries : (name : List ℕ) (parent o : Placed) → IsWholeTree parent.value → In o (placed_entries name parent) → IsWholeTree o.value
 whole_entries name parent o h among =
-    all-Has (λ x. IsWholeTree x.value) (placed_entries name parent) o
+    In-all (λ x. IsWholeTree x.value) o (placed_entries name parent)
     (whole_placed (parent.place ++ Name name ∷ []) 0 (entries_at name parent.value) (whole_trees-entries_at name parent.value h)) among
 
 -- the entries of a member of each of these objects
-whole_inside : (name : List ℕ) (parents : List Placed) (o : Placed) → ((p : Placed) → Has parents p → IsWholeTree p.value) → Has (flat_map (placed_entries name) parents) o → IsWholeTree o.value
-whole_inside name parents o h among = let p = has-flat (placed_entries name) parents o among in whole_entries name p.0 o (h p.0 p.1) p.2
+whole_inside : (name : List ℕ) (parents : List Placed) (o : Placed) → ((p : Placed) → In p parents → IsWholeTree p.value) → In o (flat_map (placed_entries name) parents) → IsWholeTree o.value
+whole_inside name parents o h among = let p = In-flat_map_from (placed_entries name) parents o among in whole_entries name p.0 o (h p.0 p.1) p.2
 
 -- each election
-pub whole_election : (t : Data) (p : Placed) → IsWholeTree t → Has (elections t) p → IsWholeTree p.value
+pub whole_election : (t : Data) (p : Placed) → IsWholeTree t → In p (elections t) → IsWholeTree p.value
 whole_election t p h among = whole_entries (codes "Election") (report_of t) p h among
 
-whole_contest : (t : Data) (p : Placed) → IsWholeTree t → Has (contests t) p → IsWholeTree p.value
+whole_contest : (t : Data) (p : Placed) → IsWholeTree t → In p (contests t) → IsWholeTree p.value
 whole_contest t p h among = whole_inside (codes "Contest") (elections t) p (λ q. whole_election t q h) among
 
 -- each object of a family
-pub whole_object : (t : Data) (f : Family) → IsWholeTree t → (o : Placed) → Has (objects f t) o → IsWholeTree o.value
+pub whole_object : (t : Data) (f : Family) → IsWholeTree t → (o : Placed) → In o (objects f t) → IsWholeTree o.value
+whole_object t family.Candidate h o among = whole_inside (codes "Candidate") (elections t) o (λ p. whole_election t p h) among
+whole_object t family.Contest h o among = whole_contest t o h among
+whole_object t family.Style h o among = whole_inside (codes "BallotStyle") (elections t) o (λ p. whole_election t p h) among
+whole_object t family.Selection h o among = whole_inside (codes "ContestSelection") (contests t) o (λ p. whole_contest t p h) among
 whole_object t family.Unit h o among = whole_entries (codes "GpUnit") (report_of t) o h among
 whole_object t family.Party h o among = whole_entries (codes "Party") (report_of t) o h among
 whole_object t family.Person h o among = whole_entries (codes "Person") (report_of t) o h among
 whole_object t family.Office h o among = whole_entries (codes "Office") (report_of t) o h among
 whole_object t family.Header h o among = whole_entries (codes "Header") (report_of t) o h among
-whole_object t family.Candidate h o among = whole_inside (codes "Candidate") (elections t) o (λ p. whole_election t p h) among
-whole_object t family.Contest h o among = whole_contest t o h among
-whole_object t family.Style h o among = whole_inside (codes "BallotStyle") (elections t) o (λ p. whole_election t p h) among
-whole_object t family.Selection h o among = whole_inside (codes "ContestSelection") (contests t) o (λ p. whole_contest t p h) among

@@ -1,22 +1,18 @@
 -- In a report without faults of identity no two objects of a family and no two elections have one key, and each of several elections has one.
-use Rattle.erd_meaning.proofs.Common.{◌≡◌, ℕ, Bool, true, false, cond, List, map, length, nat_lt, slice_get, Some, None, codes, Option, option_and_then, is_eq, sym, refl, ap, ◌∙◌, subst, ap₂, arith, ltb-false, slice_get_within, map-map, Equal-is, IsDistinct, option_cmp, eq_by_cmp, Data, Family, reason, Has, NoneOf, entries_at, has_keys, key_cmp, Preference, key_of, key_of_family_object, IdentityFault, key_in, Placed, report_of, elections, objects, has_several, AreDistinct, HaveDistinctKeys, Kept, kept, kept_objects, election_keys, key_cmp_exact, Key}
-use Rattle.erd_meaning.proofs.accepted.References.{Contains-Has, has_identifier}
-use Rattle.erd_meaning.proofs.accepted.Skeleton.{values-placed_entries}
-use Rattle.erd_meaning.proofs.finding.Lookups.{those_kept}
-use Rattle.erd_meaning.proofs.finding.OneObject.{in_at, one_key}
-use Rattle.erd_meaning.proofs.finding.TwinElections.{one_election_key}
+use Rattle.erd_meaning.proofs.Common.{◌≡◌, ℕ, Bool, true, false, cond, List, map, length, nat_lt, slice_get, Some, None, codes, Option, option_and_then, is_eq, sym, refl, ap, ◌∙◌, subst, ap₂, arith, ltb-false, slice_get_within, map-map, Equal-is, IsDistinct, option_cmp, eq_by_cmp, Data, Family, reason, NoneOf, entries_at, has_keys, key_cmp, Preference, key_of, key_of_family_object, IdentityFault, key_in, Placed, report_of, elections, objects, has_several, AreDistinct, HaveDistinctKeys, Kept, kept, kept_objects, election_keys, key_cmp_exact, Key, role, In, contains_from_In, in_at}
+use Rattle.erd_meaning.proofs.accepted.Standing.{has_identifier, values-placed_entries}
+use Rattle.erd_meaning.proofs.finding.OneObject.{those_kept, one_key}
+use Rattle.erd_meaning.proofs.finding.Found.{one_election_key}
 use Rattle.erd_meaning.proofs.orders.DistinctEntries.{distinct_from_one_place, distinct_map}
-use Rattle.erd_meaning.proofs.orders.RisingSets.{has_from_In}
-use Rattle.erd_tables.specs.declared.class.Role.TheVariants as role
 
 -- ---- the keys of elections
 
-pub election_has_identifier : (π : Preference) (t : Data) → NoneOf (IdentityFault π t) → has_several t ≡ true → (e : Placed) → Has (elections t) e → (k : Key) × (key_of π e.value ≡ Some k)
+pub election_has_identifier : (π : Preference) (t : Data) → NoneOf (IdentityFault π t) → has_several t ≡ true → (e : Placed) → In e (elections t) → (k : Key) × (key_of π e.value ≡ Some k)
 election_has_identifier π t none several e h = at (key_of π e.value) refl
   where
     at : (k : Option Key) → key_of π e.value ≡ k → (l : Key) × (key_of π e.value ≡ Some l)
     at None is =
-        absurd (none e.place reason.NoIdentifier (record { role = role.Election; needed = several; placed = e; stands = Contains-Has (elections t) e h; place = refl; keyless = is }))
+        absurd (none e.place reason.NoIdentifier (record { role = role.Election; needed = several; placed = e; stands = contains_from_In e (elections t) h; place = refl; keyless = is }))
     at (Some k) is = (k, is)
 
 -- ---- no two have one key
@@ -33,8 +29,8 @@ module _ (π : Preference) (t : Data) (none : NoneOf (IdentityFault π t)) where
 
   pub objects_distinct : (f : Family) → has_keys f ≡ true → IsDistinct (λ (o p : Placed). has_one_key π o.value p.value) (objects f t)
   objects_distinct f keyed = distinct_from_one_place (λ (o p : Placed). has_one_key π o.value p.value) (objects f t) (λ i j o p a b e.
-      let k = has_identifier π t none f o keyed (has_from_In o (objects f t) (in_at (objects f t) i o a)) in
-      let l = has_identifier π t none f p keyed (has_from_In p (objects f t) (in_at (objects f t) j p b)) in
+      let k = has_identifier π t none f o keyed (in_at (objects f t) i o a) in
+      let l = has_identifier π t none f p keyed (in_at (objects f t) j p b) in
       let same : k.0 ≡ l.0 = key_cmp_exact k.0 l.0 ((Equal-is (key_cmp k.0 l.0)).0 (sym (ap₂ (λ x y. is_eq (option_cmp key_cmp x y)) k.1 l.1) ∙ e)) in
       one_key π t f k.0 i j none (key_at f i o k.0 keyed a k.1) (key_at f j p k.0 keyed b (l.1 ∙ ap Some (sym same))))
 
@@ -59,8 +55,8 @@ module _ (π : Preference) (t : Data) (none : NoneOf (IdentityFault π t)) where
   one_election_place : (several : Bool) → has_several t ≡ several → (i j : ℕ) (d e : Placed) → slice_get (elections t) i ≡ Some d → slice_get (elections t) j ≡ Some e
       → has_one_key π d.value e.value ≡ true → i ≡ j
   one_election_place true is i j d e at there h =
-      let k = election_has_identifier π t none is d (has_from_In d (elections t) (in_at (elections t) i d at)) in
-      let l = election_has_identifier π t none is e (has_from_In e (elections t) (in_at (elections t) j e there)) in
+      let k = election_has_identifier π t none is d (in_at (elections t) i d at) in
+      let l = election_has_identifier π t none is e (in_at (elections t) j e there) in
       let same : k.0 ≡ l.0 = key_cmp_exact k.0 l.0 ((Equal-is (key_cmp k.0 l.0)).0 (sym (ap₂ (λ x y. is_eq (option_cmp key_cmp x y)) k.1 l.1) ∙ h)) in
       one_election_key π t none i j d e k.0 at there k.1 (l.1 ∙ ap Some (sym same))
   one_election_place false is i j d e at there h = only_place (elections t) i d is at ∙ sym (only_place (elections t) j e is there)

@@ -1,8 +1,7 @@
 -- Faults of identity, of references and of selections, as facts on small trees, by computation.
-use Rattle.erd_meaning.proofs.Common.{◌≡◌, ℕ, true, false, [], ◌∷◌, slice_get, Some, None, codes, option_and_then, unwrap_or, refl, lit<, serde_json_on_literals, Data, boolean, class, Family, DuplicateId, NoIdentifier, SelectionOfOtherContest, TwinIdentifier, TwinSelection, WrongFamily, At, Name, tree_of, asked, Reference, IdentityFault, ReferenceFault, SelectionFault, a_json, Placed, report_of, elections, objects, selection_record, name_in_class, name_of}
+use Rattle.erd_meaning.proofs.Common.{◌≡◌, ℕ, true, false, [], ◌∷◌, slice_get, Some, None, codes, option_and_then, unwrap_or, refl, lit<, serde_json_on_literals, Data, boolean, class, Family, DuplicateId, NoIdentifier, SelectionOfOtherContest, TwinIdentifier, TwinSelection, WrongFamily, At, Name, tree_of, asked, Reference, IdentityFault, ReferenceFault, SelectionFault, a_json, Placed, report_of, elections, objects, selection_record, name_in_class, name_of, role, family}
+use Rattle.erd_meaning.proofs.identity.IdentityFaults.{lacks_identifier, repeats_id, repeats_key}
 use Rattle.erd_check.specs.declared.want.Want.TheVariants.{Object}
-use Rattle.erd_tables.specs.declared.class.Family.TheVariants as family
-use Rattle.erd_tables.specs.declared.class.Role.TheVariants as role
 
 -- the object at this position of its family
 abbrev pub object_at : Data → Family → ℕ → Placed
@@ -13,22 +12,8 @@ no_identifier : IdentityFault None (tree_of (codes "{\"GpUnit\":[{\"ExternalIden
     × IdentityFault None (tree_of (codes "{\"Election\":[{\"BallotStyle\":[{}]}]}")) (Name (codes "Election") ∷ At 0 ∷ Name (codes "BallotStyle") ∷ At 0 ∷ []) NoIdentifier
 unfolding serde_json_on_literals
 no_identifier = (
-  record {
-    role = role.OfFamily family.Unit;
-    needed = refl;
-    placed = object_at (tree_of (codes "{\"GpUnit\":[{\"ExternalIdentifier\":[]}]}")) family.Unit 0;
-    stands = (0, lit< tt, refl);
-    place = refl;
-    keyless = refl;
-  },
-  record {
-    role = role.OfFamily family.Style;
-    needed = refl;
-    placed = object_at (tree_of (codes "{\"Election\":[{\"BallotStyle\":[{}]}]}")) family.Style 0;
-    stands = (0, lit< tt, refl);
-    place = refl;
-    keyless = refl;
-  },
+  lacks_identifier None (tree_of (codes "{\"GpUnit\":[{\"ExternalIdentifier\":[]}]}")) (role.OfFamily family.Unit) (object_at (tree_of (codes "{\"GpUnit\":[{\"ExternalIdentifier\":[]}]}")) family.Unit 0) refl (0, lit< tt, refl) refl,
+  lacks_identifier None (tree_of (codes "{\"Election\":[{\"BallotStyle\":[{}]}]}")) (role.OfFamily family.Style) (object_at (tree_of (codes "{\"Election\":[{\"BallotStyle\":[{}]}]}")) family.Style 0) refl (0, lit< tt, refl) refl,
 )
 
 abbrev twins : Data
@@ -38,32 +23,9 @@ twins = tree_of (codes "{\"GpUnit\":[{\"@id\":\"u7\",\"ExternalIdentifier\":[{\"
 twin_units : IdentityFault None twins (Name (codes "GpUnit") ∷ At 1 ∷ []) TwinIdentifier × IdentityFault None twins (Name (codes "Party") ∷ At 0 ∷ Name (codes "@id") ∷ []) DuplicateId
 unfolding serde_json_on_literals
 twin_units = (
-  record {
-    role = role.OfFamily family.Unit;
-    keyed = refl;
-    later = object_at twins family.Unit 1;
-    later_stands = (1, lit< tt, refl);
-    place = refl;
-    earlier = object_at twins family.Unit 0;
-    earlier_stands = (0, lit< tt, refl);
-    before = refl;
-    key = record { kind = codes "other"; other = []; value = codes "X" };
-    later_key = refl;
-    earlier_key = refl;
-  },
-  record {
-    family = family.Party;
-    later = object_at twins family.Party 0;
-    later_stands = (0, lit< tt, refl);
-    place = refl;
-    earlier_family = family.Unit;
-    earlier = object_at twins family.Unit 0;
-    earlier_stands = (0, lit< tt, refl);
-    before = refl;
-    id = codes "u7";
-    later_id = refl;
-    earlier_id = refl;
-  },
+  repeats_key None twins (role.OfFamily family.Unit) (object_at twins family.Unit 1) (object_at twins family.Unit 0) (record { kind = codes "other"; other = []; value = codes "X" }) refl
+      (1, lit< tt, refl) (0, lit< tt, refl) refl refl refl,
+  repeats_id twins family.Party family.Unit (object_at twins family.Party 0) (object_at twins family.Unit 0) (codes "u7") (0, lit< tt, refl) (0, lit< tt, refl) refl refl refl,
 )
 
 -- the first of these elections has no identifier, the third has the key of the second, and a candidate in the third that of one in
@@ -79,40 +41,10 @@ several_elections : IdentityFault None several (Name (codes "Election") ∷ At 0
     × IdentityFault None several (Name (codes "Election") ∷ At 2 ∷ Name (codes "Candidate") ∷ At 0 ∷ []) TwinIdentifier
 unfolding serde_json_on_literals
 several_elections = (
-  record {
-    role = role.Election;
-    needed = refl;
-    placed = election_at 0;
-    stands = (0, lit< tt, refl);
-    place = refl;
-    keyless = refl;
-  },
-  record {
-    role = role.Election;
-    keyed = refl;
-    later = election_at 2;
-    later_stands = (2, lit< tt, refl);
-    place = refl;
-    earlier = election_at 1;
-    earlier_stands = (1, lit< tt, refl);
-    before = refl;
-    key = record { kind = []; other = []; value = codes "E" };
-    later_key = refl;
-    earlier_key = refl;
-  },
-  record {
-    role = role.OfFamily family.Candidate;
-    keyed = refl;
-    later = object_at several family.Candidate 1;
-    later_stands = (1, lit< tt, refl);
-    place = refl;
-    earlier = object_at several family.Candidate 0;
-    earlier_stands = (0, lit< tt, refl);
-    before = refl;
-    key = record { kind = []; other = []; value = codes "K" };
-    later_key = refl;
-    earlier_key = refl;
-  },
+  lacks_identifier None several role.Election (election_at 0) refl (0, lit< tt, refl) refl,
+  repeats_key None several role.Election (election_at 2) (election_at 1) (record { kind = []; other = []; value = codes "E" }) refl (2, lit< tt, refl) (1, lit< tt, refl) refl refl refl,
+  repeats_key None several (role.OfFamily family.Candidate) (object_at several family.Candidate 1) (object_at several family.Candidate 0) (record { kind = []; other = []; value = codes "K" }) refl
+      (1, lit< tt, refl) (0, lit< tt, refl) refl refl refl,
 )
 
 abbrev write_ins : Data

@@ -1,7 +1,33 @@
--- Whole reports that are refused, each with the list of all its faults: one or more for each phase, by computation.
-use Rattle.erd_meaning.proofs.Common.{◌≡◌, ℕ, List, [], ◌∷◌, ◌++◌, None, codes, refl, serde_json_on_literals, Data, ListsAll, Fault, Reason, NoIdentifier, SelectionOfOtherContest, TwinIdentifier, TwinSelection, Unresolved, WrongFamily, Step, At, Name, tree_sound, no_fault_listed, tree_of, small_ballot_with, header_node, contest_node, election, with_election_member, report_of_two, two_elections_with, fault_at, IsFault}
-use Rattle.erd_check.proofs.WholeExamples.{faulty, faulty_faults, faulty_has_all, no_election, no_election_faults, no_election_has_all}
-use Rattle.erd_meaning.proofs.refused.Refused.{refused_by_shape, refused_by_identity, refused_by_references, refused_by_selections}
+-- Whole reports that are accepted, and others that are refused with the list of all their faults, by computation.
+use Rattle.erd_meaning.proofs.Common.{◌≡◌, ℕ, List, length, None, refl, serde_json_on_literals, tree_of, small_ballot, small_ballot_canonical, one_unit, two_elections, three_contests, IsAccepted, [], ◌∷◌, ◌++◌, codes, Data, ListsAll, Fault, Reason, NoIdentifier, SelectionOfOtherContest, TwinIdentifier, TwinSelection, Unresolved, WrongFamily, Step, At, Name, tree_sound, no_fault_listed, small_ballot_with, header_node, contest_node, election, with_election_member, report_of_two, two_elections_with, fault_at, IsFault}
+use Rattle.erd_check.proofs.WholeExamples.{IsFaultless, one_unit_is_faultless, small_ballot_is_faultless, small_ballot_canonical_is_faultless, three_contests_is_faultless, two_elections_is_faultless, faulty, faulty_faults, faulty_has_all, no_election, no_election_faults, no_election_has_all}
+use Rattle.erd_meaning.proofs.identity.IdentityFaults.{identity_told}
+use Rattle.erd_meaning.proofs.refused.Refused.{accepted_by_lists, refused_by_shape, refused_by_identity, refused_by_references, refused_by_selections}
+use Rattle.erd_meaning.proofs.references.ReferenceWalks.{reference_faults}
+use Rattle.erd_meaning.proofs.selections.NamesTold.{selections_told}
+
+accepted_by_tests : (text : List ℕ) → IsFaultless text → length (identity_told None (tree_of text)) ≡ 0 → length (reference_faults (tree_of text)) ≡ 0 → length (selections_told None (tree_of text)) ≡ 0 → IsAccepted None (tree_of text)
+accepted_by_tests text faultless identity references selections = accepted_by_lists None (tree_of text) faultless.tree faultless.none identity references selections
+
+pub one_unit_is_accepted : IsAccepted None (tree_of one_unit)
+unfolding serde_json_on_literals
+one_unit_is_accepted = accepted_by_tests one_unit one_unit_is_faultless refl refl refl
+
+pub small_ballot_is_accepted : IsAccepted None (tree_of small_ballot)
+unfolding serde_json_on_literals
+small_ballot_is_accepted = accepted_by_tests small_ballot small_ballot_is_faultless refl refl refl
+
+pub small_ballot_canonical_is_accepted : IsAccepted None (tree_of small_ballot_canonical)
+unfolding serde_json_on_literals
+small_ballot_canonical_is_accepted = accepted_by_tests small_ballot_canonical small_ballot_canonical_is_faultless refl refl refl
+
+pub two_elections_is_accepted : IsAccepted None (tree_of two_elections)
+unfolding serde_json_on_literals
+two_elections_is_accepted = accepted_by_tests two_elections two_elections_is_faultless refl refl refl
+
+pub three_contests_is_accepted : IsAccepted None (tree_of three_contests)
+unfolding serde_json_on_literals
+three_contests_is_accepted = accepted_by_tests three_contests three_contests_is_faultless refl refl refl
 
 -- ---- the shape: a report with no election, and one with many faults
 

@@ -2,9 +2,9 @@
 use Rattle.erd_meaning.proofs.Common.{◌≡◌, ℕ, zero, suc, ◌+◌, ◌<◌, false, List, [], ◌∷◌, ◌++◌, map, length, replicate, slice_get, Some, None, codes, Option, option_map, flat_map, option_and_then, bytes_eq, is_lt, sym, refl, ap, ◌∙◌, ap₂, arith, map-append, length-map, slice_get-map, map-map, option_cmp, Data, no_items, view, Value, Family, family, Step, At, Name, list_of_items_exact, ShapeFault, NoneOf, entries_at, key_cmp, Preference, key_of, election_rank_of, election_key_in, election_in, Placed, placed_from, placed_entries, elections, election_of_place, held_from, rank_in_keys, election_keys, Key}
 use Rattle.erd_meaning.specs.code.Holding.{AreHeld, held}
 use Rattle.erd_meaning.specs.declared.objects.holders.Holders.{Holders}
-use Rattle.erd_meaning.proofs.accepted.Skeleton.{election_entries, skeleton_of_shape, values-placed_from}
+use Rattle.erd_meaning.proofs.accepted.Standing.{election_entries, skeleton_of_shape, values-placed_from}
 use Rattle.erd_meaning.proofs.meanings.HeldValues.{mapped_then}
-use Rattle.erd_meaning.proofs.orders.Counted.{count_map}
+use Rattle.erd_meaning.proofs.orders.RisingOrders.{count_map}
 
 -- ---- by position
 
@@ -58,9 +58,8 @@ inside_each name n (e ∷ es) =
 
 mapped_same : (a : Option Placed) (b : Option ℕ) → option_map holder a ≡ option_map Some b → b ≡ option_and_then holder a
 mapped_same None None e = refl
-mapped_same None (Some n) e = cc
-mapped_same (Some o) None e = cc
 mapped_same (Some o) (Some n) e = let same : holder o ≡ Some n = cc in sym same
+mapped_same o n e = cc
 
 held_inside : (name : List ℕ) (t : Data) (ns : List ℕ) (i : ℕ) → ns ≡ held_from name 0 (entries_at (codes "Election") t)
     → slice_get ns i ≡ option_and_then holder (slice_get (flat_map (placed_entries name) (elections t)) i)

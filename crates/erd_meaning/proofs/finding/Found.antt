@@ -1,10 +1,12 @@
--- What is found by a key or by an `@id` is what has it.
-use Rattle.erd_meaning.proofs.Common.{◌≡◌, ℕ, true, List, map, slice_get, Some, None, Option, option_map, position, option_and_then, is_eq, sym, refl, ap, ◌∙◌, subst, ap₂, and_parts, and_from, tied_itself, same_Some, some_pair_parts, bytes_eq-Decides, Data, view, Value, family_number, Family, In, In-filter, NoneOf, Preference, IdentityFault, key_in, id_in, FindsKey, FindsId, rank, number_at, number_of_id, number_of_key, is_of_family, those_of, is_keyed, keeps_id, Kept, kept_objects, same_key, same_id, key_cmp_total, IsResolved, NumberedName, shown, Key, Object}
+-- What is found by a key, by an `@id` or by a name is what has it.
+use Rattle.erd_meaning.proofs.Common.{◌≡◌, ℕ, true, List, map, slice_get, Some, None, Option, option_map, position, option_and_then, is_eq, sym, refl, ap, ◌∙◌, subst, ap₂, and_parts, and_from, tied_itself, same_Some, some_pair_parts, bytes_eq-Decides, Data, view, Value, family_number, Family, In, In-filter, NoneOf, Preference, IdentityFault, key_in, id_in, FindsKey, FindsId, rank, number_at, number_of_id, number_of_key, is_of_family, those_of, is_keyed, keeps_id, Kept, kept_objects, same_key, same_id, key_cmp_total, IsResolved, NumberedName, shown, Key, Object, and_then-Some, ◌+◌, Bool, false, cond, [], ◌∷◌, ◌++◌, length, ◌==◌, find, append_snoc, position_from-zero, length_push, position_from, number_among, object_among, inl, inr, cases_Bool, cond_both, ◌<◌, cases_order, slice_get-map, TwinIdentifier, contains_from_In, IsStrictlySortedBy-filter, key_of, IsBefore, Placed, elections, has_several, located_election, all_located, role, in_at}
 use Rattle.erd_meaning.specs.code.OwnIds.{HaveOwnIds}
-use Rattle.erd_meaning.proofs.finding.OneObject.{hit, in_at, missed, one_id, one_key}
-use Rattle.erd_meaning.proofs.identity.IdentityFaults.{same_id_from, same_key_from}
-use Rattle.erd_meaning.proofs.finding.Lookups.{kept_part, part_at, ranked}
-use Rattle.erd_meaning.proofs.identity.ObjectFamilies.{itself}
+use Rattle.erd_meaning.proofs.finding.OneObject.{hit, missed, one_id, one_key, kept_part, part_at, ranked, sorted_at}
+use Rattle.erd_meaning.proofs.identity.IdentityFaults.{same_id_from, same_key_from, repeats_key}
+use Rattle.erd_meaning.proofs.identity.ObjectFamilies.{itself, family_exact, elections_picked, is_election}
+use Rattle.erd_meaning.proofs.finding.Pushed.{get_last}
+use Rattle.erd_meaning.proofs.identity.ObjectPlaces.{AreApart, all_parted, apart}
+use Rattle.erd_meaning.proofs.identity.ToldFaults.{before_apart}
 
 -- what a family has at a position, with the object that is kept
 record Standing (ks : List Kept) (f : Family) (part : Kept → Type 0) : Type 0 where
@@ -15,13 +17,10 @@ record Standing (ks : List Kept) (f : Family) (part : Kept → Type 0) : Type 0 
 
 standing : {A : Type 0} (g : Kept → Option A) (ks : List Kept) (f : Family) (i : ℕ) (a : A)
     → option_and_then g (slice_get (those_of f ks) i) ≡ Some a → Standing ks f (λ k. g k ≡ Some a)
-standing {A} g ks f i a e = at (slice_get (those_of f ks) i) refl e
-  where
-    at : (o : Option Kept) → slice_get (those_of f ks) i ≡ o → option_and_then g o ≡ Some a → Standing ks f (λ k. g k ≡ Some a)
-    at None is h = cc
-    at (Some k) is h =
-        let both = In-filter (is_of_family f) k ks (in_at (those_of f ks) i k is) in
-        record { one = k; there = both.0; family = both.1; has = h }
+standing g ks f i a e =
+    let r = and_then-Some g (slice_get (those_of f ks) i) a e in
+    let both = In-filter (is_of_family f) r.0 ks (in_at (those_of f ks) i r.0 r.1) in
+    record { one = r.0; there = both.0; family = both.1; has = r.2 }
 
 -- ---- by a key
 
@@ -93,3 +92,116 @@ finds_id π v os ns id r = subst (λ (ks : List Kept). FindsId (view v) id (numb
 -- no two objects of a report have one `@id`, so each is what its own leads to
 pub own_ids : (π : Preference) (t : Data) (ks : List Kept) → ks ≡ kept_objects π t → NoneOf (IdentityFault π t) → HaveOwnIds ks
 own_ids π t ks kept none = subst HaveOwnIds (sym kept) (λ f i id e. (finds_kept_id π t id none f i).1 (sym (kept_part π (λ k. k.id) f t i) ∙ e))
+
+-- ---- lists
+
+find_after : {X : Type 0} (p : X → Bool) (ys xs : List X) → find p xs ≡ option_and_then (slice_get (ys ++ xs)) (position_from p (length ys) xs)
+find_after p ys [] = refl
+find_after {X} p ys (x ∷ xs) = elim (cases_Bool (p x)) [
+  | inl is ↦ rw is (sym (get_last ys xs x))
+  | inr is ↦ rw is
+      (subst (λ (zs : List X). find p xs ≡ option_and_then (slice_get zs) (position_from p (length ys + 1) xs)) (append_snoc ys x xs)
+      (subst (λ n. find p xs ≡ option_and_then (slice_get ((ys ++ x ∷ []) ++ xs)) (position_from p n xs)) (length_push ys x) (find_after p (ys ++ x ∷ []) xs)))
+]
+
+find_at : {X : Type 0} (p : X → Bool) (xs : List X) → find p xs ≡ option_and_then (slice_get xs) (position p xs)
+find_at p xs = find_after p [] xs ∙ ap (option_and_then (slice_get xs)) (sym (position_from-zero p xs))
+
+-- ---- objects
+
+of_family : Family → Kept → Option Kept
+of_family f k = cond (is_of_family f k) (Some k) None
+
+-- how the first object with an `@id` stands among all
+record First (ks : List Kept) (id : List ℕ) (g : Family) (i : ℕ) : Type 0 where
+  one : Kept
+  found : find (keeps_id id) ks ≡ Some one
+  family : one.family ≡ g
+  place : slice_get (those_of g ks) i ≡ Some one
+
+first : (ks : List Kept) (id : List ℕ) (g : Family) (i : ℕ) → number_of_id ks id ≡ Some (g, i) → First ks id g i
+first ks id g i e =
+    let r = and_then-Some (number_at ks) (position (keeps_id id) ks) (g, i) e in
+    let n = r.0 in
+    let there = hit (keeps_id id) ks n r.1 in
+    let k = there.one in
+    let number : number_at ks n ≡ Some (k.family, rank k.family ks n) = ap (option_map {U = Family × ℕ} (λ (k : Kept). (k.family, rank k.family ks n))) there.at in
+    let parts = some_pair_parts k.family g (rank k.family ks n) i (sym number ∙ r.2) in
+    record {
+      one = k;
+      found = find_at (keeps_id id) ks ∙ ap (option_and_then (slice_get ks)) r.1 ∙ there.at;
+      family = parts.0;
+      place = subst (λ (f : Family). slice_get (those_of f ks) i ≡ Some k) parts.0
+          (subst (λ m. slice_get (those_of k.family ks) m ≡ Some k) parts.1 (ranked k.family ks n k there.at (itself (family_number k.family))));
+    }
+
+nothing : {A X : Type 0} {x : X} → Some x ≡ None → A
+nothing e = cc
+
+pub with_id_none : (ks : List Kept) (f : Family) (id : List ℕ) → number_of_id ks id ≡ None → object_among ks f id ≡ None
+unfolding of_family
+with_id_none ks f id e = ap (option_and_then (of_family f)) (find_at (keeps_id id) ks ∙ at (position (keeps_id id) ks) refl e)
+  where
+    at : (o : Option ℕ) → position (keeps_id id) ks ≡ o → option_and_then (number_at ks) o ≡ None → option_and_then (slice_get ks) o ≡ None
+    at None is h = refl
+    at (Some n) is h =
+        let there = hit (keeps_id id) ks n is in
+        let k = there.one in
+        let number : number_at ks n ≡ Some (k.family, rank k.family ks n) = ap (option_map {U = Family × ℕ} (λ (k : Kept). (k.family, rank k.family ks n))) there.at in
+        nothing (sym number ∙ h)
+
+among_one : (ks : List Kept) (f g : Family) (id : List ℕ) (i : ℕ) (h : First ks id g i) (b : Bool) → (family_number g == family_number f) ≡ b → object_among ks f id ≡ cond b (Some h.one) None
+unfolding of_family
+among_one ks f g id i h b e = ap (option_and_then (of_family f)) h.found ∙ ap (λ c. cond c (Some h.one) None) (ap (λ j. family_number j == family_number f) h.family ∙ e)
+
+pub with_id_of_other : (ks : List Kept) (f g : Family) (id : List ℕ) (i : ℕ) → number_of_id ks id ≡ Some (g, i) → (family_number g == family_number f) ≡ false → object_among ks f id ≡ None
+with_id_of_other ks f g id i e other = among_one ks f g id i (first ks id g i e) false other
+
+pub with_id_of_family : (ks : List Kept) (f g : Family) (id : List ℕ) (i : ℕ) → number_of_id ks id ≡ Some (g, i) → (family_number g == family_number f) ≡ true
+    → slice_get (those_of f ks) i ≡ object_among ks f id
+with_id_of_family ks f g id i e same =
+    let h = first ks id g i e in
+    ap (λ (j : Family). slice_get (those_of j ks) i) (sym (family_exact g f same)) ∙ h.place ∙ sym (among_one ks f g id i h true same)
+
+pub with_id_some : (ks : List Kept) (f g : Family) (id : List ℕ) (i : ℕ) → number_of_id ks id ≡ Some (g, i) → (family_number g == family_number f) ≡ true → (k : Kept) × (object_among ks f id ≡ Some k)
+with_id_some ks f g id i e same =
+    let h = first ks id g i e in
+    (h.one, among_one ks f g id i h true same)
+
+-- the object with an `@id` stands at the position that is found by it
+pub object_numbered : (ks : List Kept) (f : Family) (id : List ℕ) → option_and_then (slice_get (those_of f ks)) (number_among ks f id) ≡ object_among ks f id
+object_numbered ks f id = at (number_of_id ks id) refl
+  where
+    at : (o : Option (Family × ℕ)) → number_of_id ks id ≡ o
+        → option_and_then (slice_get (those_of f ks)) (option_and_then (λ n. cond (family_number n.0 == family_number f) (Some n.1) None) o) ≡ object_among ks f id
+    at None is = sym (with_id_none ks f id is)
+    at (Some n) is =
+        cond_both (family_number n.0 == family_number f) (Some n.1) None (λ o. option_and_then (slice_get (those_of f ks)) o ≡ object_among ks f id)
+        (λ same. with_id_of_family ks f n.0 id n.1 is same) (λ other. sym (with_id_of_other ks f n.0 id n.1 is other))
+
+-- ---- elections stand in the order of their positions, and no two of a report without faults of identity have one key
+
+module _ (π : Preference) (t : Data) where
+  elections_apart : AreApart (map (located_election π (has_several t)) (elections t))
+  elections_apart = subst AreApart (elections_picked π t) (IsStrictlySortedBy-filter apart is_election (all_located π t) (all_parted π t))
+
+  -- the election at a lesser position stands earlier
+  elections_before : (i j : ℕ) (d e : Placed) → slice_get (elections t) i ≡ Some d → slice_get (elections t) j ≡ Some e → i < j → IsBefore d e
+  elections_before i j d e at there less =
+      let one = located_election π (has_several t) in
+      let here = λ (k : ℕ) (o : Placed) (is : slice_get (elections t) k ≡ Some o). slice_get-map one (elections t) k ∙ ap (option_map one) is in
+      before_apart (one d) (one e) (sorted_at apart (map one (elections t)) i j (one d) (one e) elections_apart less (here i d at) (here j e there))
+
+  two_keys : (none : NoneOf (IdentityFault π t)) (i j : ℕ) (d e : Placed) (k : Key) → slice_get (elections t) i ≡ Some d → slice_get (elections t) j ≡ Some e → i < j
+      → key_of π d.value ≡ Some k → key_of π e.value ≡ Some k → ⊥
+  two_keys none i j d e k at there less mine its = none e.place TwinIdentifier
+      (repeats_key π t role.Election e d k refl (contains_from_In e (elections t) (in_at (elections t) j e there)) (contains_from_In d (elections t) (in_at (elections t) i d at)) (elections_before i j d e at there less) its mine)
+
+  -- elections with one key stand at one position
+  pub one_election_key : NoneOf (IdentityFault π t) → (i j : ℕ) (d e : Placed) (k : Key) → slice_get (elections t) i ≡ Some d → slice_get (elections t) j ≡ Some e
+      → key_of π d.value ≡ Some k → key_of π e.value ≡ Some k → i ≡ j
+  one_election_key none i j d e k at there mine its = elim (cases_order i j) [
+    | inl same ↦ same
+    | inr (inl l) ↦ absurd (two_keys none i j d e k at there l mine its)
+    | inr (inr l) ↦ absurd (two_keys none j i e d k there at l its mine)
+  ]

@@ -1,18 +1,14 @@
 -- What earlier objects have is what the indexes know.
-use Rattle.erd_meaning.proofs.Common.{◌≡◌, ℕ, ◌+◌, Bool, true, false, cond, ◌&&◌, ◌||◌, List, [], ◌∷◌, length, is_some, ◌==◌, Some, None, Option, option_map, position, option_and_then, is_eq, sym, refl, ap, ◌∙◌, ap₂, Bor, and-false, Decides-eqb, tied_itself, position_from-zero, Equal-is, both_ways, list_any, position_from, option_map_or, family_number, Family, key_cmp, same_owned, rank, number_at, number_of_id, number_of_key, those_of, is_keyed, keeps_id, Kept, same_key, same_id, has_same_key, has_same_id, key_cmp_total, key_cmp_exact, Key}
+use Rattle.erd_meaning.proofs.Common.{◌≡◌, ℕ, ◌+◌, Bool, true, false, cond, ◌&&◌, List, [], ◌∷◌, length, is_some, ◌==◌, Some, None, Option, option_map, position, option_and_then, is_eq, sym, refl, ap, ◌∙◌, ap₂, Bor, and-false, Decides-eqb, tied_itself, position_from-zero, Equal-is, both_ways, list_any, position_from, option_map_or, family_number, Family, key_cmp, same_owned, rank, number_at, number_of_id, number_of_key, those_of, is_keyed, keeps_id, Kept, same_key, same_id, has_same_key, has_same_id, key_cmp_total, key_cmp_exact, Key, inl, inr, cases_Bool, arith}
 use Rattle.erd_meaning.proofs.finding.OneObject.{hit}
-use Rattle.erd_meaning.proofs.finding.OwnedKeys.{owned_exact}
+use Rattle.erd_meaning.proofs.finding.Pushed.{owned_exact}
 use Rattle.erd_meaning.proofs.references.ReferenceLookups.{text_same}
 
 -- ---- positions
 
 some_from : {X : Type 0} (p : X → Bool) (i : ℕ) (xs : List X) → is_some (position_from p i xs) ≡ list_any p xs
 some_from p i [] = refl
-some_from p i (x ∷ xs) = at (p x) (some_from p (i + 1) xs)
-  where
-    at : (b : Bool) → is_some (position_from p (i + 1) xs) ≡ list_any p xs → is_some (cond b (Some i) (position_from p (i + 1) xs)) ≡ (b || list_any p xs)
-    at true h = refl
-    at false h = h
+some_from p i (x ∷ xs) = elim (cases_Bool (p x)) [ inl is ↦ rw is refl | inr is ↦ rw is (some_from p (i + 1) xs) ]
 
 some_position : {X : Type 0} (p : X → Bool) (xs : List X) → is_some (position p xs) ≡ list_any p xs
 some_position p xs = ap is_some (position_from-zero p xs) ∙ some_from p 0 xs
@@ -51,8 +47,7 @@ key_known : (ks : List Kept) (f : Family) (key : Key) → is_some (number_of_key
 key_known ks f key = at (position (is_keyed f key) ks) ∙ some_position (is_keyed f key) ks
   where
     at : (o : Option ℕ) → is_some (option_map (rank f ks) o) ≡ is_some o
-    at None = refl
-    at (Some n) = refl
+    at o = grind arith
 
 pub number_swap : (m n : ℕ) → (m == n) ≡ (n == m)
 number_swap m n = both_ways (m == n) (n == m) (λ h. (Decides-eqb n m).1 (sym ((Decides-eqb m n).0 h))) (λ h. (Decides-eqb m n).1 (sym ((Decides-eqb n m).0 h)))
@@ -86,13 +81,9 @@ no_key_known ks k e =
 noted_key : (ks : List Kept) (k : Kept) (f : Family) (key l : Key) → k.key ≡ Some l
     → cond (same_owned (f, key) (k.family, l)) (Some (length (those_of k.family ks))) None ≡ cond (is_keyed f key k) (Some (length (those_of f ks))) None
 noted_key ks k f key l e =
-    at (same_owned (f, key) (k.family, l)) (λ h. (owned_exact f k.family key l h).0)
+    elim (cases_Bool (same_owned (f, key) (k.family, l))) [ inl is ↦ ap (λ g. cond (same_owned (f, key) (k.family, l)) (Some (length (those_of g ks))) None) (sym (owned_exact f k.family key l is).0) | inr is ↦ rw is refl ]
     ∙ ap (λ b. cond b (Some (length (those_of f ks))) None)
     (ap₂ (λ a b. a && b) (number_swap (family_number f) (family_number k.family)) (keys_swap key l) ∙ ap (λ o. (family_number k.family == family_number f) && same_key o (Some key)) (sym e))
-  where
-    at : (b : Bool) → (b ≡ true → f ≡ k.family) → cond b (Some (length (those_of k.family ks))) None ≡ cond b (Some (length (those_of f ks))) None
-    at true h = ap (λ g. Some (length (those_of g ks))) (sym (h refl))
-    at false h = refl
 
 not_keyed : (k : Kept) (f : Family) (key : Key) → k.key ≡ None → is_keyed f key k ≡ false
 not_keyed k f key e = ap (λ o. (family_number k.family == family_number f) && same_key o (Some key)) e ∙ and-false (family_number k.family == family_number f)

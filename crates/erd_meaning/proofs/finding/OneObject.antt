@@ -1,17 +1,14 @@
--- What names an object names one object: by its key in its family, by its `@id` in the report.
-use Rattle.erd_meaning.proofs.Common.{◌≡◌, ℕ, zero, suc, ◌+◌, ◌<◌, Bool, true, false, cond, ◌⊎◌, List, [], ◌∷◌, length, slice_get, Some, None, Option, option_map, position, option_and_then, Ordering, Less, sym, refl, ap, ◌∙◌, subst, inl, inr, arith, cases_order, position_from-zero, slice_get-map, position_from, IsStrictlySortedBy, Data, place_cmp, Family, role, DuplicateId, TwinIdentifier, In, contains_from_In, In-all, sorted_filter, NoneOf, Preference, key_of_family_object, IdentityFault, key_in, id_in, Placed, objects, id_of, Met, an_object, an_election, Located, located_one, located, all_located, Key}
-use Rattle.erd_meaning.proofs.identity.IdentityFaults.{kept_keyed}
-use Rattle.erd_meaning.proofs.identity.MetSources.{is_met}
-use Rattle.erd_meaning.proofs.identity.ObjectFamilies.{is_of, objects_met}
+-- What names an object names one object: its family and position, its key in its family, its `@id` in the report.
+use Rattle.erd_meaning.proofs.Common.{◌≡◌, ℕ, zero, suc, ◌+◌, ◌<◌, Bool, true, ◌⊎◌, List, [], ◌∷◌, length, slice_get, Some, None, Option, option_map, position, option_and_then, Ordering, Less, sym, refl, ap, ◌∙◌, subst, inl, inr, arith, cases_order, position_from-zero, slice_get-map, position_from, IsStrictlySortedBy, Data, place_cmp, Family, role, DuplicateId, TwinIdentifier, In, contains_from_In, In-all, IsStrictlySortedBy-filter, NoneOf, Preference, key_of_family_object, IdentityFault, key_in, id_in, Placed, objects, id_of, Met, an_object, an_election, Located, located_one, located, all_located, Key, cases_Bool, and_then-Some, ◌^◌, ◌≤◌, false, cond, map, count_by, length-map, view, Value, IsBounded, rank, is_of_family, those_of, Kept, objects_among, kept_objects, IsResolved, NumberedName, shown, Object, ◌&&◌, ◌==◌, find, family_number, In-filter_kept, keeps_id, object_among, and_left, and_right, true≢false, some_pair_parts, position_of, FindsId, has_id, owner_at, kept, any_at, in_at}
+use Rattle.erd_meaning.proofs.identity.IdentityFaults.{kept_keyed, repeats_key, repeats_id, same_id_from}
+use Rattle.erd_meaning.proofs.identity.ObjectFamilies.{is_met, is_of, objects_met, is_object_of, pick, itself, family_exact}
 use Rattle.erd_meaning.proofs.identity.ObjectPlaces.{AreApart, all_parted, apart, id_place}
 use Rattle.erd_meaning.proofs.identity.ToldFaults.{before_apart, less_itself}
+use Rattle.std.proofs.lemmas.List.Sums.{count_by-le-length, length-filter}
+use Rattle.erd_meaning.proofs.orders.DistinctEntries.{place_of}
+use Rattle.erd_meaning.proofs.accepted.Standing.{find-any, find-Some, has_id-from, has_id-Some}
 
 -- ---- positions in lists
-
-pub in_at : {A : Type 0} (xs : List A) (i : ℕ) (x : A) → slice_get xs i ≡ Some x → In x xs
-in_at [] i x e = cc
-in_at (y ∷ xs) zero x e = let same : y ≡ x = cc in inl same
-in_at (y ∷ xs) (suc i) x e = inr (in_at xs i x e)
 
 -- what stands at a position of a list
 pub at_low : {A : Type 0} (xs : List A) (i : ℕ) → i < length xs → (x : A) × (slice_get xs i ≡ Some x)
@@ -48,17 +45,13 @@ pub record ObjectIn (f : Family) (t : Data) (i : ℕ) : Type 0 where
 
 pub with_part : {A : Type 0} (g : Placed → Option A) (f : Family) (t : Data) (i : ℕ) (a : A) → option_and_then g (slice_get (objects f t) i) ≡ Some a
     → (o : ObjectIn f t i) × (g o.one ≡ Some a)
-with_part {A} g f t i a e = from (slice_get (objects f t) i) refl e
-  where
-    from : (o : Option Placed) → slice_get (objects f t) i ≡ o → option_and_then g o ≡ Some a → (o : ObjectIn f t i) × (g o.one ≡ Some a)
-    from None is h = cc
-    from (Some o) is h = (record { one = o; at = is }, h)
+with_part g f t i a e = let r = and_then-Some g (slice_get (objects f t) i) a e in (record { one = r.0; at = r.1 }, r.2)
 
 pub object_in : (f : Family) (t : Data) (i : ℕ) (o : ObjectIn f t i) → In o.one (objects f t)
 object_in f t i o = in_at (objects f t) i o.one o.at
 
 pub family_apart : (π : Preference) (f : Family) (t : Data) → AreApart (located π f (objects f t))
-family_apart π f t = subst AreApart (objects_met π f t) (sorted_filter (is_of f) apart (all_located π t) (all_parted π t))
+family_apart π f t = subst AreApart (objects_met π f t) (IsStrictlySortedBy-filter apart (is_of f) (all_located π t) (all_parted π t))
 
 located_at : (π : Preference) (f : Family) (t : Data) (i : ℕ) (o : ObjectIn f t i) → slice_get (located π f (objects f t)) i ≡ Some (located_one π f o.one)
 located_at π f t i o = slice_get-map (located_one π f) (objects f t) i ∙ ap (option_map (located_one π f)) o.at
@@ -75,19 +68,8 @@ two_keys : (π : Preference) (t : Data) (f : Family) (key : Key) (i j : ℕ) (a 
 two_keys π t f key i j a b none l e g =
     let mine = kept_keyed π f a.one.value key e in
     let its = kept_keyed π f b.one.value key g in
-    none b.one.place TwinIdentifier (record {
-      role = role.OfFamily f;
-      keyed = mine.0;
-      later = b.one;
-      later_stands = contains_from_In b.one (objects f t) (object_in f t j b);
-      place = refl;
-      earlier = a.one;
-      earlier_stands = contains_from_In a.one (objects f t) (object_in f t i a);
-      before = before_in π f t i j a b l;
-      key = key;
-      later_key = its.1;
-      earlier_key = mine.1;
-    })
+    none b.one.place TwinIdentifier (repeats_key π t (role.OfFamily f) b.one a.one key mine.0 (contains_from_In b.one (objects f t) (object_in f t j b)) (contains_from_In a.one (objects f t) (object_in f t i a))
+    (before_in π f t i j a b l) its.1 mine.1)
 
 pub one_key : (π : Preference) (t : Data) (f : Family) (key : Key) (i j : ℕ) → NoneOf (IdentityFault π t) → key_in π f t i ≡ Some key → key_in π f t j ≡ Some key → i ≡ j
 one_key π t f key i j none e g =
@@ -104,19 +86,8 @@ one_key π t f key i j none e g =
 two_ids : (π : Preference) (t : Data) (id : List ℕ) (f g : Family) (i j : ℕ) (a : ObjectIn f t i) (b : ObjectIn g t j) → NoneOf (IdentityFault π t)
     → apart (located_one π f a.one) (located_one π g b.one) ≡ Less → id_of a.one.value ≡ Some id → id_of b.one.value ≡ Some id → ⊥
 two_ids π t id f g i j a b none l d e =
-    none (id_place b.one.place) DuplicateId (record {
-      family = g;
-      later = b.one;
-      later_stands = contains_from_In b.one (objects g t) (object_in g t j b);
-      place = refl;
-      earlier_family = f;
-      earlier = a.one;
-      earlier_stands = contains_from_In a.one (objects f t) (object_in f t i a);
-      before = before_apart (located_one π f a.one) (located_one π g b.one) l;
-      id = id;
-      later_id = e;
-      earlier_id = d;
-    })
+    none (id_place b.one.place) DuplicateId (repeats_id t g f b.one a.one id (contains_from_In b.one (objects g t) (object_in g t j b)) (contains_from_In a.one (objects f t) (object_in f t i a))
+    (before_apart (located_one π f a.one) (located_one π g b.one) l) e d)
 
 same_position : (π : Preference) (t : Data) (f : Family) (i j : ℕ) (a : ObjectIn f t i) (b : ObjectIn f t j) → a.one.place ≡ b.one.place → i ≡ j
 same_position π t f i j a b e = elim (cases_order i j) [
@@ -165,15 +136,13 @@ record HitFrom {A : Type 0} (p : A → Bool) (i : ℕ) (xs : List A) (n : ℕ) :
 
 hit_from : {A : Type 0} (p : A → Bool) (i : ℕ) (xs : List A) (n : ℕ) → position_from p i xs ≡ Some n → HitFrom p i xs n
 hit_from p i [] n e = cc
-hit_from p i (x ∷ xs) n e = at (p x) refl e (hit_from p (i + 1) xs n)
-  where
-    at : (b : Bool) → p x ≡ b → cond b (Some i) (position_from p (i + 1) xs) ≡ Some n → (position_from p (i + 1) xs ≡ Some n → HitFrom p (i + 1) xs n)
-        → HitFrom p i (x ∷ xs) n
-    at true is h more = let same : i ≡ n = cc in record { after = 0; is = omega arith; hit = record { one = x; at = refl; passes = is } }
-    at false is h more =
-        let found = more h in
-        let place : n ≡ i + 1 + found.after = found.is in
-        record { after = suc found.after; is = omega arith; hit = record { one = found.hit.one; at = found.hit.at; passes = found.hit.passes } }
+hit_from p i (x ∷ xs) n e = elim (cases_Bool (p x)) [
+  | inl is ↦ let h : Some i ≡ Some n = rw is at e in let same : i ≡ n = cc in record { after = 0; is = omega arith; hit = record { one = x; at = refl; passes = is } }
+  | inr is ↦
+      let found = hit_from p (i + 1) xs n (rw is at e) in
+      let place : n ≡ i + 1 + found.after = found.is in
+      record { after = suc found.after; is = omega arith; hit = record { one = found.hit.one; at = found.hit.at; passes = found.hit.passes } }
+]
 
 pub hit : {A : Type 0} (p : A → Bool) (xs : List A) (n : ℕ) → position p xs ≡ Some n → Hit p xs n
 hit p xs n e =
@@ -185,11 +154,185 @@ hit p xs n e =
 missed_from : {A : Type 0} (p : A → Bool) (i : ℕ) (xs : List A) (x : A) → position_from p i xs ≡ None → In x xs → p x ≡ true → ⊥
 missed_from p i [] x e h t = absurd h
 missed_from p i (y ∷ xs) x e (inl same) t = let passes : p y ≡ true = ap p same ∙ t in let h : Some i ≡ None = rw passes at e in cc
-missed_from p i (y ∷ xs) x e (inr h) t = at (p y) e (λ g. missed_from p (i + 1) xs x g h t)
-  where
-    at : (b : Bool) → cond b (Some i) (position_from p (i + 1) xs) ≡ None → (position_from p (i + 1) xs ≡ None → ⊥) → ⊥
-    at true g more = cc
-    at false g more = more g
+missed_from p i (y ∷ xs) x e (inr h) t =
+    elim (cases_Bool (p y)) [ inl is ↦ (let g : Some i ≡ None = rw is at e in cc) | inr is ↦ missed_from p (i + 1) xs x (rw is at e) h t ]
 
 pub missed : {A : Type 0} (p : A → Bool) (xs : List A) (x : A) → position p xs ≡ None → In x xs → p x ≡ true → ⊥
 missed p xs x e h t = missed_from p 0 xs x (sym (position_from-zero p xs) ∙ e) h t
+
+-- ---- objects by family and position: those that are kept of a report, and those of the definition
+
+-- the objects of a family, as they are kept
+abbrev pub kept_of : Preference → Family → List Placed → List Kept
+kept_of π f os = map (λ o. kept π f o.value) os
+
+those_located : (f : Family) (xs : List Located) → those_of f (objects_among (map (λ x. x.met) xs)) ≡ objects_among (map (λ x. x.met) (pick f xs))
+those_located f [] = refl
+those_located f (x ∷ xs) = at x.met (those_located f xs)
+  where
+    kept : (b : Bool) (k : Kept) (ks : List Kept) (ys : List Located) → ks ≡ objects_among (map (λ x. x.met) ys)
+        → cond b (k ∷ ks) ks ≡ objects_among (map (λ x. x.met) (cond b (record { place = x.place; met = an_object k } ∷ ys) ys))
+    kept true k ks ys e = ap (λ zs. k ∷ zs) e
+    kept false k ks ys e = e
+
+    at : (m : Met) → those_of f (objects_among (map (λ x. x.met) xs)) ≡ objects_among (map (λ x. x.met) (pick f xs))
+        → those_of f (objects_among (m ∷ map (λ x. x.met) xs)) ≡ objects_among (map (λ x. x.met) (cond (is_object_of f m) (record { place = x.place; met = m } ∷ pick f xs) (pick f xs)))
+    at (an_object k) e = kept (is_of_family f k) k (those_of f (objects_among (map (λ x. x.met) xs))) (pick f xs) e
+    at (an_election needed key) e = e
+
+objects_located : (π : Preference) (f : Family) (os : List Placed) → objects_among (map (λ x. x.met) (located π f os)) ≡ kept_of π f os
+objects_located π f [] = refl
+objects_located π f (o ∷ os) = ap (λ ks. kept π f o.value ∷ ks) (objects_located π f os)
+
+pub those_kept : (π : Preference) (f : Family) (t : Data) → those_of f (kept_objects π t) ≡ kept_of π f (objects f t)
+those_kept π f t =
+    those_located f (all_located π t) ∙ ap (λ (xs : List Located). objects_among (map (λ x. x.met) xs)) (objects_met π f t) ∙ objects_located π f (objects f t)
+
+pub those_shown : (π : Preference) (v : Value) (os : List Object) (ns : List NumberedName) (f : Family) → IsResolved π v os ns → those_of f (map shown os) ≡ kept_of π f (objects f (view v))
+those_shown π v os ns f r = ap (those_of f) r.kept ∙ those_kept π f (view v)
+
+pub counted_kept : (π : Preference) (t : Data) (ks : List Kept) (f : Family) → ks ≡ kept_objects π t → length (those_of f ks) ≡ length (objects f t)
+counted_kept π t ks f e = ap (λ js. length (those_of f js)) e ∙ ap length (those_kept π f t) ∙ length-map (objects f t) (λ (o : Placed). kept π f o.value)
+
+pub counted : (π : Preference) (v : Value) (os : List Object) (ns : List NumberedName) (f : Family) → IsResolved π v os ns → length (those_of f (map shown os)) ≡ length (objects f (view v))
+counted π v os ns f r = ap length (those_shown π v os ns f r) ∙ length-map (objects f (view v)) (λ (o : Placed). kept π f o.value)
+
+-- each family has no more objects than are kept of the whole report
+pub few_objects : (π : Preference) (v : Value) (os : List Object) (ns : List NumberedName) → IsResolved π v os ns → length os < 2 ^ 64 → IsBounded (view v)
+few_objects π v os ns r word = record {
+  few = λ f.
+      let ks = map shown os in
+      let met : length (those_of f ks) ≡ count_by (is_of_family f) ks = length-filter (is_of_family f) ks in
+      let fewer : count_by (is_of_family f) ks ≤ length ks = count_by-le-length (is_of_family f) ks in
+      let all : length ks ≡ length os = length-map os shown in
+      let of_family : length (those_of f ks) ≡ length (objects f (view v)) = counted π v os ns f r in
+      omega arith;
+}
+
+-- ---- at a position
+
+kept_get : (π : Preference) {A : Type 0} (g : Kept → Option A) (f : Family) (os : List Placed) (i : ℕ)
+    → option_and_then g (slice_get (kept_of π f os) i) ≡ option_and_then (λ o. g (kept π f o.value)) (slice_get os i)
+kept_get π g f [] i = refl
+kept_get π g f (o ∷ os) zero = refl
+kept_get π g f (o ∷ os) (suc i) = kept_get π g f os i
+
+value_get : (π : Preference) (f : Family) (os : List Placed) (i : ℕ) → option_map (λ k. k.value) (slice_get (kept_of π f os) i) ≡ option_map (λ o. o.value) (slice_get os i)
+value_get π f [] i = refl
+value_get π f (o ∷ os) zero = refl
+value_get π f (o ∷ os) (suc i) = value_get π f os i
+
+pub kept_part : (π : Preference) {A : Type 0} (g : Kept → Option A) (f : Family) (t : Data) (i : ℕ)
+    → option_and_then g (slice_get (those_of f (kept_objects π t)) i) ≡ option_and_then (λ o. g (kept π f o.value)) (slice_get (objects f t) i)
+kept_part π g f t i = ap (λ (ks : List Kept). option_and_then g (slice_get ks i)) (those_kept π f t) ∙ kept_get π g f (objects f t) i
+
+-- what is known of the object that is kept at a position
+pub part_at : (π : Preference) {A : Type 0} (g : Kept → Option A) (v : Value) (os : List Object) (ns : List NumberedName) (f : Family) (i : ℕ) → IsResolved π v os ns
+    → option_and_then g (slice_get (those_of f (map shown os)) i) ≡ option_and_then (λ o. g (kept π f o.value)) (slice_get (objects f (view v)) i)
+part_at π g v os ns f i r = ap (λ (ks : List Kept). option_and_then g (slice_get (those_of f ks) i)) r.kept ∙ kept_part π g f (view v) i
+
+pub value_at : (π : Preference) (v : Value) (os : List Object) (ns : List NumberedName) (f : Family) (i : ℕ) → IsResolved π v os ns
+    → option_map (λ k. k.value) (slice_get (those_of f (map shown os)) i) ≡ option_map (λ o. o.value) (slice_get (objects f (view v)) i)
+value_at π v os ns f i r = ap (λ (ks : List Kept). option_map (λ k. k.value) (slice_get ks i)) (those_shown π v os ns f r) ∙ value_get π f (objects f (view v)) i
+
+-- ---- the rank of an object in its family
+
+pub ranked : (f : Family) (ks : List Kept) (n : ℕ) (k : Kept) → slice_get ks n ≡ Some k → is_of_family f k ≡ true → slice_get (those_of f ks) (rank f ks n) ≡ Some k
+ranked f [] n k e t = cc
+ranked f (l ∷ ks) zero k e t = let same : l ≡ k = cc in rw same (rw t refl)
+ranked f (l ∷ ks) (suc n) k e t = elim (cases_Bool (is_of_family f l)) [ inl is ↦ rw is (ranked f ks n k e t) | inr is ↦ rw is (ranked f ks n k e t) ]
+
+-- ---- lists
+
+none_passes : {A : Type 0} (p : A → Bool) (xs : List A) → ((x : A) → In x xs → p x ≡ false) → find p xs ≡ None
+none_passes p [] h = refl
+none_passes p (x ∷ xs) h = let first : p x ≡ false = h x (inl refl) in rw first (none_passes p xs (λ y i. h y (inr i)))
+
+-- the objects that pass a test are of one family
+abbrev OfOneFamily : (Kept → Bool) → List Kept → Type 0
+OfOneFamily p ks = (a b : Kept) → In a ks → In b ks → p a ≡ true → p b ≡ true → a.family ≡ b.family
+
+if_of_family : Family → Kept → Option Kept
+if_of_family f k = cond (is_of_family f k) (Some k) None
+
+none_of_family : (f : Family) (p : Kept → Bool) (k : Kept) (ks : List Kept) → OfOneFamily p (k ∷ ks) → p k ≡ true → is_of_family f k ≡ false
+    → find (λ j. is_of_family f j && p j) ks ≡ None
+none_of_family f p k ks one e other = none_passes (λ j. is_of_family f j && p j) ks (λ j i. elim (cases_Bool (p j)) [
+  | inl h ↦ and_left (is_of_family f j) (p j) (ap (λ g. family_number g == family_number f) (one j k (inr i) (inl refl) h e) ∙ other)
+  | inr h ↦ and_right (is_of_family f j) (p j) h
+])
+
+only_family : (f : Family) (p : Kept → Bool) (ks : List Kept) → OfOneFamily p ks → option_and_then (if_of_family f) (find p ks) ≡ find (λ k. is_of_family f k && p k) ks
+unfolding if_of_family
+only_family f p [] one = refl
+only_family f p (k ∷ ks) one = at (p k) refl (is_of_family f k) refl (only_family f p ks (λ a b i j. one a b (inr i) (inr j)))
+  where
+    at : (b : Bool) → p k ≡ b → (c : Bool) → is_of_family f k ≡ c → option_and_then (if_of_family f) (find p ks) ≡ find (λ k. is_of_family f k && p k) ks
+        → option_and_then (if_of_family f) (cond b (Some k) (find p ks)) ≡ cond (c && b) (Some k) (find (λ k. is_of_family f k && p k) ks)
+    at true e true h rest = ap (λ b. cond b (Some k) None) h
+    at true e false h rest = ap (λ b. cond b (Some k) None) h ∙ sym (none_of_family f p k ks one e h)
+    at false e true h rest = rest
+    at false e false h rest = rest
+
+-- ---- objects of a report
+
+id_there : (π : Preference) (t : Data) (id : List ℕ) (k : Kept) → In k (kept_objects π t) → keeps_id id k ≡ true → (i : ℕ) × (id_in k.family t i ≡ Some id)
+id_there π t id k i h =
+    let among = In-filter_kept (is_of_family k.family) k (kept_objects π t) i (itself (family_number k.family)) in
+    let place = place_of k (those_of k.family (kept_objects π t)) among in
+    let same = same_id_from k.id (Some id) h in
+    (place.0, sym (kept_part π (λ j. j.id) k.family t place.0) ∙ ap (option_and_then (λ (j : Kept). j.id)) place.1 ∙ same.1 ∙ sym same.2)
+
+one_family : (π : Preference) (t : Data) (id : List ℕ) → NoneOf (IdentityFault π t) → OfOneFamily (keeps_id id) (kept_objects π t)
+one_family π t id none a b i j h k =
+    let here = id_there π t id a i h in
+    let there = id_there π t id b j k in
+    (one_id π t id a.family b.family here.0 there.0 none here.1 there.1).0
+
+pub among_first : (π : Preference) (t : Data) (f : Family) (id : List ℕ) → NoneOf (IdentityFault π t)
+    → object_among (kept_objects π t) f id ≡ find (λ k. is_of_family f k && keeps_id id k) (kept_objects π t)
+unfolding if_of_family
+among_first π t f id none = only_family f (keeps_id id) (kept_objects π t) (one_family π t id none)
+
+-- ---- the object that has the `@id`
+
+module _ (t : Data) (f : Family) (id : List ℕ) where
+  -- an object of the family that has the `@id` is found at its position
+  position_in : (o : Placed) → In o (objects f t) → has_id id o.value ≡ true → (i : ℕ) × (slice_get (objects f t) i ≡ Some o) × (id_in f t i ≡ Some id)
+  position_in o h is =
+      let place = position_of (objects f t) o h in
+      (place.0, place.1, ap (option_and_then (λ (o : Placed). id_of o.value)) place.1 ∙ has_id-Some id o.value is)
+
+  -- an object of the family is found
+  pub owner_here : (g : Family) (i : ℕ) → FindsId t id (Some (g, i)) → (family_number g == family_number f) ≡ true → owner_at t f id ≡ slice_get (objects f t) i
+  owner_here g i finds same =
+      let one : g ≡ f = family_exact g f same in
+      let there : id_in f t i ≡ Some id = (finds f i).0 (ap (λ h. Some (h, i)) one) in
+      let o = with_part (λ o. id_of o.value) f t i id there in
+      let found = find-any (λ (o : Placed). has_id id o.value) (objects f t)
+      (any_at (λ (o : Placed). has_id id o.value) o.0.one (objects f t) (in_at (objects f t) i o.0.one o.0.at) (has_id-from id o.0.one.value o.1)) in
+      let place = position_in found.0 found.3 found.2 in
+      let parts = some_pair_parts g f i place.0 ((finds f place.0).1 place.2) in
+      found.1 ∙ sym (ap (slice_get (objects f t)) parts.1 ∙ place.1)
+
+  -- no object of the family has the `@id`
+  unowned : ((i : ℕ) → id_in f t i ≡ Some id → ⊥) → owner_at t f id ≡ None
+  unowned none = at (owner_at t f id) refl
+    where
+      at : (o : Option Placed) → owner_at t f id ≡ o → o ≡ None
+      at None e = refl
+      at (Some o) e =
+          let found = find-Some (λ (o : Placed). has_id id o.value) (objects f t) o e in
+          let place = position_in o found.0 found.1 in
+          absurd (none place.0 place.2)
+
+  -- an object of another family is found
+  pub owner_elsewhere : (g : Family) (i : ℕ) → FindsId t id (Some (g, i)) → (family_number g == family_number f) ≡ false → owner_at t f id ≡ None
+  owner_elsewhere g i finds other = unowned (λ j e.
+      let parts = some_pair_parts g f i j ((finds f j).1 e) in
+      let equal : (family_number g == family_number f) ≡ true = subst (λ h. (family_number g == family_number h) ≡ true) parts.0 (itself (family_number g)) in
+      true≢false (sym equal ∙ other))
+
+  -- no object is found
+  pub owner_nowhere : FindsId t id None → owner_at t f id ≡ None
+  owner_nowhere finds = unowned (λ j e. let none : None ≡ Some (f, j) = (finds f j).1 e in cc)

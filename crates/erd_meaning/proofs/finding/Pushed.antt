@@ -1,39 +1,29 @@
--- What the indexes answer, once an object was added at the end.
-use Rattle.erd_meaning.proofs.Common.{◌≡◌, ℕ, zero, suc, ◌+◌, ◌<◌, Bool, true, false, cond, List, [], ◌∷◌, ◌++◌, length, is_some, slice_get, Some, None, Option, option_map, position, option_and_then, sym, refl, ap, ◌∙◌, subst, append_assoc, append-nil, arith, append_snoc, take-append_seam, position_from-zero, take-append-le, length_push, slice_get_within, position_from, lookup, option_or, Family, family, with_place, places_from, rank, number_at, number_of_id, number_of_key, contests_noted, contests_before, is_of_family, those_of, is_keyed, keeps_id, Kept, Key}
+-- What the indexes and the sets with numbered keys answer, once something was added.
+use Rattle.erd_meaning.proofs.Common.{◌≡◌, ℕ, zero, suc, ◌+◌, ◌<◌, Bool, true, false, cond, List, [], ◌∷◌, ◌++◌, length, is_some, slice_get, Some, None, Option, option_map, position, option_and_then, sym, refl, ap, ◌∙◌, subst, append_assoc, append-nil, arith, append_snoc, take-append_seam, position_from-zero, take-append-le, length_push, slice_get_within, position_from, lookup, option_or, Family, family, with_place, places_from, rank, number_at, number_of_id, number_of_key, contests_noted, contests_before, is_of_family, those_of, is_keyed, keeps_id, Kept, Key, inl, inr, cases_Bool, ◌&&◌, ◌==◌, is_eq, rules, and_parts, Equal-is, family_number, key_writes, key_cmp, same_owned, is_salted_owned, key_cmp_exact, salted_number, Salted, Decides-eqb, not, ◌||◌, ap₂, HashWrites, list_any, position_or_len, insert_key, keys_in, AreNumbered, cond_both, OnErr, Ok, Err, Result}
 use Rattle.erd_meaning.proofs.finding.OneObject.{hit}
+use Rattle.erd_meaning.specs.declared.keys.salt.Salt.{Salt}
+use Rattle.erd_meaning.proofs.identity.ObjectFamilies.{family_exact}
+use Rattle.erd_tables.specs.contracts.class.FamilyPartialEq as family_eq
 
 -- ---- lists
 
 -- what is looked up among entries, and one more
 pub lookup_push : {K X : Type 0} (test : K → Bool) (es : List (K × X)) (k : K) (x : X) → lookup test (es ++ (k, x) ∷ []) ≡ option_or (lookup test es) (cond (test k) (Some x) None)
 lookup_push test [] k x = refl
-lookup_push test (e ∷ es) k x = at (test e.0) (lookup_push test es k x)
-  where
-    at : (b : Bool) → lookup test (es ++ (k, x) ∷ []) ≡ option_or (lookup test es) (cond (test k) (Some x) None)
-        → cond b (Some e.1) (lookup test (es ++ (k, x) ∷ [])) ≡ option_or (cond b (Some e.1) (lookup test es)) (cond (test k) (Some x) None)
-    at true h = refl
-    at false h = h
+lookup_push test (e ∷ es) k x = elim (cases_Bool (test e.0)) [ inl is ↦ rw is refl | inr is ↦ rw is (lookup_push test es k x) ]
 
 position_from_push : {X : Type 0} (p : X → Bool) (i : ℕ) (xs : List X) (x : X)
     → position_from p i (xs ++ x ∷ []) ≡ option_or (position_from p i xs) (cond (p x) (Some (i + length xs)) None)
 position_from_push p i [] x = let none : i + 0 ≡ i = omega arith in ap (λ n. cond (p x) (Some n) None) (sym none)
-position_from_push p i (y ∷ xs) x = at (p y) (position_from_push p (i + 1) xs x ∙ ap (λ n. option_or (position_from p (i + 1) xs) (cond (p x) (Some n) None)) next)
-  where
-    next : i + 1 + length xs ≡ i + length (y ∷ xs)
-    next = omega arith
-
-    at : (b : Bool) → position_from p (i + 1) (xs ++ x ∷ []) ≡ option_or (position_from p (i + 1) xs) (cond (p x) (Some (i + length (y ∷ xs))) None)
-        → cond b (Some i) (position_from p (i + 1) (xs ++ x ∷ [])) ≡ option_or (cond b (Some i) (position_from p (i + 1) xs)) (cond (p x) (Some (i + length (y ∷ xs))) None)
-    at true h = refl
-    at false h = h
+position_from_push p i (y ∷ xs) x =
+    let next : i + 1 + length xs ≡ i + length (y ∷ xs) = omega arith in
+    elim (cases_Bool (p y)) [ inl is ↦ rw is refl | inr is ↦ rw is (position_from_push p (i + 1) xs x ∙ ap (λ n. option_or (position_from p (i + 1) xs) (cond (p x) (Some n) None)) next) ]
 
 pub position_push : {X : Type 0} (p : X → Bool) (xs : List X) (x : X) → position p (xs ++ x ∷ []) ≡ option_or (position p xs) (cond (p x) (Some (length xs)) None)
 position_push p xs x =
+    let none : 0 + length xs ≡ length xs = omega arith in
     position_from-zero p (xs ++ x ∷ []) ∙ position_from_push p 0 xs x ∙ ap (λ n. option_or (position_from p 0 xs) (cond (p x) (Some n) None)) none
     ∙ ap (λ o. option_or o (cond (p x) (Some (length xs)) None)) (sym (position_from-zero p xs))
-  where
-    none : 0 + length xs ≡ length xs
-    none = omega arith
 
 get_earlier : {X : Type 0} (xs : List X) (y x : X) (i : ℕ) → slice_get xs i ≡ Some x → slice_get (xs ++ y ∷ []) i ≡ Some x
 get_earlier [] y x i e = cc
@@ -46,14 +36,11 @@ get_last (x ∷ xs) ys y = get_last xs ys y
 
 -- what was there stays
 pub or_known : {X : Type 0} (o : Option X) (x : X) (b : Bool) → (b ≡ true → is_some o ≡ true) → o ≡ option_or o (cond b (Some x) None)
-or_known (Some y) x b known = refl
-or_known None x true known = let h : false ≡ true = known refl in cc
-or_known None x false known = refl
+or_known o x b known = grind arith
 
 -- where nothing is found
 pub none_found : {X : Type 0} (o : Option X) → false ≡ is_some o → o ≡ None
-none_found None e = refl
-none_found (Some x) e = cc
+none_found o e = grind arith
 
 -- ---- the places of a family
 
@@ -75,12 +62,7 @@ places_push f n (l ∷ ks) k = at (is_of_family f l) (is_of_family f k) (places_
 -- there are as many as objects
 pub places_length : (f : Family) (n : ℕ) (ks : List Kept) → length (places_from f n ks) ≡ length (those_of f ks)
 places_length f n [] = refl
-places_length f n (k ∷ ks) = at (is_of_family f k) (places_length f (n + 1) ks)
-  where
-    at : (b : Bool) → length (places_from f (n + 1) ks) ≡ length (those_of f ks)
-        → length (cond b (n ∷ places_from f (n + 1) ks) (places_from f (n + 1) ks)) ≡ length (cond b (k ∷ those_of f ks) (those_of f ks))
-    at true h = ap suc h
-    at false h = h
+places_length f n (k ∷ ks) = elim (cases_Bool (is_of_family f k)) [ inl is ↦ rw is (ap suc (places_length f (n + 1) ks)) | inr is ↦ rw is (places_length f (n + 1) ks) ]
 
 -- and there the objects stand
 places_after : (f : Family) (js ks : List Kept) (i : ℕ) → option_and_then (slice_get (js ++ ks)) (slice_get (places_from f (length js) ks) i) ≡ slice_get (those_of f ks) i
@@ -167,3 +149,92 @@ number_of_key_push ks k f key =
     from (Some n) e =
         let h = hit (is_keyed f key) ks n e in
         ap Some (rank_earlier f ks k h.one n h.at)
+
+-- ---- the test by which an index of keys is asked: one family and one key
+
+pub families_same : (f g : Family) → family_eq.TheImpl.ghosts.eq f g ≡ (family_number f == family_number g)
+families_same f g = search rules
+
+pub owned_test : (f : Family) (k : Key) → (λ (o : Family × Key). family_eq.TheImpl.ghosts.eq f o.0 && is_eq (key_cmp k o.1)) ≡ same_owned (f, k)
+owned_test f k i o = families_same f o.0 i && is_eq (key_cmp k o.1)
+
+-- the test by which the index is asked, where the number is that of the key
+pub owned_asked : (salt : Salt) (n : ℕ) (f : Family) (k : Key) → n ≡ salted_number salt (key_writes k)
+    → (λ (o : Salted (Family × Key)). (n == o.number) && (family_eq.TheImpl.ghosts.eq f o.key.0 && is_eq (key_cmp k o.key.1))) ≡ is_salted_owned salt (f, k)
+owned_asked salt n f k e i o = (e i == o.number) && owned_test f k i o.key
+
+-- what passes is one
+pub owned_exact : (f g : Family) (k l : Key) → same_owned (f, k) (g, l) ≡ true → (f ≡ g) × (k ≡ l)
+owned_exact f g k l e =
+    let both = and_parts (family_number f == family_number g) (is_eq (key_cmp k l)) e in
+    (family_exact f g both.0, key_cmp_exact k l ((Equal-is (key_cmp k l)).0 both.1))
+
+-- ---- a test that compares the numbers of keys too says no more than the test of the keys, where these have their numbers
+
+and_implied : (a b : Bool) → (b ≡ true → a ≡ true) → (a && b) ≡ b
+and_implied a b h = grind arith
+
+pub number_implied : (m n : ℕ) (b : Bool) → (b ≡ true → m ≡ n) → ((m == n) && b) ≡ b
+number_implied m n b h = and_implied (m == n) b (λ e. (Decides-eqb m n).1 (h e))
+
+-- ---- a set whose keys have numbers answers as the list of its keys
+
+module _ {K : Type 0} (writes : K → HashWrites) (salt : Salt) where
+  -- what a test finds that asks for a number too, where it holds of keys with this number alone
+  module _ (n : ℕ) (test : K → Bool) (alike : (k : K) → test k ≡ true → n ≡ salted_number salt (writes k)) where
+    abbrev asked : Salted K → Bool
+    asked s = (n == s.number) && test s.key
+
+    one_asked : (s : Salted K) → s.number ≡ salted_number salt (writes s.key) → asked s ≡ test s.key
+    one_asked s is = number_implied n s.number (test s.key) (λ e. alike s.key e ∙ sym is)
+
+    pub any_numbered : (keys : List (Salted K)) → AreNumbered writes salt keys → list_any asked keys ≡ list_any test (keys_in keys)
+    any_numbered [] all = refl
+    any_numbered (s ∷ keys) all = ap₂ (λ a b. a || b) (one_asked s all.0) (any_numbered keys all.1)
+
+    pub place_numbered : (keys : List (Salted K)) → AreNumbered writes salt keys → position_or_len asked keys ≡ position_or_len test (keys_in keys)
+    place_numbered [] all = refl
+    place_numbered (s ∷ keys) all = ap₂ (λ b n. cond (not b) (1 + n) 0) (one_asked s all.0) (place_numbered keys all.1)
+
+    from_numbered : (i : ℕ) (keys : List (Salted K)) → AreNumbered writes salt keys → position_from asked i keys ≡ position_from test i (keys_in keys)
+    from_numbered i [] all = refl
+    from_numbered i (s ∷ keys) all = ap₂ (λ b o. cond b (Some i) o) (one_asked s all.0) (from_numbered (i + 1) keys all.1)
+
+    pub position_numbered : (keys : List (Salted K)) → AreNumbered writes salt keys → position asked keys ≡ position test (keys_in keys)
+    position_numbered keys all = position_from-zero asked keys ∙ from_numbered 0 keys all ∙ sym (position_from-zero test (keys_in keys))
+
+  numbered_push : (keys : List (Salted K)) (s : Salted K) → AreNumbered writes salt keys → s.number ≡ salted_number salt (writes s.key) → AreNumbered writes salt (keys ++ s ∷ [])
+  numbered_push [] s all is = (is, tt)
+  numbered_push (x ∷ keys) s all is = (all.0, numbered_push keys s all.1 is)
+
+  keys_push : (keys : List (Salted K)) (s : Salted K) → keys_in (keys ++ s ∷ []) ≡ keys_in keys ++ s.key ∷ []
+  keys_push [] s = refl
+  keys_push (x ∷ keys) s = ap (λ ks. x.key ∷ ks) (keys_push keys s)
+
+  -- one more key, with its number
+  module _ (same : K → K → Bool) (alike : (x y : K) → same x y ≡ true → writes x ≡ writes y) where
+    abbrev same_salted : Salted K → Salted K → Bool
+    same_salted a b = (a.number == b.number) && same a.key b.key
+
+    module _ (n : ℕ) (k : K) (is : n ≡ salted_number salt (writes k)) (keys : List (Salted K)) (all : AreNumbered writes salt keys) where
+      -- the key with its number
+      abbrev s : Salted K
+      s = record { number = n; key = k }
+
+      pub inserted_any : list_any (same_salted s) keys ≡ list_any (same s.key) (keys_in keys)
+      inserted_any = any_numbered s.number (same s.key) (λ l e. is ∙ ap (λ ws. salted_number salt ws) (alike k l e)) keys all
+
+      pub inserted_index : position_or_len (same_salted s) keys ≡ position_or_len (same s.key) (keys_in keys)
+      inserted_index = place_numbered s.number (same s.key) (λ l e. is ∙ ap (λ ws. salted_number salt ws) (alike k l e)) keys all
+
+      pub inserted_numbered : AreNumbered writes salt (insert_key same_salted keys s)
+      inserted_numbered = cond_both (list_any (same_salted s) keys) keys (keys ++ s ∷ []) (AreNumbered writes salt) (λ _. all) (λ _. numbered_push keys s all is)
+
+      pub inserted_keys : keys_in (insert_key same_salted keys s) ≡ insert_key same (keys_in keys) s.key
+      inserted_keys = elim (cases_Bool (list_any (same_salted s) keys)) [ inl is ↦ rw (is, ← inserted_any, is) refl | inr is ↦ rw (is, ← inserted_any, is) (keys_push keys s) ]
+
+-- ---- what stands stands on an error, too
+
+pub on_error : {T E P : Type 0} (r : Result T E) → P → OnErr r P
+on_error (Ok x) p = tt
+on_error (Err e) p = p

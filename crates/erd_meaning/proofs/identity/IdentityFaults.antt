@@ -1,20 +1,14 @@
 -- The walk over the elections and the objects of a report tells exactly the faults of identity.
-use Rattle.erd_meaning.proofs.Common.{◌≡◌, ℕ, Bool, true, false, cond, ◌||◌, List, [], ◌∷◌, ◌++◌, is_none, IsTrue, ◌==◌, Some, None, Option, is_eq, Ordering, Less, Equal, sym, refl, ap, ◌∙◌, subst, inl, inr, true≢false, and_parts, and_from, tied_itself, bytes_eq-Decides, list_any, Data, family_number, ListsAll, place_cmp, Family, Role, Fault, Reason, DuplicateId, NoIdentifier, TwinIdentifier, Step, In, In-append_left, In-append_right, In-append, any_at, In-from_contains, contains_from_In, fault_at, has_keys, is_keyed_role, Preference, key_of, key_of_family_object, IdentityFault, LacksIdentifier, RepeatsId, RepeatsKey, Placed, elections, objects, has_several, objects_with_role, needs_key, id_of, kept, Met, an_object, an_election, Located, located_one, located_election, all_located, same_key, same_id, fault_if, is_keyless, are_twins, are_named_alike, faults_after, key_cmp_total, key_cmp_exact, Key}
-use Rattle.erd_meaning.proofs.identity.MetSources.{IsElectionMet, IsObjectMet, election_is_met, is_met, source}
-use Rattle.erd_meaning.proofs.identity.ObjectFamilies.{family_exact, itself}
+use Rattle.erd_meaning.proofs.Common.{◌≡◌, ℕ, Bool, true, false, cond, List, [], ◌∷◌, ◌++◌, is_none, IsTrue, ◌==◌, Some, None, Option, Less, sym, refl, ap, ◌∙◌, subst, inl, inr, true≢false, and_parts, and_from, tied_itself, bytes_eq-Decides, list_any, Data, family_number, ListsAll, place_cmp, Family, Role, Fault, Reason, DuplicateId, NoIdentifier, TwinIdentifier, Step, In, In-append_left, In-append_right, In-append, any_at, In-from_contains, contains_from_In, fault_at, has_keys, is_keyed_role, Preference, key_of, key_of_family_object, IdentityFault, LacksIdentifier, RepeatsId, RepeatsKey, Placed, elections, objects, has_several, objects_with_role, needs_key, id_of, kept, Met, an_object, an_election, Located, located_one, located_election, all_located, same_key, same_id, fault_if, is_keyless, are_twins, are_named_alike, faults_after, key_cmp_total, key_cmp_exact, Key, Equal-is, cases_Bool, arith, Contains, role}
+use Rattle.erd_meaning.proofs.identity.ObjectFamilies.{IsElectionMet, IsObjectMet, election_is_met, is_met, source, family_exact, itself}
 use Rattle.erd_meaning.proofs.identity.ObjectPlaces.{all_parted, id_place}
 use Rattle.erd_meaning.proofs.identity.ToldFaults.{Complete, Told, complete, duplicate_id, has_twin, in_if, is_named_before, no_identifier, told, told_rising, told_sound, twin_identifier}
-use Rattle.erd_tables.specs.declared.class.Role.TheVariants as role
 
 -- ---- what the tests of keys and `@id` texts that the walk makes say of one object or of two
 
 pub any_from : {A : Type 0} (test : A → Bool) (xs : List A) → list_any test xs ≡ true → (x : A) × In x xs × (test x ≡ true)
 any_from test [] h = absurd (true≢false (sym h))
-any_from {A} test (x ∷ xs) h = at (test x) refl h (any_from test xs)
-  where
-    at : (b : Bool) → test x ≡ b → (b || list_any test xs) ≡ true → (list_any test xs ≡ true → (y : A) × In y xs × (test y ≡ true)) → (y : A) × In y (x ∷ xs) × (test y ≡ true)
-    at true e g more = (x, inl refl, e)
-    at false e g more = let found = more g in (found.0, inr found.1, found.2)
+any_from test (x ∷ xs) h = elim (cases_Bool (test x)) [ inl e ↦ (x, inl refl, e) | inr e ↦ let found = any_from test xs (rw e at h) in (found.0, inr found.1, found.2) ]
 
 keyed_at : (π : Preference) (d : Data) (k : Key) (b : Bool) → cond b (key_of π d) None ≡ Some k → (b ≡ true) × (key_of π d ≡ Some k)
 keyed_at π d k true e = (refl, e)
@@ -24,18 +18,13 @@ pub kept_keyed : (π : Preference) (f : Family) (d : Data) (k : Key) → key_of_
 kept_keyed π f d k e = keyed_at π d k (has_keys f) e
 
 pub none_from : {A : Type 0} (o : Option A) → is_none o ≡ true → o ≡ None
-none_from None e = refl
-none_from (Some x) e = absurd (true≢false (sym e))
-
-pub tied_from : (o : Ordering) → is_eq o ≡ true → o ≡ Equal
-tied_from Equal e = refl
-tied_from d e = absurd (true≢false (sym e))
+none_from o e = grind arith
 
 -- the one key of two objects
 pub same_key_from : (a b : Option Key) → same_key a b ≡ true → (k : Key) × (a ≡ Some k) × (b ≡ Some k)
 same_key_from None b e = absurd (true≢false (sym e))
 same_key_from (Some a) None e = absurd (true≢false (sym e))
-same_key_from (Some a) (Some b) e = (a, refl, ap Some (sym (key_cmp_exact a b (tied_from _ e))))
+same_key_from (Some a) (Some b) e = (a, refl, ap Some (sym (key_cmp_exact a b ((Equal-is _).0 e))))
 
 pub same_id_from : (a b : Option (List ℕ)) → same_id a b ≡ true → (s : List ℕ) × (a ≡ Some s) × (b ≡ Some s)
 same_id_from None b e = absurd (true≢false (sym e))
@@ -60,20 +49,50 @@ AreEarlier π t before p = (m : Met) → In m before → (y : Located) × In y (
 earlier_place : (p : List Step) {x y : Located} → x ≡ y → place_cmp y.place p ≡ Less → place_cmp x.place p ≡ Less
 earlier_place p {x} {y} e less = subst (λ q. place_cmp q p ≡ Less) (sym (ap (λ (z : Located). z.place) e)) less
 
+-- ---- the facts of a fault, put together
+
+pub lacks_identifier : (π : Preference) (t : Data) (r : Role) (o : Placed) → IsTrue (needs_key t r) → Contains (objects_with_role r t) o → key_of π o.value ≡ None → LacksIdentifier π t o.place
+lacks_identifier π t r o needed stands keyless = record { role = r; needed = needed; placed = o; stands = stands; place = refl; keyless = keyless }
+
+pub repeats_key : (π : Preference) (t : Data) (r : Role) (o p : Placed) (k : Key) → IsTrue (is_keyed_role r) → Contains (objects_with_role r t) o → Contains (objects_with_role r t) p → place_cmp p.place o.place ≡ Less
+    → key_of π o.value ≡ Some k → key_of π p.value ≡ Some k → RepeatsKey π t o.place
+repeats_key π t r o p k keyed i j less a b = record {
+  role = r;
+  keyed = keyed;
+  later = o;
+  later_stands = i;
+  place = refl;
+  earlier = p;
+  earlier_stands = j;
+  before = less;
+  key = k;
+  later_key = a;
+  earlier_key = b;
+}
+
+pub repeats_id : (t : Data) (f g : Family) (o p : Placed) (id : List ℕ) → Contains (objects f t) o → Contains (objects g t) p → place_cmp p.place o.place ≡ Less
+    → id_of o.value ≡ Some id → id_of p.value ≡ Some id → RepeatsId t (id_place o.place)
+repeats_id t f g o p id i j less a b = record {
+  family = f;
+  later = o;
+  later_stands = i;
+  place = refl;
+  earlier_family = g;
+  earlier = p;
+  earlier_stands = j;
+  before = less;
+  id = id;
+  later_id = a;
+  earlier_id = b;
+}
+
 -- ---- each fault that is told of an object is one
 
 module _ (π : Preference) (t : Data) (f : Family) (o : Placed) (there : In o (objects f t)) where
   lacking : is_keyless (object_here π f o) ≡ true → LacksIdentifier π t o.place
   lacking e =
       let both = and_parts (has_keys f) (is_none (key_of_family_object π f o.value)) e in
-      record {
-        role = role.OfFamily f;
-        needed = both.0;
-        placed = o;
-        stands = contains_from_In o (objects f t) there;
-        place = refl;
-        keyless = none_from (key_of π o.value) (subst (λ b. is_none (cond b (key_of π o.value) None) ≡ true) both.0 both.1);
-      }
+      lacks_identifier π t (role.OfFamily f) o both.0 (contains_from_In o (objects f t) there) (none_from (key_of π o.value) (subst (λ b. is_none (cond b (key_of π o.value) None) ≡ true) both.0 both.1))
 
   twin_object : (y : Located) → IsObjectMet π t y → place_cmp y.place o.place ≡ Less → are_twins (object_here π f o) y.met ≡ true → RepeatsKey π t o.place
   twin_object y other less e =
@@ -84,19 +103,8 @@ module _ (π : Preference) (t : Data) (f : Family) (o : Placed) (there : In o (o
       let key = same_key_from (key_of_family_object π f o.value) (key_of_family_object π g other.one.value) both.1 in
       let mine = kept_keyed π f o.value key.0 key.1 in
       let its = kept_keyed π g other.one.value key.0 key.2 in
-      record {
-        role = role.OfFamily f;
-        keyed = mine.0;
-        later = o;
-        later_stands = contains_from_In o (objects f t) there;
-        place = refl;
-        earlier = other.one;
-        earlier_stands = contains_from_In other.one (objects f t) (subst (λ h. In other.one (objects h t)) (sym family) other.there);
-        before = earlier_place o.place other.is less;
-        key = key.0;
-        later_key = mine.1;
-        earlier_key = its.1;
-      }
+      repeats_key π t (role.OfFamily f) o other.one key.0 mine.0 (contains_from_In o (objects f t) there)
+      (contains_from_In other.one (objects f t) (subst (λ h. In other.one (objects h t)) (sym family) other.there)) (earlier_place o.place other.is less) mine.1 its.1
 
   repeated_key : (before : List Met) → AreEarlier π t before o.place → has_twin before (object_here π f o) ≡ true → RepeatsKey π t o.place
   repeated_key before earlier e =
@@ -112,19 +120,7 @@ module _ (π : Preference) (t : Data) (f : Family) (o : Placed) (there : In o (o
   named_object y other less e =
       let named : same_id (id_of o.value) (id_of other.one.value) ≡ true = ap (λ (z : Located). are_named_alike (object_here π f o) z.met) other.is ∙ e in
       let id = same_id_from (id_of o.value) (id_of other.one.value) named in
-      record {
-        family = f;
-        later = o;
-        later_stands = contains_from_In o (objects f t) there;
-        place = refl;
-        earlier_family = other.family;
-        earlier = other.one;
-        earlier_stands = contains_from_In other.one (objects other.family t) other.there;
-        before = earlier_place o.place other.is less;
-        id = id.0;
-        later_id = id.1;
-        earlier_id = id.2;
-      }
+      repeats_id t f other.family o other.one id.0 (contains_from_In o (objects f t) there) (contains_from_In other.one (objects other.family t) other.there) (earlier_place o.place other.is less) id.1 id.2
 
   repeated_id : (before : List Met) → AreEarlier π t before o.place → is_named_before before (object_here π f o) ≡ true → RepeatsId t (id_place o.place)
   repeated_id before earlier e =
@@ -142,32 +138,13 @@ module _ (π : Preference) (t : Data) (e : Placed) (there : In e (elections t)) 
   lacking_election : is_keyless (election_here π t e) ≡ true → LacksIdentifier π t e.place
   lacking_election h =
       let both = and_parts (has_several t) (is_none (key_of π e.value)) h in
-      record {
-        role = role.Election;
-        needed = both.0;
-        placed = e;
-        stands = contains_from_In e (elections t) there;
-        place = refl;
-        keyless = none_from (key_of π e.value) both.1;
-      }
+      lacks_identifier π t role.Election e both.0 (contains_from_In e (elections t) there) (none_from (key_of π e.value) both.1)
 
   twin_election : (y : Located) → IsElectionMet π t y → place_cmp y.place e.place ≡ Less → are_twins (election_here π t e) y.met ≡ true → RepeatsKey π t e.place
   twin_election y other less h =
       let twins : same_key (key_of π e.value) (key_of π other.one.value) ≡ true = ap (λ (z : Located). are_twins (election_here π t e) z.met) other.is ∙ h in
       let key = same_key_from (key_of π e.value) (key_of π other.one.value) twins in
-      record {
-        role = role.Election;
-        keyed = refl;
-        later = e;
-        later_stands = contains_from_In e (elections t) there;
-        place = refl;
-        earlier = other.one;
-        earlier_stands = contains_from_In other.one (elections t) other.there;
-        before = earlier_place e.place other.is less;
-        key = key.0;
-        later_key = key.1;
-        earlier_key = key.2;
-      }
+      repeats_key π t role.Election e other.one key.0 refl (contains_from_In e (elections t) there) (contains_from_In other.one (elections t) other.there) (earlier_place e.place other.is less) key.1 key.2
 
   repeated_election : (before : List Met) → AreEarlier π t before e.place → has_twin before (election_here π t e) ≡ true → RepeatsKey π t e.place
   repeated_election before earlier h =

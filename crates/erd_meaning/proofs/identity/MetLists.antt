@@ -1,6 +1,9 @@
--- The walk over the elections and the objects of a report, as lists: what it has met, and what it has told.
-use Rattle.erd_meaning.proofs.Common.{◌≡◌, Bool, false, ◌&&◌, ◌||◌, List, [], ◌∷◌, ◌++◌, map, is_none, Option, sym, refl, ap, ◌∙◌, ap₂, append_assoc, append-nil, filter_map-append, list_any, has_keys, Kept, Met, an_object, an_election, Located, object_met, election_met, objects_among, elections_among, same_key, has_same_key, has_same_id, faults_told, are_twins, are_named_alike, faults_after, ObjectsMet, met_one, met_all, Key}
+-- The walk over the elections and the objects of a report, as lists: what it has met and told, and what it leaves.
+use Rattle.erd_meaning.proofs.Common.{◌≡◌, Bool, false, ◌&&◌, ◌||◌, List, [], ◌∷◌, ◌++◌, map, is_none, Option, sym, refl, ap, ◌∙◌, ap₂, append_assoc, append-nil, filter_map-append, list_any, has_keys, Kept, Met, an_object, an_election, Located, object_met, election_met, objects_among, elections_among, same_key, has_same_key, has_same_id, faults_told, are_twins, are_named_alike, faults_after, ObjectsMet, met_one, met_all, Key, true, cond, Some, None, is_eq, key_cmp, AreSeen, is_seen, seen_with, key_cmp_exact, Equal-is, or-false, list_any-append, arith, length, subst, Data, ListsAll, Fault, none_from_empty, NoneOf, Preference, IdentityFault, all_located, kept_objects, election_keys, shown, met_of}
 use Rattle.erd_meaning.proofs.identity.ToldFaults.{told}
+use Rattle.erd_meaning.specs.declared.objects.object_walk.ObjectWalk.{ObjectWalk}
+use Rattle.erd_meaning.proofs.identity.IdentityFaults.{identity_listed, identity_told}
+use Rattle.erd_meaning.proofs.identity.ObjectFamilies.{election_keys_met}
 
 -- ---- what has been met
 
@@ -81,3 +84,62 @@ walks_all m xs a b c =
     let is : AreAmong m [] = record { objects = a; elections = b } in
     let all = met_among m [] xs is in
     record { objects = all.objects; elections = all.elections; faults = met_faults m [] xs is ∙ ap (λ fs. fs ++ told [] xs) c }
+
+-- ---- the keys of elections that were seen, once one more election was met
+
+any-append : {A : Type 0} (test : A → Bool) (xs : List A) (x : A) → list_any test (xs ++ x ∷ []) ≡ (list_any test xs || test x)
+any-append test xs x = list_any-append test xs (x ∷ []) ∙ ap (λ b. list_any test xs || b) (or-false (test x))
+
+-- an earlier election has the key exactly if it was seen
+pub seen_is : (keys : List (Option Key)) (seen : List Key) (key : Option Key) → AreSeen keys seen → is_seen seen key ≡ list_any (same_key key) keys
+seen_is keys seen None are = none keys
+  where
+    none : (ks : List (Option Key)) → false ≡ list_any (same_key None) ks
+    none [] = refl
+    none (k ∷ ks) = none ks
+seen_is keys seen (Some key) are = are key
+
+pub or_same : (a b : Bool) → (b ≡ true → a ≡ true) → a ≡ (a || b)
+or_same a b h = grind arith
+
+-- one more key
+known_more : (seen : List Key) (key k : Key) (b : Bool) → is_seen seen (Some k) ≡ b
+    → list_any (λ l. is_eq (key_cmp key l)) (cond b seen (seen ++ k ∷ [])) ≡ (list_any (λ l. is_eq (key_cmp key l)) seen || is_eq (key_cmp key k))
+known_more seen key k true known =
+    or_same (list_any (λ l. is_eq (key_cmp key l)) seen) (is_eq (key_cmp key k))
+    (λ h. ap (λ (j : Key). is_seen seen (Some j)) (key_cmp_exact key k ((Equal-is (key_cmp key k)).0 h)) ∙ known)
+known_more seen key k false known = any-append (λ l. is_eq (key_cmp key l)) seen k
+
+pub seen_more : (keys : List (Option Key)) (seen : List Key) (key : Option Key) → AreSeen keys seen → AreSeen (keys ++ key ∷ []) (seen_with seen key)
+seen_more keys seen None are k = are k ∙ sym (or-false (list_any (same_key (Some k)) keys)) ∙ sym (any-append (same_key (Some k)) keys None)
+seen_more keys seen (Some l) are k =
+    known_more seen k l (is_seen seen (Some l)) refl ∙ ap (λ b. b || is_eq (key_cmp k l)) (are k) ∙ sym (any-append (same_key (Some k)) keys (Some l))
+
+-- ---- what the walk over the elections and the objects of a report leaves
+
+-- a walk that began with nothing has met this report
+pub record Walked (π : Preference) (w v : ObjectWalk) (t : Data) : Type 0 where
+  pub no_object : w.objects ≡ []
+  pub no_election : w.elections ≡ []
+  pub no_fault : w.faults.items ≡ []
+  pub met : met_of v ≡ met_all (met_of w) (all_located π t)
+
+walked : (π : Preference) (w v : ObjectWalk) (t : Data) → Walked π w v t → WalksAll (met_of v) (all_located π t)
+walked π w v t h =
+    subst (λ (m : ObjectsMet). WalksAll m (all_located π t)) (sym h.met)
+    (walks_all (met_of w) (all_located π t) (ap (map shown) h.no_object) h.no_election h.no_fault)
+
+pub walked_objects : (π : Preference) (w v : ObjectWalk) (t : Data) → Walked π w v t → map shown v.objects ≡ kept_objects π t
+walked_objects π w v t h = (walked π w v t h).objects
+
+pub walked_elections : (π : Preference) (w v : ObjectWalk) (t : Data) → Walked π w v t → v.elections ≡ election_keys π t
+walked_elections π w v t h = (walked π w v t h).elections ∙ election_keys_met π t
+
+pub walked_faults : (π : Preference) (w v : ObjectWalk) (t : Data) → Walked π w v t → v.faults.items ≡ identity_told π t
+walked_faults π w v t h = (walked π w v t h).faults
+
+pub all_told : (π : Preference) (w v : ObjectWalk) (t : Data) → Walked π w v t → (fs : List Fault) → fs ≡ v.faults.items → ListsAll (IdentityFault π t) fs
+all_told π w v t h fs e = subst (ListsAll (IdentityFault π t)) (sym (e ∙ walked_faults π w v t h)) (identity_listed π t)
+
+pub none_told : (π : Preference) (w v : ObjectWalk) (t : Data) → Walked π w v t → (fs : List Fault) → fs ≡ v.faults.items → length fs ≡ 0 → NoneOf (IdentityFault π t)
+none_told π w v t h fs e empty = none_from_empty (IdentityFault π t) fs (all_told π w v t h fs e) empty

@@ -1,5 +1,5 @@
--- The objects of a family are those that the walk meets of it, in the same order.
-use Rattle.erd_meaning.proofs.Common.{◌≡◌, ℕ, Bool, true, false, cond, List, [], ◌∷◌, ◌++◌, ◌==◌, Some, codes, filter, Option, find, flat_map, sym, refl, ap, ◌∙◌, subst, ap₂, append_assoc, append-nil, Decides-eqb, filter-append, Data, families, family_number, Family, family, Preference, Placed, placed_entries, report_of, elections, selections_of_contest, objects, has_several, Met, an_object, an_election, Located, located_one, located, contest_located, election_located, shared_located, all_located}
+-- The objects of a family and the elections are those that the walk meets, in the same order.
+use Rattle.erd_meaning.proofs.Common.{◌≡◌, ℕ, Bool, true, false, cond, List, [], ◌∷◌, ◌++◌, ◌==◌, Some, codes, filter, Option, find, flat_map, sym, refl, ap, ◌∙◌, subst, ap₂, append-nil, Decides-eqb, filter-append, Data, families, family_number, Family, family, Preference, Placed, placed_entries, report_of, elections, selections_of_contest, objects, has_several, Met, an_object, an_election, Located, located_one, located, contest_located, election_located, shared_located, all_located, flat_map-append, fun_ext, map-append, map, key_of, located_election, inside_election, elections_among, all_met, election_keys, ◌⊎◌, inl, inr, In, In-map, In-map_from, In-filter, In-filter_kept}
 
 -- what is met is an object of the family
 abbrev pub is_object_of : Family → Met → Bool
@@ -27,17 +27,9 @@ passed π f g e (o ∷ os) = rw e (passed π f g e os)
 pick-append : (f : Family) (xs ys us vs : List Located) → pick f xs ≡ us → pick f ys ≡ vs → pick f (xs ++ ys) ≡ us ++ vs
 pick-append f xs ys us vs a b = filter-append (is_of f) xs ys ∙ ap₂ ◌++◌ a b
 
-pub located-append : (π : Preference) (f : Family) (xs ys : List Placed) → located π f (xs ++ ys) ≡ located π f xs ++ located π f ys
-located-append π f [] ys = refl
-located-append π f (x ∷ xs) ys = ap (λ zs. located_one π f x ∷ zs) (located-append π f xs ys)
-
 none-flat : (h : Placed → List Placed) → ((o : Placed) → h o ≡ []) → (os : List Placed) → flat_map h os ≡ []
 none-flat h none [] = refl
 none-flat h none (o ∷ os) = ap₂ ◌++◌ (none o) (none-flat h none os)
-
-flat-append : (h : Placed → List Placed) (xs ys : List Placed) → flat_map h (xs ++ ys) ≡ flat_map h xs ++ flat_map h ys
-flat-append h [] ys = refl
-flat-append h (x ∷ xs) ys = ap (λ zs. h x ++ zs) (flat-append h xs ys) ∙ sym (append_assoc (h x) (flat_map h xs) (flat_map h ys))
 
 each-flat : (xs : List Placed) → flat_map (λ (o : Placed). o ∷ []) xs ≡ xs
 each-flat [] = refl
@@ -48,7 +40,7 @@ pick-flat : (π : Preference) (f : Family) (h : Placed → List Located) (k : Pl
 pick-flat π f h k each [] = refl
 pick-flat π f h k each (o ∷ os) =
     pick-append f (h o) (flat_map h os) (located π f (k o)) (located π f (flat_map k os)) (each o) (pick-flat π f h k each os)
-    ∙ sym (located-append π f (k o) (flat_map k os))
+    ∙ sym (map-append (located_one π f) (k o) (flat_map k os))
 
 -- ---- inside a contest, an election, the report
 
@@ -96,7 +88,7 @@ pick_array : (π : Preference) (f g : Family) (os : List Placed) → pick f (loc
 pick_array π f g os = pick_at π f g (family_number g == family_number f) refl os
 
 pick_both : (π : Preference) (f : Family) (xs ys : List Located) (os ps : List Placed) → pick f xs ≡ located π f os → pick f ys ≡ located π f ps → pick f (xs ++ ys) ≡ located π f (os ++ ps)
-pick_both π f xs ys os ps a b = pick-append f xs ys (located π f os) (located π f ps) a b ∙ sym (located-append π f os ps)
+pick_both π f xs ys os ps a b = pick-append f xs ys (located π f os) (located π f ps) a b ∙ sym (map-append (located_one π f) os ps)
 
 -- ---- elections and the report
 
@@ -139,10 +131,6 @@ in_shared π f r =
     (pick_both π f (located π family.Office offices) from_parties (if_of f family.Office offices) parties_on (pick_array π f family.Office offices)
     (pick_both π f (located π family.Party parties) (located π family.Person persons) (if_of f family.Party parties) (if_of f family.Person persons) (pick_array π f family.Party parties) (pick_array π f family.Person persons))))
 
-flat_same : (h k : Placed → List Placed) → ((o : Placed) → h o ≡ k o) → (os : List Placed) → flat_map h os ≡ flat_map k os
-flat_same h k each [] = refl
-flat_same h k each (o ∷ os) = ap₂ ◌++◌ (each o) (flat_same h k each os)
-
 no_election : (f : Family) (t : Data) → ((e : Placed) → of_election f e ≡ []) → flat_map (of_election f) (elections t) ≡ []
 no_election f t none = none-flat (of_election f) none (elections t)
 
@@ -155,14 +143,14 @@ shared_alone f t os none is = ap (λ xs. xs ++ of_shared f (report_of t)) (no_el
 election_alone : (f : Family) (t : Data) (k : Placed → List Placed) → ((e : Placed) → of_election f e ≡ k e) → of_shared f (report_of t) ≡ []
     → flat_map (of_election f) (elections t) ++ of_shared f (report_of t) ≡ flat_map k (elections t)
 election_alone f t k each none =
-    ap (λ xs. flat_map (of_election f) (elections t) ++ xs) none ∙ append-nil (flat_map (of_election f) (elections t)) ∙ flat_same (of_election f) k each (elections t)
+    ap (λ xs. flat_map (of_election f) (elections t) ++ xs) none ∙ append-nil (flat_map (of_election f) (elections t)) ∙ ap (λ (h : Placed → List Placed). flat_map h (elections t)) (fun_ext each)
 
 no_contest : (f : Family) → ((o : Placed) → of_contest f o ≡ []) → (e : Placed) → of_contests f (placed_entries (codes "Contest") e) ≡ []
 no_contest f none e = none-flat (of_contest f) none (placed_entries (codes "Contest") e)
 
 nested_flat : (h k : Placed → List Placed) (os : List Placed) → flat_map (λ o. flat_map h (k o)) os ≡ flat_map h (flat_map k os)
 nested_flat h k [] = refl
-nested_flat h k (o ∷ os) = ap (λ xs. flat_map h (k o) ++ xs) (nested_flat h k os) ∙ sym (flat-append h (k o) (flat_map k os))
+nested_flat h k (o ∷ os) = ap (λ xs. flat_map h (k o) ++ xs) (nested_flat h k os) ∙ sym (flat_map-append h (k o) (flat_map k os))
 
 objects_are : (f : Family) (t : Data) → flat_map (of_election f) (elections t) ++ of_shared f (report_of t) ≡ objects f t
 objects_are family.Person t = shared_alone family.Person t _ (no_contest family.Person (λ o. refl)) refl
@@ -182,3 +170,115 @@ objects_met π f t =
     pick_both π f (flat_map (election_located π (has_several t)) (elections t)) (shared_located π (report_of t)) (flat_map (of_election f) (elections t)) (of_shared f (report_of t))
     (pick-flat π f (election_located π (has_several t)) (of_election f) (in_election π (has_several t) f) (elections t)) (in_shared π f (report_of t))
     ∙ ap (located π f) (objects_are f t)
+
+-- ---- the elections of a report are those that the walk meets, in the same order
+
+-- what is met is an election
+abbrev pub is_election_met : Met → Bool
+is_election_met (an_object k) = false
+is_election_met (an_election needed key) = true
+
+abbrev pub is_election : Located → Bool
+is_election x = is_election_met x.met
+
+abbrev pub pick_elections : List Located → List Located
+pick_elections xs = filter is_election xs
+
+none_located : (π : Preference) (f : Family) (os : List Placed) → pick_elections (located π f os) ≡ []
+none_located π f [] = refl
+none_located π f (o ∷ os) = none_located π f os
+
+neither : (xs ys : List Located) → pick_elections xs ≡ [] → pick_elections ys ≡ [] → pick_elections (xs ++ ys) ≡ []
+neither xs ys a b = filter-append is_election xs ys ∙ ap₂ ◌++◌ a b
+
+none_in_contests : (π : Preference) (os : List Placed) → pick_elections (flat_map (contest_located π) os) ≡ []
+none_in_contests π [] = refl
+none_in_contests π (o ∷ os) = neither (contest_located π o) (flat_map (contest_located π) os) (none_located π family.Selection (selections_of_contest o)) (none_in_contests π os)
+
+none_inside : (π : Preference) (e : Placed) → pick_elections (inside_election π e) ≡ []
+none_inside π e =
+    neither (located π family.Style (placed_entries (codes "BallotStyle") e)) _ (none_located π family.Style (placed_entries (codes "BallotStyle") e))
+    (neither (located π family.Candidate (placed_entries (codes "Candidate") e)) _ (none_located π family.Candidate (placed_entries (codes "Candidate") e))
+    (none_in_contests π (placed_entries (codes "Contest") e)))
+
+none_shared : (π : Preference) (r : Placed) → pick_elections (shared_located π r) ≡ []
+none_shared π r =
+    let none = λ (f : Family) (name : List _). none_located π f (placed_entries name r) in
+    neither (located π family.Unit (placed_entries (codes "GpUnit") r)) _ (none family.Unit (codes "GpUnit"))
+    (neither (located π family.Header (placed_entries (codes "Header") r)) _ (none family.Header (codes "Header"))
+    (neither (located π family.Office (placed_entries (codes "Office") r)) _ (none family.Office (codes "Office"))
+    (neither (located π family.Party (placed_entries (codes "Party") r)) _ (none family.Party (codes "Party")) (none family.Person (codes "Person")))))
+
+each_picked : (π : Preference) (b : Bool) (es : List Placed) → pick_elections (flat_map (election_located π b) es) ≡ map (located_election π b) es
+each_picked π b [] = refl
+each_picked π b (e ∷ es) =
+    filter-append is_election (election_located π b e) (flat_map (election_located π b) es)
+    ∙ ap₂ (λ xs ys. located_election π b e ∷ xs ++ ys) (none_inside π e) (each_picked π b es)
+
+pub elections_picked : (π : Preference) (t : Data) → pick_elections (all_located π t) ≡ map (located_election π (has_several t)) (elections t)
+elections_picked π t =
+    filter-append is_election (flat_map (election_located π (has_several t)) (elections t)) (shared_located π (report_of t))
+    ∙ ap₂ ◌++◌ (each_picked π (has_several t) (elections t)) (none_shared π (report_of t)) ∙ append-nil (map (located_election π (has_several t)) (elections t))
+
+-- ---- their keys
+
+among_picked : (xs : List Located) → elections_among (map (λ x. x.met) xs) ≡ elections_among (map (λ x. x.met) (pick_elections xs))
+among_picked [] = refl
+among_picked (x ∷ xs) = at x.met (among_picked xs)
+  where
+    at : (m : Met) → elections_among (map (λ x. x.met) xs) ≡ elections_among (map (λ x. x.met) (pick_elections xs))
+        → elections_among (m ∷ map (λ x. x.met) xs)
+        ≡ elections_among (map (λ x. x.met) (cond (is_election_met m) (record { place = x.place; met = m } ∷ pick_elections xs) (pick_elections xs)))
+    at (an_object k) e = e
+    at (an_election needed key) e = ap (λ ks. key ∷ ks) e
+
+keys_of_picked : (π : Preference) (b : Bool) (es : List Placed) → elections_among (map (λ x. x.met) (map (located_election π b) es)) ≡ map (λ e. key_of π e.value) es
+keys_of_picked π b [] = refl
+keys_of_picked π b (e ∷ es) = ap (λ ks. key_of π e.value ∷ ks) (keys_of_picked π b es)
+
+pub election_keys_met : (π : Preference) (t : Data) → elections_among (all_met π t) ≡ election_keys π t
+election_keys_met π t =
+    among_picked (all_located π t) ∙ ap (λ (xs : List Located). elections_among (map (λ x. x.met) xs)) (elections_picked π t) ∙ keys_of_picked π (has_several t) (elections t)
+
+-- ---- what the walk over a report meets is an object of a family or an election, and each of these is met
+
+-- an object of a family is met
+pub record IsObjectMet (π : Preference) (t : Data) (x : Located) : Type 0 where
+  pub family : Family
+  pub one : Placed
+  pub there : In one (objects family t)
+  pub is : located_one π family one ≡ x
+
+-- an election is met
+pub record IsElectionMet (π : Preference) (t : Data) (x : Located) : Type 0 where
+  pub one : Placed
+  pub there : In one (elections t)
+  pub is : located_election π (has_several t) one ≡ x
+
+object_source : (π : Preference) (t : Data) (f : Family) (x : Located) → In x (all_located π t) → is_of f x ≡ true → IsObjectMet π t x
+object_source π t f x i h =
+    let kept = In-filter_kept (is_of f) x (all_located π t) i h in
+    let from = In-map_from (located_one π f) (objects f t) x (subst (In x) (objects_met π f t) kept) in
+    record { family = f; one = from.0; there = from.1; is = from.2 }
+
+election_source : (π : Preference) (t : Data) (x : Located) → In x (all_located π t) → is_election x ≡ true → IsElectionMet π t x
+election_source π t x i h =
+    let kept = In-filter_kept is_election x (all_located π t) i h in
+    let from = In-map_from (located_election π (has_several t)) (elections t) x (subst (In x) (elections_picked π t) kept) in
+    record { one = from.0; there = from.1; is = from.2 }
+
+pub source : (π : Preference) (t : Data) (x : Located) → In x (all_located π t) → IsObjectMet π t x ⊎ IsElectionMet π t x
+source π t x i = at x.met refl
+  where
+    at : (m : Met) → x.met ≡ m → IsObjectMet π t x ⊎ IsElectionMet π t x
+    at (an_object k) e = inl (object_source π t k.family x i (ap (is_object_of k.family) e ∙ itself (family_number k.family)))
+    at (an_election needed key) e = inr (election_source π t x i (ap is_election_met e))
+
+pub is_met : (π : Preference) (t : Data) (f : Family) (o : Placed) → In o (objects f t) → In (located_one π f o) (all_located π t)
+is_met π t f o i =
+    (In-filter (is_of f) (located_one π f o) (all_located π t) (subst (In (located_one π f o)) (sym (objects_met π f t)) (In-map (located_one π f) o (objects f t) i))).0
+
+pub election_is_met : (π : Preference) (t : Data) (e : Placed) → In e (elections t) → In (located_election π (has_several t) e) (all_located π t)
+election_is_met π t e i =
+    let x = located_election π (has_several t) e in
+    (In-filter is_election x (all_located π t) (subst (In x) (sym (elections_picked π t)) (In-map (located_election π (has_several t)) e (elections t) i))).0

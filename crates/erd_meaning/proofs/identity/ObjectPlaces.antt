@@ -1,5 +1,5 @@
 -- The elections and the objects that the walk meets stand apart: the place of the `@id` of each comes before the places of all later ones.
-use Rattle.erd_meaning.proofs.Common.{◌≡◌, ℕ, ◌+◌, ◌<◌, ◌≤◌, Bool, List, [], ◌∷◌, ◌++◌, codes, flat_map, Ordering, Less, sym, refl, ap, ◌∙◌, subst, ap₂, inl, inr, append_assoc, append-nil, arith, AllByRecursion, IsStrictlySortedBy, Data, steps_less, step_cmp, place_cmp, text_cmp, Family, family, Step, At, Name, In, In-append, all_from_In, Below, sorted_append, Preference, Placed, placed_from, placed_entries, report_of, elections, selections_of_contest, has_several, Located, located_one, located_election, located, contest_located, inside_election, election_located, shared_located, all_located}
+use Rattle.erd_meaning.proofs.Common.{◌≡◌, ℕ, ◌+◌, ◌≤◌, Bool, List, [], ◌∷◌, ◌++◌, codes, flat_map, Ordering, Less, sym, refl, ap, ◌∙◌, subst, ap₂, inl, inr, append_assoc, append-nil, arith, AllByRecursion, IsStrictlySortedBy, Data, steps_less, step_cmp, place_cmp, text_cmp, Family, family, Step, At, Name, In, In-append, all_from_In, Below, sorted_append, Preference, Placed, placed_from, placed_entries, report_of, elections, selections_of_contest, has_several, Located, located_one, located_election, located, contest_located, inside_election, election_located, shared_located, all_located, flat_map_single}
 use Rattle.erd_check.proofs.Steps.{at_less}
 
 abbrev pub id_place : List Step → List Step
@@ -113,8 +113,7 @@ unfolding IsStrictlySortedBy
 alone_parted π f o = (tt, tt)
 
 each_alone : (π : Preference) (f : Family) (os : List Placed) → flat_map (alone π f) os ≡ located π f os
-each_alone π f [] = refl
-each_alone π f (o ∷ os) = ap (λ xs. located_one π f o ∷ xs) (each_alone π f os)
+each_alone π f os = flat_map_single (located_one π f) os
 
 in_located : (π : Preference) (f : Family) (name : List ℕ) (o : Placed) → AllIn (InMember o.place name) (located π f (placed_entries name o))
 in_located π f name o = subst (AllIn (InMember o.place name)) (each_alone π f (placed_entries name o)) (in_array (alone π f) (alone_inside π f) name o)
@@ -135,13 +134,10 @@ contest_inside π o =
 contest_parted : (π : Preference) → Parted (contest_located π)
 contest_parted π o =
     sorted_append apart (alone π family.Contest o) (located π family.Selection (selections_of_contest o)) (alone_parted π family.Contest o)
-    (parted_located π family.Selection (codes "ContestSelection") o) (λ x y i j. below x y i (selections_inside π o y j))
-  where
-    below : (x y : Located) → In x (alone π family.Contest o) → InMember o.place (codes "ContestSelection") y → apart x y ≡ Less
-    below x y (inl e) m =
-        ap₂ place_cmp (ap id_place (sym (ap (λ (z : Located). z.place) e))) m.is
-        ∙ steps_less o.place (Name (codes "@id")) (Name (codes "ContestSelection")) [] m.rest refl
-    below x y (inr h) m = absurd h
+    (parted_located π family.Selection (codes "ContestSelection") o) (λ x y i j. let m = selections_inside π o y j in elim i [
+      | inl e ↦ ap₂ place_cmp (ap id_place (sym (ap (λ (z : Located). z.place) e))) m.is ∙ steps_less o.place (Name (codes "@id")) (Name (codes "ContestSelection")) [] m.rest refl
+      | inr h ↦ absurd h
+    ])
 
 -- ---- elections
 

@@ -34,12 +34,8 @@ later_origin : (earlier : List Met) (x : Located) (xs : List Located) (one : Loc
     → Origin (earlier ++ x.met ∷ []) xs one k → Origin earlier (x ∷ xs) one k
 later_origin earlier x xs one k less (inl h) = elim (In-append k earlier (x.met ∷ []) h) [
   | inl a ↦ inl a
-  | inr b ↦ inr (x, inl refl, last b, less)
+  | inr b ↦ inr (x, inl refl, elim b [ inl e ↦ e | inr n ↦ absurd n ], less)
 ]
-  where
-    last : In k (x.met ∷ []) → x.met ≡ k
-    last (inl e) = e
-    last (inr n) = absurd n
 later_origin earlier x xs one k less (inr (y, i, e, l)) = inr (y, inr i, e, l)
 
 pub told_sound : (earlier : List Met) (xs : List Located) (f : Fault) → AreApart xs → In f (told earlier xs) → Told earlier xs f
@@ -47,17 +43,11 @@ unfolding IsStrictlySortedBy
 told_sound earlier [] f parted h = absurd h
 told_sound earlier (x ∷ xs) f parted h = elim (In-append f (faults_after earlier x.place x.met) (told (earlier ++ x.met ∷ []) xs) h) [
   | inl a ↦ record { one = x; there = inl refl; before = earlier; origin = λ k i. inl i; fault = a }
-  | inr b ↦ later (told_sound (earlier ++ x.met ∷ []) xs f parted.1 b)
+  | inr b ↦
+      let t = told_sound (earlier ++ x.met ∷ []) xs f parted.1 b in
+      let less = before_apart x t.one (In-all (λ y. apart x y ≡ Less) t.one xs parted.0 t.there) in
+      record { one = t.one; there = inr t.there; before = t.before; origin = λ k i. later_origin earlier x xs t.one k less (t.origin k i); fault = t.fault }
 ]
-  where
-    later : Told (earlier ++ x.met ∷ []) xs f → Told earlier (x ∷ xs) f
-    later t = record {
-      one = t.one;
-      there = inr t.there;
-      before = t.before;
-      origin = λ k i. later_origin earlier x xs t.one k (before_apart x t.one (In-all (λ y. apart x y ≡ Less) t.one xs parted.0 t.there)) (t.origin k i);
-      fault = t.fault;
-    }
 
 -- the objects met before one: all earlier ones, and all of the list that stand before it
 pub record Complete (earlier : List Met) (xs : List Located) (one : Located) : Type 0 where
@@ -72,27 +62,21 @@ complete earlier [] one parted i = absurd i
 complete earlier (x ∷ xs) one parted (inl e) = record {
   before = earlier;
   earlier_in = λ k h. h;
-  covers = λ y j less. absurd (none y j (subst (λ z. place_cmp y.place z.place ≡ Less) (sym e) less));
+  covers = λ y j less. let first : place_cmp y.place x.place ≡ Less = subst (λ z. place_cmp y.place z.place ≡ Less) (sym e) less in absurd (elim j [
+    | inl s ↦ less_itself x.place (subst (λ z. place_cmp z.place x.place ≡ Less) (sym s) first)
+    | inr k ↦ turned x.place y.place (before_apart x y (In-all (λ z. apart x z ≡ Less) y xs parted.0 k)) first
+  ]);
   tells = λ f h. In-append_left f (faults_after earlier x.place x.met) (told (earlier ++ x.met ∷ []) xs)
       (subst (λ z. In f (faults_after earlier z.place z.met)) (sym e) h);
 }
-  where
-    none : (y : Located) → In y (x ∷ xs) → place_cmp y.place x.place ≡ Less → ⊥
-    none y (inl s) less = less_itself x.place (subst (λ z. place_cmp z.place x.place ≡ Less) (sym s) less)
-    none y (inr j) less = turned x.place y.place (before_apart x y (In-all (λ z. apart x z ≡ Less) y xs parted.0 j)) less
-complete earlier (x ∷ xs) one parted (inr i) = more (complete (earlier ++ x.met ∷ []) xs one parted.1 i)
-  where
-    more : Complete (earlier ++ x.met ∷ []) xs one → Complete earlier (x ∷ xs) one
-    more c = record {
+complete earlier (x ∷ xs) one parted (inr i) =
+    let c = complete (earlier ++ x.met ∷ []) xs one parted.1 i in
+    record {
       before = c.before;
       earlier_in = λ k h. c.earlier_in k (In-append_left k earlier (x.met ∷ []) h);
-      covers = covered;
+      covers = λ y j less. elim j [ inl s ↦ c.earlier_in y.met (In-append_right y.met earlier (x.met ∷ []) (inl (ap (λ (z : Located). z.met) s))) | inr j ↦ c.covers y j less ];
       tells = λ f h. In-append_right f (faults_after earlier x.place x.met) (told (earlier ++ x.met ∷ []) xs) (c.tells f h);
     }
-      where
-        covered : (y : Located) → In y (x ∷ xs) → place_cmp y.place one.place ≡ Less → In y.met c.before
-        covered y (inl s) less = c.earlier_in y.met (In-append_right y.met earlier (x.met ∷ []) (inl (ap (λ (z : Located). z.met) s)))
-        covered y (inr j) less = c.covers y j less
 
 -- ---- what is told rises
 

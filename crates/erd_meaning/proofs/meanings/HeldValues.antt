@@ -1,6 +1,6 @@
 -- The objects of a family without their places, each with the key of the election that holds it.
 use Rattle.erd_meaning.proofs.Common.{◌≡◌, ℕ, suc, ◌+◌, false, List, [], ◌∷◌, ◌++◌, map, if◌then◌else◌, slice_get, Some, None, codes, Option, option_map, flat_map, option_and_then, bytes_eq, sym, refl, ap, ◌∙◌, ap₂, arith, map-append, slice_get-map, Data, Family, role, At, Name, entries_at, Preference, key_of, election_key_in, election_key_of, ObjectRecord, Placed, placed_from, placed_entries, report_of, elections, objects, object_record, record_in_election, Key}
-use Rattle.erd_meaning.proofs.accepted.Skeleton.{values-placed_entries}
+use Rattle.erd_meaning.proofs.accepted.Standing.{values-placed_entries}
 
 -- the key of the election that holds an object, if one does and has a key, and the value of the object
 abbrev pub Held : Type 0
@@ -22,8 +22,7 @@ abbrev pub held_by : Preference → List ℕ → Data → List Held
 held_by π name e = map (λ d. (key_of π e, d)) (entries_at name e)
 
 pub mapped_then : {A B C : Type 0} (g : B → Option C) (f : A → B) (o : Option A) → option_and_then g (option_map f o) ≡ option_and_then (λ x. g (f x)) o
-mapped_then g f None = refl
-mapped_then g f (Some x) = refl
+mapped_then g f o = grind arith
 
 module _ (π : Preference) (t : Data) where
   election_key_found : (i : ℕ) (e : Data) → slice_get (entries_at (codes "Election") t) i ≡ Some e → election_key_in π t i ≡ key_of π e

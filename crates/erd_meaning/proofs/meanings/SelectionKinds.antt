@@ -1,5 +1,5 @@
 -- Which members hold selections: `ContestSelection` of contests alone.
-use Rattle.erd_meaning.proofs.Common.{◌≡◌, ℕ, Bool, true, false, not, ◌||◌, List, is_some, if◌then◌else◌, Some, None, codes, Option, option_and_then, bytes_eq, sym, refl, ap, ◌∙◌, subst, list_all, Data, get, as_str, role_of_class, family_of_class, class_in_role, rows_of_class, kind_of_member, Class, class, Family, family, Role, role, MemberKind, kind, kind_of_name, kind_of_id, class_of_object}
+use Rattle.erd_meaning.proofs.Common.{◌≡◌, ℕ, Bool, true, false, not, ◌||◌, List, is_some, if◌then◌else◌, Some, codes, option_and_then, bytes_eq, sym, refl, ap, ◌∙◌, subst, list_all, Data, get, as_str, role_of_class, family_of_class, class_in_role, rows_of_class, kind_of_member, Class, class, Family, family, Role, role, MemberKind, kind, kind_of_name, kind_of_id, class_of_object, and_then-Some}
 use Rattle.erd_tables.proofs.Roles.{class_in_role_named}
 use Rattle.erd_check.proofs.Exact.{text_exact}
 
@@ -51,8 +51,4 @@ selections_family c f e is = cc
 
 -- the class of an object has the role that is asked for
 pub class_role : (r : Role) (d : Data) (c : Class) → class_of_object r d ≡ Some c → role_of_class c ≡ r
-class_role r d c e = at (option_and_then as_str (get (codes "@type") d)) e
-  where
-    at : (o : Option (List ℕ)) → option_and_then (class_in_role r) o ≡ Some c → role_of_class c ≡ r
-    at None e = cc
-    at (Some text) e = (class_in_role_named r text c e).role
+class_role r d c e = let text = and_then-Some (class_in_role r) (option_and_then as_str (get (codes "@type") d)) c e in (class_in_role_named r text.0 c text.2).role

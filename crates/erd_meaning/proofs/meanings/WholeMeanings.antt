@@ -1,7 +1,7 @@
 -- When two reports mean the same: the report, and the election and the object of each key, mean the same.
-use Rattle.erd_meaning.proofs.Common.{◌≡◌, ℕ, zero, suc, Bool, true, false, not, ◌&&◌, ◌||◌, List, [], ◌∷◌, ◌++◌, map, is_some, Some, None, Contains, filter, Option, option_map, find, option_and_then, bytes_eq, is_eq, Ordering, unwrap_or, sym, refl, ap, ◌∙◌, subst, ap₂, true≢false, arith, fun_ext, and_parts, or_parts, or_from, bytes_eq-Decides, list_any, option_cmp, ⊤, Data, null, get, kind_of_member, Class, Family, family, Role, role, MemberKind, kind, class_of_object, has_keys, key_cmp, Preference, key_of, election_key_of, Record, NameParts, Placed, report_of, elections, objects, if_carried, carried_members, label_beside_text, meaning, plain_member, record_with, selection_record, selection_map, member_of_class, object_record, record_in_election, placed_record, placed_with_key, records_of, election_records, selection_role, name_of, name_cmp, Key}
+use Rattle.erd_meaning.proofs.Common.{◌≡◌, ℕ, zero, suc, Bool, true, false, not, ◌&&◌, List, [], ◌∷◌, ◌++◌, map, is_some, Some, None, Contains, filter, Option, option_map, find, option_and_then, bytes_eq, is_eq, Ordering, unwrap_or, sym, refl, ap, ◌∙◌, subst, ap₂, true≢false, arith, fun_ext, and_parts, or_parts, or_from, bytes_eq-Decides, list_any, option_cmp, ⊤, Data, null, get, kind_of_member, Class, Family, family, Role, role, MemberKind, kind, class_of_object, has_keys, key_cmp, Preference, key_of, election_key_of, Record, NameParts, Placed, report_of, elections, objects, if_carried, carried_members, label_beside_text, meaning, plain_member, record_with, selection_record, selection_map, member_of_class, object_record, record_in_election, placed_record, placed_with_key, records_of, election_records, selection_role, name_of, name_cmp, Key, inl, inr, cases_Bool}
 use Rattle.std.proofs.lemmas.List.Folds.{list_any-append}
-use Rattle.erd_meaning.proofs.orders.EqualNames.{options_exact, equal_keys, equal_names}
+use Rattle.erd_meaning.proofs.orders.DistinctEntries.{options_exact, equal_keys, equal_names}
 use Rattle.erd_meaning.proofs.meanings.WholeRecords.{names_in, nothing_either_way, absent_member, absent_plain, same_at_every_name, same_at_other_names}
 
 -- ---- members
@@ -19,11 +19,10 @@ in_neither d e name h =
 
 outside : (name one : List ℕ) (names : List (List ℕ)) → bytes_eq name one ≡ false → list_any (bytes_eq name) (but_one one names) ≡ false → list_any (bytes_eq name) names ≡ false
 outside name one [] other h = refl
-outside name one (n ∷ ns) other h = at (bytes_eq n one) refl (outside name one ns other)
-  where
-    at : (b : Bool) → bytes_eq n one ≡ b → (list_any (bytes_eq name) (but_one one ns) ≡ false → list_any (bytes_eq name) ns ≡ false) → (bytes_eq name n || list_any (bytes_eq name) ns) ≡ false
-    at true is rest = or_from (bytes_eq name n) _ (ap (bytes_eq name) ((bytes_eq-Decides n one).0 is) ∙ other) (rest (rw is at h))
-    at false is rest = let both = or_parts (bytes_eq name n) _ (rw is at h) in or_from (bytes_eq name n) _ both.0 (rest both.1)
+outside name one (n ∷ ns) other h = elim (cases_Bool (bytes_eq n one)) [
+  | inl is ↦ or_from (bytes_eq name n) _ (ap (bytes_eq name) ((bytes_eq-Decides n one).0 is) ∙ other) (outside name one ns other (rw is at h))
+  | inr is ↦ let both = or_parts (bytes_eq name n) _ (rw is at h) in or_from (bytes_eq name n) _ both.0 (outside name one ns other both.1)
+]
 
 -- a map from the names of an object: it has nothing where the object has no member
 abbrev pub IsOfMembers : {V : Type 0} → Data → (List ℕ → Option V) → Type 0
@@ -44,11 +43,8 @@ same_but_one f g d e one no_f no_g agree =
 -- and at that name too
 pub same_with_one : {V : Type 0} (f g : List ℕ → Option V) (d e : Data) (one : List ℕ) → IsOfMembers d f → IsOfMembers e g
     → map f (but_one one (names_of_both d e)) ≡ map g (but_one one (names_of_both d e)) → f one ≡ g one → f ≡ g
-same_with_one f g d e one no_f no_g agree at_one = fun_ext (λ name. at name (bytes_eq name one) refl)
-  where
-    at : (name : List ℕ) (b : Bool) → bytes_eq name one ≡ b → f name ≡ g name
-    at name true is = subst (λ n. f n ≡ g n) (sym ((bytes_eq-Decides name one).0 is)) at_one
-    at name false is = same_but_one f g d e one no_f no_g agree name is
+same_with_one f g d e one no_f no_g agree at_one =
+    fun_ext (λ name. elim (cases_Bool (bytes_eq name one)) [ inl is ↦ subst (λ n. f n ≡ g n) (sym ((bytes_eq-Decides name one).0 is)) at_one | inr is ↦ same_but_one f g d e one no_f no_g agree name is ])
 
 -- ---- objects
 
@@ -102,20 +98,14 @@ AgreeAt f g (k ∷ ks) = (f k ≡ g k) × AgreeAt f g ks
 
 agree_at : {K V : Type 0} (same : K → K → Bool) (equal : (k l : K) → same k l ≡ true → k ≡ l) (f g : K → V) (keys : List K) (k : K) → AgreeAt f g keys → list_any (λ l. same l k) keys ≡ true → f k ≡ g k
 agree_at same equal f g [] k agree among = absurd (true≢false (sym among))
-agree_at same equal f g (l ∷ ls) k agree among = at (same l k) refl among (agree_at same equal f g ls k agree.1)
-  where
-    at : (c : Bool) → same l k ≡ c → (c || list_any (λ l. same l k) ls) ≡ true → (list_any (λ l. same l k) ls ≡ true → f k ≡ g k) → f k ≡ g k
-    at true is h later = subst (λ q. f q ≡ g q) (equal l k is) agree.0
-    at false is h later = later h
+agree_at same equal f g (l ∷ ls) k agree among =
+    elim (cases_Bool (same l k)) [ inl is ↦ subst (λ q. f q ≡ g q) (equal l k is) agree.0 | inr is ↦ agree_at same equal f g ls k agree.1 (rw is at among) ]
 
 -- two maps that agree at these keys, and have nothing at any other, are equal at each key
 pub same_at_every : {K V : Type 0} (same : K → K → Bool) (equal : (k l : K) → same k l ≡ true → k ≡ l) (f g : K → Option V) (keys : List K) → AgreeAt f g keys
     → ((k : K) → list_any (λ l. same l k) keys ≡ false → f k ≡ None) → ((k : K) → list_any (λ l. same l k) keys ≡ false → g k ≡ None) → (k : K) → f k ≡ g k
-same_at_every same equal f g keys agree no_f no_g k = at (list_any (λ l. same l k) keys) refl
-  where
-    at : (b : Bool) → list_any (λ l. same l k) keys ≡ b → f k ≡ g k
-    at true is = agree_at same equal f g keys k agree is
-    at false is = no_f k is ∙ sym (no_g k is)
+same_at_every same equal f g keys agree no_f no_g k =
+    elim (cases_Bool (list_any (λ l. same l k) keys)) [ inl is ↦ agree_at same equal f g keys k agree is | inr is ↦ no_f k is ∙ sym (no_g k is) ]
 
 -- some key of the list is equal to this one
 abbrev pub is_key_in : List Key → Key → Bool
@@ -148,8 +138,7 @@ looked_for cmp key [] [] e k = refl
 looked_for cmp key (x ∷ xs) (l ∷ ls) e k =
     let first : key x ≡ Some l = cc in let rest : map key xs ≡ map Some ls = cc in
     rw (first, looked_for cmp key xs ls rest k)
-looked_for cmp key [] (l ∷ ls) e k = absurd (cc e)
-looked_for cmp key (x ∷ xs) [] e k = absurd (cc e)
+looked_for cmp key xs keys e k = absurd (cc e)
 
 -- the values of the one list have the keys of the other, in order
 abbrev pub have_keys : {A K : Type 0} → (K → K → Ordering) → (A → Option K) → List A → List K → Bool
@@ -163,8 +152,7 @@ keys_had cmp exact key (x ∷ xs) (k ∷ ks) h =
     let both = and_parts (is_eq (option_cmp cmp (key x) (Some k))) _ h in
     let first : key x ≡ Some k = options_exact cmp exact (key x) (Some k) both.0 in
     let rest : map key xs ≡ map Some ks = keys_had cmp exact key xs ks both.1 in cc
-keys_had cmp exact key [] (k ∷ ks) h = absurd (cc h)
-keys_had cmp exact key (x ∷ xs) [] h = absurd (cc h)
+keys_had cmp exact key xs keys h = absurd (cc h)
 
 -- the object has this key
 abbrev pub has_key : Preference → Key → Placed → Bool
@@ -187,8 +175,7 @@ abbrev pub value_with_key : Preference → Data → Family → Key → Data
 value_with_key π t f k = (object_with_key π t f k).value
 
 one_found : {A : Type 0} (o : Option A) (other : A) → is_some o ≡ true → o ≡ Some (unwrap_or o other)
-one_found None other h = absurd (cc h)
-one_found (Some d) other h = refl
+one_found o other h = grind arith
 
 record_with_key : (π : Preference) (t : Data) (f : Family) (k : Key) → has_keys f ≡ true → is_some (placed_with_key π t f k) ≡ true → records_of π t f k ≡ placed_record π t f (object_with_key π t f k)
 record_with_key π t family.Selection k keyed h = absurd (cc keyed)

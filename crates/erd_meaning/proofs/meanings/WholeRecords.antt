@@ -1,5 +1,5 @@
 -- When two objects have one record: they agree at the names that either has, and neither has any other.
-use Rattle.erd_meaning.proofs.Common.{◌≡◌, ℕ, Bool, true, false, cond, ◌||◌, List, [], ◌∷◌, map, Some, None, codes, Option, option_map, option_and_then, bytes_eq, nat_cmp, is_eq, Ordering, Equal, sym, refl, ap, ◌∙◌, subst, ap₂, true≢false, fun_ext, or_parts, bytes_eq-Decides, slice_cmp, list_any, match_ordering, Data, object, Members, no_members, member, get_member, get, kind_of_member, Class, class, family, MemberKind, kind, Preference, PlainValue, MemberValue, a_plain, ObjectRecord, plain_value, is_in_envelope, plain_member, member_value, member_of_class, with_election_id, record_in_election, Key}
+use Rattle.erd_meaning.proofs.Common.{◌≡◌, ℕ, Bool, true, false, cond, ◌||◌, List, [], ◌∷◌, map, Some, None, codes, Option, option_map, option_and_then, bytes_eq, nat_cmp, is_eq, Ordering, sym, refl, ap, ◌∙◌, subst, ap₂, true≢false, fun_ext, or_parts, bytes_eq-Decides, slice_cmp, list_any, match_ordering, Data, object, Members, no_members, member, get_member, get, kind_of_member, Class, class, family, MemberKind, kind, Preference, PlainValue, MemberValue, a_plain, ObjectRecord, plain_value, is_in_envelope, plain_member, member_value, member_of_class, with_election_id, record_in_election, Key, arith}
 use Rattle.std.proofs.lemmas.Map.Text.{is_eq-slice_cmp}
 
 -- the names of an object
@@ -12,8 +12,7 @@ names_in (object ms) = names_of_members ms
 names_in d = []
 
 passed_over : (o : Ordering) (found rest : Option Data) → is_eq o ≡ false → match_ordering o rest found rest ≡ rest
-passed_over Equal found rest e = absurd (true≢false e)
-passed_over d found rest e = refl
+passed_over o found rest h = grind arith
 
 member_absent : (name : List ℕ) (ms : Members) → list_any (bytes_eq name) (names_of_members ms) ≡ false → get_member name ms ≡ None
 member_absent name no_members e = refl
@@ -26,8 +25,7 @@ absent name (object ms) e = member_absent name ms e
 absent name k e = refl
 
 pub nothing_either_way : {V : Type 0} (b : Bool) (o : Option V) → o ≡ None → cond b None o ≡ None
-nothing_either_way true o e = refl
-nothing_either_way false o e = e
+nothing_either_way b o h = grind arith
 
 nothing_meant : (π : Preference) (t : Data) (k : MemberKind) (plain : Option PlainValue) → plain ≡ None → member_value π t k None plain ≡ None
 nothing_meant π t (kind.Keyed family.Selection) plain e = refl

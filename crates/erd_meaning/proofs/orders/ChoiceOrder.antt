@@ -1,6 +1,6 @@
 -- What comes first in the order in which the program chooses among identifiers is the key that they give; the order is
 -- total, and tells unequal triples apart.
-use Rattle.erd_meaning.proofs.Common.{◌≡◌, Bool, true, false, cond, List, [], ◌∷◌, map, if◌then◌else◌, Some, None, filter, is_lt, sym, refl, ap, ◌∙◌, on_total, then_total, back_total, CmpEqualImpliesEq, IsTotalOrder, bool_cmp_total, option_or, bool_cmp, Data, then_both, key_cmp, triple_of, lesser_key, least_key_of, least_key, Preference, preferred_key, key_of_identifiers, is_preferred, choice_cmp, choice_of_two, choice_of, choice, key_cmp_total, key_cmp_exact, Key}
+use Rattle.erd_meaning.proofs.Common.{◌≡◌, Bool, true, false, List, [], ◌∷◌, map, Some, None, filter, is_lt, sym, refl, ap, ◌∙◌, on_total, then_total, back_total, CmpEqualImpliesEq, IsTotalOrder, bool_cmp_total, option_or, bool_cmp, Data, then_both, key_cmp, triple_of, lesser_key, least_key_of, least_key, Preference, preferred_key, key_of_identifiers, is_preferred, choice_cmp, choice_of_two, choice_of, choice, key_cmp_total, key_cmp_exact, Key, cond_both}
 
 pub choice_cmp_total : (π : Preference) → IsTotalOrder (choice_cmp π)
 choice_cmp_total π = then_total (back_total (on_total (is_preferred π) bool_cmp_total)) key_cmp_total
@@ -16,11 +16,7 @@ chosen_alike π k l true is next = rw (is, next) refl
 chosen_alike π k l false is next = rw (is, next) refl
 
 lesser_alike : (π : Preference) (k l : Key) (b : Bool) → is_preferred π k ≡ b → is_preferred π l ≡ b → is_preferred π (lesser_key k l) ≡ b
-lesser_alike π k l b is next = at (is_lt (key_cmp l k))
-  where
-    at : (c : Bool) → is_preferred π (if c then l else k) ≡ b
-    at true = next
-    at false = is
+lesser_alike π k l b is next = cond_both (is_lt (key_cmp l k)) l k (λ x. is_preferred π x ≡ b) (λ _. next) (λ _. is)
 
 first_stays : (π : Preference) (k l : Key) → is_preferred π k ≡ true → is_preferred π l ≡ false → choice_of_two π k l ≡ k
 first_stays π k l is next = rw (is, next) refl
@@ -33,25 +29,20 @@ next_taken π k l is next = rw (is, next) refl
 -- after one of the type only those of the type count
 choice_of-preferred : (π : Preference) (k : Key) (ks : List Key) → is_preferred π k ≡ true → choice_of π k ks ≡ least_key_of k (filter (is_preferred π) ks)
 choice_of-preferred π k [] is = refl
-choice_of-preferred π k (l ∷ ls) is = at (is_preferred π l) refl (λ x. choice_of-preferred π x ls)
-  where
-    at : (b : Bool) → is_preferred π l ≡ b
-        → ((x : Key) → is_preferred π x ≡ true → choice_of π x ls ≡ least_key_of x (filter (is_preferred π) ls))
-        → choice_of π (choice_of_two π k l) ls ≡ least_key_of k (cond b (l ∷ filter (is_preferred π) ls) (filter (is_preferred π) ls))
-    at true next after = ap (λ x. choice_of π x ls) (chosen_alike π k l true is next) ∙ after (lesser_key k l) (lesser_alike π k l true is next)
-    at false next after = ap (λ x. choice_of π x ls) (first_stays π k l is next) ∙ after k is
+choice_of-preferred π k (l ∷ ls) is =
+    cond_both (is_preferred π l) (l ∷ filter (is_preferred π) ls) (filter (is_preferred π) ls) (λ ms. choice_of π (choice_of_two π k l) ls ≡ least_key_of k ms)
+    (λ next. ap (λ x. choice_of π x ls) (chosen_alike π k l true is next) ∙ choice_of-preferred π (lesser_key k l) ls (lesser_alike π k l true is next))
+    (λ next. ap (λ x. choice_of π x ls) (first_stays π k l is next) ∙ choice_of-preferred π k ls is)
 
 -- after others one of the type is the one to choose, and else the least of all
 choice_of-other : (π : Preference) (k : Key) (ks : List Key) → is_preferred π k ≡ false
     → Some (choice_of π k ks) ≡ option_or (least_key (filter (is_preferred π) ks)) (Some (least_key_of k ks))
 choice_of-other π k [] is = refl
-choice_of-other π k (l ∷ ls) is = at (is_preferred π l) refl (λ x. choice_of-other π x ls)
-  where
-    at : (b : Bool) → is_preferred π l ≡ b
-        → ((x : Key) → is_preferred π x ≡ false → Some (choice_of π x ls) ≡ option_or (least_key (filter (is_preferred π) ls)) (Some (least_key_of x ls)))
-        → Some (choice_of π (choice_of_two π k l) ls) ≡ option_or (least_key (cond b (l ∷ filter (is_preferred π) ls) (filter (is_preferred π) ls))) (Some (least_key_of (lesser_key k l) ls))
-    at true next after = ap (λ x. Some (choice_of π x ls)) (next_taken π k l is next) ∙ ap Some (choice_of-preferred π l ls next)
-    at false next after = ap (λ x. Some (choice_of π x ls)) (chosen_alike π k l false is next) ∙ after (lesser_key k l) (lesser_alike π k l false is next)
+choice_of-other π k (l ∷ ls) is =
+    cond_both (is_preferred π l) (l ∷ filter (is_preferred π) ls) (filter (is_preferred π) ls)
+    (λ ms. Some (choice_of π (choice_of_two π k l) ls) ≡ option_or (least_key ms) (Some (least_key_of (lesser_key k l) ls)))
+    (λ next. ap (λ x. Some (choice_of π x ls)) (next_taken π k l is next) ∙ ap Some (choice_of-preferred π l ls next))
+    (λ next. ap (λ x. Some (choice_of π x ls)) (chosen_alike π k l false is next) ∙ choice_of-other π (lesser_key k l) ls (lesser_alike π k l false is next))
 
 -- the least of the preferred type, told by the test
 preferred-filter : (π : Preference) (ks : List Key) → preferred_key π ks ≡ least_key (filter (is_preferred π) ks)
@@ -62,11 +53,10 @@ preferred-filter (Some type) ks = refl
 chosen_key : (π : Preference) (ks : List Key) → option_or (preferred_key π ks) (least_key ks) ≡ choice π ks
 chosen_key None [] = refl
 chosen_key (Some type) [] = refl
-chosen_key π (k ∷ ks) = ap (λ o. option_or o (least_key (k ∷ ks))) (preferred-filter π (k ∷ ks)) ∙ sym (at (is_preferred π k) refl)
-  where
-    at : (b : Bool) → is_preferred π k ≡ b → Some (choice_of π k ks) ≡ option_or (least_key (cond b (k ∷ filter (is_preferred π) ks) (filter (is_preferred π) ks))) (Some (least_key_of k ks))
-    at true is = ap Some (choice_of-preferred π k ks is)
-    at false is = choice_of-other π k ks is
+chosen_key π (k ∷ ks) =
+    ap (λ o. option_or o (least_key (k ∷ ks))) (preferred-filter π (k ∷ ks))
+    ∙ sym (cond_both (is_preferred π k) (k ∷ filter (is_preferred π) ks) (filter (is_preferred π) ks) (λ ms. Some (choice_of π k ks) ≡ option_or (least_key ms) (least_key (k ∷ ks)))
+    (λ is. ap Some (choice_of-preferred π k ks is)) (λ is. choice_of-other π k ks is))
 
 -- the key that identifiers give is the one to choose
 pub key_is_choice : (π : Preference) (ds : List Data) → key_of_identifiers π ds ≡ choice π (map triple_of ds)

@@ -1,5 +1,5 @@
--- Lists in which no two entries compare as equal, from what is known of their positions, and of arrays that are sets.
-use Rattle.erd_meaning.proofs.Common.{◌≡◌, ℕ, zero, suc, ◌<◌, Bool, true, false, ◌⊎◌, List, [], ◌∷◌, map, take, slice_get, Some, Ordering, Equal, sym, refl, ap, ◌∙◌, subst, inl, inr, true≢false, arith, false_from_ne_true, Equal-is, IsDistinct, eq_by_cmp, Data, Items, no_items, item, get_item, In, In-map_from, any_at, all_from_In, In-all, has_mapped, Has-cases, all-Has, Has, is_same_json, list_of_items, is_repeated}
+-- Lists and sets in which no two entries compare as equal.
+use Rattle.erd_meaning.proofs.Common.{◌≡◌, ℕ, zero, suc, ◌<◌, Bool, true, false, ◌⊎◌, List, [], ◌∷◌, map, take, slice_get, Some, Ordering, Equal, sym, refl, ap, ◌∙◌, subst, inl, inr, true≢false, arith, false_from_ne_true, Equal-is, IsDistinct, eq_by_cmp, Data, Items, no_items, item, get_item, In, In-map_from, any_at, all_from_In, In-all, is_same_json, list_of_items, is_repeated, None, Option, is_eq, option_cmp, NameParts, key_cmp, name_cmp, key_cmp_exact, name_cmp_exact, Key, tied_itself, CmpEqualImpliesEq, IsTotalOrder, list_any, IsStrictlySortedBy, rising_unique, In-any, In-map}
 
 -- where an entry of a list stands
 pub place_of : {A : Type 0} (x : A) (xs : List A) → In x xs → (i : ℕ) × (slice_get xs i ≡ Some x)
@@ -30,7 +30,7 @@ distinct_map f test [] h = tt
 distinct_map f test (x ∷ xs) h = (
   all_from_In (λ y. test (f x) y ≡ false) (map f xs) (λ y i.
       let from = In-map_from f xs y i in
-      subst (λ z. test (f x) z ≡ false) from.is (In-all (λ z. test (f x) (f z) ≡ false) from.from xs h.0 from.inside)),
+      subst (λ z. test (f x) z ≡ false) from.2 (In-all (λ z. test (f x) (f z) ≡ false) from.0 xs h.0 from.1)),
   distinct_map f test xs h.1,
 )
 
@@ -45,19 +45,19 @@ distinct_less test test' (x ∷ xs) less h = (
 )
 
 -- of two entries whose values pass the test both ways there is one
-pub distinct_one : {A B : Type 0} (g : A → B) (test : B → B → Bool) (xs : List A) → IsDistinct test (map g xs) → (x y : A) → Has xs x → Has xs y
+pub distinct_one : {A B : Type 0} (g : A → B) (test : B → B → Bool) (xs : List A) → IsDistinct test (map g xs) → (x y : A) → In x xs → In y xs
     → test (g x) (g y) ≡ true → test (g y) (g x) ≡ true → x ≡ y
 unfolding IsDistinct
 distinct_one g test [] d x y h k t u = elim h [ ]
-distinct_one {A} g test (z ∷ zs) d x y h k t u = at (Has-cases z x zs h) (Has-cases z y zs k) (distinct_one g test zs d.1 x y)
+distinct_one {A} g test (z ∷ zs) d x y h k t u = at h k (distinct_one g test zs d.1 x y)
   where
-    at : (z ≡ x) ⊎ Has zs x → (z ≡ y) ⊎ Has zs y → (Has zs x → Has zs y → test (g x) (g y) ≡ true → test (g y) (g x) ≡ true → x ≡ y) → x ≡ y
+    at : (z ≡ x) ⊎ In x zs → (z ≡ y) ⊎ In y zs → (In x zs → In y zs → test (g x) (g y) ≡ true → test (g y) (g x) ≡ true → x ≡ y) → x ≡ y
     at (inl e) (inl f) more = sym e ∙ f
     at (inl e) (inr j) more =
-        let no_such : test (g x) (g y) ≡ false = subst (λ w. test (g w) (g y) ≡ false) e (all-Has (λ b. test (g z) b ≡ false) (map g zs) (g y) d.0 (has_mapped g zs y j)) in
+        let no_such : test (g x) (g y) ≡ false = subst (λ w. test (g w) (g y) ≡ false) e (In-all (λ b. test (g z) b ≡ false) (g y) (map g zs) d.0 (In-map g y zs j)) in
         absurd (true≢false (sym t ∙ no_such))
     at (inr i) (inl f) more =
-        let no_such : test (g y) (g x) ≡ false = subst (λ w. test (g w) (g x) ≡ false) f (all-Has (λ b. test (g z) b ≡ false) (map g zs) (g x) d.0 (has_mapped g zs x i)) in
+        let no_such : test (g y) (g x) ≡ false = subst (λ w. test (g w) (g x) ≡ false) f (In-all (λ b. test (g z) b ≡ false) (g x) (map g zs) d.0 (In-map g x zs i)) in
         absurd (true≢false (sym u ∙ no_such))
     at (inr i) (inr j) more = more i j t u
 
@@ -85,3 +85,28 @@ pub unrepeated_by_cmp : (cmp : Data → Data → Ordering) (ds : Items) → ((i 
     → ((d e : Data) → In d (list_of_items ds) → In e (list_of_items ds) → cmp d e ≡ Equal → is_same_json e d ≡ true) → IsDistinct (eq_by_cmp cmp) (list_of_items ds)
 unrepeated_by_cmp cmp ds each equal =
     distinct_less (λ d e. is_same_json e d) (eq_by_cmp cmp) (list_of_items ds) (λ d e i j h. equal d e i j ((Equal-is (cmp d e)).0 h)) (unrepeated_distinct ds each)
+
+-- ---- keys and names that are equal in their orders are equal
+
+pub options_exact : {A : Type 0} (cmp : A → A → Ordering) → ((a b : A) → is_eq (cmp a b) ≡ true → a ≡ b) → (x y : Option A) → is_eq (option_cmp cmp x y) ≡ true → x ≡ y
+options_exact cmp exact None None h = refl
+options_exact cmp exact (Some a) (Some b) h = ap Some (exact a b h)
+options_exact cmp exact x y h = absurd (cc h)
+
+pub equal_keys : (k l : Key) → is_eq (key_cmp k l) ≡ true → k ≡ l
+equal_keys k l h = key_cmp_exact k l ((Equal-is (key_cmp k l)).0 h)
+
+pub equal_names : (m n : NameParts) → is_eq (name_cmp m n) ≡ true → m ≡ n
+equal_names m n h = name_cmp_exact m n ((Equal-is (name_cmp m n)).0 h)
+
+-- ---- a set that is written as a rising list is determined by its membership test
+
+-- a set of what an order tells apart
+pub set_unique : {K : Type 0} (cmp : K → K → Ordering) → IsTotalOrder cmp → CmpEqualImpliesEq cmp → (xs ys : List K) → IsStrictlySortedBy cmp xs → IsStrictlySortedBy cmp ys
+    → ((k : K) → list_any (λ l. is_eq (cmp l k)) xs ≡ list_any (λ l. is_eq (cmp l k)) ys) → xs ≡ ys
+set_unique {K} cmp order exact xs ys rise rise' same = rising_unique cmp order xs ys rise rise' (over xs ys same) (over ys xs (λ k. sym (same k)))
+  where
+    over : (xs ys : List K) → ((k : K) → list_any (λ l. is_eq (cmp l k)) xs ≡ list_any (λ l. is_eq (cmp l k)) ys) → (k : K) → In k xs → In k ys
+    over xs ys same k h =
+        let r = In-any (λ l. is_eq (cmp l k)) ys (sym (same k) ∙ any_at (λ l. is_eq (cmp l k)) k xs h (ap is_eq (tied_itself order k))) in
+        subst (λ z. In z ys) (exact r.0 k ((Equal-is (cmp r.0 k)).0 r.2)) r.1

@@ -1,10 +1,8 @@
 -- The order that is made of distinct keys: the positions in the rising order of the keys, and the rank of each key.
-use Rattle.erd_meaning.proofs.Common.{◌≡◌, ℕ, ◌+◌, ◌<◌, List, [], ◌∷◌, map, length, replicate, slice_get, Some, None, Option, option_map, is_lt, Ordering, sym, refl, ap, ◌∙◌, subst, arith, on_total, length-map, length-replicate, slice_get-map, slice_get_within, IsTotalOrder, AllByRecursion, IsDistinct, eq_by_cmp, all_from_In, places_put, rising_list, positioned, rank_by, positions_by}
-use Rattle.erd_meaning.proofs.finding.OneObject.{in_at}
+use Rattle.erd_meaning.proofs.Common.{◌≡◌, ℕ, ◌+◌, ◌<◌, List, [], ◌∷◌, map, length, replicate, slice_get, Some, option_map, is_lt, Ordering, sym, ap, ◌∙◌, subst, arith, on_total, length-map, length-replicate, slice_get-map, slice_get_within, IsTotalOrder, AllByRecursion, IsDistinct, eq_by_cmp, all_from_In, places_put, rising_list, positioned, rank_by, positions_by, option_map-Some, in_at}
 use Rattle.erd_meaning.proofs.orders.PlacesPut.{StandOnce, length_put, put_at, same_entries}
 use Rattle.erd_meaning.proofs.orders.RisingLists.{by_first}
-use Rattle.erd_meaning.proofs.orders.RisingOrders.{rank_at, rank_in, stands_at_rank}
-use Rattle.erd_meaning.proofs.orders.RisingSets.{In-rising, length-rising}
+use Rattle.erd_meaning.proofs.orders.RisingOrders.{rank_at, rank_in, stands_at_rank, In-rising, length-rising}
 use Rattle.erd_meaning.proofs.selections.PositionedKeys.{apart_positioned, count_positioned, key_positioned, length_positioned, one_positioned_at, stands_positioned}
 
 module _ {K : Type 0} (cmp : K → K → Ordering) (total : IsTotalOrder cmp) (ks : List K) where
@@ -45,11 +43,7 @@ module _ {K : Type 0} (cmp : K → K → Ordering) (total : IsTotalOrder cmp) (k
 
   module _ (distinct : IsDistinct (eq_by_cmp cmp) ks) where
     pair_at : (j i : ℕ) → slice_get (positions_by cmp ks) j ≡ Some i → (p : Position) × (slice_get new j ≡ Some p) × (p.1 ≡ i)
-    pair_at j i e = at (slice_get new j) refl (sym (slice_get-map (λ (p : Position). p.1) new j) ∙ e)
-      where
-        at : (o : Option Position) → slice_get new j ≡ o → option_map (λ (p : Position). p.1) o ≡ Some i → (p : Position) × (slice_get new j ≡ Some p) × (p.1 ≡ i)
-        at None is h = cc
-        at (Some p) is h = let same : p.1 ≡ i = cc in (p, is, same)
+    pair_at j i e = option_map-Some (λ (p : Position). p.1) (slice_get new j) i (sym (slice_get-map (λ (p : Position). p.1) new j) ∙ e)
 
     once : StandOnce (positions_by cmp ks)
     once j k i a b =
@@ -78,9 +72,5 @@ module _ {K : Type 0} (cmp : K → K → Ordering) (total : IsTotalOrder cmp) (k
         let put = places_put 0 (positions_by cmp ks) none_put in
         let long : length put ≡ length (map (rank_by cmp ks) ks) =
         length_put 0 (positions_by cmp ks) none_put ∙ (length-replicate (length (positions_by cmp ks)) 0 ∙ (length_rising_positions ∙ sym (length-map ks (rank_by cmp ks)))) in
-        same_entries put (map (rank_by cmp ks) ks) long (λ i n e. at i n (slice_get ks i) refl (sym (slice_get-map (rank_by cmp ks) ks i) ∙ e))
-      where
-        at : (i n : ℕ) (o : Option (K)) → slice_get ks i ≡ o → option_map (rank_by cmp ks) o ≡ Some n
-            → slice_get (places_put 0 (positions_by cmp ks) none_put) i ≡ Some n
-        at i n None is h = cc
-        at i n (Some k) is h = place_there i k is ∙ h
+        same_entries put (map (rank_by cmp ks) ks) long (λ i n e.
+        let k = option_map-Some (rank_by cmp ks) (slice_get ks i) n (sym (slice_get-map (rank_by cmp ks) ks i) ∙ e) in place_there i k.0 k.1 ∙ ap Some k.2)

@@ -1,9 +1,139 @@
--- A list in rising order: what goes in, that it rises, and that the position of an entry is its rank.
-use Rattle.erd_meaning.proofs.Common.{◌≡◌, ℕ, zero, suc, Bool, true, false, cond, List, [], ◌∷◌, map, length, slice_get, Some, filter, is_eq, is_lt, is_gt, Ordering, Less, Equal, Greater, sym, refl, ap, ◌∙◌, subst, inl, inr, upto, tied_itself, tied_back, on_total, CmpEqualImpliesEq, IsTotalOrder, AllByRecursion, IsDistinct, IsStrictlySortedBy, eq_by_cmp, ordering_reverse, ⊤, less, In, all_from_In, In-all, with_inserted, rising_list}
-use Rattle.erd_meaning.proofs.orders.RisingSets.{In-inserted, In-rising, rising-In}
-use Rattle.erd_meaning.proofs.finding.OneObject.{in_at}
-use Rattle.erd_meaning.proofs.orders.Counted.{count-rising, count_map}
-use Rattle.erd_meaning.proofs.orders.Reordered.{all-reordered, reordered_rising}
+-- Lists in rising order: they have the same entries, they rise, and the position of an entry is its rank.
+use Rattle.erd_meaning.proofs.Common.{◌≡◌, ℕ, zero, suc, ◌<◌, Bool, cond, List, [], ◌∷◌, ◌++◌, length, get_or, slice_set, Some, None, filter, Option, option_to_list, swap, flat_map, filter_map, IsPermutation, is_lt, Ordering, sym, refl, ap, ◌∙◌, append_assoc, arith, AllByRecursion, cons_option, IsPermutation-refl, IsPermutation-cons, IsPermutation-swap, IsPermutation-sym, IsPermutation-trans, with_inserted, rising_list, IsPermutation-append_left, IsPermutation-append_right, IsPermutation-append_comm, IsPermutation-keeps, sum_by-IsPermutation, cond_both, ◌≤◌, true, false, map, inl, inr, In, ◌⊎◌, subst, length_permutation, slice_get, is_eq, is_gt, Less, Equal, Greater, tied_itself, tied_back, on_total, CmpEqualImpliesEq, IsTotalOrder, IsDistinct, IsStrictlySortedBy, eq_by_cmp, ordering_reverse, ⊤, less, all_from_In, In-all, all_weakened, nat_cmp, nat_cmp_total, option_cmp, key_cmp, key_cmp_total, key_cmp_exact, Key, in_at}
+use Rattle.std.proofs.lemmas.List.Sums.{length-filter}
+use Rattle.erd_meaning.proofs.orders.RisingLists.{Rises, list_rises}
+use Rattle.erd_check.proofs.Steps.{at_less}
+
+-- the first two entries change places
+pub two_exchanged : {A : Type 0} {x y : A} {xs : List A} → IsPermutation (x ∷ (y ∷ xs)) (y ∷ (x ∷ xs))
+two_exchanged {x = x} {y = y} {xs = xs} = IsPermutation-swap (x ∷ (y ∷ xs)) (y ∷ (x ∷ xs)) 0 1 (omega arith) (omega arith) refl
+
+-- the list in rising order
+pub reordered_inserted : {A : Type 0} (cmp : A → A → Ordering) (x : A) (ys : List A) → IsPermutation (x ∷ ys) (with_inserted cmp x ys)
+reordered_inserted cmp x [] = IsPermutation-refl (x ∷ [])
+reordered_inserted cmp x (y ∷ ys) =
+    cond_both (is_lt (cmp y x)) (y ∷ with_inserted cmp x ys) (x ∷ (y ∷ ys)) (IsPermutation (x ∷ (y ∷ ys)))
+    (λ _. IsPermutation-trans _ _ _ two_exchanged (IsPermutation-cons y _ _ (reordered_inserted cmp x ys))) (λ _. IsPermutation-refl (x ∷ (y ∷ ys)))
+
+pub reordered_rising : {A : Type 0} (cmp : A → A → Ordering) (xs : List A) → IsPermutation xs (rising_list cmp xs)
+reordered_rising cmp [] = IsPermutation-refl []
+reordered_rising cmp (x ∷ xs) = IsPermutation-trans _ _ _ (IsPermutation-cons x _ _ (reordered_rising cmp xs)) (reordered_inserted cmp x (rising_list cmp xs))
+
+-- what holds of a list and itself, under a further entry, of two exchanged entries, and from list to list, holds of lists with the same entries
+module _ {A : Type 0} (P : List A → List A → Type 0) (same : (xs : List A) → P xs xs) (kept : (x : A) (xs ys : List A) → IsPermutation xs ys → P xs ys → P (x ∷ xs) (x ∷ ys))
+    (exchanged : (x y : A) (xs : List A) → P (x ∷ (y ∷ xs)) (y ∷ (x ∷ xs))) (chain : (xs ys zs : List A) → IsPermutation xs ys → P xs ys → P ys zs → P xs zs) where
+  abbrev Along : List A → List A → Type 0
+  Along xs ys = IsPermutation xs ys × P xs ys
+
+  link : {xs ys zs : List A} → Along xs ys → Along ys zs → Along xs zs
+  link h k = (IsPermutation-trans _ _ _ h.0 k.0, chain _ _ _ h.0 h.1 k.1)
+
+  keep : (x : A) {xs ys : List A} → Along xs ys → Along (x ∷ xs) (x ∷ ys)
+  keep x h = (IsPermutation-cons x _ _ h.0, kept x _ _ h.0 h.1)
+
+  first_with : (x d : A) (xs : List A) (j : ℕ) → j < length xs → Along (x ∷ xs) (get_or xs j d ∷ slice_set xs j x)
+  first_with x d [] j low = absurd (omega arith)
+  first_with x d (y ∷ ys) zero low = (two_exchanged, exchanged x y ys)
+  first_with x d (y ∷ ys) (suc j) low =
+      link (two_exchanged, exchanged x y ys) (link (keep y (first_with x d ys j (omega arith))) (two_exchanged, exchanged y (get_or ys j d) (slice_set ys j x)))
+
+  both_set : (d : A) (xs : List A) (i j : ℕ) → i < length xs → j < length xs → Along xs (slice_set (slice_set xs i (get_or xs j d)) j (get_or xs i d))
+  both_set d [] i j low high = absurd (omega arith)
+  both_set d (x ∷ xs) zero zero low high = (IsPermutation-refl (x ∷ xs), same (x ∷ xs))
+  both_set d (x ∷ xs) zero (suc j) low high = first_with x d xs j (omega arith)
+  both_set d (x ∷ xs) (suc i) zero low high = first_with x d xs i (omega arith)
+  both_set d (x ∷ xs) (suc i) (suc j) low high = keep x (both_set d xs i j (omega arith) (omega arith))
+
+  swapped : (xs : List A) (i j : ℕ) → i < length xs → j < length xs → Along xs (swap xs i j)
+  swapped [] i j low high = absurd (omega arith)
+  swapped (x ∷ xs) i j low high = both_set x (x ∷ xs) i j low high
+
+  pub along_permutation : {xs ys : List A} → IsPermutation xs ys → P xs ys
+  along_permutation {xs} {ys} h = (IsPermutation-keeps xs (Along xs) (IsPermutation-refl xs, same xs) (λ l i j low high k. link k (swapped l i j low high)) ys h).1
+
+-- ---- what is made of lists with the same entries
+
+pub reordered_flat : {A B : Type 0} (f : A → List B) {xs ys : List A} → IsPermutation xs ys → IsPermutation (flat_map f xs) (flat_map f ys)
+reordered_flat f = along_permutation (λ xs ys. IsPermutation (flat_map f xs) (flat_map f ys))
+    (λ xs. IsPermutation-refl (flat_map f xs))
+    (λ x xs ys p h. IsPermutation-append_right (f x) _ _ h)
+    (λ x y xs. rw (← append_assoc (f x), ← append_assoc (f y)) (IsPermutation-append_left (flat_map f xs) _ _ (IsPermutation-append_comm (f x) (f y))))
+    (λ xs ys zs p. IsPermutation-trans _ _ _)
+
+-- the values that a function keeps
+pub reordered_kept : {A B : Type 0} (f : A → Option B) {xs ys : List A} → IsPermutation xs ys → IsPermutation (filter_map f xs) (filter_map f ys)
+reordered_kept {A} {B} f {xs} {ys} h = rw (flat xs, flat ys) (reordered_flat (λ x. option_to_list (f x)) h)
+  where
+    one : (o : Option B) (zs : List B) → cons_option o zs ≡ option_to_list o ++ zs
+    one None zs = refl
+    one (Some z) zs = refl
+
+    flat : (zs : List A) → filter_map f zs ≡ flat_map (λ x. option_to_list (f x)) zs
+    flat [] = refl
+    flat (z ∷ zs) = one (f z) (filter_map f zs) ∙ ap (λ ws. option_to_list (f z) ++ ws) (flat zs)
+
+-- ---- what doesn't depend on the order
+
+-- a value made of a list entry by entry, whose entries change places freely
+pub whole-reordered : {A B : Type 0} (whole : List A → B) (step : A → B → B) → ((x : A) (xs : List A) → whole (x ∷ xs) ≡ step x (whole xs))
+    → ((x y : A) (b : B) → step x (step y b) ≡ step y (step x b)) → {xs ys : List A} → IsPermutation xs ys → whole xs ≡ whole ys
+whole-reordered whole step steps exchanges = along_permutation (λ xs ys. whole xs ≡ whole ys)
+    (λ xs. refl)
+    (λ x xs ys p h. steps x xs ∙ ap (step x) h ∙ sym (steps x ys))
+    (λ x y xs. steps x (y ∷ xs) ∙ ap (step x) (steps y xs) ∙ exchanges x y (whole xs) ∙ ap (step y) (sym (steps x xs)) ∙ sym (steps y (x ∷ xs)))
+    (λ xs ys zs p h k. h ∙ k)
+
+-- how many entries pass a test
+pub count-reordered : {A : Type 0} (test : A → Bool) {xs ys : List A} → IsPermutation xs ys → length (filter test xs) ≡ length (filter test ys)
+count-reordered test {xs} {ys} h = length-filter test xs ∙ sym (sum_by-IsPermutation (λ x. cond (test x) 1 0) xs ys h) ∙ sym (length-filter test ys)
+
+-- what holds of all entries
+pub all-reordered : {A : Type 0} (P : A → Type 0) {xs ys : List A} → IsPermutation xs ys → AllByRecursion P xs → AllByRecursion P ys
+all-reordered P = along_permutation (λ xs ys. AllByRecursion P xs → AllByRecursion P ys) (λ xs all. all) (λ x xs ys p h all. (all.0, h all.1)) (λ x y xs all. (all.1.0, (all.0, all.1.1))) (λ xs ys zs p h k all. k (h all))
+
+-- what stands in the list
+pub reordered-In : {A : Type 0} {xs ys : List A} (z : A) → IsPermutation xs ys → In z xs → In z ys
+reordered-In {xs = xs} {ys = ys} z h i = In-all (λ z. In z ys) z xs (all-reordered (λ z. In z ys) (IsPermutation-sym xs ys h) (all_from_In (λ z. In z ys) ys (λ w j. j))) i
+
+-- ---- a test that passes more
+
+module _ {A : Type 0} (test more : A → Bool) (too : (y : A) → test y ≡ true → more y ≡ true) where
+  pub no_fewer : (xs : List A) → length (filter test xs) ≤ length (filter more xs)
+  no_fewer [] = omega arith
+  no_fewer (x ∷ xs) = grind (arith, no_fewer xs, too x)
+
+  -- more pass a test that one entry passes which fails the other
+  pub more_pass : (x : A) (xs : List A) → test x ≡ false → more x ≡ true → In x xs → length (filter test xs) < length (filter more xs)
+  more_pass x [] fails passes h = absurd h
+  more_pass x (y ∷ ys) fails passes (inl e) = let first : y ≡ x = e in grind (arith, no_fewer ys, ap test e, ap more e)
+  more_pass x (y ∷ ys) fails passes (inr i) = grind (arith, more_pass x ys fails passes i, too y)
+
+-- ---- after a map
+
+-- how many values of a map pass a test
+pub count_map : {A B : Type 0} (f : A → B) (test : B → Bool) (xs : List A) → length (filter test (map f xs)) ≡ length (filter (λ x. test (f x)) xs)
+count_map f test [] = refl
+count_map f test (x ∷ xs) = grind (arith, count_map f test xs)
+
+-- how many entries pass a test, in rising order
+pub count-rising : {A : Type 0} (cmp : A → A → Ordering) (test : A → Bool) (xs : List A) → length (filter test (rising_list cmp xs)) ≡ length (filter test xs)
+count-rising cmp test xs = sym (count-reordered test (reordered_rising cmp xs))
+
+-- ---- what doesn't depend on the order of a list
+
+pub length-rising : {A : Type 0} (cmp : A → A → Ordering) (xs : List A) → length (rising_list cmp xs) ≡ length xs
+length-rising cmp xs = length_permutation xs _ (reordered_rising cmp xs)
+
+-- ---- what stands in the list
+
+pub In-inserted : {A : Type 0} (cmp : A → A → Ordering) (x z : A) (ys : List A) → In z (with_inserted cmp x ys) → (x ≡ z) ⊎ In z ys
+In-inserted cmp x z ys h = reordered-In z (IsPermutation-sym _ _ (reordered_inserted cmp x ys)) h
+
+pub In-rising : {A : Type 0} (cmp : A → A → Ordering) (z : A) (xs : List A) → In z (rising_list cmp xs) → In z xs
+In-rising cmp z xs h = reordered-In z (IsPermutation-sym _ _ (reordered_rising cmp xs)) h
+
+pub rising-In : {A : Type 0} (cmp : A → A → Ordering) (z : A) (xs : List A) → In z xs → In z (rising_list cmp xs)
+rising-In cmp z xs h = reordered-In z (reordered_rising cmp xs) h
 
 -- ---- answers of a comparison
 
@@ -108,29 +238,19 @@ module _ {A : Type 0} {cmp : A → A → Ordering} (order : IsTotalOrder cmp) wh
 
   -- ---- lists that don't fall
 
-  inserted_no_fall_at : (x y : A) (ys : List A) (o : Ordering) → cmp y x ≡ o → NeverFalls cmp (y ∷ ys) → NeverFalls cmp (with_inserted cmp x ys)
-      → NeverFalls cmp (cond (is_lt o) (y ∷ with_inserted cmp x ys) (x ∷ (y ∷ ys)))
-  inserted_no_fall_at x y ys Less is rise more =
-      let below : (z : A) → In z (with_inserted cmp x ys) → is_gt (cmp y z) ≡ false = λ z i. elim (In-inserted cmp x z ys i) [
-        | inl e ↦ subst (λ w. is_gt (cmp y w) ≡ false) e (ap is_gt is)
-        | inr k ↦ In-all (λ w. is_gt (cmp y w) ≡ false) z ys rise.0 k
-      ] in
-      (all_from_In (λ z. is_gt (cmp y z) ≡ false) (with_inserted cmp x ys) below, more)
-  inserted_no_fall_at x y ys Equal is rise more =
-      let first : is_gt (cmp x y) ≡ false = ap is_gt (tied_back order y x is) in
-      ((first, all_from_In (λ z. is_gt (cmp x z) ≡ false) ys (λ z i. upto order x y z first (In-all (λ w. is_gt (cmp y w) ≡ false) z ys rise.0 i))), rise)
-  inserted_no_fall_at x y ys Greater is rise more =
-      let first : is_gt (cmp x y) ≡ false = ap is_gt (greater_turned order y x is) in
-      ((first, all_from_In (λ z. is_gt (cmp x z) ≡ false) ys (λ z i. upto order x y z first (In-all (λ w. is_gt (cmp y w) ≡ false) z ys rise.0 i))), rise)
-
-  inserted_no_fall : (x : A) (ys : List A) → NeverFalls cmp ys → NeverFalls cmp (with_inserted cmp x ys)
-  inserted_no_fall x [] rise = (tt, tt)
-  inserted_no_fall x (y ∷ ys) rise = inserted_no_fall_at x y ys (cmp y x) refl rise (inserted_no_fall x ys rise.1)
+  falls_never : (xs : List A) → Rises cmp order xs → NeverFalls cmp xs
+  falls_never [] h = tt
+  falls_never (x ∷ xs) h = (
+    all_weakened (λ y. is_lt (cmp y x) ≡ false) (λ y. is_gt (cmp x y) ≡ false) xs (λ y e. ap is_gt (order.antisymm x y) ∙ turned (cmp y x) ∙ e) h.0,
+    falls_never xs h.1,
+  )
+    where
+      turned : (o : Ordering) → is_gt (ordering_reverse o) ≡ is_lt o
+      turned o = grind arith
 
   -- entries may compare as equal here
   pub rising_never_falls : (xs : List A) → NeverFalls cmp (rising_list cmp xs)
-  rising_never_falls [] = tt
-  rising_never_falls (x ∷ xs) = inserted_no_fall x (rising_list cmp xs) (rising_never_falls xs)
+  rising_never_falls xs = falls_never (rising_list cmp xs) (list_rises cmp order xs)
 
 -- ---- the position of an entry is how many entries are below it
 
@@ -193,3 +313,43 @@ rank_map f key cmp k xs = count_map f (λ b. is_lt (cmp (key b) k)) xs
 pub rank_by_at : {A K : Type 0} (key : A → K) (cmp : K → K → Ordering) → IsTotalOrder cmp → (xs : List A) (i : ℕ) (x : A) → IsDistinct (λ a b. eq_by_cmp cmp (key a) (key b)) xs
     → slice_get (rising_list (λ a b. cmp (key a) (key b)) xs) i ≡ Some x → length (filter (λ y. is_lt (cmp (key y) (key x))) xs) ≡ i
 rank_by_at key cmp order xs i x apart e = rank_at (on_total key order) xs i x apart e
+
+-- ---- the rank of a key among the keys of a list is the number of entries with lesser keys. Wherever entries have the keys, the ranks are in the order of the keys
+
+module _ {A : Type 0} (key : A → Option Key) (xs : List A) where
+  -- an entry has the key
+  pub record IsKeyOf (k : Key) : Type 0 where
+    pub owner : A
+    pub stands : In owner xs
+    pub keyed : key owner ≡ Some k
+
+  abbrev below : Key → A → Bool
+  below k x = is_lt (option_cmp key_cmp (key x) (Some k))
+
+  abbrev pub counted_rank : Key → ℕ
+  counted_rank k = length (filter (below k) xs)
+
+  below_later : (k l : Key) → key_cmp k l ≡ Less → (x : A) → below k x ≡ true → below l x ≡ true
+  below_later k l low x h = at (key x) h
+    where
+      at : (o : Option Key) → is_lt (option_cmp key_cmp o (Some k)) ≡ true → is_lt (option_cmp key_cmp o (Some l)) ≡ true
+      at None e = refl
+      at (Some j) e = ap is_lt (key_cmp_total.trans j k l (less (key_cmp j k) e) low)
+
+  rank_grows : (k l : Key) → IsKeyOf k → key_cmp k l ≡ Less → counted_rank k < counted_rank l
+  rank_grows k l has less =
+      more_pass (below k) (below l) (below_later k l less) has.owner xs
+      (ap (λ o. is_lt (option_cmp key_cmp o (Some k))) has.keyed ∙ ap is_lt (tied_itself key_cmp_total k))
+      (ap (λ o. is_lt (option_cmp key_cmp o (Some l))) has.keyed ∙ ap is_lt less)
+      has.stands
+
+  -- ranks compare as the keys do
+  pub counted_as_key : (k l : Key) → IsKeyOf k → IsKeyOf l → nat_cmp (counted_rank k) (counted_rank l) ≡ key_cmp k l
+  counted_as_key k l has other = at (key_cmp k l) refl
+    where
+      at : (o : Ordering) → key_cmp k l ≡ o → nat_cmp (counted_rank k) (counted_rank l) ≡ o
+      at Less is = at_less (counted_rank k) (counted_rank l) (rank_grows k l has is)
+      at Equal is = ap (λ x. nat_cmp (counted_rank k) (counted_rank x)) (sym (key_cmp_exact k l is)) ∙ tied_itself nat_cmp_total (counted_rank k)
+      at Greater is =
+          let turned : nat_cmp (counted_rank l) (counted_rank k) ≡ Less = at_less (counted_rank l) (counted_rank k) (rank_grows l k other (key_cmp_total.antisymm l k ∙ ap ordering_reverse is)) in
+          nat_cmp_total.antisymm (counted_rank k) (counted_rank l) ∙ ap ordering_reverse turned

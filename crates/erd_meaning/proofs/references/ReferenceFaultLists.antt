@@ -36,12 +36,12 @@ last_steps_of_entry q i = ap (λ n. drop n (entry_place q i)) (two_less q i) ∙
 -- ---- the reasons at one place
 
 -- what is asked there is a selection of another contest than that of the object
-abbrev pub is_elsewhere : Data → List Step → Asked → Bool
-is_elsewhere t p a = option_map_or (λ contest. is_other_selection t contest.value a.want a.value) (asked_at t (outer_place p)) false
+abbrev pub stands_elsewhere : Data → List Step → Asked → Bool
+stands_elsewhere t p a = option_map_or (λ contest. is_other_selection t contest.value a.want a.value) (asked_at t (outer_place p)) false
 
 -- whether a reference has a fault, by what is asked of it and of the object of its list
 abbrev pub has_reference_reason : Data → List Step → Asked → Reason → Bool
-has_reference_reason t p a SelectionOfOtherContest = are_entry_steps (last_steps p) && is_elsewhere t p a
+has_reference_reason t p a SelectionOfOtherContest = are_entry_steps (last_steps p) && stands_elsewhere t p a
 has_reference_reason t p a r = is_reference_fault t a r
 
 abbrev pub reference_reasons : List Reason
@@ -63,7 +63,7 @@ object_from P (Some a) h = (a, refl, h)
 
 other_contest : (t : Data) (p : List Step) (a : Asked) → asked_at t p ≡ Some a → has_reference_reason t p a SelectionOfOtherContest ≡ true → NamesOtherContest t p
 other_contest t p a e h =
-    let both = and_parts (are_entry_steps (last_steps p)) (is_elsewhere t p a) h in
+    let both = and_parts (are_entry_steps (last_steps p)) (stands_elsewhere t p a) h in
     let entry = entry_place_from p both.0 in
     let object = object_from (λ contest. is_other_selection t contest.value a.want a.value) (asked_at t (outer_place p)) both.1 in
     record {
@@ -101,8 +101,8 @@ other_kept : (t : Data) (p : List Step) → NamesOtherContest t p → HasReason 
 other_kept t p h =
     let steps : are_entry_steps (last_steps p) ≡ true = ap (λ q. are_entry_steps (last_steps q)) h.place ∙ ap are_entry_steps (last_steps_of_entry h.object_place h.position) in
     let object : outer_place p ≡ h.object_place = ap outer_place h.place ∙ outer_place_entry h.object_place h.position in
-    let elsewhere : is_elsewhere t p h.entry ≡ true = rw (object, h.ordered_contest_stands) h.elsewhere in
-    (h.entry, h.entry_stands, kept t p SelectionOfOtherContest h.entry (inr (inr (inr (inl refl)))) (and_from (are_entry_steps (last_steps p)) (is_elsewhere t p h.entry) steps elsewhere))
+    let elsewhere : stands_elsewhere t p h.entry ≡ true = rw (object, h.ordered_contest_stands) h.elsewhere in
+    (h.entry, h.entry_stands, kept t p SelectionOfOtherContest h.entry (inr (inr (inr (inl refl)))) (and_from (are_entry_steps (last_steps p)) (stands_elsewhere t p h.entry) steps elsewhere))
 
 pub reason_of_fault : (t : Data) (p : List Step) (r : Reason) → ReferenceFault t p r → HasReason t p r
 reason_of_fault t p SelectionOfOtherContest h = other_kept t p h

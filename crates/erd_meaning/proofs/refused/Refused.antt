@@ -3,9 +3,9 @@ use Rattle.erd_meaning.proofs.Common.{◌≡◌, ◌≢◌, List, [], ◌∷◌,
 use Rattle.erd_check.specs.declared.error.CheckError.{CheckError}
 use Rattle.erd_check.specs.declared.error.CheckError.TheVariants.{Faults, Memory}
 use Rattle.erd_meaning.proofs.identity.IdentityFaults.{identity_listed, identity_told}
-use Rattle.erd_meaning.proofs.accepted.Phases.{accepted_by_phases}
-use Rattle.erd_meaning.proofs.references.SelectionEntries.{reference_faults, reference_faults_listed}
-use Rattle.erd_meaning.proofs.selections.SelectionFaults.{selections_listed, selections_told}
+use Rattle.erd_meaning.proofs.accepted.Standing.{accepted_by_phases}
+use Rattle.erd_meaning.proofs.references.ReferenceWalks.{reference_faults, reference_faults_listed}
+use Rattle.erd_meaning.proofs.selections.NamesTold.{selections_listed, selections_told}
 
 -- ---- the list of all faults by the first phase that has any
 

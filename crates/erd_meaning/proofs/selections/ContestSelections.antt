@@ -1,10 +1,127 @@
--- The selections of a contest stand one after another among those of the report, after as many as the contests before have. They
--- begin after the last selection up to which no more contests stand than before the contest.
-use Rattle.erd_meaning.proofs.Common.{◌≡◌, ℕ, zero, suc, ◌+◌, ◌<◌, ◌≤◌, Bool, true, false, cond, leb, ◌⊎◌, List, [], ◌∷◌, ◌++◌, map, length, get_or as slice_index_or, take, ◌==◌, slice_get, Some, None, Option, flat_map, option_and_then, sym, refl, ap, ◌∙◌, subst, ap₂, inl, inr, ⊎_elim, true≢false, append_assoc, append-nil, arith, length-append, get_or-append-add, le-leb, Decides-eqb, leb_tells, length-map, get_or_append_left, AllByRecursion, IsNonDecreasingBy, ⊤, Data, family_number, family, selections_before, Placed, contests, selections_of_contest, numbered_selections_of, numbered_selections, contests_before, IsStart, is_of_family, Kept, numbered_from, if_of_contest, StandFrom}
-use Rattle.erd_meaning.proofs.identity.ObjectFamilies.{itself}
-use Rattle.erd_meaning.proofs.selections.ListParts.{get_first, get_later, within_or_after}
+-- The selections of a contest stand one after another among those of the report, after those of the contests before.
+use Rattle.erd_meaning.proofs.Common.{◌≡◌, ℕ, zero, suc, ◌+◌, ◌<◌, ◌⊎◌, List, [], ◌∷◌, ◌++◌, length, slice_get, refl, ap, inl, inr, ⊎_elim, arith, Bool, false, map, ◌==◌, codes, flat_map, sym, ◌∙◌, ap₂, append_assoc, append-nil, length-append, map-append, filter_map-append, Data, family_number, Family, family, Preference, Placed, placed_entries, report_of, elections, contests, selections_of_contest, has_several, numbered_selections_of, numbered_selections, contests_before, Kept, Located, located, contest_located, inside_election, election_located, shared_located, object_met, objects_among, kept_objects, numbered_from, ◌≤◌, true, cond, leb, get_or as slice_index_or, take, Some, None, Option, option_and_then, subst, true≢false, get_or-append-add, le-leb, Decides-eqb, leb_tells, length-map, get_or_append_left, AllByRecursion, IsNonDecreasingBy, ⊤, selections_before, IsStart, is_of_family, if_of_contest, StandFrom, false_from_ne_true}
 use Rattle.erd_meaning.proofs.selections.NamesTold.{Numbered}
-use Rattle.erd_meaning.proofs.selections.NumberedObjects.{counts_of, counts_of-append}
+use Rattle.erd_meaning.proofs.identity.ObjectFamilies.{itself}
+
+-- the positions of the first of two lists
+pub get_first : {A : Type 0} (xs ys : List A) (i : ℕ) → i < length xs → slice_get (xs ++ ys) i ≡ slice_get xs i
+get_first [] ys i low = absurd (omega arith)
+get_first (x ∷ xs) ys zero low = refl
+get_first (x ∷ xs) ys (suc i) low = get_first xs ys i (omega arith)
+
+-- the positions of the second
+pub get_later : {A : Type 0} (xs ys : List A) (i m : ℕ) → i ≡ length xs + m → slice_get (xs ++ ys) i ≡ slice_get ys m
+get_later [] ys i m e = let same : i ≡ m = omega arith in ap (slice_get ys) same
+get_later (x ∷ xs) ys zero m e = absurd (omega arith)
+get_later (x ∷ xs) ys (suc i) m e = get_later xs ys i m (omega arith)
+
+-- a position in a list of this length, or so far after it
+pub within_or_after : (n i : ℕ) → (i < n) ⊎ ((m : ℕ) × (i ≡ n + m))
+within_or_after zero i = let same : i ≡ 0 + i = omega arith in inr (i, same)
+within_or_after (suc n) zero = inl (omega arith)
+within_or_after (suc n) (suc i) =
+    ⊎_elim (λ (low : i < n). inl (omega arith)) (λ (r : (m : ℕ) × (i ≡ n + m)). let e : i ≡ n + r.0 = r.1 in let later : suc i ≡ suc n + r.0 = omega arith in inr (r.0, later)) (within_or_after n i)
+
+-- ---- how many contests stand before each selection that is kept of a report is the number of its contest and one
+
+-- what is kept of objects at their places
+abbrev objects_of : List Located → List Kept
+objects_of xs = objects_among (map (λ x. x.met) xs)
+
+objects_of-append : (xs ys : List Located) → objects_of (xs ++ ys) ≡ objects_of xs ++ objects_of ys
+objects_of-append xs ys = ap objects_among (map-append (λ (x : Located). x.met) xs ys) ∙ filter_map-append object_met (map (λ x. x.met) xs) (map (λ x. x.met) ys)
+
+-- how many contests there are up to those of the selections
+abbrev pub counts_of : List Numbered → List ℕ
+counts_of ss = map {A = Numbered} (λ s. s.0 + 1) ss
+
+-- these objects stand first: what is noted of them, and how many contests have been met after them
+abbrev Counts : List Located → ℕ → List ℕ → ℕ → Type 0
+Counts xs n noted m = (ks : List Kept) → contests_before n (objects_of xs ++ ks) ≡ noted ++ contests_before m ks
+
+counts-append : (xs ys : List Located) (n m l : ℕ) (a b : List ℕ) → Counts xs n a m → Counts ys m b l → Counts (xs ++ ys) n (a ++ b) l
+counts-append xs ys n m l a b first later ks =
+    ap (λ zs. contests_before n (zs ++ ks)) (objects_of-append xs ys) ∙ ap (contests_before n) (append_assoc (objects_of xs) (objects_of ys) ks)
+    ∙ first (objects_of ys ++ ks) ∙ ap (λ ns. a ++ ns) (later ks) ∙ sym (append_assoc a b (contests_before l ks))
+
+-- ---- objects of one family
+
+passed : (π : Preference) (f : Family) → (family_number f == family_number family.Selection) ≡ false → (family_number f == family_number family.Contest) ≡ false
+    → (os : List Placed) (n : ℕ) → Counts (located π f os) n [] n
+passed π f s c [] n ks = refl
+passed π f s c (o ∷ os) n ks = rw (s, c) (passed π f s c os n ks)
+
+selections_counted : (π : Preference) (k : ℕ) (os : List Placed) → Counts (located π family.Selection os) (k + 1) (counts_of (map {B = Numbered} (λ o. (k, o)) os)) (k + 1)
+selections_counted π k [] ks = refl
+selections_counted π k (o ∷ os) ks = ap (λ ns. (k + 1) ∷ ns) (selections_counted π k os ks)
+
+-- ---- contests
+
+contest_counted : (π : Preference) (k : ℕ) (o : Placed) → Counts (contest_located π o) k (counts_of (numbered_selections_of (k, o))) (k + 1)
+contest_counted π k o ks = selections_counted π k (selections_of_contest o) ks
+
+pub counts_of-append : (ss rs : List Numbered) → counts_of (ss ++ rs) ≡ counts_of ss ++ counts_of rs
+counts_of-append ss rs = map-append {A = Numbered} (λ s. s.0 + 1) ss rs
+
+contests_counted : (π : Preference) (k : ℕ) (os : List Placed) → Counts (flat_map (contest_located π) os) k (counts_of (numbered_from k os)) (k + length os)
+contests_counted π k [] ks = let none : k ≡ k + 0 = omega arith in ap (λ n. contests_before n ks) none
+contests_counted π k (o ∷ os) ks =
+    let next : k + 1 + length os ≡ k + length (o ∷ os) = omega arith in
+    counts-append (contest_located π o) (flat_map (contest_located π) os) k (k + 1) (k + 1 + length os) (counts_of (numbered_selections_of (k, o))) (counts_of (numbered_from (k + 1) os))
+    (contest_counted π k o) (contests_counted π (k + 1) os) ks
+    ∙ ap₂ (λ ns m. ns ++ contests_before m ks) (sym (counts_of-append (numbered_selections_of (k, o)) (numbered_from (k + 1) os))) next
+
+-- ---- elections
+
+abbrev contests_of : Placed → List Placed
+contests_of e = placed_entries (codes "Contest") e
+
+election_counted : (π : Preference) (k : ℕ) (e : Placed) → Counts (inside_election π e) k (counts_of (numbered_from k (contests_of e))) (k + length (contests_of e))
+election_counted π k e =
+    let styles = placed_entries (codes "BallotStyle") e in
+    let candidates = placed_entries (codes "Candidate") e in
+    counts-append (located π family.Style styles) (located π family.Candidate candidates ++ flat_map (contest_located π) (contests_of e)) k k (k + length (contests_of e)) [] (counts_of (numbered_from k (contests_of e)))
+    (passed π family.Style refl refl styles k)
+    (counts-append (located π family.Candidate candidates) (flat_map (contest_located π) (contests_of e)) k k (k + length (contests_of e)) [] (counts_of (numbered_from k (contests_of e)))
+    (passed π family.Candidate refl refl candidates k) (contests_counted π k (contests_of e)))
+
+pub numbered_from-append : (k : ℕ) (os ps : List Placed) → numbered_from k (os ++ ps) ≡ numbered_from k os ++ numbered_from (k + length os) ps
+numbered_from-append k [] ps = let none : k ≡ k + 0 = omega arith in ap (λ n. numbered_from n ps) none
+numbered_from-append k (o ∷ os) ps =
+    let next : k + 1 + length os ≡ k + length (o ∷ os) = omega arith in
+    ap (λ ss. numbered_selections_of (k, o) ++ ss) (numbered_from-append (k + 1) os ps ∙ ap (λ n. numbered_from (k + 1) os ++ numbered_from n ps) next)
+    ∙ sym (append_assoc {A = Numbered} (numbered_selections_of (k, o)) (numbered_from (k + 1) os) (numbered_from (k + length (o ∷ os)) ps))
+
+elections_counted : (π : Preference) (b : Bool) (k : ℕ) (es : List Placed)
+    → Counts (flat_map (election_located π b) es) k (counts_of (numbered_from k (flat_map contests_of es))) (k + length (flat_map contests_of es))
+elections_counted π b k [] ks = let none : k ≡ k + 0 = omega arith in ap (λ n. contests_before n ks) none
+elections_counted π b k (e ∷ es) ks =
+    let here = contests_of e in
+    let later = flat_map contests_of es in
+    let all : k + length here + length later ≡ k + length (here ++ later) = omega (arith, length-append {A = Placed}) in
+    counts-append (election_located π b e) (flat_map (election_located π b) es) k (k + length here) (k + length here + length later) (counts_of (numbered_from k here)) (counts_of (numbered_from (k + length here) later))
+    (election_counted π k e) (elections_counted π b (k + length here) es) ks
+    ∙ ap₂ (λ ns m. ns ++ contests_before m ks)
+    (sym (ap counts_of (numbered_from-append k here later) ∙ counts_of-append (numbered_from k here) (numbered_from (k + length here) later))) all
+
+-- ---- the report
+
+shared_counted : (π : Preference) (n : ℕ) (r : Placed) → Counts (shared_located π r) n [] n
+shared_counted π n r =
+    let at = λ (name : List ℕ). placed_entries name r in
+    counts-append (located π family.Unit (at (codes "GpUnit"))) _ n n n [] [] (passed π family.Unit refl refl (at (codes "GpUnit")) n)
+    (counts-append (located π family.Header (at (codes "Header"))) _ n n n [] [] (passed π family.Header refl refl (at (codes "Header")) n)
+    (counts-append (located π family.Office (at (codes "Office"))) _ n n n [] [] (passed π family.Office refl refl (at (codes "Office")) n)
+    (counts-append (located π family.Party (at (codes "Party"))) (located π family.Person (at (codes "Person"))) n n n [] []
+    (passed π family.Party refl refl (at (codes "Party")) n) (passed π family.Person refl refl (at (codes "Person")) n))))
+
+pub contests_counted_in : (π : Preference) (t : Data) → contests_before 0 (kept_objects π t) ≡ counts_of (numbered_selections t)
+contests_counted_in π t =
+    let n = 0 + length (contests t) in
+    ap (contests_before 0) (sym (append-nil (kept_objects π t)))
+    ∙ counts-append (flat_map (election_located π (has_several t)) (elections t)) (shared_located π (report_of t)) 0 n n (counts_of (numbered_selections t)) []
+    (elections_counted π (has_several t) 0 (elections t)) (shared_counted π n (report_of t)) []
+    ∙ ap (λ ns. ns ++ []) (append-nil (counts_of (numbered_selections t))) ∙ append-nil (counts_of (numbered_selections t))
 
 -- ---- the numbers of contests rise
 
@@ -186,11 +303,7 @@ module _ (k r : ℕ) (ss rs : List Numbered) (start : IsStart (counts_of ss ++ c
 -- ---- what stands there
 
 not_same : (m n : ℕ) → n < m → (m == n) ≡ false
-not_same m n less = at (m == n) refl
-  where
-    at : (b : Bool) → (m == n) ≡ b → b ≡ false
-    at true e = let same : m ≡ n = (Decides-eqb m n).0 e in absurd (omega arith)
-    at false e = refl
+not_same m n less = false_from_ne_true (m == n) (λ e. let same : m ≡ n = (Decides-eqb m n).0 e in omega arith)
 
 none_of_later : (k : ℕ) (ss : List Numbered) (i : ℕ) → AllByRecursion {X = Numbered} (λ s. k < s.0) ss → option_and_then (if_of_contest k) (slice_get ss i) ≡ None
 none_of_later k [] i h = refl

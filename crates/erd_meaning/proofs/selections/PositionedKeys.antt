@@ -1,8 +1,7 @@
 -- Keys with their positions: one more, in rising order, and those of a family with their ranks.
-use Rattle.erd_meaning.proofs.Common.{◌≡◌, ℕ, zero, suc, ◌+◌, ◌<◌, Bool, true, false, cond, List, [], ◌∷◌, ◌++◌, map, length, take, slice_get, Some, None, filter, Option, option_map, option_and_then, option_copied, is_lt, Ordering, sym, refl, ap, ◌∙◌, ap₂, inl, inr, arith, length-take, Bor, map-append, length-map, take_more, slice_get-map, get_or_from_slice_get, map-map, AllByRecursion, IsDistinct, enumerate_from, option_cmp, eq_by_cmp, Data, Family, In, all_weakened, key_cmp, Preference, key_of_family_object, rising_keys, Placed, objects, rising_list, positioned, seen_keys, keys_seen, lent_key_cmp, rank_in_keys, family_keys, IsOrder, those_of, Kept, AreRanks, key_at_among, rising_keys_among, Key, Order}
+use Rattle.erd_meaning.proofs.Common.{◌≡◌, ℕ, zero, suc, ◌+◌, ◌<◌, Bool, false, List, [], ◌∷◌, ◌++◌, map, length, take, slice_get, Some, filter, Option, option_and_then, option_copied, is_lt, Ordering, sym, refl, ap, ◌∙◌, ap₂, inl, inr, arith, length-take, Bor, map-append, take_more, slice_get-map, get_or_from_slice_get, map-map, AllByRecursion, IsDistinct, enumerate_from, option_cmp, eq_by_cmp, Data, Family, In, all_weakened, key_cmp, Preference, key_of_family_object, rising_keys, Placed, objects, rising_list, positioned, seen_keys, keys_seen, lent_key_cmp, rank_in_keys, family_keys, IsOrder, those_of, Kept, AreRanks, key_at_among, rising_keys_among, Key, Order, cases_Bool, option_map-Some}
 use Rattle.erd_meaning.proofs.finding.OneObject.{at_low}
-use Rattle.erd_meaning.proofs.orders.Counted.{count_map}
-use Rattle.erd_meaning.proofs.orders.RisingOrders.{all_rising}
+use Rattle.erd_meaning.proofs.orders.RisingOrders.{count_map, all_rising}
 use Rattle.erd_meaning.proofs.orders.RisingLists.{by_first, rising_list_map}
 use Rattle.erd_meaning.proofs.selections.RankedKeys.{copied_cmp}
 
@@ -35,12 +34,7 @@ positioned_keys i (k ∷ ks) = ap (λ ls. k ∷ ls) (positioned_keys (i + 1) ks)
 -- as many pass a test
 pub count_positioned : {K : Type 0} (test : K → Bool) (i : ℕ) (ks : List K) → length (filter (λ (p : K × ℕ). test p.0) (positioned i ks)) ≡ length (filter test ks)
 count_positioned test i [] = refl
-count_positioned {K} test i (k ∷ ks) = at (test k) (count_positioned test (i + 1) ks)
-  where
-    at : (b : Bool) → length (filter (λ (p : K × ℕ). test p.0) (positioned (i + 1) ks)) ≡ length (filter test ks)
-        → length (cond b ((k, i) ∷ filter (λ (p : K × ℕ). test p.0) (positioned (i + 1) ks)) (filter (λ (p : K × ℕ). test p.0) (positioned (i + 1) ks))) ≡ length (cond b (k ∷ filter test ks) (filter test ks))
-    at true h = ap suc h
-    at false h = h
+count_positioned test i (k ∷ ks) = elim (cases_Bool (test k)) [ inl is ↦ rw is (ap suc (count_positioned test (i + 1) ks)) | inr is ↦ rw is (count_positioned test (i + 1) ks) ]
 
 -- each key stands at its position
 pub all_positioned : {K : Type 0} (all ks : List K) (i : ℕ) → ((j : ℕ) → slice_get ks j ≡ slice_get all (i + j)) → AllByRecursion (λ (p : K × ℕ). slice_get all p.1 ≡ Some p.0) (positioned i ks)
@@ -135,11 +129,9 @@ rising_seen keys =
 
 module _ (ks : List Kept) (f : Family) where
   key_there : (i : ℕ) (key : Option Key) → slice_get (family_keys ks f) i ≡ Some key → key ≡ key_at_among ks f i
-  key_there i key e = at (slice_get (those_of f ks) i) (sym (slice_get-map (λ (k : Kept). k.key) (those_of f ks) i) ∙ e)
-    where
-      at : (o : Option Kept) → option_map (λ (k : Kept). k.key) o ≡ Some key → key ≡ option_and_then (λ (k : Kept). k.key) o
-      at None e = cc
-      at (Some k) e = let same : k.key ≡ key = cc in sym same
+  key_there i key e =
+      let r = option_map-Some (λ (k : Kept). k.key) (slice_get (those_of f ks) i) key (sym (slice_get-map (λ (k : Kept). k.key) (those_of f ks) i) ∙ e) in
+      sym r.2 ∙ sym (ap (option_and_then (λ (k : Kept). k.key)) r.1)
 
   -- each key is that of the object at its position
   pub each_there : AllByRecursion (λ (p : KeyPosition). p.0 ≡ key_at_among ks f p.1) (rising_keys_among ks f)

@@ -1,11 +1,9 @@
 -- The ranks of keys are in the order of the keys, wherever objects of the family have the keys. The keys in the name of a
 -- selection are those of objects.
-use Rattle.erd_meaning.proofs.Common.{◌≡◌, ℕ, Bool, true, false, cond, List, [], ◌∷◌, map, is_some, slice_get, Some, None, codes, Option, option_map, position, find, option_and_then, option_copied, nat_cmp, is_eq, sym, refl, ap, ◌∙◌, subst, inl, inr, Bor, and_parts, and_from, tied_itself, on_total, slice_get-map, IsTotalOrder, options_total, AllByRecursion, cons_option, list_all, option_cmp, Data, as_str, Class, class, Family, family, In, entries_at, class_of_object, key_cmp, Preference, key_of, NameParts, family_chosen, RankedParts, rising_list, is_write_in, order_of_selection, label_of_selection, selection_role, lent_key_cmp, key_among, keys_among, selection_keys_among, class_name_among, name_among, rank, number_of_key, is_of_family, those_of, is_keyed, keeps_id, Kept, same_key, key_cmp_total, rank_among, AreRanks, ranked_key, is_key_among, ranked_parts, ranked_name_among, has_keys_among, IsRanked, Key}
-use Rattle.erd_meaning.proofs.finding.Lookups.{ranked}
-use Rattle.erd_meaning.proofs.finding.OneObject.{hit, in_at, missed}
+use Rattle.erd_meaning.proofs.Common.{◌≡◌, ℕ, Bool, true, false, cond, List, [], ◌∷◌, map, is_some, slice_get, Some, None, codes, Option, option_map, position, find, option_and_then, option_copied, nat_cmp, is_eq, sym, refl, ap, ◌∙◌, subst, inl, inr, Bor, and_parts, and_from, tied_itself, on_total, slice_get-map, IsTotalOrder, options_total, AllByRecursion, cons_option, list_all, option_cmp, Data, as_str, Class, class, Family, family, In, entries_at, class_of_object, key_cmp, Preference, key_of, NameParts, family_chosen, RankedParts, rising_list, is_write_in, order_of_selection, label_of_selection, selection_role, lent_key_cmp, key_among, keys_among, selection_keys_among, class_name_among, name_among, rank, number_of_key, is_of_family, those_of, is_keyed, keeps_id, Kept, same_key, key_cmp_total, rank_among, AreRanks, ranked_key, is_key_among, ranked_parts, ranked_name_among, has_keys_among, IsRanked, Key, cases_Bool, arith, and_then-Some, option_map-Some, some_from, in_at}
+use Rattle.erd_meaning.proofs.finding.OneObject.{ranked, hit, missed}
 use Rattle.erd_meaning.proofs.identity.IdentityFaults.{same_key_from}
-use Rattle.erd_meaning.proofs.orders.CountedKeys.{IsKeyOf, counted_as_key}
-use Rattle.erd_meaning.proofs.orders.RisingOrders.{all_rising, rising_alike}
+use Rattle.erd_meaning.proofs.orders.RisingOrders.{IsKeyOf, counted_as_key, all_rising, rising_alike}
 use Rattle.erd_meaning.proofs.orders.RisingLists.{rising_list_map}
 
 -- the order of borrowed keys
@@ -13,10 +11,7 @@ pub lent_key_cmp_total : IsTotalOrder lent_key_cmp
 lent_key_cmp_total = options_total (on_total (λ k. k.now) key_cmp_total)
 
 pub copied_cmp : (k l : Option (Bor Key)) → lent_key_cmp k l ≡ option_cmp key_cmp (option_copied k) (option_copied l)
-copied_cmp None None = refl
-copied_cmp None (Some l) = refl
-copied_cmp (Some k) None = refl
-copied_cmp (Some k) (Some l) = refl
+copied_cmp k l = grind arith
 
 -- what holds of each entry, as a test
 pub all_pass : {A : Type 0} (test : A → Bool) (xs : List A) → AllByRecursion (λ x. test x ≡ true) xs → list_all test xs ≡ true
@@ -29,11 +24,7 @@ each_passes test (x ∷ xs) h = let both = and_parts (test x) (list_all test xs)
 
 found_in : {A : Type 0} (test : A → Bool) (xs : List A) (x : A) → find test xs ≡ Some x → In x xs
 found_in test [] x e = cc
-found_in {A} test (y ∷ ys) x e = at (test y) e (found_in test ys x)
-  where
-    at : (b : Bool) → cond b (Some y) (find test ys) ≡ Some x → (find test ys ≡ Some x → In x ys) → In x (y ∷ ys)
-    at true h more = let same : y ≡ x = cc in inl same
-    at false h more = inr (more h)
+found_in test (y ∷ ys) x e = elim (cases_Bool (test y)) [ inl is ↦ (let h : Some y ≡ Some x = rw is at e in let same : y ≡ x = cc in inl same) | inr is ↦ inr (found_in test ys x (rw is at e)) ]
 
 module _ (ks : List Kept) (f : Family) where
   -- ---- keys of objects
@@ -49,23 +40,15 @@ module _ (ks : List Kept) (f : Family) where
   IsKeyAmong key = is_key_among ks f key ≡ true
 
   pub key_at_number : (key : Key) (i : ℕ) → number_of_key ks f key ≡ Some i → IsKeyAt key i
-  key_at_number key i e = at (position (is_keyed f key) ks) refl e
-    where
-      at : (o : Option ℕ) → position (is_keyed f key) ks ≡ o → option_map (rank f ks) o ≡ Some i → IsKeyAt key i
-      at None is h = cc
-      at (Some n) is h =
-          let there = hit (is_keyed f key) ks n is in
-          let both = and_parts (is_of_family f there.one) (same_key there.one.key (Some key)) there.passes in
-          let same = same_key_from there.one.key (Some key) both.1 in
-          let number : rank f ks n ≡ i = cc in
-          record { owner = there.one; place = ap (slice_get (those_of f ks)) (sym number) ∙ ranked f ks n there.one there.at both.0; keyed = same.1 ∙ sym same.2 }
+  key_at_number key i e =
+      let r = option_map-Some (rank f ks) (position (is_keyed f key) ks) i e in
+      let there = hit (is_keyed f key) ks r.0 r.1 in
+      let both = and_parts (is_of_family f there.one) (same_key there.one.key (Some key)) there.passes in
+      let same = same_key_from there.one.key (Some key) both.1 in
+      record { owner = there.one; place = ap (slice_get (those_of f ks)) (sym r.2) ∙ ranked f ks r.0 there.one there.at both.0; keyed = same.1 ∙ sym same.2 }
 
   key_at : (key : Key) → IsKeyAmong key → (i : ℕ) × IsKeyAt key i
-  key_at key h = at (number_of_key ks f key) refl h
-    where
-      at : (o : Option ℕ) → number_of_key ks f key ≡ o → is_some o ≡ true → (i : ℕ) × IsKeyAt key i
-      at None is e = cc
-      at (Some i) is e = (i, key_at_number key i is)
+  key_at key h = let r = some_from (number_of_key ks f key) h in (r.0, key_at_number key r.0 r.1)
 
   -- ---- ranks
 
@@ -88,11 +71,9 @@ module _ (ks : List Kept) (f : Family) where
   pub rank_there : (key : Key) (i : ℕ) (ranks : List ℕ) → AreRanks ks f ranks → option_and_then (λ k. k.key) (slice_get (those_of f ks) i) ≡ Some key
       → slice_get ranks i ≡ Some (rank_among ks f (Some key))
   rank_there key i ranks are keyed =
-      ap (λ ns. slice_get ns i) are ∙ slice_get-map (λ (k : Kept). rank_among ks f k.key) (those_of f ks) i ∙ at (slice_get (those_of f ks) i) keyed
-    where
-      at : (o : Option Kept) → option_and_then (λ (k : Kept). k.key) o ≡ Some key → option_map (λ (k : Kept). rank_among ks f k.key) o ≡ Some (rank_among ks f (Some key))
-      at None e = cc
-      at (Some k) e = ap (λ o. Some (rank_among ks f o)) e
+      let r = and_then-Some (λ (k : Kept). k.key) (slice_get (those_of f ks) i) key keyed in
+      ap (λ ns. slice_get ns i) are ∙ slice_get-map (λ (k : Kept). rank_among ks f k.key) (those_of f ks) i
+      ∙ ap (option_map (λ (k : Kept). rank_among ks f k.key)) r.1 ∙ ap (λ o. Some (rank_among ks f o)) r.2
 
   -- and at that which is found by a key
   pub rank_found : (key : Key) (i : ℕ) (ranks : List ℕ) → AreRanks ks f ranks → number_of_key ks f key ≡ Some i
@@ -151,16 +132,11 @@ module _ (ks : List Kept) where
 
   -- a name that is made with the ranks of its keys
   pub made_ranked : (π : Preference) (d : Data) (n : NameParts) → name_among π ks d ≡ Some n → IsRanked ks (ranked_parts ks n)
-  made_ranked π d n e = at (class_of_object selection_role d) e
-    where
-      at : (o : Option Class) → option_map (λ c. class_name_among π ks c d) o ≡ Some n → IsRanked ks (ranked_parts ks n)
-      at None h = cc
-      at (Some c) h =
-          let same : class_name_among π ks c d ≡ n = cc in
-          let known : has_keys_among ks (class_name_among π ks c d) ≡ true =
-          all_pass (is_key_among ks (family_chosen c)) (rising_list key_cmp (selection_keys_among ks c d))
-          (all_rising (IsKeyAmong ks (family_chosen c)) key_cmp (selection_keys_among ks c d) (chosen_known c d)) in
-          record { ranks = refl; known = sym (ap (has_keys_among ks) same) ∙ known }
+  made_ranked π d n e =
+      let r = option_map-Some (λ c. class_name_among π ks c d) (class_of_object selection_role d) n e in
+      let f = family_chosen r.0 in
+      let chosen = all_rising (IsKeyAmong ks f) key_cmp (selection_keys_among ks r.0 d) (chosen_known r.0 d) in
+      record { ranks = refl; known = sym (ap (has_keys_among ks) r.2) ∙ all_pass (is_key_among ks f) (rising_list key_cmp (selection_keys_among ks r.0 d)) chosen }
 
   -- the name that is made of a selection, with the ranks of its keys
   pub ranked_selection : (π : Preference) (d : Data) (c : Class) (chosen : List (ℕ × Key)) (r : RankedParts) → class_of_object selection_role d ≡ Some c
@@ -184,10 +160,6 @@ module _ (ks : List Kept) where
 
   -- a name that is found with ranks
   pub ranked_name_is : (π : Preference) (d : Data) (r : RankedParts) → ranked_name_among π ks d ≡ Some r → IsRanked ks r × (name_among π ks d ≡ Some r.name)
-  ranked_name_is π d r e = at (name_among π ks d) refl e
-    where
-      at : (o : Option NameParts) → name_among π ks d ≡ o → option_map (ranked_parts ks) o ≡ Some r → IsRanked ks r × (name_among π ks d ≡ Some r.name)
-      at None is h = cc
-      at (Some n) is h =
-          let same : ranked_parts ks n ≡ r = cc in
-          (subst (IsRanked ks) same (made_ranked π d n is), is ∙ ap (λ (q : RankedParts). Some q.name) same)
+  ranked_name_is π d r e =
+      let n = option_map-Some (ranked_parts ks) (name_among π ks d) r e in
+      (subst (IsRanked ks) n.2 (made_ranked π d n.0 n.1), n.1 ∙ ap (λ (q : RankedParts). Some q.name) n.2)

@@ -1,10 +1,25 @@
 -- The tests by which an index of names with ranks is asked are those of the names.
-use Rattle.erd_meaning.proofs.Common.{◌≡◌, ℕ, suc, ◌+◌, ◌<◌, ◌≤◌, Bool, true, false, cond, ◌&&◌, ◌||◌, List, [], ◌∷◌, ◌++◌, map, length, get_or, drop, if◌then◌else◌, ◌==◌, Some, position, flat_map, nat_cmp, is_eq, Ordering, Less, Equal, Greater, sym, refl, ap, ◌∙◌, subst, ap₂, arith, and_parts, Decides-eqb, tied_itself, nat_cmp_total, lists_total, position_from-zero, length-map, at_drop_more, at_drop_all, exact_unsigned, Equal-is, both_ways, slice_cmp, HashWrites, str, usize, list_all, list_any, position_from, eq_by_cmp, ordering_then, text_of_class, Class, Family, In, In-all, after_keys_writes, key_cmp, NameParts, without_keys, numbered_parts, numbered_name_cmp, family_chosen, RankedParts, PlacedName, ranked_name_cmp, ranked_name_writes, class_cmp, name_cmp, Kept, classes_exact, rank_among, is_key_among, fed_rank, ranked_parts, has_keys_among, names_of, are_ranks_of, is_sought, AllAreRanked, IsRanked, NumberedName, is_selection_named, is_taken, added_name, Key}
+use Rattle.erd_meaning.proofs.Common.{◌≡◌, ℕ, Bool, true, ◌&&◌, ◌∷◌, ◌++◌, ◌==◌, is_eq, ap, ◌∙◌, tied_itself, Equal-is, both_ways, NameParts, name_cmp, name_cmp_total, name_cmp_exact, NumberedName, is_selection_named, suc, ◌+◌, ◌<◌, ◌≤◌, false, cond, ◌||◌, List, [], map, length, get_or, drop, if◌then◌else◌, Some, position, flat_map, nat_cmp, Ordering, Equal, sym, refl, subst, ap₂, arith, and_parts, Decides-eqb, nat_cmp_total, lists_total, position_from-zero, length-map, at_drop_more, at_drop_all, exact_unsigned, slice_cmp, HashWrites, str, usize, list_all, list_any, position_from, eq_by_cmp, ordering_then, text_of_class, Class, Family, In, In-all, after_keys_writes, key_cmp, without_keys, numbered_parts, numbered_name_cmp, family_chosen, RankedParts, PlacedName, ranked_name_cmp, ranked_name_writes, class_cmp, Kept, classes_exact, rank_among, is_key_among, fed_rank, ranked_parts, has_keys_among, names_of, are_ranks_of, is_sought, AllAreRanked, IsRanked, is_taken, added_name, Key, and-false, cond_both}
+use Rattle.erd_meaning.proofs.finding.Known.{number_swap}
 use Rattle.erd_meaning.specs.code.NumberedOrders.{numbered_as_named, numbers_as_keys}
 use Rattle.erd_meaning.specs.code.RankedOrders.{equal_ranked_alike}
-use Rattle.erd_meaning.proofs.selections.NameTests.{name_test}
 use Rattle.erd_meaning.proofs.selections.NamesTold.{is_named_from}
 use Rattle.erd_meaning.proofs.selections.RankedKeys.{each_passes, rank_as_key}
+
+names_one_way : (m n : NameParts) → is_eq (name_cmp m n) ≡ true → is_eq (name_cmp n m) ≡ true
+names_one_way m n h =
+    let same : m ≡ n = name_cmp_exact m n ((Equal-is (name_cmp m n)).0 h) in
+    ap (λ o. is_eq (name_cmp n o)) same ∙ ap is_eq (tied_itself name_cmp_total n)
+
+names_swap : (m n : NameParts) → is_eq (name_cmp m n) ≡ is_eq (name_cmp n m)
+names_swap m n = both_ways (is_eq (name_cmp m n)) (is_eq (name_cmp n m)) (names_one_way m n) (names_one_way n m)
+
+-- the same contest and the same name, as an index compares them
+abbrev pub equals_name : ℕ → NameParts → NumberedName → Bool
+equals_name c n s = (c == s.0) && is_eq (name_cmp n s.1)
+
+pub name_test : (c : ℕ) (n : NameParts) → equals_name c n ≡ is_selection_named c n
+name_test c n i s = number_swap c s.0 i && names_swap n s.1 i
 
 -- ---- one name and another
 
@@ -76,11 +91,7 @@ inserted_names ks c r names a all = at (list_any (equals_ranked c r) names) ∙ 
     at false = names_after names (c, r)
 
 pub inserted_ranked : (ks : List Kept) (c : ℕ) (r : RankedParts) (names : List PlacedName) → IsRanked ks r → AllAreRanked ks names → AllAreRanked ks (inserted c r names)
-inserted_ranked ks c r names a all = at (list_any (equals_ranked c r) names)
-  where
-    at : (b : Bool) → AllAreRanked ks (cond b names (names ++ (c, r) ∷ []))
-    at true = all
-    at false = all_after ks names (c, r) all a
+inserted_ranked ks c r names a all = cond_both (list_any (equals_ranked c r) names) names (names ++ (c, r) ∷ []) (AllAreRanked ks) (λ _. all) (λ _. all_after ks names (c, r) all a)
 
 -- ---- the name that is looked up
 
@@ -115,16 +126,12 @@ module _ (ks : List Kept) (f : Family) where
   abbrev has_rank : Key → ℕ → Bool
   has_rank key rank = is_key_among ks f key && (rank_among ks f (Some key) == rank)
 
-  and_false : (b : Bool) → false ≡ (b && false)
-  and_false true = refl
-  and_false false = refl
-
   pub lengths_differ : (keys : List Key) (ranks : List ℕ) → (length keys ≡ length ranks → ⊥) → false ≡ are_ranks_of ks f keys ranks
   lengths_differ [] [] differ = absurd (differ refl)
   lengths_differ [] (r ∷ ranks) differ = refl
   lengths_differ (k ∷ keys) [] differ = refl
   lengths_differ (k ∷ keys) (r ∷ ranks) differ =
-      and_false (has_rank k r) ∙ ap (λ b. has_rank k r && b) (lengths_differ keys ranks (λ e. differ (ap suc e)))
+      sym (and-false (has_rank k r)) ∙ ap (λ b. has_rank k r && b) (lengths_differ keys ranks (λ e. differ (ap suc e)))
 
   module _ (keys : List Key) (ranks : List ℕ) (many : length keys ≡ length ranks) where
     -- the keys and ranks from a position on
@@ -154,22 +161,17 @@ equal_numbers m n = both_ways (m == n) (is_eq (nat_cmp m n)) (λ e. ap (λ k. is
     (λ e. (Decides-eqb m n).1 (exact_unsigned m n ((Equal-is (nat_cmp m n)).0 e)))
 
 is_eq_then : (p o : Ordering) → is_eq (ordering_then p o) ≡ (is_eq p && is_eq o)
-is_eq_then Less o = refl
-is_eq_then Equal o = refl
-is_eq_then Greater o = refl
+is_eq_then p o = grind arith
 
 one_each : (a b d e : Bool) → ((a && b) && (d && e)) ≡ ((a && d) && (b && e))
-one_each true true d e = refl
-one_each true false true e = refl
-one_each true false false e = refl
-one_each false b d e = refl
+one_each a b d e = grind arith
 
 -- the ranks of the keys, as lists are compared
 ranks_told : (ks : List Kept) (f : Family) (keys : List Key) (ranks : List ℕ)
     → are_ranks_of ks f keys ranks ≡ (list_all (is_key_among ks f) keys && is_eq (slice_cmp nat_cmp (map (λ key. rank_among ks f (Some key)) keys) ranks))
 ranks_told ks f [] [] = refl
 ranks_told ks f [] (r ∷ ranks) = refl
-ranks_told ks f (k ∷ keys) [] = and_false ks f (is_key_among ks f k && list_all (is_key_among ks f) keys)
+ranks_told ks f (k ∷ keys) [] = sym (and-false (is_key_among ks f k && list_all (is_key_among ks f) keys))
 ranks_told ks f (k ∷ keys) (r ∷ ranks) =
     ap₂ (λ a b. (is_key_among ks f k && a) && b) (equal_numbers (rank_among ks f (Some k)) r) (ranks_told ks f keys ranks)
     ∙ one_each (is_key_among ks f k) (is_eq (nat_cmp (rank_among ks f (Some k)) r)) (list_all (is_key_among ks f) keys) (is_eq (slice_cmp nat_cmp (map (λ key. rank_among ks f (Some key)) keys) ranks))
@@ -184,10 +186,7 @@ parts_told m n ks ls =
     ∙ ap (λ b. is_eq (class_cmp m.class n.class) && b) (is_eq_then (slice_cmp nat_cmp ks ls) (name_cmp (without_keys m) (without_keys n)))
 
 in_turn : (h e c r : Bool) → ((h && e) && (c && (true && r))) ≡ (h && (c && (e && r)))
-in_turn true true c r = refl
-in_turn true false true r = refl
-in_turn true false false r = refl
-in_turn false e c r = refl
+in_turn h e c r = grind arith
 
 -- the index has the name that is looked up if these are the ranks of its keys, and if the other parts are equal
 sought_told : (ks : List Kept) (n : NameParts) (s : RankedParts)

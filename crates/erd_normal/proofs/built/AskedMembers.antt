@@ -1,5 +1,5 @@
 -- What is asked of a value that stands in an object of a known class, by the kind of its member, and one step inside an object.
-use Rattle.erd_normal.proofs.Common.{◌≡◌, ℕ, zero, suc, Bool, true, false, ◌&&◌, ◌⊎◌, List, if◌then◌else◌, Some, None, codes, Option, bytes_eq, sym, refl, ap, ◌∙◌, subst, inl, inr, ⊤, AllByRecursion, Data, array, object, Items, no_items, item, Members, get_member, get_item, get, role_of_class, kind_of_member, is_required, Class, class, Role, role, MemberKind, kind, Step, At, Name, array_from, text_exact, ObjectAt, Within-step, AsksObject, of_role, of_label, wanted_within, lacks_none, classed, member_within, Classed, Within, want_unless_status, ShapeFault, NoneOf, list_of_items, class_of_object, want_of_kind, is_report_class, member_want, entry_want, is_compared_set, Asked, asked, asked_of_member, asked_inside, Want, ClassText, Member, kind_of_type}
+use Rattle.erd_normal.proofs.Common.{◌≡◌, ℕ, zero, suc, Bool, true, false, ◌&&◌, ◌⊎◌, List, if◌then◌else◌, Some, None, codes, Option, bytes_eq, sym, refl, ap, ◌∙◌, subst, inl, inr, AllByRecursion, Data, array, object, Items, no_items, item, Members, get_member, get_item, get, role_of_class, kind_of_member, is_required, Class, class, Role, role, MemberKind, kind, Step, At, Name, array_from, ObjectAt, Within-step, of_role, wanted_within, lacks_none, member_within, Within, ShapeFault, NoneOf, list_of_items, class_of_object, want_of_kind, is_report_class, member_want, entry_want, is_compared_set, Asked, asked, asked_of_member, asked_inside, Want, ClassText, Member, ⊤, text_exact, AsksObject, of_label, classed, Classed, want_unless_status, kind_of_type}
 
 -- ---- members
 
@@ -21,26 +21,22 @@ status_kind c name e = cc
 
 asked_as_other : (t : Data) → NoneOf (ShapeFault t) → (w : Want) (q : Role) (c : Class) (ms : Members) → ObjectAt t w q c ms → (name : List ℕ) (v : Data) → get_member name ms ≡ Some v
     → bytes_eq name (codes "@type") ≡ false → AskedAs t (kind_of_member c name) v
-asked_as_other t clean w q c ms o name v found other = at (is_report_class c && bytes_eq name (codes "Status")) refl
-  where
-    at : (b : Bool) → (is_report_class c && bytes_eq name (codes "Status")) ≡ b → AskedAs t (kind_of_member c name) v
-    at true is =
-        let word : kind_of_member c name ≡ kind.Word = status_kind c name is in
-        subst (λ k. AskedAs t k v) (sym word) tt
-    at false is =
-        asked_as_kind t (kind_of_member c name) (is_required c name) v
-        (subst (λ x. Within t (asked x v)) (want_unless_status c name is) (member_within t clean w q ms c name v o.asks o.among other o.inside found))
+asked_as_other t clean w q c ms o name v found other =
+    (elim (is_report_class c && bytes_eq name (codes "Status")) as (λ b. (is_report_class c && bytes_eq name (codes "Status")) ≡ b → AskedAs t (kind_of_member c name) v) [
+      | true ↦ λ is. subst (λ k. AskedAs t k v) (sym (status_kind c name is)) tt
+      | false ↦ λ is.
+          asked_as_kind t (kind_of_member c name) (is_required c name) v
+          (subst (λ x. Within t (asked x v)) (want_unless_status c name is) (member_within t clean w q ms c name v o.asks o.among other o.inside found))
+    ]) refl
 
 -- what is asked of a member that stands
 pub asked_as : (t : Data) → NoneOf (ShapeFault t) → (w : Want) (q : Role) (c : Class) (ms : Members) → ObjectAt t w q c ms → (name : List ℕ) (v : Data) → get_member name ms ≡ Some v
     → AskedAs t (kind_of_member c name) v
-asked_as t clean w q c ms o name v found = at (bytes_eq name (codes "@type")) refl
-  where
-    at : (b : Bool) → bytes_eq name (codes "@type") ≡ b → AskedAs t (kind_of_member c name) v
-    at true is =
-        let typed : kind_of_member c name ≡ kind.ClassText = ap (kind_of_member c) (text_exact name (codes "@type") is) ∙ kind_of_type c in
-        subst (λ k. AskedAs t k v) (sym typed) tt
-    at false is = asked_as_other t clean w q c ms o name v found is
+asked_as t clean w q c ms o name v found =
+    (elim (bytes_eq name (codes "@type")) as (λ b. bytes_eq name (codes "@type") ≡ b → AskedAs t (kind_of_member c name) v) [
+      | true ↦ λ is. subst (λ k. AskedAs t k v) (sym (ap (kind_of_member c) (text_exact name (codes "@type") is) ∙ kind_of_type c)) tt
+      | false ↦ λ is. asked_as_other t clean w q c ms o name v found is
+    ]) refl
 
 -- ---- labels
 
@@ -52,24 +48,16 @@ label_class c e = cc
 -- a label that is an object has an array of translations
 pub label_texts : (t : Data) → NoneOf (ShapeFault t) → (r : Bool) (ms : Members) → Within t (asked (Member kind.Label r) (object ms))
     → (texts : Items) × (get_member (codes "Text") ms ≡ Some (array texts)) × Within t (asked (Member kind.Languages true) (array texts))
-label_texts t clean r ms w = at (get_member (codes "Text") ms) refl
-  where
-    cl : Classed role.Label (object ms)
-    cl = classed t clean (Member kind.Label r) role.Label (object ms) of_label refl w
-
-    is : cl.class ≡ class.InternationalizedText
-    is = label_class cl.class cl.role
-
-    among : class_of_object role.Label (object ms) ≡ Some class.InternationalizedText
-    among = cl.among ∙ ap Some is
-
-    at : (o : Option Data) → get_member (codes "Text") ms ≡ o
-        → (texts : Items) × (get_member (codes "Text") ms ≡ Some (array texts)) × Within t (asked (Member kind.Languages true) (array texts))
-    at None e = absurd (lacks_none t clean (asked (Member kind.Label r) (object ms)) (codes "Text") w (rw (cl.text, is) refl) e)
-    at (Some v) e =
-        let inside : Within t (asked (Member kind.Languages true) v) = member_within t clean (Member kind.Label r) role.Label ms class.InternationalizedText (codes "Text") v of_label among refl w e in
-        let ds = array_from v (wanted_within t clean (asked (Member kind.Languages true) v) inside) in
-        (ds.0, e ∙ ap Some ds.1, subst (λ x. Within t (asked (Member kind.Languages true) x)) ds.1 inside)
+label_texts t clean r ms w =
+    let cl : Classed role.Label (object ms) = classed t clean (Member kind.Label r) role.Label (object ms) of_label refl w in
+    let is : cl.class ≡ class.InternationalizedText = label_class cl.class cl.role in
+    (elim (get_member (codes "Text") ms) as (λ o. get_member (codes "Text") ms ≡ o → (texts : Items) × (get_member (codes "Text") ms ≡ Some (array texts)) × Within t (asked (Member kind.Languages true) (array texts))) [
+      | None ↦ λ e. absurd (lacks_none t clean (asked (Member kind.Label r) (object ms)) (codes "Text") w (rw (cl.text, is) refl) e)
+      | Some v ↦ λ e.
+          let inside : Within t (asked (Member kind.Languages true) v) = member_within t clean (Member kind.Label r) role.Label ms class.InternationalizedText (codes "Text") v of_label (cl.among ∙ ap Some is) refl w e in
+          let ds = array_from v (wanted_within t clean (asked (Member kind.Languages true) v) inside) in
+          (ds.0, e ∙ ap Some ds.1, subst (λ x. Within t (asked (Member kind.Languages true) x)) ds.1 inside)
+    ]) refl
 
 -- ---- entries
 

@@ -1,5 +1,5 @@
 -- The members of an object that is built come from members of the object that it is built of.
-use Rattle.erd_normal.proofs.Common.{◌≡◌, ℕ, Bool, true, false, ◌&&◌, ◌⊎◌, List, Some, None, codes, Option, option_and_then, bytes_eq, sym, refl, ◌∙◌, subst, inl, inr, Data, Members, get_member, get, kind_of_member, is_required, Class, Role, MemberKind, kind, Step, Name, ObjectAt, of_role, member_within, Within, want_unless_status, ShapeFault, NoneOf, class_of_object, want_of_kind, is_report_class, member_want, Asked, asked, asked_inside, Want, Object, Status}
+use Rattle.erd_normal.proofs.Common.{◌≡◌, ℕ, Bool, true, false, ◌&&◌, ◌⊎◌, List, Some, None, codes, Option, option_and_then, bytes_eq, sym, refl, ◌∙◌, subst, inl, inr, Data, Members, get_member, get, kind_of_member, is_required, Class, Role, MemberKind, kind, Step, Name, ObjectAt, of_role, member_within, Within, ShapeFault, NoneOf, class_of_object, want_of_kind, is_report_class, member_want, Asked, asked, asked_inside, Want, Status, want_unless_status, Object}
 use Rattle.erd_normal.proofs.built.AskedMembers.{MemberAsked, TypeAsked, asked_in_object, status_kind}
 
 -- what gives the value of a member, by its name and kind
@@ -42,27 +42,26 @@ pub record BuiltAsked (t : Data) (value_of : Builder) (c : Class) (ms : Members)
 module _ (t : Data) (clean : NoneOf (ShapeFault t)) where
   pub built_from : (value_of : Builder) (w : Want) (r : Role) (c : Class) (ms : Members) → ObjectAt t w r c ms → (name : List ℕ) (v : Data) → bytes_eq name (codes "@type") ≡ false
       → option_and_then (value_of name (kind_of_member c name)) (get_member name ms) ≡ Some v → BuiltFrom t value_of c ms name v
-  built_from value_of w r c ms o name v other = at (get_member name ms) refl
-    where
-      at : (found : Option Data) → get_member name ms ≡ found → option_and_then (value_of name (kind_of_member c name)) found ≡ Some v → BuiltFrom t value_of c ms name v
-      at None is e = cc
-      at (Some d) is e = record { other = other; from = d; stands = is; inside = member_within t clean w r ms c name d o.asks o.among other o.inside is; given = e }
+  built_from value_of w r c ms o name v other =
+      (elim (get_member name ms) as (λ found. get_member name ms ≡ found → option_and_then (value_of name (kind_of_member c name)) found ≡ Some v → BuiltFrom t value_of c ms name v) [
+        | None ↦ λ is e. cc
+        | Some d ↦ λ is e. record { other = other; from = d; stands = is; inside = member_within t clean w r ms c name d o.asks o.among other o.inside is; given = e }
+      ]) refl
 
   -- what holds of what is built of the value where that value stands holds of the member, if texts stay
   pub member_holds : (Q : Asked → Type 0) → ((d : Data) → Within t (asked Status d) → Q (asked Status d))
       → (value_of : Builder) (c : Class) (ms : Members) (name : List ℕ) (v : Data) → (b : BuiltFrom t value_of c ms name v)
       → ((required : Bool) → Within t (asked (want_of_kind (kind_of_member c name) required) b.from) → Q (asked (want_of_kind (kind_of_member c name) required) v))
       → (kind_of_member c name ≡ kind.Word → b.from ≡ v) → Q (asked (member_want c name) v)
-  member_holds Q status value_of c ms name v b built word = at (is_report_class c && bytes_eq name (codes "Status")) refl
-    where
-      at : (apart : Bool) → (is_report_class c && bytes_eq name (codes "Status")) ≡ apart → Q (asked (member_want c name) v)
-      at true is =
-          let kept : kind_of_member c name ≡ kind.Word = status_kind c name is in
-          let want : member_want c name ≡ Status = rw is refl in
-          subst (λ w. Q (asked w v)) (sym want) (subst (λ x. Q (asked Status x)) (word kept) (status b.from (subst (λ w. Within t (asked w b.from)) want b.inside)))
-      at false is =
-          let want : member_want c name ≡ want_of_kind (kind_of_member c name) (is_required c name) = want_unless_status c name is in
-          subst (λ w. Q (asked w v)) (sym want) (built (is_required c name) (subst (λ w. Within t (asked w b.from)) want b.inside))
+  member_holds Q status value_of c ms name v b built word =
+      (elim (is_report_class c && bytes_eq name (codes "Status")) as (λ apart. (is_report_class c && bytes_eq name (codes "Status")) ≡ apart → Q (asked (member_want c name) v)) [
+        | true ↦ λ is.
+            let want : member_want c name ≡ Status = rw is refl in
+            subst (λ w. Q (asked w v)) (sym want) (subst (λ x. Q (asked Status x)) (word (status_kind c name is)) (status b.from (subst (λ w. Within t (asked w b.from)) want b.inside)))
+        | false ↦ λ is.
+            let want = want_unless_status c name is in
+            subst (λ w. Q (asked w v)) (sym want) (built (is_required c name) (subst (λ w. Within t (asked w b.from)) want b.inside))
+      ]) refl
 
   -- what is asked one step inside an object that is built: its `@type`, a special member, or what is built of a member
   pub inside_built : (value_of : Builder) (special : List ℕ → Bool) (r : Role) (c : Class) (ms : Members) (d : Data) → BuiltObject t value_of special r c ms d → (s : Step) (b : Asked)

@@ -1,5 +1,5 @@
 -- The names of the members that hold objects: what stands there is the array of the objects of the family.
-use Rattle.erd_normal.proofs.Common.{◌≡◌, ℕ, Bool, true, false, ◌&&◌, List, map, is_some, Some, codes, flat_map, bytes_eq, sym, refl, ap, ◌∙◌, subst, and_parts, list_all, Data, object, Members, get_member, role_of_class, family_of_class, rows_of_class, kind_of_identity, kind_of_member, Class, class, Family, family, Role, role, MemberKind, kind, entries_in, text_exact, Has, kind_of_name, kind_of_id, list_of_items, entries_of, entries_at, values-placed_entries, values_in_elections, Skeleton, kind_of_type, has_keys, placed_entries, report_of, elections, objects}
+use Rattle.erd_normal.proofs.Common.{◌≡◌, ℕ, Bool, true, false, ◌&&◌, List, map, is_some, Some, codes, flat_map, bytes_eq, sym, refl, ap, ◌∙◌, subst, and_parts, list_all, Data, object, Members, get_member, role_of_class, family_of_class, rows_of_class, kind_of_identity, kind_of_member, Class, class, Family, family, Role, role, MemberKind, kind, entries_in, text_exact, kind_of_name, kind_of_id, list_of_items, entries_of, entries_at, values-placed_entries, values_in_elections, Skeleton, kind_of_type, has_keys, placed_entries, report_of, elections, objects, In}
 use Rattle.erd_normal.proofs.lists.Lists.{IsPart, part_flat, part_self}
 
 -- the name of the member that holds the objects of a family
@@ -95,7 +95,7 @@ pub report_part : (t : Data) (s : Skeleton t) (f : Family) (d : Data) → kind_o
 report_part t s f d is stands = subst (IsPart (entries_of d)) (sym (report_objects t s f d is stands)) (part_self (entries_of d))
 
 -- and one of an election some of them
-pub election_part : (t : Data) (s : Skeleton t) (e : Data) (ms : Members) → Has (list_of_items s.es) e → e ≡ object ms → (f : Family) (d : Data) → kind_of_member class.Election (family_name f) ≡ kind.Keyed f
+pub election_part : (t : Data) (s : Skeleton t) (e : Data) (ms : Members) → In e (list_of_items s.es) → e ≡ object ms → (f : Family) (d : Data) → kind_of_member class.Election (family_name f) ≡ kind.Keyed f
     → get_member (family_name f) ms ≡ Some d → IsPart (entries_of d) (map (λ o. o.value) (objects f t))
 election_part t s e ms h same f d is stands = at f is stands
   where

@@ -1,5 +1,5 @@
 -- The key that identifiers give does not depend on their order, so that what is built of an object has its key.
-use Rattle.erd_normal.proofs.Common.{◌≡◌, Bool, true, false, List, [], ◌∷◌, map, if◌then◌else◌, Some, None, codes, Option, is_lt, Ordering, Less, Equal, Greater, sym, refl, ap, ◌∙◌, true≢false, CmpEqualImpliesEq, IsTotalOrder, ordering_reverse, Data, role_of_class, kind_of_member, Class, class, Family, role, kind, ShapeFault, NoneOf, IsTree, entries_at, class_of_object, class_role, reordered_rising, whole-reordered, Reordered, triple_of, Preference, key_of_identifiers, key_of, rising_list, compact_cmp, Key, normal_object, normal_election, fun_ext}
+use Rattle.erd_normal.proofs.Common.{◌≡◌, Bool, true, false, List, [], ◌∷◌, map, if◌then◌else◌, Some, None, codes, Option, is_lt, Ordering, Less, Equal, Greater, sym, refl, ap, ◌∙◌, true≢false, CmpEqualImpliesEq, IsTotalOrder, ordering_reverse, Data, role_of_class, kind_of_member, Class, class, Family, role, kind, less, ShapeFault, NoneOf, IsTree, entries_at, class_of_object, triple_of, Preference, key_of_identifiers, key_of, rising_list, compact_cmp, class_role, reordered_rising, whole-reordered, Key, normal_object, normal_election, fun_ext, IsPermutation}
 use Rattle.erd_meaning.specs.code.ChosenKeys.{choice_cmp, choice_of, choice_of_two}
 use Rattle.erd_meaning.proofs.orders.ChoiceOrder.{choice_cmp_exact, choice_cmp_total, key_is_choice}
 use Rattle.erd_normal.proofs.built.NormalEntries.{entries_of_identifiers, identifiers_of_election}
@@ -20,29 +20,19 @@ module _ {A : Type 0} (cmp : A → A → Ordering) (order : IsTotalOrder cmp) (e
       at Equal is = rw (is, reversed l k Equal is) (sym (exact l k is))
       at d is = rw (is, reversed l k d is) refl
 
-  is_less : (a b : A) → is_lt (cmp a b) ≡ true → cmp a b ≡ Less
-  is_less a b = at (cmp a b)
-    where
-      at : (o : Ordering) → is_lt o ≡ true → o ≡ Less
-      at Less e = refl
-      at d e = absurd (true≢false (sym e))
-
   below_both : (a b k : A) → cmp a b ≡ Less → is_lt (cmp b k) ≡ true → is_lt (cmp a k) ≡ true
-  below_both a b k low is = ap is_lt (order.trans a b k low (is_less b k is))
+  below_both a b k low is = ap is_lt (order.trans a b k low (less (cmp b k) is))
 
   lesser_swapped : (k a b : A) → lesser (lesser k a) b ≡ lesser (lesser k b) a
   lesser_swapped k a b = at (is_lt (cmp a k)) (is_lt (cmp b k)) (cmp b a) refl refl refl
     where
       at : (p q : Bool) (o : Ordering) → is_lt (cmp a k) ≡ p → is_lt (cmp b k) ≡ q → cmp b a ≡ o → lesser (lesser k a) b ≡ lesser (lesser k b) a
-      at true true Less a_low b_low is = rw (a_low, b_low, is, reversed b a Less is) refl
       at true true Equal a_low b_low is = rw (a_low, b_low, is, reversed b a Equal is) (sym (exact b a is))
-      at true true Greater a_low b_low is = rw (a_low, b_low, is, reversed b a Greater is) refl
+      at true true o a_low b_low is = rw (a_low, b_low, is, reversed b a o is) refl
       at true false Less a_low b_high is = absurd (true≢false (sym (below_both b a k is a_low) ∙ b_high))
-      at true false Equal a_low b_high is = rw (b_high, a_low, is) refl
-      at true false Greater a_low b_high is = rw (b_high, a_low, is) refl
-      at false true Less a_high b_low is = rw (a_high, b_low, reversed b a Less is) refl
-      at false true Equal a_high b_low is = rw (a_high, b_low, reversed b a Equal is) refl
+      at true false o a_low b_high is = rw (b_high, a_low, is) refl
       at false true Greater a_high b_low is = absurd (true≢false (sym (below_both a b k (reversed b a Greater is) b_low) ∙ a_high))
+      at false true o a_high b_low is = rw (a_high, b_low, reversed b a o is) refl
       at false false o a_high b_high is = rw (a_high, b_high, a_high) refl
 
 -- ---- the key that identifiers give
@@ -70,11 +60,11 @@ module _ (π : Preference) where
   key_is_chosen [] = key_is_choice π []
   key_is_chosen (d ∷ ds) = key_is_choice π (d ∷ ds) ∙ sym (chosen_after (triple_of d) ds)
 
-  chosen-reordered : {ds es : List Data} → Reordered ds es → chosen ds ≡ chosen es
+  chosen-reordered : {ds es : List Data} → IsPermutation ds es → chosen ds ≡ chosen es
   chosen-reordered h =
       whole-reordered chosen (λ d f o. f (with_one o (triple_of d))) (λ d ds. refl) (λ d e f. fun_ext (λ o. ap f (with_one_exchanges o (triple_of d) (triple_of e)))) h
 
-  pub key_of_identifiers-reordered : (ds es : List Data) → Reordered ds es → key_of_identifiers π ds ≡ key_of_identifiers π es
+  pub key_of_identifiers-reordered : (ds es : List Data) → IsPermutation ds es → key_of_identifiers π ds ≡ key_of_identifiers π es
   key_of_identifiers-reordered ds es h = key_is_chosen ds ∙ ap (λ f. f None) (chosen-reordered h) ∙ sym (key_is_chosen es)
 
   pub key_of_identifiers-rising : (cmp : Data → Data → Ordering) (ds : List Data) → key_of_identifiers π (rising_list cmp ds) ≡ key_of_identifiers π ds

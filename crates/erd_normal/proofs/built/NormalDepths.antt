@@ -1,7 +1,7 @@
 -- What is built of a report whose shape has no fault is nested no deeper, part by part.
-use Rattle.erd_normal.proofs.Common.{◌≡◌, ℕ, zero, suc, ◌≤◌, Bool, true, false, List, [], map, if◌then◌else◌, Some, None, codes, Option, option_map, Ordering, sym, refl, ap, ◌∙◌, subst, arith, ⊤, AllByRecursion, option_map_or, Data, string, array, object, Items, no_items, item, Members, no_members, member, depth, items_depth, members_depth, get_member, get_item, get, is_envelope_name, kind_of_member, Class, Family, family, Role, role, MemberKind, kind, get_member-first, get_member-depth, object_in, ObjectAt, ObjectIn, Within-root, wanted_within, within-tree, Within, get_member-later, is_array, ShapeFault, NoneOf, IsTree, AreMembers, IsNoDeeper, list_of_items, entries_of, entries_at, class_of_object, entry_want, is_compared_set, asked, Want, Member, Object, all_rising, Preference, key_of, class_of_node, rising_list, compact_cmp, with_rising_text, selection_role, id_of_key, normal_reference, reference_cmp, id_of_selection, normal_selection_reference, unless_no_entry, array_of, normal_value, normal_members, normal_object_with, normal_node_value, normal_content, normal_nodes, normal_node, normal_node_members, with_id, normal_selection, by_key, by_name, normal_object_value, normal_object, normal_objects, normal_election_value, normal_election, normal_report_value, in_envelope, normal_tree}
+use Rattle.erd_normal.proofs.Common.{◌≡◌, ℕ, zero, suc, ◌≤◌, Bool, true, false, List, [], map, if◌then◌else◌, Some, None, codes, Option, option_map, Ordering, sym, refl, ap, ◌∙◌, subst, arith, AllByRecursion, option_map_or, Data, string, array, object, Items, no_items, item, Members, no_members, member, get_member, get_item, get, kind_of_member, Class, Family, family, Role, role, MemberKind, kind, object_in, ObjectAt, ObjectIn, Within-root, wanted_within, Within, ShapeFault, NoneOf, IsTree, list_of_items, entries_of, entries_at, class_of_object, entry_want, is_compared_set, asked, Want, Member, Preference, key_of, rising_list, compact_cmp, with_rising_text, selection_role, depth, members_depth, is_array, AreMembers, ⊤, items_depth, is_envelope_name, get_member-first, get_member-depth, within-tree, get_member-later, IsNoDeeper, Object, all_rising, class_of_node, id_of_key, normal_reference, reference_cmp, id_of_selection, normal_selection_reference, unless_no_entry, array_of, normal_value, normal_members, normal_object_with, normal_node_value, normal_content, normal_nodes, normal_node, normal_node_members, with_id, normal_selection, by_key, by_name, normal_object_value, normal_object, normal_objects, normal_election_value, normal_election, normal_report_value, in_envelope, normal_tree, In-map_from, all_from_In}
 use Rattle.erd_normal.proofs.built.AskedMembers.{AskedAs, asked_as, entries_asked, entry_asked, label_texts}
-use Rattle.erd_normal.proofs.lists.BuiltLists.{IfSome, if_some_is, all_map, all_of, items_of-depth, listed_depth, unless_no_entry-holds, all_both}
+use Rattle.erd_normal.proofs.lists.BuiltLists.{IfSome, if_some_is, all_map, items_of-depth, listed_depth, unless_no_entry-holds, all_both}
 use Rattle.erd_normal.proofs.built.NormalReports.{with_envelope-depth}
 use Rattle.erd_normal.proofs.built.NormalMembers.{normal_members-depth}
 use Rattle.erd_normal.proofs.built.NormalGets.{put-depth}
@@ -26,7 +26,7 @@ rising_depth cmp d is = array_depth d (rising_list cmp (entries_of d)) is (λ n 
 texts_depth : (d : Data) (f : Data → Data) (es : List Data) → is_array d ≡ true → ((e : Data) → depth (f e) ≡ 0) → IsNoDeeper (array_of (map f es)) d
 texts_depth d f es is flat =
     array_depth d (map f es) is
-    (λ n all. all_map (λ e. ⊤) (λ e. depth e ≤ n) f es (λ e h. let low : depth (f e) ≡ 0 = flat e in omega arith) (all_of (λ e. ⊤) es (λ e. tt)))
+    (λ n all. all_from_In (λ e. depth e ≤ n) (map f es) (λ e h. let x = In-map_from f es e h in let low : depth e ≡ 0 = ap depth (sym x.2) ∙ flat x.0 in omega arith))
 
 with_id-depth : (id : Option (List ℕ)) (d : Data) → IsNoDeeper (with_id id d) d
 with_id-depth (Some id) (object ms) =
@@ -39,24 +39,15 @@ in_envelope-depth : (d : Data) → IsNoDeeper (in_envelope d) d
 in_envelope-depth (object ms) = omega (arith, with_envelope-depth ms)
 in_envelope-depth d = omega arith
 
-no_deeper-trans : (a b c : Data) → IsNoDeeper a b → IsNoDeeper b c → IsNoDeeper a c
-no_deeper-trans a b c h k = omega arith
-
 module _ (π : Preference) (t : Data) (clean : NoneOf (ShapeFault t)) (tree : IsTree t) where
   -- ---- members
-
-  text_depth : (o : Option Data) (texts : Items) → o ≡ Some (array texts) → depth (array_of (rising_list compact_cmp (option_map_or entries_of o []))) ≤ depth (array texts)
-  text_depth None texts is = cc
-  text_depth (Some d) texts is =
-      let same : d ≡ array texts = cc in
-      subst (λ x. depth (array_of (rising_list compact_cmp (entries_of x))) ≤ depth (array texts)) (sym same) (rising_depth compact_cmp (array texts) refl)
 
   label_depth : (r : Bool) (d : Data) → Within t (asked (Member kind.Label r) d) → IsNoDeeper (with_rising_text d) d
   label_depth r (object ms) w =
       let texts = label_texts t clean r ms w in
       let inside : depth (array texts.0) ≤ members_depth ms = get_member-depth (codes "Text") (array texts.0) ms texts.1 in
       let rising : Data = array_of (rising_list compact_cmp (entries_at (codes "Text") (object ms))) in
-      let low : depth rising ≤ depth (array texts.0) = text_depth (get_member (codes "Text") ms) texts.0 texts.1 in
+      let low : depth rising ≤ depth (array texts.0) = subst (λ o. depth (array_of (rising_list compact_cmp (option_map_or entries_of o []))) ≤ depth (array texts.0)) (sym texts.1) (rising_depth compact_cmp (array texts.0) refl) in
       let whole : depth rising ≤ members_depth ms = omega arith in
       let same : members_depth ms ≤ members_depth ms = omega arith in
       omega (arith, put-depth (codes "Text") rising ms (members_depth ms) whole same)
@@ -100,15 +91,14 @@ module _ (π : Preference) (t : Data) (clean : NoneOf (ShapeFault t)) (tree : Is
 
   -- an array of what is built of the entries of an array, after they are put in order
   built_depth : (d : Data) (w v : Want) → is_array d ≡ true → entry_want w ≡ Some v → is_compared_set w ≡ false → Within t (asked w d)
-      → (arrange : List Data → List Data) → ((P : Data → Type 0) (xs : List Data) → AllByRecursion P xs → AllByRecursion P (arrange xs))
-      → (f : Data → Data) → ((e : Data) → Within t (asked v e) → IsNoDeeper (f e) e) → IsNoDeeper (array_of (map f (arrange (entries_of d)))) d
-  built_depth (array ds) w v is want apart inside arrange keeps f each =
-      array_depth (array ds) (map f (arrange (list_of_items ds))) refl
-      (λ n low. all_map (λ e. Within t (asked v e) × (depth e ≤ n)) (λ e. depth e ≤ n) f (arrange (list_of_items ds))
+      → (cmp : Data → Data → Ordering) (f : Data → Data) → ((e : Data) → Within t (asked v e) → IsNoDeeper (f e) e) → IsNoDeeper (array_of (map f (rising_list cmp (entries_of d)))) d
+  built_depth (array ds) w v is want apart inside cmp f each =
+      array_depth (array ds) (map f (rising_list cmp (list_of_items ds))) refl
+      (λ n low. all_map (λ e. Within t (asked v e) × (depth e ≤ n)) (λ e. depth e ≤ n) f (rising_list cmp (list_of_items ds))
       (λ e h. let here : depth (f e) ≤ depth e = each e h.0 in let there : depth e ≤ n = h.1 in omega arith)
-      (keeps (λ e. Within t (asked v e) × (depth e ≤ n)) (list_of_items ds)
+      (all_rising (λ e. Within t (asked v e) × (depth e ≤ n)) cmp (list_of_items ds)
       (all_both (λ e. Within t (asked v e)) (λ e. depth e ≤ n) (list_of_items ds) (entries_asked t w v ds want apart inside) low)))
-  built_depth _ w v is want apart inside arrange keeps f each = cc
+  built_depth _ w v is want apart inside cmp f each = cc
 
   -- ---- the order of a ballot
 
@@ -125,10 +115,6 @@ module _ (π : Preference) (t : Data) (clean : NoneOf (ShapeFault t)) (tree : Is
       → NoneDeeper d (normal_node_value π t (option_map (λ c. kind_of_member c name) c) d inside)
   node_member_depth None name d inside a content = omega arith
   node_member_depth (Some c) name d inside a content = node_value_depth (kind_of_member c name) d inside a content
-
-  with_first_depth : (k : List ℕ) (d : Data) (r : Option Data) (rest : Members) (n : ℕ) → NoneDeeper d r → depth d ≤ n → members_depth rest ≤ n → members_depth (option_map_or (λ v. member k v rest) r rest) ≤ n
-  with_first_depth k d None rest n new here later = later
-  with_first_depth k d (Some v) rest n new here later = let low : depth v ≤ depth d = new in omega arith
 
   node_members_of : (ms : Members) → Within t (asked (Object role.Content) (object ms)) → (name : List ℕ) (d : Data) → get_member name ms ≡ Some d → IsNodeMember (class_of_node (object ms)) name d
   node_members_of ms w name d found =
@@ -156,38 +142,35 @@ module _ (π : Preference) (t : Data) (clean : NoneOf (ShapeFault t)) (tree : Is
     node_members_depth no_members c rise each = omega arith
     node_members_depth (member k d ms) c rise each =
         let rest : members_depth (normal_node_members π t c ms) ≤ members_depth ms = node_members_depth ms c rise.2 (λ name e found. each name e (get_member-later k name d e ms rise found)) in
-        let first = node_member_depth c k d (normal_content π t d) (each k d (get_member-first k d ms)) (normal_content-depth d) in
-        with_first_depth k d (normal_node_value π t (option_map (λ c. kind_of_member c k) c) d (normal_content π t d)) (normal_node_members π t c ms) (members_depth (member k d ms)) first (omega arith) (omega arith)
+        (elim (normal_node_value π t (option_map (λ c. kind_of_member c k) c) d (normal_content π t d)) as (λ r. NoneDeeper d r → members_depth (option_map_or (λ v. member k v (normal_node_members π t c ms)) r (normal_node_members π t c ms)) ≤ members_depth (member k d ms)) [
+          | None ↦ λ new. omega arith
+          | Some v ↦ λ new. let low : depth v ≤ depth d = new in omega arith
+        ]) (node_member_depth c k d (normal_content π t d) (each k d (get_member-first k d ms)) (normal_content-depth d))
 
   -- ---- objects of families
 
   pub normal_selection-depth : (contest d : Data) → Within t (asked (Object selection_role) d) → IsNoDeeper (normal_selection π t contest d) d
   normal_selection-depth contest d w =
       let inside : Data = normal_object_with (λ name k v. normal_value π t k v) (class_of_object selection_role d) d in
-      no_deeper-trans (normal_selection π t contest d) inside d (with_id-depth (Some (id_of_selection π t contest d)) inside)
-      (normal_object_with-depth (λ name k v. normal_value π t k v) selection_role d w (λ name k e a. normal_value-depth k e a))
+      omega (arith, with_id-depth (Some (id_of_selection π t contest d)) inside, normal_object_with-depth (λ name k v. normal_value π t k v) selection_role d w (λ name k e a. normal_value-depth k e a))
 
   pub normal_object_value-depth : (o : Data) (k : MemberKind) (d : Data) → AskedAs t k d → NoneDeeper d (normal_object_value π t o k d)
   normal_object_value-depth o (kind.Keyed family.Selection) d a =
       unless_no_entry-holds (λ v. IsNoDeeper v d) d (array_of (map (normal_selection π t o) (rising_list (by_name π t) (entries_of d))))
       (built_depth d (Member (kind.Keyed family.Selection) a.0) (Object selection_role) (wanted_within t clean (asked (Member (kind.Keyed family.Selection) a.0) d) a.1) refl refl a.1
-      (rising_list (by_name π t)) (λ P xs all. all_rising P (by_name π t) xs all) (normal_selection π t o) (normal_selection-depth o))
+      (by_name π t) (normal_selection π t o) (normal_selection-depth o))
   normal_object_value-depth o kind.Content d a = unless_no_entry-holds (λ v. IsNoDeeper v d) d (normal_content π t d) (normal_content-depth d a.0 a.1)
   normal_object_value-depth o k d a = normal_value-depth k d a
 
   pub normal_object-depth : (f : Family) (d : Data) → Within t (asked (Object (role.OfFamily f)) d) → IsNoDeeper (normal_object π t f d) d
   normal_object-depth f d w =
       let inside : Data = normal_object_with (λ name k v. normal_object_value π t d k v) (class_of_object (role.OfFamily f) d) d in
-      no_deeper-trans (normal_object π t f d) inside d (with_id-depth (id_of_key π t f (key_of π d)) inside)
-      (normal_object_with-depth (λ name k v. normal_object_value π t d k v) (role.OfFamily f) d w (λ name k e a. normal_object_value-depth d k e a))
-
-  pub normal_objects-depth : (f : Family) (r : Bool) (d : Data) → Within t (asked (Member (kind.Keyed f) r) d) → IsNoDeeper (normal_objects π t f (entries_of d)) d
-  normal_objects-depth f r d w =
-      built_depth d (Member (kind.Keyed f) r) (Object (role.OfFamily f)) (wanted_within t clean (asked (Member (kind.Keyed f) r) d) w) refl refl w
-      (rising_list (by_key π)) (λ P xs all. all_rising P (by_key π) xs all) (normal_object π t f) (normal_object-depth f)
+      omega (arith, with_id-depth (id_of_key π t f (key_of π d)) inside, normal_object_with-depth (λ name k v. normal_object_value π t d k v) (role.OfFamily f) d w (λ name k e a. normal_object_value-depth d k e a))
 
   keyed_depth : (f : Family) (d : Data) → AskedAs t (kind.Keyed f) d → NoneDeeper d (unless_no_entry d (normal_objects π t f (entries_of d)))
-  keyed_depth f d a = unless_no_entry-holds (λ v. IsNoDeeper v d) d (normal_objects π t f (entries_of d)) (normal_objects-depth f a.0 d a.1)
+  keyed_depth f d a =
+      unless_no_entry-holds (λ v. IsNoDeeper v d) d (normal_objects π t f (entries_of d))
+      (built_depth d (Member (kind.Keyed f) a.0) (Object (role.OfFamily f)) (wanted_within t clean (asked (Member (kind.Keyed f) a.0) d) a.1) refl refl a.1 (by_key π) (normal_object π t f) (normal_object-depth f))
 
   -- ---- the election and the report
 
@@ -199,23 +182,15 @@ module _ (π : Preference) (t : Data) (clean : NoneOf (ShapeFault t)) (tree : Is
   normal_election-depth d w =
       normal_object_with-depth (λ name k v. normal_election_value π t k v) role.Election d w (λ name k e a. normal_election_value-depth k e a)
 
-  outside_envelope_depth : (name : List ℕ) (k : MemberKind) (d : Data) → AskedAs t k d → NoneDeeper d (if is_envelope_name name then None else normal_value π t k d)
-  outside_envelope_depth name k d a = at (is_envelope_name name)
-    where
-      at : (b : Bool) → NoneDeeper d (if b then None else normal_value π t k d)
-      at true = tt
-      at false = normal_value-depth k d a
-
   pub normal_report_value-depth : (name : List ℕ) (k : MemberKind) (d : Data) → AskedAs t k d → NoneDeeper d (normal_report_value π t name k d)
   normal_report_value-depth name (kind.Keyed f) d a = keyed_depth f d a
   normal_report_value-depth name kind.Elections d a =
       built_depth d (Member kind.Elections a.0) (Object role.Election) (wanted_within t clean (asked (Member kind.Elections a.0) d) a.1) refl refl a.1
-      (rising_list (by_key π)) (λ P xs all. all_rising P (by_key π) xs all) (normal_election π t) normal_election-depth
-  normal_report_value-depth name k d a = outside_envelope_depth name k d a
+      (by_key π) (normal_election π t) normal_election-depth
+  normal_report_value-depth name k d a = elim (is_envelope_name name) as (λ b. NoneDeeper d (if b then None else normal_value π t k d)) [ true ↦ tt | false ↦ normal_value-depth k d a ]
 
   -- what is built of a report is nested no deeper
   pub normal_tree-depth : IsNoDeeper (normal_tree π t) t
   normal_tree-depth =
       let inside : Data = normal_object_with (normal_report_value π t) (class_of_object role.Report t) t in
-      no_deeper-trans (normal_tree π t) inside t (in_envelope-depth inside)
-      (normal_object_with-depth (normal_report_value π t) role.Report t (Within-root t) normal_report_value-depth)
+      omega (arith, in_envelope-depth inside, normal_object_with-depth (normal_report_value π t) role.Report t (Within-root t) normal_report_value-depth)

@@ -1,23 +1,20 @@
 -- The entries of the arrays that are built.
-use Rattle.erd_normal.proofs.Common.{◌≡◌, ℕ, ◌+◌, ◌<◌, Bool, true, false, List, [], ◌∷◌, ◌++◌, map, length, get_or, take, if◌then◌else◌, Some, None, codes, Option, option_and_then, bytes_eq, sym, refl, ap, ◌∙◌, ap₂, Decides-eqb, map-append, take_more, nil_from_length, Data, array, get, is_envelope_name, kind_of_member, Class, class, Family, family, role, kind, entries_in, list_of_items-items_of, is_empty_array, ShapeFault, NoneOf, IsTree, list_of_items, entries_of, entries_at, class_of_object, Preference, rising_list, compact_cmp, unless_no_entry, array_of, normal_selection, by_key, by_name, normal_object, normal_election, normal_report_value, normal_tree}
+use Rattle.erd_normal.proofs.Common.{◌≡◌, ℕ, ◌+◌, ◌<◌, true, false, List, [], ◌∷◌, ◌++◌, map, length, get_or, take, if◌then◌else◌, Some, None, codes, Option, option_and_then, bytes_eq, sym, refl, ap, ◌∙◌, ap₂, Decides-eqb, map-append, take_more, Data, array, get, kind_of_member, Class, class, Family, family, role, kind, entries_in, ShapeFault, NoneOf, IsTree, list_of_items, entries_of, entries_at, class_of_object, Preference, rising_list, compact_cmp, is_empty_array, nil_from_length, is_envelope_name, list_of_items-items_of, unless_no_entry, array_of, normal_selection, by_key, by_name, normal_object, normal_election, normal_report_value, normal_tree}
 use Rattle.erd_normal.proofs.built.NormalGets.{get_election, get_object}
 use Rattle.erd_normal.proofs.built.NormalReports.{get_report}
 
 -- ---- entries that are built one after another
-
--- one entry more
-pub one_more : {A B C : Type 0} (f : A → C) (h : B → C) (built : List A) (vs : List B) (i : ℕ) (v : B) (x : A) → i < length vs → v ≡ get_or vs i v → f x ≡ h v
-    → map f built ≡ map h (take i vs) → map f (built ++ x ∷ []) ≡ map h (take (i + 1) vs)
-one_more f h built vs i v x low here new earlier =
-    map-append f built (x ∷ [])
-    ∙ (ap₂ (λ ds d. ds ++ d ∷ []) earlier (new ∙ ap h here)
-    ∙ sym (ap (map h) (take_more vs i v low) ∙ map-append h (take i vs) (get_or vs i v ∷ [])))
 
 -- one value more
 pub one_value : {B C : Type 0} (h : B → C) (built : List C) (vs : List B) (i : ℕ) (v : B) (x : C) → i < length vs → v ≡ get_or vs i v → x ≡ h v
     → built ≡ map h (take i vs) → built ++ x ∷ [] ≡ map h (take (i + 1) vs)
 one_value h built vs i v x low here new earlier =
     ap₂ (λ ds d. ds ++ d ∷ []) earlier (new ∙ ap h here) ∙ sym (ap (map h) (take_more vs i v low) ∙ map-append h (take i vs) (get_or vs i v ∷ []))
+
+-- one entry more
+pub one_more : {A B C : Type 0} (f : A → C) (h : B → C) (built : List A) (vs : List B) (i : ℕ) (v : B) (x : A) → i < length vs → v ≡ get_or vs i v → f x ≡ h v
+    → map f built ≡ map h (take i vs) → map f (built ++ x ∷ []) ≡ map h (take (i + 1) vs)
+one_more f h built vs i v x low here new earlier = map-append f built (x ∷ []) ∙ one_value h (map f built) vs i v (f x) low here new earlier
 
 -- ---- the entries of the arrays that are built
 
@@ -28,16 +25,13 @@ no_entry (array ds) is = nil_from_length (list_of_items ds) ((Decides-eqb (lengt
 no_entry d is = cc
 
 -- the entries of an array that is built from those of another, unless it has none
-entries_unless : (g : List Data → List Data) → g [] ≡ [] → (d : Data) → entries_in (unless_no_entry d (array_of (g (entries_of d)))) ≡ g (entries_of d)
-entries_unless g none d = at (is_empty_array d) refl
-  where
-    at : (b : Bool) → is_empty_array d ≡ b → entries_in (if b then None else Some (array_of (g (entries_of d)))) ≡ g (entries_of d)
-    at true is = sym (ap g (no_entry d is) ∙ none)
-    at false is = list_of_items-items_of (g (entries_of d))
-
 entries_of_built : (g : List Data → List Data) → g [] ≡ [] → (o : Option Data) → entries_in (option_and_then (λ d. unless_no_entry d (array_of (g (entries_of d)))) o) ≡ g (entries_in o)
 entries_of_built g none None = sym none
-entries_of_built g none (Some d) = entries_unless g none d
+entries_of_built g none (Some d) =
+    (elim (is_empty_array d) as (λ b. is_empty_array d ≡ b → entries_in (if b then None else Some (array_of (g (entries_of d)))) ≡ g (entries_of d)) [
+      | true ↦ λ is. sym (ap g (no_entry d is) ∙ none)
+      | false ↦ λ is. list_of_items-items_of (g (entries_of d))
+    ]) refl
 
 -- the entries at a name of what is built, where those of the array there are arranged in one way
 entries_built : (g : List Data → List Data) → g [] ≡ [] → (name : List ℕ) (d e : Data) → get name e ≡ option_and_then (λ v. unless_no_entry v (array_of (g (entries_of v)))) (get name d)

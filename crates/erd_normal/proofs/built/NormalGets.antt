@@ -1,5 +1,5 @@
 -- What stands under each name of an object that is built from an object of a class.
-use Rattle.erd_normal.proofs.Common.{◌≡◌, ℕ, ◌≤◌, true, false, List, Some, None, codes, Option, option_map, option_and_then, bytes_eq, nat_cmp, Ordering, Less, Equal, Greater, sym, refl, ap, ◌∙◌, subst, true≢false, arith, tied_itself, nat_list_cmp_total, slice_cmp, match_ordering, get_member-put, get_member-put_other, Data, string, object, Members, no_members, member, put, depth, members_depth, get_member, get, as_str, role_of_class, class_in_role, kind_of_member, text_cmp, Class, class, Family, Role, role, MemberKind, kind, text_itself, kind_of_id, is_object, IsTree, entries_at, class_of_object, kind_of_type, class_role, Preference, key_of, id_of, class_of_node, rising_list, compact_cmp, with_rising_text, selection_role, id_of_key, id_of_selection, array_of, normal_value, normal_object_with, normal_node_value, normal_content, normal_node, with_id, normal_selection, normal_object_value, normal_object, normal_election_value, normal_election}
+use Rattle.erd_normal.proofs.Common.{◌≡◌, ℕ, ◌≤◌, true, false, List, Some, None, codes, Option, option_map, option_and_then, bytes_eq, nat_cmp, Less, Equal, Greater, sym, refl, ap, ◌∙◌, subst, true≢false, arith, tied_itself, nat_list_cmp_total, slice_cmp, match_ordering, Data, string, object, Members, no_members, member, put, get_member, get, as_str, role_of_class, class_in_role, kind_of_member, text_cmp, Class, class, Family, Role, role, MemberKind, kind, kind_of_id, IsTree, entries_at, class_of_object, Preference, key_of, id_of, rising_list, compact_cmp, with_rising_text, selection_role, depth, members_depth, is_object, get_member-put, get_member-put_other, text_itself, kind_of_type, class_role, class_of_node, id_of_key, id_of_selection, array_of, normal_value, normal_object_with, normal_node_value, normal_content, normal_node, with_id, normal_selection, normal_object_value, normal_object, normal_election_value, normal_election}
 use Rattle.erd_normal.proofs.built.NormalMembers.{get_normal, get_normal_node, node_value}
 
 -- ---- the members of an object with a value put at a name: what stands at the other names, two values put there in turn, and how deep they nest
@@ -11,24 +11,17 @@ put_elsewhere q k d ms other = get_member-put_other q k d ms (λ same. true≢fa
 
 -- ---- two values at one name
 
-put_twice_at : (o : Ordering) (k l : List ℕ) (d e f : Data) (ms : Members) → slice_cmp nat_cmp k l ≡ o → put k d (put k e ms) ≡ put k d ms
-    → put k d (match_ordering o (member k e (member l f ms)) (member l e ms) (member l f (put k e ms))) ≡ match_ordering o (member k d (member l f ms)) (member l d ms) (member l f (put k d ms))
-put_twice_at Less k l d e f ms is more = ap (λ o. match_ordering o (member k d (member k e (member l f ms))) (member k d (member l f ms)) (member k e (put k d (member l f ms)))) (tied_itself nat_list_cmp_total k)
-put_twice_at Equal k l d e f ms is more = ap (λ o. match_ordering o (member k d (member l e ms)) (member l d ms) (member l e (put k d ms))) is
-put_twice_at Greater k l d e f ms is more =
-    ap (λ o. match_ordering o (member k d (member l f (put k e ms))) (member l d (put k e ms)) (member l f (put k d (put k e ms)))) is ∙ ap (member l f) more
-
 -- the later of two values at a name stays
 pub put_twice : (k : List ℕ) (d e : Data) (ms : Members) → put k d (put k e ms) ≡ put k d ms
 put_twice k d e no_members = ap (λ o. match_ordering o (member k d (member k e no_members)) (member k d no_members) (member k e (put k d no_members))) (tied_itself nat_list_cmp_total k)
-put_twice k d e (member l f ms) = put_twice_at (slice_cmp nat_cmp k l) k l d e f ms refl (put_twice k d e ms)
+put_twice k d e (member l f ms) =
+    (elim (slice_cmp nat_cmp k l) as (λ o. slice_cmp nat_cmp k l ≡ o → put k d (match_ordering o (member k e (member l f ms)) (member l e ms) (member l f (put k e ms))) ≡ match_ordering o (member k d (member l f ms)) (member l d ms) (member l f (put k d ms))) [
+      | Less ↦ λ is. ap (λ o. match_ordering o (member k d (member k e (member l f ms))) (member k d (member l f ms)) (member k e (put k d (member l f ms)))) (tied_itself nat_list_cmp_total k)
+      | Equal ↦ λ is. ap (λ o. match_ordering o (member k d (member l e ms)) (member l d ms) (member l e (put k d ms))) is
+      | Greater ↦ λ is. ap (λ o. match_ordering o (member k d (member l f (put k e ms))) (member l d (put k e ms)) (member l f (put k d (put k e ms)))) is ∙ ap (member l f) (put_twice k d e ms)
+    ]) refl
 
 -- ---- depth
-
-deepest : (o : Ordering) (a b c : Members) (n : ℕ) → members_depth a ≤ n → members_depth b ≤ n → members_depth c ≤ n → members_depth (match_ordering o a b c) ≤ n
-deepest Less a b c n p q r = p
-deepest Equal a b c n p q r = q
-deepest Greater a b c n p q r = r
 
 -- nested no deeper than n, if the value and the members are
 pub put-depth : (k : List ℕ) (v : Data) (ms : Members) (n : ℕ) → depth v ≤ n → members_depth ms ≤ n → members_depth (put k v ms) ≤ n
@@ -37,7 +30,7 @@ put-depth k v (member l d ms) n new low =
     let here : depth d ≤ n = omega arith in
     let rest : members_depth ms ≤ n = omega arith in
     let later : members_depth (put k v ms) ≤ n = put-depth k v ms n new rest in
-    deepest (text_cmp k l) (member k v (member l d ms)) (member l v ms) (member l d (put k v ms)) n (omega arith) (omega arith) (omega arith)
+    elim (text_cmp k l) as (λ o. members_depth (match_ordering o (member k v (member l d ms)) (member l v ms) (member l d (put k v ms))) ≤ n) [ Less ↦ omega arith | Equal ↦ omega arith | Greater ↦ omega arith ]
 
 -- ---- what stands under each name of an object that is built from an object of a class
 
@@ -54,8 +47,7 @@ get_object_with value_of r c name d tree among = cc
 
 is_object_with : (value_of : List ℕ → MemberKind → Data → Option Data) (c : Option Class) (d : Data) → is_object d ≡ true → is_object (normal_object_with value_of c d) ≡ true
 is_object_with value_of (Some c) (object ms) is = refl
-is_object_with value_of None (object ms) is = refl
-is_object_with value_of c d is = cc
+is_object_with value_of c d is = is
 
 get_with_id : (id : List ℕ) (d : Data) → is_object d ≡ true → get (codes "@id") (with_id (Some id) d) ≡ Some (string id)
 get_with_id id (object ms) is = get_member-put (codes "@id") (string id) ms
@@ -107,12 +99,11 @@ module _ (π : Preference) (t : Data) (f : Family) (c : Class) (d : Data) (tree 
       get_with_id-other (id_of_key π t f (key_of π d)) name (normal_object_with (λ name k v. normal_object_value π t d k v) (class_of_object (role.OfFamily f) d) d) other
       ∙ get_object_with (λ name k v. normal_object_value π t d k v) (role.OfFamily f) c name d tree among
 
-  pub get_object-type : get (codes "@type") (normal_object π t f d) ≡ get (codes "@type") d
-  get_object-type = get_object (codes "@type") refl ∙ ap (λ k. option_and_then (normal_object_value π t d k) (get (codes "@type") d)) (kind_of_type c) ∙ same_value (get (codes "@type") d)
-
   -- it keeps its class
   pub class_of_built : class_of_object (role.OfFamily f) (normal_object π t f d) ≡ Some c
-  class_of_built = ap (λ o. option_and_then (class_in_role (role.OfFamily f)) (option_and_then as_str o)) get_object-type ∙ among
+  class_of_built =
+      ap (λ o. option_and_then (class_in_role (role.OfFamily f)) (option_and_then as_str o))
+      (get_object (codes "@type") refl ∙ ap (λ k. option_and_then (normal_object_value π t d k) (get (codes "@type") d)) (kind_of_type c) ∙ same_value (get (codes "@type") d)) ∙ among
 
   pub get_object-id : get (codes "@id") (normal_object π t f d) ≡ option_map string (id_of_key π t f (key_of π d))
   get_object-id =
@@ -130,12 +121,11 @@ module _ (π : Preference) (t contest : Data) (c : Class) (d : Data) (tree : IsT
       get_with_id-other (Some (id_of_selection π t contest d)) name (normal_object_with (λ name k v. normal_value π t k v) (class_of_object selection_role d) d) other
       ∙ get_object_with (λ name k v. normal_value π t k v) selection_role c name d tree among
 
-  pub get_selection-type : get (codes "@type") (normal_selection π t contest d) ≡ get (codes "@type") d
-  get_selection-type = get_selection (codes "@type") refl ∙ ap (λ k. option_and_then (normal_value π t k) (get (codes "@type") d)) (kind_of_type c) ∙ same_value (get (codes "@type") d)
-
   -- it keeps its class
   pub class_of_built_selection : class_of_object selection_role (normal_selection π t contest d) ≡ Some c
-  class_of_built_selection = ap (λ o. option_and_then (class_in_role selection_role) (option_and_then as_str o)) get_selection-type ∙ among
+  class_of_built_selection =
+      ap (λ o. option_and_then (class_in_role selection_role) (option_and_then as_str o))
+      (get_selection (codes "@type") refl ∙ ap (λ k. option_and_then (normal_value π t k) (get (codes "@type") d)) (kind_of_type c) ∙ same_value (get (codes "@type") d)) ∙ among
 
   pub get_selection-id : get (codes "@id") (normal_selection π t contest d) ≡ Some (string (id_of_selection π t contest d))
   get_selection-id =
@@ -152,13 +142,11 @@ pub get_node : (π : Preference) (t : Data) (c : Class) (name : List ℕ) (d : D
 get_node π t c name (object ms) tree among = get_normal_node π t (class_of_node (object ms)) name ms tree ∙ ap (λ o. option_and_then (node_value π t o name) (get_member name ms)) among
 get_node π t c name d tree among = cc
 
-pub get_node-type : (π : Preference) (t : Data) (c : Class) (d : Data) → IsTree d → class_of_node d ≡ Some c → get (codes "@type") (normal_node π t d) ≡ get (codes "@type") d
-get_node-type π t c d tree among =
-    get_node π t c (codes "@type") d tree among
-    ∙ ap (λ k. option_and_then (λ v. normal_node_value π t (Some k) v (normal_content π t v)) (get (codes "@type") d)) (kind_of_type c) ∙ same_value (get (codes "@type") d)
-
 pub class_of_built_node : (π : Preference) (t : Data) (c : Class) (d : Data) → IsTree d → class_of_node d ≡ Some c → class_of_node (normal_node π t d) ≡ Some c
-class_of_built_node π t c d tree among = ap (λ o. option_and_then (class_in_role role.Content) (option_and_then as_str o)) (get_node-type π t c d tree among) ∙ among
+class_of_built_node π t c d tree among =
+    ap (λ o. option_and_then (class_in_role role.Content) (option_and_then as_str o))
+    (get_node π t c (codes "@type") d tree among
+    ∙ ap (λ k. option_and_then (λ v. normal_node_value π t (Some k) v (normal_content π t v)) (get (codes "@type") d)) (kind_of_type c) ∙ same_value (get (codes "@type") d)) ∙ among
 
 -- ---- a label
 

@@ -1,5 +1,5 @@
 -- The members that are built from those of an object: under each name what is built of the value there.
-use Rattle.erd_normal.proofs.Common.{◌≡◌, ℕ, ◌≤◌, max, List, Some, None, Option, option_map, option_and_then, Ordering, Less, Equal, Greater, sym, refl, ap, ◌∙◌, arith, exact_bytes, option_map_or, match_ordering, Data, Members, no_members, member, depth, members_depth, get_member, kind_of_member, text_cmp, Class, MemberKind, before_later, get_member-before, get_member-first, get_member-later, IsBeforeFirst, IsTree, AreMembers, Preference, normal_members, normal_node_value, normal_content, normal_node_members}
+use Rattle.erd_normal.proofs.Common.{◌≡◌, ℕ, ◌≤◌, List, Some, None, Option, option_map, option_and_then, Ordering, Equal, sym, refl, ap, ◌∙◌, arith, exact_bytes, option_map_or, match_ordering, Data, Members, no_members, member, get_member, kind_of_member, text_cmp, Class, MemberKind, IsTree, Preference, depth, members_depth, IsBeforeFirst, AreMembers, max, before_later, get_member-before, get_member-first, get_member-later, normal_members, normal_node_value, normal_content, normal_node_members}
 
 -- ---- of any value by name
 
@@ -11,8 +11,6 @@ each_member value (member k d ms) = option_map_or (λ v. member k v (each_member
 get_each_at : (value : List ℕ → Data → Option Data) (name l : List ℕ) (d : Data) (ms rest : Members) (o : Ordering) (r : Option Data) → text_cmp name l ≡ o → value l d ≡ r
     → AreMembers (member l d ms) → get_member name rest ≡ option_and_then (value name) (get_member name ms)
     → get_member name (option_map_or (λ v. member l v rest) r rest) ≡ option_and_then (value name) (match_ordering o (get_member name ms) (Some d) (get_member name ms))
-get_each_at value name l d ms rest Less None is given rise later = later
-get_each_at value name l d ms rest Less (Some v) is given rise later = rw is later
 get_each_at value name l d ms rest Equal None is given rise later =
     let same : name ≡ l = exact_bytes name l is in
     let none : get_member name ms ≡ None = ap (λ x. get_member x ms) same ∙ get_member-before l ms rise.2 rise.0 in
@@ -20,8 +18,8 @@ get_each_at value name l d ms rest Equal None is given rise later =
 get_each_at value name l d ms rest Equal (Some v) is given rise later =
     let same : name ≡ l = exact_bytes name l is in
     rw is (sym (ap (λ x. value x d) same ∙ given))
-get_each_at value name l d ms rest Greater None is given rise later = later
-get_each_at value name l d ms rest Greater (Some v) is given rise later = rw is later
+get_each_at value name l d ms rest o None is given rise later = later
+get_each_at value name l d ms rest o (Some v) is given rise later = rw is later
 
 get_each : (value : List ℕ → Data → Option Data) (name : List ℕ) (ms : Members) → AreMembers ms → get_member name (each_member value ms) ≡ option_and_then (value name) (get_member name ms)
 get_each value name no_members rise = refl
@@ -30,32 +28,28 @@ get_each value name (member l d ms) rise =
 
 before_each : (value : List ℕ → Data → Option Data) (k : List ℕ) (ms : Members) → AreMembers ms → IsBeforeFirst k ms → IsBeforeFirst k (each_member value ms)
 before_each value k no_members rise below = tt
-before_each value k (member l d ms) rise below = at (value l d) (before_each value k ms rise.2 (before_later k l ms below rise.0))
-  where
-    at : (r : Option Data) → IsBeforeFirst k (each_member value ms) → IsBeforeFirst k (option_map_or (λ v. member l v (each_member value ms)) r (each_member value ms))
-    at None h = h
-    at (Some v) h = below
+before_each value k (member l d ms) rise below =
+    elim (value l d) as (λ r. IsBeforeFirst k (option_map_or (λ v. member l v (each_member value ms)) r (each_member value ms))) [ None ↦ before_each value k ms rise.2 (before_later k l ms below rise.0) | Some v ↦ below ]
 
 pub trees_of_each : (value : List ℕ → Data → Option Data) (ms : Members) → AreMembers ms
     → ((name : List ℕ) (d v : Data) → get_member name ms ≡ Some d → IsTree d → value name d ≡ Some v → IsTree v) → AreMembers (each_member value ms)
 trees_of_each value no_members rise each = tt
 trees_of_each value (member l d ms) rise each =
-    at (value l d) refl (trees_of_each value ms rise.2 (λ name e v found. each name e v (get_member-later l name d e ms rise found)))
-  where
-    at : (r : Option Data) → value l d ≡ r → AreMembers (each_member value ms) → AreMembers (option_map_or (λ v. member l v (each_member value ms)) r (each_member value ms))
-    at None given h = h
-    at (Some v) given h = (before_each value l ms rise.2 rise.0, each l d v (get_member-first l d ms) rise.1 given, h)
+    let h = trees_of_each value ms rise.2 (λ name e v found. each name e v (get_member-later l name d e ms rise found)) in
+    (elim (value l d) as (λ r. value l d ≡ r → AreMembers (option_map_or (λ v. member l v (each_member value ms)) r (each_member value ms))) [
+      | None ↦ λ given. h
+      | Some v ↦ λ given. (before_each value l ms rise.2 rise.0, each l d v (get_member-first l d ms) rise.1 given, h)
+    ]) refl
 
 depth_of_each : (value : List ℕ → Data → Option Data) (ms : Members) → AreMembers ms
     → ((name : List ℕ) (d v : Data) → get_member name ms ≡ Some d → value name d ≡ Some v → depth v ≤ depth d) → members_depth (each_member value ms) ≤ members_depth ms
 depth_of_each value no_members rise each = omega arith
 depth_of_each value (member l d ms) rise each =
-    at (value l d) refl (depth_of_each value ms rise.2 (λ name e v found. each name e v (get_member-later l name d e ms rise found)))
-  where
-    at : (r : Option Data) → value l d ≡ r → members_depth (each_member value ms) ≤ members_depth ms
-        → members_depth (option_map_or (λ v. member l v (each_member value ms)) r (each_member value ms)) ≤ max (depth d) (members_depth ms)
-    at None given h = omega arith
-    at (Some v) given h = let low : depth v ≤ depth d = each l d v (get_member-first l d ms) given in omega arith
+    let h = depth_of_each value ms rise.2 (λ name e v found. each name e v (get_member-later l name d e ms rise found)) in
+    (elim (value l d) as (λ r. value l d ≡ r → members_depth (option_map_or (λ v. member l v (each_member value ms)) r (each_member value ms)) ≤ max (depth d) (members_depth ms)) [
+      | None ↦ λ given. omega (arith, h)
+      | Some v ↦ λ given. omega (arith, h, each l d v (get_member-first l d ms) given)
+    ]) refl
 
 -- ---- of an object of a class
 

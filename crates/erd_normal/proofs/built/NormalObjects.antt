@@ -1,5 +1,6 @@
 -- The objects of each family in the report that is built: those of the report, each built.
-use Rattle.erd_normal.proofs.Common.{◌≡◌, ℕ, true, false, List, map, Some, codes, flat_map, sym, refl, ap, ◌∙◌, subst, Data, is_envelope_name, kind_of_member, Class, class, Family, family, role, kind, Has, within-tree, Within, ShapeFault, NoneOf, IsTree, list_of_items, entries_at, class_of_object, asked, Object, skeleton_of_shape, values-placed_entries, values-placed_flat, election_entries, values_in_elections, election_within, election_object, Skeleton, contest_selections, class_role, reordered_map, reordered_rising, has_keys, Preference, placed_entries, report_of, elections, objects, rising_list, normal_selection, by_key, by_name, normal_object, normal_election, normal_tree}
+use Rattle.erd_normal.proofs.Common.{◌≡◌, ℕ, true, false, List, map, Some, codes, flat_map, sym, refl, ap, ◌∙◌, subst, Data, kind_of_member, Class, class, Family, family, role, kind, Within, ShapeFault, NoneOf, IsTree, list_of_items, entries_at, class_of_object, asked, has_keys, Preference, placed_entries, report_of, elections, objects, rising_list, is_envelope_name, within-tree, Object, skeleton_of_shape, values-placed_entries, values-placed_flat, election_entries, values_in_elections, election_within, election_object, Skeleton, contest_selections, class_role, reordered_rising, normal_selection, by_key, by_name, normal_object, normal_election, normal_tree, IsPermutation-map, In}
+use Rattle.erd_normal.proofs.built.FamilyNames.{family_name}
 use Rattle.erd_normal.proofs.built.NormalEntries.{entries_of_election, entries_of_elections, entries_of_report, entries_of_selections}
 use Rattle.erd_normal.proofs.lists.Matched.{Matched, matched_flat, matched_map, matched_then}
 
@@ -23,7 +24,7 @@ IsBuilt π t f d e = normal_object π t f d ≡ e
 
 -- what is built of objects, in the order of their keys
 matched_built : (π : Preference) (t : Data) (f : Family) (ds : List Data) → Matched (IsBuilt π t f) ds (built_objects π t f ds)
-matched_built π t f ds = matched_then (matched_map (normal_object π t f) ds) (reordered_map (normal_object π t f) (reordered_rising (by_key π) ds))
+matched_built π t f ds = matched_then (matched_map (normal_object π t f) ds) (IsPermutation-map (normal_object π t f) _ _ (reordered_rising (by_key π) ds))
 
 module _ (π : Preference) (t : Data) (clean : NoneOf (ShapeFault t)) (tree : IsTree t) where
   in_report : (f : Family) (name : List ℕ) → is_envelope_name name ≡ false → kind_of_member class.ElectionReport name ≡ kind.Keyed f
@@ -40,18 +41,18 @@ module _ (π : Preference) (t : Data) (clean : NoneOf (ShapeFault t)) (tree : Is
       let built : List Data = map (λ o. o.value) (elections (normal_tree π t)) in
       subst (λ (ds : List Data). Matched (λ d e. normal_election π t d ≡ e) ds built) (sym (values-placed_entries name (report_of t)))
       (subst (Matched (λ d e. normal_election π t d ≡ e) (entries_at name t)) (sym (values-placed_entries name (report_of (normal_tree π t)) ∙ entries_of_elections π t clean tree))
-      (matched_then (matched_map (normal_election π t) (entries_at name t)) (reordered_map (normal_election π t) (reordered_rising (by_key π) (entries_at name t)))))
+      (matched_then (matched_map (normal_election π t) (entries_at name t)) (IsPermutation-map (normal_election π t) _ _ (reordered_rising (by_key π) (entries_at name t)))))
 
   module _ (s : Skeleton t) where
     -- an election has its class, and is a tree
-    pub election_classed : (d : Data) → Has (list_of_items s.es) d → (class_of_object role.Election d ≡ Some class.Election) × IsTree d
+    pub election_classed : (d : Data) → In d (list_of_items s.es) → (class_of_object role.Election d ≡ Some class.Election) × IsTree d
     election_classed d h =
         let w : Within t (asked (Object role.Election) d) = election_within t s d h in
         let o = election_object t clean d w in
         (ap (class_of_object role.Election) o.1 ∙ o.2.among, within-tree t (asked (Object role.Election) d) tree w)
 
     -- what stands in an election that is built
-    in_one_election : (f : Family) (name : List ℕ) → kind_of_member class.Election name ≡ kind.Keyed f → (d : Data) → Has (list_of_items s.es) d
+    in_one_election : (f : Family) (name : List ℕ) → kind_of_member class.Election name ≡ kind.Keyed f → (d : Data) → In d (list_of_items s.es)
         → entries_at name (normal_election π t d) ≡ built_objects π t f (entries_at name d)
     in_one_election f name is d h = let c = election_classed d h in entries_of_election π t clean tree d c.1 c.0 f name is
 
@@ -68,12 +69,8 @@ module _ (π : Preference) (t : Data) (clean : NoneOf (ShapeFault t)) (tree : Is
 
   -- the objects of one of the first eight families are built, each of one
   pub objects_matched : (f : Family) → has_keys f ≡ true → Matched (IsBuilt π t f) (values_of f t) (values_of f (normal_tree π t))
-  objects_matched family.Unit k = in_report family.Unit (codes "GpUnit") refl refl
-  objects_matched family.Party k = in_report family.Party (codes "Party") refl refl
-  objects_matched family.Person k = in_report family.Person (codes "Person") refl refl
-  objects_matched family.Office k = in_report family.Office (codes "Office") refl refl
-  objects_matched family.Header k = in_report family.Header (codes "Header") refl refl
   objects_matched family.Candidate k = in_elections (skeleton_of_shape t clean) family.Candidate (codes "Candidate") refl
   objects_matched family.Contest k = in_elections (skeleton_of_shape t clean) family.Contest (codes "Contest") refl
   objects_matched family.Style k = in_elections (skeleton_of_shape t clean) family.Style (codes "BallotStyle") refl
   objects_matched family.Selection k = cc
+  objects_matched f k = in_report f (family_name f) refl refl

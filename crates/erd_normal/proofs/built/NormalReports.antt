@@ -1,5 +1,5 @@
 -- The report that is built: what stands under each name, and its envelope.
-use Rattle.erd_normal.proofs.Common.{◌≡◌, ℕ, ◌≤◌, Bool, true, false, List, [], ◌∷◌, if◌then◌else◌, Some, None, codes, Option, option_and_then, bytes_eq, sym, refl, ap, ◌∙◌, subst, true≢false, arith, and_parts, AllByRecursion, list_all, get_member-put, Data, object, Members, put, depth, members_depth, get_member, get, as_str, class_in_role, is_envelope_name, kind_of_member, class, role, text_exact, ShapeFault, NoneOf, IsTree, class_of_object, skeleton_of_shape, Skeleton, Preference, HasCanonicalEnvelope, put_all, normal_members, normal_object_with, normal_report_value, envelope_values, with_envelope, in_envelope, normal_tree}
+use Rattle.erd_normal.proofs.Common.{◌≡◌, ℕ, ◌≤◌, true, false, List, [], ◌∷◌, if◌then◌else◌, Some, None, codes, Option, option_and_then, bytes_eq, sym, refl, ap, ◌∙◌, subst, true≢false, arith, and_parts, AllByRecursion, list_all, Data, object, Members, put, get_member, get, as_str, class_in_role, kind_of_member, class, role, ShapeFault, NoneOf, IsTree, class_of_object, Preference, depth, members_depth, get_member-put, is_envelope_name, text_exact, skeleton_of_shape, Skeleton, HasCanonicalEnvelope, put_all, normal_members, normal_object_with, normal_report_value, envelope_values, with_envelope, in_envelope, normal_tree}
 use Rattle.erd_normal.proofs.built.NormalGets.{put_elsewhere, put-depth, no_value, same_value}
 use Rattle.erd_normal.proofs.built.NormalMembers.{get_normal}
 
@@ -17,23 +17,20 @@ put_value (p ∷ ps) name o = if bytes_eq name p.0 then Some p.1 else put_value 
 
 get_put_all : (ps : List Named) (name : List ℕ) (ms : Members) → get_member name (put_all ps ms) ≡ put_value ps name (get_member name ms)
 get_put_all [] name ms = refl
-get_put_all (p ∷ ps) name ms = at (bytes_eq name p.0) refl (get_put_all ps name ms)
-  where
-    at : (b : Bool) → bytes_eq name p.0 ≡ b → get_member name (put_all ps ms) ≡ put_value ps name (get_member name ms)
-        → get_member name (put_all (p ∷ ps) ms) ≡ (if b then Some p.1 else put_value ps name (get_member name ms))
-    at true is h = ap (λ x. get_member x (put p.0 p.1 (put_all ps ms))) (text_exact name p.0 is) ∙ get_member-put p.0 p.1 (put_all ps ms)
-    at false is h = put_elsewhere name p.0 p.1 (put_all ps ms) is ∙ h
+get_put_all (p ∷ ps) name ms =
+    (elim (bytes_eq name p.0) as (λ b. bytes_eq name p.0 ≡ b → get_member name (put_all (p ∷ ps) ms) ≡ (if b then Some p.1 else put_value ps name (get_member name ms))) [
+      | true ↦ λ is. ap (λ x. get_member x (put p.0 p.1 (put_all ps ms))) (text_exact name p.0 is) ∙ get_member-put p.0 p.1 (put_all ps ms)
+      | false ↦ λ is. put_elsewhere name p.0 p.1 (put_all ps ms) is ∙ get_put_all ps name ms
+    ]) refl
 
 put_value-other : (ps : List Named) (name : List ℕ) (o : Option Data) → list_all (λ p. is_envelope_name p.0) ps ≡ true → is_envelope_name name ≡ false → put_value ps name o ≡ o
 put_value-other [] name o names other = refl
-put_value-other (p ∷ ps) name o names other = at (bytes_eq name p.0) refl (put_value-other ps name o both.1 other)
-  where
-    both : (is_envelope_name p.0 ≡ true) × (list_all (λ p. is_envelope_name p.0) ps ≡ true)
-    both = and_parts (is_envelope_name p.0) _ names
-
-    at : (b : Bool) → bytes_eq name p.0 ≡ b → put_value ps name o ≡ o → (if b then Some p.1 else put_value ps name o) ≡ o
-    at true is h = absurd (true≢false (sym both.0 ∙ ap is_envelope_name (sym (text_exact name p.0 is)) ∙ other))
-    at false is h = h
+put_value-other (p ∷ ps) name o names other =
+    let both = and_parts (is_envelope_name p.0) (list_all (λ p. is_envelope_name p.0) ps) names in
+    (elim (bytes_eq name p.0) as (λ b. bytes_eq name p.0 ≡ b → (if b then Some p.1 else put_value ps name o) ≡ o) [
+      | true ↦ λ is. absurd (true≢false (sym both.0 ∙ ap is_envelope_name (sym (text_exact name p.0 is)) ∙ other))
+      | false ↦ λ is. put_value-other ps name o both.1 other
+    ]) refl
 
 put_all-depth : (n : ℕ) (ps : List Named) (ms : Members) → AllByRecursion (λ p. depth p.1 ≤ n) ps → members_depth ms ≤ n → members_depth (put_all ps ms) ≤ n
 put_all-depth n [] ms low inside = inside

@@ -1,5 +1,5 @@
 -- What holds of a report holds of what is built of it, if it is told part by part; so what is built of a tree is a tree.
-use Rattle.erd_normal.proofs.Common.{◌≡◌, ℕ, Bool, true, false, List, [], ◌∷◌, map, if◌then◌else◌, Some, None, codes, Option, option_map, Ordering, sym, refl, subst, AllByRecursion, option_map_or, unsigned, Data, number, string, array, object, Items, no_items, item, Members, no_members, member, put, get_member, is_envelope_name, kind_of_member, Class, Family, family, role, MemberKind, kind, found_cases, get_member-tree, put-trees, IsTree, list_of_items, entries_of, entries_at, class_of_object, all_rising, Preference, key_of, class_of_node, rising_list, compact_cmp, with_rising_text, selection_role, put_all, id_of_key, normal_reference, reference_cmp, id_of_selection, normal_selection_reference, unless_no_entry, array_of, normal_value, normal_object_with, normal_node_value, normal_content, normal_nodes, normal_node, with_id, normal_selection, by_key, by_name, normal_object_value, normal_object, normal_objects, normal_election_value, normal_election, normal_report_value, envelope_values, in_envelope, normal_tree}
+use Rattle.erd_normal.proofs.Common.{◌≡◌, ℕ, true, false, List, [], ◌∷◌, map, if◌then◌else◌, Some, None, codes, Option, option_map, Ordering, sym, refl, subst, AllByRecursion, option_map_or, Data, string, array, object, Items, no_items, item, Members, no_members, member, put, get_member, kind_of_member, Class, Family, family, role, MemberKind, kind, IsTree, list_of_items, entries_of, entries_at, class_of_object, Preference, key_of, rising_list, compact_cmp, with_rising_text, selection_role, unsigned, number, is_envelope_name, found_cases, get_member-tree, put-trees, all_rising, class_of_node, put_all, id_of_key, normal_reference, reference_cmp, id_of_selection, normal_selection_reference, unless_no_entry, array_of, normal_value, normal_object_with, normal_node_value, normal_content, normal_nodes, normal_node, with_id, normal_selection, by_key, by_name, normal_object_value, normal_object, normal_objects, normal_election_value, normal_election, normal_report_value, envelope_values, in_envelope, normal_tree}
 use Rattle.erd_normal.proofs.lists.BuiltLists.{IfSome, if_some_is, all_map, array_of-tree, items_again, trees_listed, unless_no_entry-holds}
 use Rattle.erd_normal.proofs.built.NormalMembers.{each_member, node_value, normal_members_each, normal_node_members_each, trees_of_each, value_in_class}
 
@@ -135,19 +135,12 @@ module _ (P : Data → Type 0) (parts : IsPartwise P) where
 
   -- ---- the report
 
-  outside_envelope : (π : Preference) (t : Data) (name : List ℕ) (k : MemberKind) (d : Data) → P d → IfSome P (if is_envelope_name name then None else normal_value π t k d)
-  outside_envelope π t name k d holds = at (is_envelope_name name)
-    where
-      at : (b : Bool) → IfSome P (if b then None else normal_value π t k d)
-      at true = tt
-      at false = normal_value-holds π t k d holds
-
   normal_report_value-holds : (π : Preference) (t : Data) (name : List ℕ) (k : MemberKind) (d : Data) → P d → IfSome P (normal_report_value π t name k d)
   normal_report_value-holds π t name (kind.Keyed f) d holds = keyed-holds π t f d holds
   normal_report_value-holds π t name kind.Elections d holds =
       parts.listed (map (normal_election π t) (rising_list (by_key π) (entries_of d)))
       (all_map P P (normal_election π t) (rising_list (by_key π) (entries_of d)) (normal_election-holds π t) (all_rising P (by_key π) (entries_of d) (entries-hold d holds)))
-  normal_report_value-holds π t name k d holds = outside_envelope π t name k d holds
+  normal_report_value-holds π t name k d holds = elim (is_envelope_name name) as (λ b. IfSome P (if b then None else normal_value π t k d)) [ true ↦ tt | false ↦ normal_value-holds π t k d holds ]
 
   put_all-holds : (ps : List (List ℕ × Data)) (ms : Members) → AllByRecursion (λ p. P p.1) ps → P (object ms) → P (object (put_all ps ms))
   put_all-holds [] ms all holds = holds

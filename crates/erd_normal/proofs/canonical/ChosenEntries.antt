@@ -1,5 +1,5 @@
 -- Each entry of an object's list in an accepted report is a selection of the contest that the object names.
-use Rattle.erd_normal.proofs.Common.{◌≡◌, ℕ, true, false, List, [], ◌∷◌, ◌++◌, Some, None, codes, Option, option_and_then, unwrap_or, refl, ap, ◌∙◌, AllByRecursion, Data, array, object, Items, Members, get_member, get_item, as_str, class, family, role, kind, Step, At, Name, array_from, asked_at-steps, Within-step, of_role, asked_inside_object, wanted_within, lacks_none, Within, list_of_items, entries_at, text_of, text_at, Asked, asked, asked_inside, asked_at, Member, Object, Reference, no_shape_fault, selected, IsAccepted, Preference, is_selection_in, owner, class_of_node}
+use Rattle.erd_normal.proofs.Common.{◌≡◌, ℕ, true, false, List, [], ◌∷◌, ◌++◌, Some, None, codes, Option, option_and_then, unwrap_or, refl, ap, ◌∙◌, AllByRecursion, Data, array, object, Items, Members, get_member, get_item, as_str, class, family, role, kind, Step, At, Name, array_from, Within-step, of_role, asked_inside_object, wanted_within, lacks_none, Within, list_of_items, entries_at, text_at, Asked, asked, asked_inside, asked_at, Member, Reference, IsAccepted, Preference, is_selection_in, owner, asked_at-steps, text_of, Object, no_shape_fault, selected, class_of_node}
 use Rattle.erd_normal.proofs.built.AskedMembers.{all_items}
 use Rattle.erd_normal.proofs.same.IdsOfObjects.{Refers, reference_refers}
 
@@ -11,15 +11,16 @@ module _ (π : Preference) (t : Data) (accepted : IsAccepted π t)
     (ms : Members) (w : Within t (asked (Object role.Content) (object ms))) (among : class_of_node (object ms) ≡ Some class.OrderedContest) where
   -- the reference to the contest
   pub contest_named : (v : Data) × (get_member (codes "ContestId") ms ≡ Some v) × Refers t family.Contest v
-  contest_named = at (get_member (codes "ContestId") ms) refl
-    where
-      at : (o : Option Data) → get_member (codes "ContestId") ms ≡ o → (v : Data) × (get_member (codes "ContestId") ms ≡ Some v) × Refers t family.Contest v
-      at None is = absurd (lacks_none t (no_shape_fault π t accepted) (asked (Object role.Content) (object ms)) (codes "ContestId") w (rw among refl) is)
-      at (Some v) is =
-          let inside : Within t (asked (Reference family.Contest) v) =
-          Within-step t (asked (Object role.Content) (object ms)) (asked (Reference family.Contest) v) (Name (codes "ContestId")) w
-          (asked_inside_object (Object role.Content) role.Content ms class.OrderedContest (codes "ContestId") v of_role among refl is) in
-          (v, is, reference_refers π t accepted family.Contest v inside)
+  contest_named =
+      (elim (get_member (codes "ContestId") ms) as (λ o. get_member (codes "ContestId") ms ≡ o → (v : Data) × (get_member (codes "ContestId") ms ≡ Some v) × Refers t family.Contest v) [
+        | None ↦ λ is. absurd (lacks_none t (no_shape_fault π t accepted) (asked (Object role.Content) (object ms)) (codes "ContestId") w (rw among refl) is)
+        | Some v ↦ λ is. (
+          v,
+          is,
+          reference_refers π t accepted family.Contest v
+              (Within-step t (asked (Object role.Content) (object ms)) (asked (Reference family.Contest) v) (Name (codes "ContestId")) w (asked_inside_object (Object role.Content) role.Content ms class.OrderedContest (codes "ContestId") v of_role among refl is)),
+        )
+      ]) refl
 
   -- a reference names a selection of the contest
   abbrev pub IsChosen : Data → Type 0

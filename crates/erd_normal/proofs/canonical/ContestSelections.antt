@@ -1,17 +1,11 @@
 -- A selection stands in one contest of an accepted report.
-use Rattle.erd_normal.proofs.Common.{◌≡◌, ℕ, zero, suc, ◌+◌, List, [], ◌∷◌, ◌++◌, slice_get, Some, codes, Less, Equal, sym, refl, ap, ◌∙◌, ap₂, tied_itself, Data, family, Step, At, Name, position_of, Has, one_placed, IsAccepted, Preference, IsBefore, Placed, placed_from, selections_of_contest, objects}
+use Rattle.erd_normal.proofs.Common.{◌≡◌, ℕ, ◌+◌, List, [], ◌∷◌, ◌++◌, codes, Less, Equal, sym, refl, ap, ◌∙◌, ap₂, tied_itself, Data, family, At, Name, position_of, IsAccepted, Preference, IsBefore, Placed, selections_of_contest, objects, one_placed, In}
 use Rattle.erd_tables.specs.Places.{place_cmp}
 use Rattle.erd_tables.proofs.PlaceOrder.{place_cmp_total}
+use Rattle.erd_normal.proofs.canonical.RisingReports.{placed_at}
 use Rattle.erd_normal.proofs.canonical.SelectionIds.{selection_values}
 
 -- ---- places
-
-placed_at : (p : List Step) (n : ℕ) (ds : List Data) (i : ℕ) (o : Placed) → slice_get (placed_from p n ds) i ≡ Some o → (k : ℕ) × (o.place ≡ p ++ At k ∷ [])
-placed_at p n [] i o is = absurd (cc is)
-placed_at p n (d ∷ ds) zero o is =
-    let first : record { place = p ++ At n ∷ []; value = d } ≡ o = cc in
-    (n, sym (ap (λ (q : Placed). q.place) first))
-placed_at p n (d ∷ ds) (suc i) o is = placed_at p (n + 1) ds i o is
 
 -- two lists with one more value each
 never_empty : {A : Type 0} (xs : List A) (a : A) → [] ≡ xs ++ a ∷ [] → ⊥
@@ -28,10 +22,10 @@ first_same (x ∷ xs) (y ∷ ys) a b e =
     ap₂ (λ z zs. z ∷ zs) head (first_same xs ys a b rest)
 
 -- the place of a selection's contest
-contest_place : (c o : Placed) → Has (selections_of_contest c) o → (k : ℕ) × (o.place ≡ (c.place ++ Name (codes "ContestSelection") ∷ []) ++ At k ∷ [])
+contest_place : (c o : Placed) → In o (selections_of_contest c) → (k : ℕ) × (o.place ≡ (c.place ++ Name (codes "ContestSelection") ∷ []) ++ At k ∷ [])
 contest_place c o h =
     let i = position_of (selections_of_contest c) o h in
-    placed_at (c.place ++ Name (codes "ContestSelection") ∷ []) 0 (selection_values c) i.0 o i.1
+    (0 + i.0, placed_at (c.place ++ Name (codes "ContestSelection") ∷ []) 0 (selection_values c) i.0 o i.1)
 
 -- ---- contests
 
@@ -40,7 +34,7 @@ never_before_itself o before = let h : Equal ≡ Less = sym (tied_itself place_c
 
 module _ (π : Preference) (t : Data) (accepted : IsAccepted π t) where
   -- two contests that have one selection are one
-  pub one_contest : (c d o : Placed) → Has (objects family.Contest t) c → Has (objects family.Contest t) d → Has (selections_of_contest c) o → Has (selections_of_contest d) o → c ≡ d
+  pub one_contest : (c d o : Placed) → In c (objects family.Contest t) → In d (objects family.Contest t) → In o (selections_of_contest c) → In o (selections_of_contest d) → c ≡ d
   one_contest c d o in_c in_d of_c of_d =
       let k = contest_place c o of_c in
       let l = contest_place d o of_d in
@@ -48,8 +42,5 @@ module _ (π : Preference) (t : Data) (accepted : IsAccepted π t) where
       first_same (c.place ++ Name (codes "ContestSelection") ∷ []) (d.place ++ Name (codes "ContestSelection") ∷ []) (At k.0) (At l.0) (sym k.1 ∙ l.1) in
       let same : c.place ≡ d.place = first_same c.place d.place (Name (codes "ContestSelection")) (Name (codes "ContestSelection")) inside in
       one_placed π t accepted family.Contest family.Contest c d in_c in_d
-      (λ before. never_before_itself c (before_same c d same before))
-      (λ before. never_before_itself d (before_same d c (sym same) before))
-    where
-      before_same : (c d : Placed) → c.place ≡ d.place → IsBefore c d → IsBefore c c
-      before_same c d same before = ap (place_cmp c.place) same ∙ before
+      (λ before. never_before_itself c (ap (place_cmp c.place) same ∙ before))
+      (λ before. never_before_itself d (ap (place_cmp d.place) (sym same) ∙ before))

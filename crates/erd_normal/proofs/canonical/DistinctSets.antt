@@ -1,5 +1,5 @@
 -- No two entries of a set of an accepted report are alike: references by the keys of what they name, other entries as JSON.
-use Rattle.erd_normal.proofs.Common.{◌≡◌, ℕ, Bool, true, false, ◌&&◌, List, IsTrue, Some, Equal, sym, refl, ap, ◌∙◌, subst, ap₂, exact_bytes, IsDistinct, option_cmp, eq_by_cmp, Data, string, array, Items, get_item, compact_text, role_of_class, Class, Family, Role, reason, MemberKind, kind, At, string_from_text, list_of_items-place, list_of_items-tree, text_itself, and_then-Some, In, Within-step, not_within, faultless, wanted_within, unrepeated, Within, is_simple_class, entry_itself, is_shape_fault, AreTrees, is_same_json, list_of_items, entry_want, is_compared_set, asked, is_repeated, Want, Member, Object, Reference, no_shape_fault, no_reference_fault, resolves, one_keyed, owned_by, unrepeated_by_cmp, has_from_In, IsAccepted, has_keys, key_cmp, Preference, key_of, is_reference_fault, id_of, owner, compact_cmp, key_named, key_cmp_exact, Key, reference_cmp}
+use Rattle.erd_normal.proofs.Common.{◌≡◌, ℕ, Bool, true, false, ◌&&◌, List, IsTrue, Some, Equal, sym, refl, ap, ◌∙◌, subst, ap₂, exact_bytes, IsDistinct, option_cmp, eq_by_cmp, Data, string, array, Items, get_item, compact_text, role_of_class, Class, Family, Role, reason, MemberKind, kind, At, string_from_text, list_of_items-place, list_of_items-tree, text_itself, and_then-Some, In, Within-step, not_within, faultless, wanted_within, unrepeated, Within, is_simple_class, entry_itself, is_shape_fault, AreTrees, is_same_json, list_of_items, entry_want, is_compared_set, asked, is_repeated, Want, Member, Object, Reference, no_shape_fault, no_reference_fault, resolves, one_keyed, owned_by, unrepeated_by_cmp, IsAccepted, has_keys, key_cmp, Preference, key_of, is_reference_fault, id_of, owner, compact_cmp, key_named, key_cmp_exact, Key, reference_cmp}
 
 -- ---- sets of references
 
@@ -38,7 +38,7 @@ module _ (π : Preference) (t : Data) (accepted : IsAccepted π t) (f : Family) 
   -- a reference is a text
   reference_text : (d : Data) → In d (list_of_items ds) → (s : List ℕ) × (d ≡ string s) × Within t (asked (Reference f) (string s))
   reference_text d i =
-      let p = list_of_items-place ds d (has_from_In d (list_of_items ds) i) in
+      let p = list_of_items-place ds d i in
       let w' : Within t (asked (Reference f) d) = subst (λ b. Within t (record { want = Reference f; value = d; repeated = b })) (first_of_references p.0 d p.1) (entry_of p.0 d p.1) in
       let s = string_from_text d (wanted_within t (no_shape_fault π t accepted) (asked (Reference f) d) w') in
       (s.0, s.1, subst (λ x. Within t (asked (Reference f) x)) s.1 w')
@@ -80,8 +80,8 @@ module _ (π : Preference) (t : Data) (accepted : IsAccepted π t) (k : MemberKi
 
   equal_values : (d e : Data) → In d (list_of_items ds) → In e (list_of_items ds) → compact_cmp d e ≡ Equal → is_same_json e d ≡ true
   equal_values d e i j h =
-      let p = list_of_items-place ds d (has_from_In d (list_of_items ds) i) in
-      let tree = list_of_items-tree ds d trees (has_from_In d (list_of_items ds) i) in
+      let p = list_of_items-place ds d i in
+      let tree = list_of_items-tree ds d trees i in
       let inside : Within t (asked (Object o) d) = unrepeated t (no_shape_fault π t accepted) (Object o) d (is_compared_set (Member k r) && is_repeated ds p.0 d) refl (value_of p.0 d p.1) in
       let same : d ≡ e = exact d e i j (exact_bytes (compact_text d) (compact_text e) h) in
       ap (λ x. is_same_json x d) (sym same) ∙ entry_itself t (no_shape_fault π t accepted) o d simple tree inside

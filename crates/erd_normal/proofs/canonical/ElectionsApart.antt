@@ -1,7 +1,7 @@
 -- Elections that are matched with those of an accepted report, each with one of its key, have keys where they need them, and no two have one.
-use Rattle.erd_normal.proofs.Common.{◌≡◌, true, List, map, nat_lt, Some, None, sym, ap, ◌∙◌, true≢false, false_from_ne_true, tied_itself, length-map, IsDistinct, Data, has_mapped, map_has, Has, election_has_identifier, no_identity_fault, distinct_from_one_place, distinct_map, distinct_one, IsAccepted, Preference, key_of, Placed, elections, has_several, key_cmp_total, Key}
+use Rattle.erd_normal.proofs.Common.{◌≡◌, true, List, map, nat_lt, Some, None, sym, ap, ◌∙◌, true≢false, false_from_ne_true, tied_itself, length-map, IsDistinct, Data, election_has_identifier, no_identity_fault, distinct_from_one_place, distinct_map, distinct_one, IsAccepted, Preference, key_of, Placed, elections, has_several, key_cmp_total, Key, In, In-map, In-map_from}
 use Rattle.erd_meaning.specs.code.ObjectWalk.{same_key}
-use Rattle.erd_meaning.proofs.finding.TwinElections.{one_election_key}
+use Rattle.erd_meaning.proofs.finding.Found.{one_election_key}
 use Rattle.erd_meaning.proofs.identity.IdentityFaults.{same_key_from}
 use Rattle.erd_normal.proofs.lists.Matched.{IsEven, Matched, distinct_matched, matched_back, matched_length}
 
@@ -30,16 +30,16 @@ module _ (π : Preference) where
     as_many =
         ap (nat_lt 1) (sym (length-map (elections u) (λ (e : Placed). e.value)) ∙ sym (matched_length m) ∙ length-map (elections t) (λ (e : Placed). e.value))
 
-    pub none_keyless : (e : Placed) → has_several u ≡ true → Has (elections u) e → key_of π e.value ≡ None → ⊥
+    pub none_keyless : (e : Placed) → has_several u ≡ true → In e (elections u) → key_of π e.value ≡ None → ⊥
     none_keyless e several h none =
-        let b = matched_back e.value m (has_mapped (λ (x : Placed). x.value) (elections u) e h) in
-        let o = map_has (λ (x : Placed). x.value) (elections t) b.0 b.1 in
+        let b = matched_back e.value m (In-map (λ (x : Placed). x.value) e (elections u) h) in
+        let o = In-map_from (λ (x : Placed). x.value) (elections t) b.0 b.1 in
         let k = election_has_identifier π t (no_identity_fault π t accepted) (sym as_many ∙ several) o.0 o.1 in
         let same : key_of π o.0.value ≡ None = ap (key_of π) o.2 ∙ b.2 ∙ none in
         let h : Some k.0 ≡ None = sym k.1 ∙ same in
         cc
 
-    pub one_election : (d e : Placed) (k : Key) → Has (elections u) d → Has (elections u) e → key_of π d.value ≡ Some k → key_of π e.value ≡ Some k → d ≡ e
+    pub one_election : (d e : Placed) (k : Key) → In d (elections u) → In e (elections u) → key_of π d.value ≡ Some k → key_of π e.value ≡ Some k → d ≡ e
     one_election d e k h i a b =
         distinct_one (λ (x : Placed). x.value) (λ x y. same_key (key_of π x) (key_of π y)) (elections u)
         (distinct_matched (λ x y. same_key (key_of π x) (key_of π y)) (λ x y. same_key (key_of π x) (key_of π y)) twins_even

@@ -1,5 +1,5 @@
 -- No array of the table is empty in the report that is built.
-use Rattle.erd_normal.proofs.Common.{◌≡◌, suc, Bool, true, false, List, map, length, ◌==◌, Some, refl, ap, ◌∙◌, length-map, Data, null, boolean, number, string, array, object, Items, no_items, item, reason, MemberKind, kind, faultless, wanted_within, unrepeated, Within, no_strange, no_unknown, is_array, is_empty_array, ShapeFault, NoneOf, IsTree, list_of_items, entries_of, Asked, asked, Want, Member, no_shape_fault, length-rising, IsAccepted, Preference, rising_list, compact_cmp, with_rising_text, kind_wanted, HasNoEmptyArray, normal_reference, reference_cmp, normal_selection_reference, array_of, normal_content, normal_nodes, normal_selection, by_key, by_name, normal_object, normal_election, normal_tree}
+use Rattle.erd_normal.proofs.Common.{◌≡◌, suc, Bool, true, false, List, map, length, ◌==◌, Some, refl, ap, ◌∙◌, length-map, Data, array, Items, no_items, item, reason, MemberKind, kind, faultless, wanted_within, Within, ShapeFault, NoneOf, IsTree, list_of_items, entries_of, Asked, asked, Want, Member, Preference, rising_list, compact_cmp, with_rising_text, is_array, is_empty_array, unrepeated, no_strange, no_unknown, length-rising, kind_wanted, HasNoEmptyArray, normal_reference, reference_cmp, normal_selection_reference, array_of, normal_content, normal_nodes, normal_selection, by_key, by_name, normal_object, normal_election, normal_tree}
 use Rattle.erd_normal.proofs.lists.BuiltLists.{as_empty}
 use Rattle.erd_normal.proofs.throughout.ThroughoutMembers.{HoldsOfMembers}
 use Rattle.erd_normal.proofs.throughout.ThroughoutObjects.{HoldsOfObjects}
@@ -39,11 +39,7 @@ module _ (π : Preference) (t : Data) (clean : NoneOf (ShapeFault t)) (tree : Is
   apart_full kind.Flag required (array ds) apart w = let x : false ≡ true = wanted_within t clean (asked (Member kind.Flag required) (array ds)) w in cc
   apart_full kind.Whole required (array ds) apart w = let x : false ≡ true = wanted_within t clean (asked (Member kind.Whole required) (array ds)) w in cc
   apart_full k required (array ds) apart w = cc
-  apart_full k required null apart w = refl
-  apart_full k required (boolean b) apart w = refl
-  apart_full k required (number n) apart w = refl
-  apart_full k required (string s) apart w = refl
-  apart_full k required (object ms) apart w = refl
+  apart_full k required d apart w = refl
 
   kept_full : (a : Asked) → Within t a → is_apart a.want ≡ true → IsNotEmpty a
   kept_full a w apart = record { full = λ k e. at a.want a.value a.repeated k w apart e }
@@ -93,9 +89,6 @@ module _ (π : Preference) (t : Data) (clean : NoneOf (ShapeFault t)) (tree : Is
     report = record { full = λ k e. cc };
   }
 
-  pub no_empty_array_of_built : HasNoEmptyArray (normal_tree π t)
-  no_empty_array_of_built p a k e want = (holds_of_built π t clean tree IsNotEmpty built p a e).full k want
-
--- the report that is built of an accepted one has no empty array
-pub no_empty_array_built : (π : Preference) (t : Data) → IsTree t → IsAccepted π t → HasNoEmptyArray (normal_tree π t)
-no_empty_array_built π t tree accepted = no_empty_array_of_built π t (no_shape_fault π t accepted) tree
+  -- the report that is built has no empty array
+  pub no_empty_array_built : HasNoEmptyArray (normal_tree π t)
+  no_empty_array_built p a k e want = (holds_of_built π t clean tree IsNotEmpty built p a e).full k want

@@ -1,26 +1,19 @@
 -- An `@id` names at most one selection of the report that is built, and a reference to a selection is built to the canonical
 -- `@id` of the one that it names.
-use Rattle.erd_normal.proofs.Common.{◌≡◌, ℕ, ◌+◌, ◌^◌, ◌<◌, List, [], map, length, slice_get, Some, codes, sym, refl, ap, ◌∙◌, arith, length-map, same_Some, slice_get_within, option_map_or, Data, family, position_of, Has, IsTree, entries_at, text_of, values-placed_entries, length-rising, IsAccepted, Preference, Placed, selections_of_contest, objects, id_of, owner, IsBounded, rising_list, id_of_selection, selection_with, normal_selection_reference, normal_selection, by_name, normal_object, normal_tree}
-use Rattle.erd_normal.proofs.canonical.Bounds.{few_selections}
+use Rattle.erd_normal.proofs.Common.{◌≡◌, ℕ, ◌+◌, ◌^◌, ◌<◌, List, [], map, length, slice_get, Some, codes, sym, refl, ap, ◌∙◌, arith, length-map, same_Some, slice_get_within, option_map_or, Data, family, position_of, IsTree, entries_at, IsAccepted, Preference, Placed, selections_of_contest, objects, id_of, owner, IsBounded, rising_list, text_of, length-rising, id_of_selection, selection_with, normal_selection_reference, normal_selection, by_name, normal_object, normal_tree, In}
+use Rattle.erd_normal.proofs.canonical.CanonicalIds.{few_selections, canonical_selection_id_exact}
 use Rattle.erd_normal.proofs.lists.FoundInParts.{FoundSelection, owner_found}
+pub use Rattle.erd_normal.proofs.canonical.NormalKeys.{listed, selection_values}
 use Rattle.erd_normal.proofs.canonical.NormalKeys.{IsClassed, object_classed, object_from, one_ranked_built, rank_counted, selection_ids}
 use Rattle.erd_normal.proofs.built.NormalObjects.{selections_built}
-use Rattle.erd_normal.proofs.canonical.SelectionTexts.{canonical_selection_id_exact}
 
 -- ---- what stands in the report that is built
-
--- the selections of a contest, without their places
-abbrev pub selection_values : Placed → List Data
-selection_values contest = entries_at (codes "ContestSelection") contest.value
-
-pub listed : (contest : Placed) → map (λ o. o.value) (selections_of_contest contest) ≡ selection_values contest
-listed contest = values-placed_entries (codes "ContestSelection") contest
 
 counted : (contest : Placed) → length (selections_of_contest contest) ≡ length (selection_values contest)
 counted contest = sym (length-map (selections_of_contest contest) (λ o. o.value)) ∙ ap length (listed contest)
 
 module _ (π : Preference) (t : Data) (accepted : IsAccepted π t) (tree : IsTree t) where
-  module _ (contest p : Placed) (of_report : Has (objects family.Contest t) contest) (is : normal_object π t family.Contest contest.value ≡ p.value) where
+  module _ (contest p : Placed) (of_report : In contest (objects family.Contest t)) (is : normal_object π t family.Contest contest.value ≡ p.value) where
     -- the selections of a contest that is built
     selections_there : selection_values p ≡ map (normal_selection π t contest.value) (rising_list (by_name π t) (selection_values contest))
     selections_there =
@@ -35,7 +28,7 @@ module _ (π : Preference) (t : Data) (accepted : IsAccepted π t) (tree : IsTre
   -- ---- `@id` texts
 
   module _ (bounded : IsBounded t) where
-    selection_low : (p : Placed) → Has (objects family.Contest (normal_tree π t)) p → (j : ℕ) (q : Placed) → slice_get (selections_of_contest p) j ≡ Some q → j + 1 < 2 ^ 64
+    selection_low : (p : Placed) → In p (objects family.Contest (normal_tree π t)) → (j : ℕ) (q : Placed) → slice_get (selections_of_contest p) j ≡ Some q → j + 1 < 2 ^ 64
     selection_low p h j q at =
         let contest = object_from π t accepted tree family.Contest refl p h in
         let low : j < length (selections_of_contest p) = slice_get_within (selections_of_contest p) j q at in
@@ -44,7 +37,7 @@ module _ (π : Preference) (t : Data) (accepted : IsAccepted π t) (tree : IsTre
         omega (arith, low, few, same)
 
     -- two selections with one `@id` are one
-    pub one_selection : (c d o q : Placed) → Has (objects family.Contest (normal_tree π t)) c → Has (objects family.Contest (normal_tree π t)) d → Has (selections_of_contest c) o → Has (selections_of_contest d) q
+    pub one_selection : (c d o q : Placed) → In c (objects family.Contest (normal_tree π t)) → In d (objects family.Contest (normal_tree π t)) → In o (selections_of_contest c) → In q (selections_of_contest d)
         → id_of o.value ≡ id_of q.value → o ≡ q
     one_selection c d o q in_c in_d in_o in_q same =
         let j = position_of (selections_of_contest c) o in_o in

@@ -1,5 +1,5 @@
 -- The envelope of the report that is built has no fault of shape.
-use Rattle.erd_normal.proofs.Common.{◌≡◌, ℕ, true, false, List, [], ◌∷◌, IsSomeAnd, IsTrue, Some, None, codes, Option, option_and_then, bytes_eq, sym, refl, ◌∙◌, subst, ap₂, true≢false, AllByRecursion, unsigned, Data, number, string, object, get, envelope_rows, class, role, Reason, reason, kind, Step, Name, is_shape_fault, ShapeFault, NoneOf, IsTree, class_of_object, member_want, Asked, asked, asked_of_member, asked_inside, asked_from, Want, Member, Object, Preference, HasSoundEnvelope, normal_tree}
+use Rattle.erd_normal.proofs.Common.{◌≡◌, ℕ, true, false, List, [], ◌∷◌, drop, IsSomeAnd, IsTrue, Some, None, codes, Option, option_and_then, bytes_eq, sym, refl, ◌∙◌, subst, ap₂, true≢false, AllByRecursion, Data, string, object, get, class, role, Reason, reason, kind, Step, Name, ShapeFault, NoneOf, IsTree, class_of_object, member_want, Asked, asked, asked_of_member, asked_inside, asked_from, Want, Member, Preference, unsigned, number, is_shape_fault, envelope_rows, Object, HasSoundEnvelope, normal_tree}
 use Rattle.erd_normal.proofs.built.NormalReports.{class_of_built_report, has_canonical_envelope}
 use Rattle.erd_normal.proofs.throughout.ThroughoutReports.{row_named}
 
@@ -53,31 +53,10 @@ module _ (π : Preference) (t : Data) (clean : NoneOf (ShapeFault t)) (tree : Is
 
   rows_sound : AllByRecursion (λ row. IsSoundUnder row.name) envelope_rows
   rows_sound =
-      let e = has_canonical_envelope π t clean tree in (
-        word_under (codes "Format") _ refl refl e.format,
-        (
-          word_under (codes "GeneratedDate") _ refl refl e.date,
-          (
-            word_under (codes "Issuer") _ refl refl e.issuer,
-            (
-              word_under (codes "IssuerAbbreviation") _ refl refl e.abbreviation,
-              (
-                word_under (codes "VendorApplicationId") _ refl refl e.application,
-                (
-                  absent_under (codes "Notes") refl e.notes,
-                  (
-                    whole_under (codes "SequenceStart") _ refl refl e.start,
-                    (
-                      whole_under (codes "SequenceEnd") _ refl refl e.end,
-                      (absent_under (codes "ExternalIdentifier") refl e.identifiers, tt),
-                    ),
-                  ),
-                ),
-              ),
-            ),
-          ),
-        ),
-      )
+      let e = has_canonical_envelope π t clean tree in
+      let numbers : AllByRecursion (λ row. IsSoundUnder row.name) (drop 6 envelope_rows) = (whole_under (codes "SequenceStart") _ refl refl e.start, (whole_under (codes "SequenceEnd") _ refl refl e.end, (absent_under (codes "ExternalIdentifier") refl e.identifiers, tt))) in
+      let names : AllByRecursion (λ row. IsSoundUnder row.name) (drop 3 envelope_rows) = (word_under (codes "IssuerAbbreviation") _ refl refl e.abbreviation, (word_under (codes "VendorApplicationId") _ refl refl e.application, (absent_under (codes "Notes") refl e.notes, numbers))) in
+      (word_under (codes "Format") _ refl refl e.format, (word_under (codes "GeneratedDate") _ refl refl e.date, (word_under (codes "Issuer") _ refl refl e.issuer, names)))
 
   -- the envelope of the report that is built is sound
   pub sound_envelope_built : HasSoundEnvelope (normal_tree π t)

@@ -1,5 +1,5 @@
 -- The canonical form of the small ballot, and rearrangements, by computation.
-use Rattle.erd_normal.proofs.Common.{◌≡◌, ℕ, zero, suc, Bool, true, false, ◌&&◌, List, [], ◌∷◌, ◌++◌, map, Some, None, codes, Option, option_map, is_lt, Ordering, unwrap_or, refl, arith, lit<, digits, option_cmp, option_map_or, serde_json_on_literals, Data, Family, family, Step, At, Name, tree_of, small_ballot, small_ballot_canonical, entries_of, asked_at, local_key, members_of, key_cmp, a_key, a_plain, NameParts, contests, compact_cmp, name_cmp, keys_referred, canonical_id, canonical_selection_id, HasCanonicalEnvelope, keys_in, ids_in, names_in, Renaming, renamed, exchanged, HasEntries, a_renaming, an_exchange, changed}
+use Rattle.erd_normal.proofs.Common.{◌≡◌, ℕ, zero, suc, Bool, true, false, ◌&&◌, List, [], ◌∷◌, ◌++◌, map, Some, None, codes, Option, option_map, is_lt, Ordering, unwrap_or, sym, refl, true≢false, arith, lit<, option_cmp, option_map_or, Data, Family, family, Step, At, Name, tree_of, small_ballot, small_ballot_canonical, entries_of, asked_at, key_cmp, a_key, a_plain, NameParts, contests, compact_cmp, name_cmp, serde_json_on_literals, digits, local_key, members_of, keys_referred, canonical_id, canonical_selection_id, keys_in, ids_in, names_in, Renaming, renamed, exchanged, HasEntries, a_renaming, an_exchange, changed}
 
 -- ---- `@id` texts
 
@@ -28,7 +28,7 @@ canonical_selection_ids : ids_in family.Selection (tree_of small_ballot_canonica
 unfolding serde_json_on_literals digits
 canonical_selection_ids = refl
 
--- ---- order and envelope
+-- ---- orders
 
 abbrev rises : {A : Type 0} → (A → A → Ordering) → List A → Bool
 rises cmp [] = true
@@ -56,24 +56,7 @@ other_orders : orders (tree_of small_ballot) (Name (codes "Election") ∷ At 0 �
 unfolding serde_json_on_literals
 other_orders = refl
 
-pub canonical_envelope : HasCanonicalEnvelope (tree_of small_ballot_canonical)
-unfolding serde_json_on_literals
-canonical_envelope = record {
-  format = refl;
-  date = refl;
-  issuer = refl;
-  abbreviation = refl;
-  application = refl;
-  start = refl;
-  end = refl;
-  notes = refl;
-  identifiers = refl;
-}
-
 -- ---- rearrangements
-
-untrue : false ≡ true → ⊥
-untrue h = absurd (cc h)
 
 -- the `@id` and the references follow; labels and carried texts of the same bytes stay
 renamed_unit : renamed ((codes "u7", codes "k") ∷ []) (tree_of (codes "{\"@type\":\"ElectionResults.ElectionReport\",\"Status\":\"pre-election\",\"Note\":\"u7\",\"GpUnit\":[{\"@id\":\"u7\",\"@type\":\"ElectionResults.ReportingUnit\",\"Type\":\"u7\",\"ComposingGpUnitIds\":[\"u7\"],\"ContactInformation\":{\"Name\":\"u7\"}}],\"Election\":[{\"@type\":\"ElectionResults.Election\",\"Name\":\"u7\",\"ElectionScopeId\":\"u7\"}]}"))
@@ -127,4 +110,4 @@ allowed_exchanges : (let t = tree_of small_ballot in
     × ¬ HasEntries t (Name (codes "Election") ∷ At 0 ∷ Name (codes "BallotStyle") ∷ At 0 ∷ Name (codes "OrderedContent") ∷ At 0 ∷ Name (codes "OrderedContent") ∷ At 0 ∷ Name (codes "OrderedContestSelectionIds") ∷ []) 0 1
     × HasEntries t (Name (codes "Election") ∷ []) 0 0 × ¬ HasEntries t (Name (codes "Election") ∷ []) 0 1)
 unfolding serde_json_on_literals
-allowed_exchanges = ((refl, lit< tt, lit< tt), λ h. untrue h.0, λ h. untrue h.0, (refl, lit< tt, lit< tt), λ h. absurd (omega (arith, h.2)))
+allowed_exchanges = ((refl, lit< tt, lit< tt), λ h. true≢false (sym h.0), λ h. true≢false (sym h.0), (refl, lit< tt, lit< tt), λ h. absurd (omega (arith, h.2)))

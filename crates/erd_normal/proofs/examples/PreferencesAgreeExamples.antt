@@ -1,10 +1,13 @@
 -- Small reports under two preferences: what the law says of them.
-use Rattle.erd_normal.proofs.Common.{◌≡◌, ℕ, true, false, ◌↔◌, List, [], ◌∷◌, ◌++◌, map, length, get_or as slice_index_or, is_some, slice_get, Some, None, codes, Option, option_map, unwrap_or, sym, refl, ap, ◌∙◌, true≢false, serde_json_on_literals, Data, null, class, Family, family, role, is_tree, tree_sound, faults_found, no_fault_listed, tree_of, IsTree, local_key, same_object, same_at_every_key, no_record, same_sole_election, same_meaning, IsAccepted, Preference, Placed, report_of, elections, objects, meaning, object_record, records_of, election_records, Key, keys_in}
+use Rattle.erd_normal.proofs.Common.{◌≡◌, ℕ, true, List, [], ◌∷◌, ◌++◌, map, length, is_some, Some, None, codes, refl, ap, true≢false, Data, family, tree_sound, no_fault_listed, tree_of, IsTree, IsAccepted, Preference, meaning, ◌↔◌, serde_json_on_literals, is_tree, faults_found, local_key, Key, keys_in, SaysTheSame, sym, IsDistinct}
 use Rattle.erd_meaning.proofs.identity.IdentityFaults.{identity_told}
-use Rattle.erd_meaning.proofs.references.SelectionEntries.{reference_faults}
+use Rattle.erd_meaning.proofs.references.ReferenceWalks.{reference_faults}
 use Rattle.erd_meaning.proofs.refused.Refused.{accepted_by_lists}
-use Rattle.erd_meaning.proofs.selections.SelectionFaults.{selections_told}
+use Rattle.erd_normal.proofs.examples.RearrangedExamples.{new_name, renaming}
+use Rattle.erd_normal.proofs.same.FromAlike.{renamed_says_the_same}
+use Rattle.erd_meaning.proofs.selections.NamesTold.{selections_told}
 use Rattle.erd_normal.proofs.same.complete.Complete.{preferences_agree}
+use Rattle.erd_normal.proofs.same.means.Meanings.{saying_the_same_means_the_same}
 
 -- ---- three reports, and two preferences
 
@@ -71,52 +74,22 @@ agree_on t u one other = preferences_agree None local t u one.is_tree_at other.i
 
 -- ---- equal under one, and so under the other
 
-abbrev election_in : Data → Placed
-election_in t = unwrap_or (slice_get (elections t) 0) (report_of null)
-
-abbrev unit_in : Data → Data
-unit_in t = unwrap_or (option_map (λ o. o.value) (slice_get (objects family.Unit t) 0)) null
-
-same_report : object_record None given role.Report given ≡ object_record None renamed role.Report renamed
-unfolding serde_json_on_literals
-same_report = same_object None given renamed given renamed role.Report class.ElectionReport refl refl refl
-
-same_election : (k : Option Key) → election_records None given k ≡ election_records None renamed k
-unfolding serde_json_on_literals
-same_election =
-    same_sole_election None None given renamed (election_in given) (election_in renamed) refl refl refl
-    (same_object None given renamed (election_in given).value (election_in renamed).value role.Election class.Election refl refl refl)
-
-same_unit : records_of None given family.Unit fips_key ≡ records_of None renamed family.Unit fips_key
-unfolding serde_json_on_literals
-same_unit = same_object None given renamed (unit_in given) (unit_in renamed) (role.OfFamily family.Unit) class.ReportingUnit refl refl refl
-
-same_objects : (f : Family) (k : Key) → records_of None given f k ≡ records_of None renamed f k
-unfolding serde_json_on_literals
-same_objects family.Unit k =
-    same_at_every_key (records_of None given family.Unit) (records_of None renamed family.Unit) (fips_key ∷ []) (same_unit, tt)
-    (no_record None given family.Unit) (no_record None renamed family.Unit) k
-same_objects f k = refl
+-- one says what the other says, under another `@id`
+renamed_says : SaysTheSame given renamed
+unfolding serde_json_on_literals IsDistinct
+renamed_says = renamed_says_the_same None given new_name given_is.is_tree_at given_is.accepted (renaming given new_name refl (tt, tt) (tt, tt))
 
 equal_under_both : (meaning None given ≡ meaning None renamed) × (meaning local given ≡ meaning local renamed)
 equal_under_both =
-    let same : meaning None given ≡ meaning None renamed = same_meaning None None given renamed same_report same_election same_objects in
+    let same = sym (saying_the_same_means_the_same None given renamed given_is.is_tree_at renamed_is.is_tree_at given_is.accepted renamed_says) in
     (same, (agree_on given renamed given_is renamed_is).0 same)
 
 -- ---- apart under one, and so under the other
 
 -- with the preference, one alone has a unit of the key; without, both have one of the same key, and they mean different units
-local_units : map (λ t. is_some (records_of local t family.Unit (local_key (codes "U1")))) (given ∷ moved ∷ []) ≡ true ∷ false ∷ []
+local_apart : ¬ (meaning local given ≡ meaning local moved)
 unfolding serde_json_on_literals
-local_units = refl
+local_apart same = true≢false (ap (λ m. is_some (m.objects family.Unit (local_key (codes "U1")))) same)
 
 apart_under_both : ¬ (meaning local given ≡ meaning local moved) × ¬ (meaning None given ≡ meaning None moved)
-apart_under_both = (apart, λ same. apart ((agree_on given moved given_is moved_is).0 same))
-  where
-    apart : ¬ (meaning local given ≡ meaning local moved)
-    apart same =
-        let one : is_some (records_of local given family.Unit (local_key (codes "U1"))) ≡ is_some (records_of local moved family.Unit (local_key (codes "U1"))) =
-        ap (λ m. is_some (m.objects family.Unit (local_key (codes "U1")))) same in
-        let here : is_some (records_of local given family.Unit (local_key (codes "U1"))) ≡ true = ap (λ bs. slice_index_or bs 0 false) local_units in
-        let there : is_some (records_of local moved family.Unit (local_key (codes "U1"))) ≡ false = ap (λ bs. slice_index_or bs 1 true) local_units in
-        absurd (true≢false (sym here ∙ (one ∙ there)))
+apart_under_both = (local_apart, λ same. local_apart ((agree_on given moved given_is moved_is).0 same))

@@ -1,5 +1,5 @@
 -- Whole reports that are rearrangements of one another, and changes that are refused.
-use Rattle.erd_normal.proofs.Common.{◌≡◌, ℕ, zero, suc, Bool, true, false, not, ◌&&◌, List, [], ◌∷◌, ◌++◌, map, length, if◌then◌else◌, ◌==◌, slice_get, Some, None, codes, Contains, Option, option_map, bytes_eq, unwrap_or, sym, refl, ap, true≢false, arith, lit<, not-true, and_parts, or_parts, bytes_eq-Decides, AllByRecursion, IsDistinct, list_all, list_any, option_map_or, serde_json_on_literals, Data, families, family, Step, At, Name, tree_of, small_ballot, small_ballot_canonical, one_unit, Placed, report_of, objects, id_of, Renaming, Change, a_renaming, an_exchange, IsRearrangement, IsRenaming}
+use Rattle.erd_normal.proofs.Common.{◌≡◌, ℕ, zero, suc, Bool, true, List, [], ◌∷◌, ◌++◌, map, length, if◌then◌else◌, ◌==◌, slice_get, Some, None, codes, Contains, Option, option_map, bytes_eq, unwrap_or, sym, refl, ap, true≢false, arith, lit<, bytes_eq-Decides, list_all, list_any, option_map_or, Data, families, family, Step, At, Name, tree_of, small_ballot, small_ballot_canonical, one_unit, Placed, report_of, objects, id_of, IsDistinct, serde_json_on_literals, Renaming, Change, a_renaming, an_exchange, IsRearrangement, IsRenaming}
 use Rattle.std.proofs.lemmas.Map.Views.{Contains-from_any}
 use Rattle.erd_normal.proofs.examples.EqualTrees.{equal_trees}
 use Rattle.erd_normal.proofs.lists.Lists.{passed, is_family}
@@ -16,57 +16,33 @@ abbrev pub edited : List ℕ → List ℕ → List ℕ → List ℕ
 edited old new [] = []
 edited old new (x ∷ xs) = unwrap_or (option_map (λ rest. new ++ rest) (rest_after old (x ∷ xs))) (x ∷ edited old new xs)
 
--- ---- a test of a renaming
+-- ---- what is a renaming
 
 -- each `@id` of the objects is among these texts
 abbrev are_among : List (List ℕ) → List Placed → Bool
 are_among texts os = list_all (λ o. option_map_or (λ id. list_any (bytes_eq id) texts) (id_of o.value) true) os
 
--- no two of the pairs have one text on this side
-abbrev are_apart : (List ℕ × List ℕ → List ℕ) → Renaming → Bool
-are_apart side [] = true
-are_apart side (p ∷ ps) = not (list_any (λ q. bytes_eq (side p) (side q)) ps) && are_apart side ps
-
-abbrev is_renaming : Data → Renaming → Bool
-is_renaming t pairs =
-    list_all (λ f. are_among (map (λ pair. pair.0) pairs) (objects f t)) families
-    && (are_apart (λ pair. pair.0) pairs && are_apart (λ pair. pair.1) pairs)
-
-other_texts : (text : List ℕ) (side : List ℕ × List ℕ → List ℕ) (ps : Renaming) → list_any (λ q. bytes_eq text (side q)) ps ≡ false → AllByRecursion (λ other. bytes_eq text other ≡ false) (map side ps)
-other_texts text side [] h = tt
-other_texts text side (p ∷ ps) h = let parts = or_parts (bytes_eq text (side p)) _ h in (parts.0, other_texts text side ps parts.1)
-
-texts_apart : (side : List ℕ × List ℕ → List ℕ) (ps : Renaming) → are_apart side ps ≡ true → IsDistinct bytes_eq (map side ps)
-unfolding IsDistinct
-texts_apart side [] h = tt
-texts_apart side (p ∷ ps) h =
-    let both = and_parts (not (list_any (λ q. bytes_eq (side p) (side q)) ps)) _ h in
-    (other_texts (side p) side ps (not-true _ both.0), texts_apart side ps both.1)
-
--- what passes the test is a renaming
-renaming : (t : Data) (pairs : Renaming) → is_renaming t pairs ≡ true → IsRenaming t pairs
-renaming t pairs h =
-    let parts = and_parts (list_all (λ f. are_among (map (λ pair. pair.0) pairs) (objects f t)) families) _ h in
-    let sides = and_parts (are_apart (λ pair. pair.0) pairs) _ parts.1 in
-    record {
-      all = λ f o id stands is.
-          let among = passed (λ o. option_map_or (λ id. list_any (bytes_eq id) (map (λ pair. pair.0) pairs)) (id_of o.value) true) (objects f t) o
-          (passed (λ f. are_among (map (λ pair. pair.0) pairs) (objects f t)) families f parts.0 (is_family f)) stands in
-          Contains-from_any (λ x y. (bytes_eq-Decides x y).0) id (map (λ pair. pair.0) pairs) (rw is at among);
-      left = texts_apart (λ pair. pair.0) pairs sides.0;
-      right = texts_apart (λ pair. pair.1) pairs sides.1;
-    }
+-- a renaming, where no two of the pairs have one text on either side
+pub renaming : (t : Data) (pairs : Renaming) → list_all (λ f. are_among (map (λ pair. pair.0) pairs) (objects f t)) families ≡ true → IsDistinct bytes_eq (map (λ pair. pair.0) pairs) → IsDistinct bytes_eq (map (λ pair. pair.1) pairs) → IsRenaming t pairs
+renaming t pairs h left right = record {
+  all = λ f o id stands is.
+      let among = passed (λ o. option_map_or (λ id. list_any (bytes_eq id) (map (λ pair. pair.0) pairs)) (id_of o.value) true) (objects f t) o
+      (passed (λ f. are_among (map (λ pair. pair.0) pairs) (objects f t)) families f h (is_family f)) stands in
+      Contains-from_any (λ x y. (bytes_eq-Decides x y).0) id (map (λ pair. pair.0) pairs) (rw is at among);
+  left = left;
+  right = right;
+}
 
 -- ---- the report of one unit
 
-abbrev new_name : Renaming
+abbrev pub new_name : Renaming
 new_name = (codes "u7", codes "k") ∷ []
 
 -- its `@id` and the reference to it are replaced
 renamed_unit : IsRearrangement (a_renaming new_name ∷ []) (tree_of one_unit)
     (tree_of (codes "{\"@type\":\"ElectionResults.ElectionReport\",\"Status\":\"pre-election\",\"GpUnit\":[{\"@id\":\"k\",\"@type\":\"ElectionResults.ReportingUnit\",\"Type\":\"county\",\"ExternalIdentifier\":[{\"@type\":\"ElectionResults.ExternalIdentifier\",\"Type\":\"local-level\",\"Value\":\"U1\"}]}],\"Election\":[{\"@type\":\"ElectionResults.Election\",\"Name\":\"Test\",\"Type\":\"general\",\"StartDate\":\"2026-11-03\",\"EndDate\":\"2026-11-03\",\"ElectionScopeId\":\"k\"}]}"))
-unfolding serde_json_on_literals
-renamed_unit = (renaming (tree_of one_unit) new_name refl, refl)
+unfolding serde_json_on_literals IsDistinct
+renamed_unit = (renaming (tree_of one_unit) new_name refl (tt, tt) (tt, tt), refl)
 
 -- ---- the small ballot
 
@@ -103,7 +79,7 @@ unfolding serde_json_on_literals
 exchanged_units = ((refl, lit< tt, lit< tt), refl)
 
 -- the names of the canonical form
-abbrev canonical_names : Renaming
+abbrev pub canonical_names : Renaming
 canonical_names =
     (codes "a1", codes "gp1") ∷ (codes "a2", codes "gp2") ∷ (codes "a3", codes "pa1") ∷ (codes "a4", codes "hd1") ∷ (codes "a5", codes "ca1") ∷ (codes "a6", codes "ca2") ∷ (codes "a7", codes "ca3")
     ∷ (codes "a8", codes "co1") ∷ (codes "a9", codes "cs1-2") ∷ (codes "a10", codes "cs1-3") ∷ (codes "a11", codes "cs1-1") ∷ (codes "a12", codes "co2") ∷ (codes "a13", codes "cs2-2") ∷ (codes "a14", codes "cs2-1")
@@ -121,11 +97,19 @@ in_canonical_order =
     an_exchange units_place 0 1 ∷ an_exchange candidates_place 0 1 ∷ an_exchange candidates_place 1 2 ∷ an_exchange (selections_place 0) 0 2 ∷ an_exchange (selections_place 0) 1 2
     ∷ an_exchange (keys_place 1) 0 1 ∷ an_exchange (selections_place 1) 0 1 ∷ an_exchange (translations_place 1) 0 1 ∷ []
 
+old_names_differ : IsDistinct bytes_eq (map (λ pair. pair.0) canonical_names)
+unfolding IsDistinct
+old_names_differ = grind arith
+
+new_names_differ : IsDistinct bytes_eq (map (λ pair. pair.1) canonical_names)
+unfolding IsDistinct
+new_names_differ = grind arith
+
 -- but for its envelope the canonical form is a rearrangement of the small ballot
 canonical_rearranged : IsRearrangement (a_renaming canonical_names ∷ in_canonical_order) (tree_of small_ballot) (tree_of canonical_inside)
 unfolding serde_json_on_literals
 canonical_rearranged =
-    (renaming (tree_of small_ballot) canonical_names refl, ((refl, lit< tt, lit< tt), ((refl, lit< tt, lit< tt), ((refl, lit< tt, lit< tt), ((refl, lit< tt, lit< tt), ((refl, lit< tt, lit< tt), ((refl, lit< tt, lit< tt), ((refl, lit< tt, lit< tt), ((refl, lit< tt, lit< tt), equal_trees _ (tree_of canonical_inside) refl)))))))))
+    (renaming (tree_of small_ballot) canonical_names refl old_names_differ new_names_differ, ((refl, lit< tt, lit< tt), ((refl, lit< tt, lit< tt), ((refl, lit< tt, lit< tt), ((refl, lit< tt, lit< tt), ((refl, lit< tt, lit< tt), ((refl, lit< tt, lit< tt), ((refl, lit< tt, lit< tt), ((refl, lit< tt, lit< tt), equal_trees _ (tree_of canonical_inside) refl)))))))))
 
 -- ---- refused
 

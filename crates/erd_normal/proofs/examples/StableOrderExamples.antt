@@ -1,5 +1,5 @@
 -- Pairs sorted by their keys with the order of equal keys kept, and lists that are no such sorting.
-use Rattle.erd_normal.proofs.Common.{◌≡◌, ℕ, zero, suc, ◌+◌, ◌<◌, ◌≤◌, Bool, true, false, List, [], ◌∷◌, map, get_or as slice_index_or, codes, nat_cmp, is_eq, is_lt, Ordering, Less, Equal, Greater, sym, refl, ap, ◌∙◌, arith, tied_itself, nat_cmp_total, on_total, then_total, nat_list_cmp_total, IsTotalOrder, ordering_reverse, local_key, key_cmp, Key, pairs_of, IsStablySorted}
+use Rattle.erd_normal.proofs.Common.{◌≡◌, ℕ, zero, suc, ◌+◌, ◌<◌, ◌≤◌, Bool, true, false, List, [], ◌∷◌, map, get_or as slice_index_or, codes, nat_cmp, is_eq, is_lt, Ordering, Less, Equal, sym, refl, ap, ◌∙◌, arith, tied_itself, nat_cmp_total, on_total, then_total, nat_list_cmp_total, IsTotalOrder, ordering_reverse, key_cmp, local_key, Key, pairs_of, IsStablySorted}
 
 -- no key is equal to two of which one is less
 not_both : {K : Type 0} (cmp : K → K → Ordering) (total : IsTotalOrder cmp) (a b k : K) → cmp a b ≡ Less → (one two : Ordering) → cmp a k ≡ one → cmp b k ≡ two
@@ -7,10 +7,7 @@ not_both : {K : Type 0} (cmp : K → K → Ordering) (total : IsTotalOrder cmp) 
 not_both cmp total a b k less Equal Equal is_one is_two h g =
     let back : cmp k b ≡ Equal = total.antisymm k b ∙ ap ordering_reverse is_two in
     let same : Less ≡ Equal = sym less ∙ (total.congr a k b is_one ∙ back) in absurd (cc same)
-not_both cmp total a b k less Less two is_one is_two h g = absurd (cc h)
-not_both cmp total a b k less Greater two is_one is_two h g = absurd (cc h)
-not_both cmp total a b k less Equal Less is_one is_two h g = absurd (cc g)
-not_both cmp total a b k less Equal Greater is_one is_two h g = absurd (cc g)
+not_both cmp total a b k less one two is_one is_two h g = absurd (cc)
 
 -- ---- two keys, twice each
 
@@ -24,9 +21,7 @@ sorted a b = (a, 11) ∷ (a, 13) ∷ (b, 10) ∷ (b, 12) ∷ []
 same_pairs : {K : Type 0} (cmp : K → K → Ordering) (a b k : K) (one two : Bool) → is_eq (cmp a k) ≡ one → is_eq (cmp b k) ≡ two
     → (one ≡ true → two ≡ true → ⊥) → pairs_of cmp k (sorted a b) ≡ pairs_of cmp k (given a b)
 same_pairs cmp a b k true true is_one is_two apart = absurd (apart refl refl)
-same_pairs cmp a b k true false is_one is_two apart = rw (is_one, is_two)
-same_pairs cmp a b k false true is_one is_two apart = rw (is_one, is_two)
-same_pairs cmp a b k false false is_one is_two apart = rw (is_one, is_two)
+same_pairs cmp a b k one two is_one is_two apart = rw (is_one, is_two)
 
 keys_rise : {K : Type 0} (cmp : K → K → Ordering) (total : IsTotalOrder cmp) (a b : K) → cmp a b ≡ Less → (k : ℕ) (d : K × ℕ) → 0 ≤ k → k + 1 < 4
     → is_lt (cmp (slice_index_or (sorted a b) (k + 1) d).0 (slice_index_or (sorted a b) k d).0) ≡ false

@@ -1,5 +1,5 @@
 -- Lists that are put in order and built entry by entry, and the arrays of them.
-use Rattle.erd_normal.proofs.Common.{◌≡◌, ℕ, zero, suc, ◌≤◌, Bool, true, false, List, [], ◌∷◌, map, length, if◌then◌else◌, ◌==◌, Some, None, Option, refl, ap, ◌∙◌, subst, arith, ⊤, AllByRecursion, Data, array, Items, no_items, item, depth, items_depth, get_item, items_of, list_of_items-items_of, is_array, is_empty_array, IsTree, AreTrees, list_of_items, entries_of, unless_no_entry, array_of}
+use Rattle.erd_normal.proofs.Common.{◌≡◌, ℕ, zero, suc, ◌≤◌, true, false, List, [], ◌∷◌, map, length, if◌then◌else◌, ◌==◌, Some, None, Option, refl, ap, ◌∙◌, subst, ap₂, arith, same_Some, AllByRecursion, Data, array, Items, no_items, item, get_item, items_of, IsTree, list_of_items, entries_of, depth, is_array, is_empty_array, AreTrees, ⊤, items_depth, list_of_items-items_of, unless_no_entry, array_of, In, inl, inr}
 
 -- ---- any lists
 
@@ -16,9 +16,10 @@ pub all_map : {A : Type 0} {B : Type 0} (P : A → Type 0) (Q : B → Type 0) (f
 all_map P Q f [] each all = tt
 all_map P Q f (x ∷ xs) each all = (each x all.0, all_map P Q f xs each all.1)
 
-pub all_of : {A : Type 0} (P : A → Type 0) (xs : List A) → ((x : A) → P x) → AllByRecursion P xs
-all_of P [] each = tt
-all_of P (x ∷ xs) each = (each x, all_of P xs each)
+-- where what becomes of each is the same
+pub maps_agree : {A B : Type 0} (f g : A → B) (xs : List A) → ((x : A) → In x xs → f x ≡ g x) → map f xs ≡ map g xs
+maps_agree f g [] each = refl
+maps_agree f g (x ∷ xs) each = ap₂ (λ y ys. y ∷ ys) (each x (inl refl)) (maps_agree f g xs (λ y h. each y (inr h)))
 
 pub all_both : (P Q : Data → Type 0) (xs : List Data) → AllByRecursion P xs → AllByRecursion Q xs → AllByRecursion (λ x. P x × Q x) xs
 all_both P Q [] p q = tt
@@ -30,12 +31,9 @@ pub trees_listed : (ds : Items) → AreTrees ds → AllByRecursion IsTree (list_
 trees_listed no_items trees = tt
 trees_listed (item d ds) trees = (trees.0, trees_listed ds trees.1)
 
-items_of-trees : (ds : List Data) → AllByRecursion IsTree ds → AreTrees (items_of ds)
-items_of-trees [] all = tt
-items_of-trees (d ∷ ds) all = (all.0, items_of-trees ds all.1)
-
 pub array_of-tree : (ds : List Data) → AllByRecursion IsTree ds → IsTree (array_of ds)
-array_of-tree ds all = items_of-trees ds all
+array_of-tree [] all = tt
+array_of-tree (d ∷ ds) all = (all.0, array_of-tree ds all.1)
 
 -- each entry is nested no deeper than all of them
 pub listed_depth : (ds : Items) (n : ℕ) → items_depth ds ≤ n → AllByRecursion (λ d. depth d ≤ n) (list_of_items ds)
@@ -51,11 +49,7 @@ items_of-depth (d ∷ ds) n all =
 
 -- a value that stands unless there is no entry
 pub unless_no_entry-holds : (P : Data → Type 0) (d v : Data) → P v → IfSome P (unless_no_entry d v)
-unless_no_entry-holds P d v h = at (is_empty_array d)
-  where
-    at : (b : Bool) → IfSome P (if b then None else Some v)
-    at true = tt
-    at false = h
+unless_no_entry-holds P d v h = elim (is_empty_array d) as (λ b. IfSome P (if b then None else Some v)) [ true ↦ tt | false ↦ h ]
 
 -- what holds of each entry of a list holds of each of its array
 pub entry_holds : (P : Data → Type 0) (xs : List Data) (i : ℕ) (e : Data) → AllByRecursion P xs → get_item i (items_of xs) ≡ Some e → P e
@@ -70,11 +64,7 @@ as_empty d es is same = cc
 
 -- what is given is the value, and the array is not empty
 pub given_unless : (d v v' : Data) → unless_no_entry d v ≡ Some v' → (is_empty_array d ≡ false) × (v ≡ v')
-given_unless d v v' = at (is_empty_array d) refl
-  where
-    at : (b : Bool) → is_empty_array d ≡ b → (if b then None else Some v) ≡ Some v' → (is_empty_array d ≡ false) × (v ≡ v')
-    at true is e = cc
-    at false is e = let same : v ≡ v' = cc in (is, same)
+given_unless d v v' = elim (is_empty_array d) as (λ b. (if b then None else Some v) ≡ Some v' → (b ≡ false) × (v ≡ v')) [ true ↦ λ e. cc | false ↦ λ e. (refl, same_Some v v' e) ]
 
 -- the entries of an array make it again
 pub items_again : (ds : Items) → items_of (list_of_items ds) ≡ ds

@@ -1,14 +1,5 @@
 -- What is kept of a list in rising order is the rising list of what is kept.
-use Rattle.erd_normal.proofs.Common.{◌≡◌, Bool, true, false, cond, List, [], ◌∷◌, filter, is_lt, is_gt, Ordering, Less, Equal, Greater, sym, refl, ap, ◌∙◌, true≢false, IsTotalOrder, AllByRecursion, all_weakened, NeverFalls, rising_never_falls, with_inserted, rising_list}
-
--- what holds of all holds of those that are kept
-pub all_kept : {A : Type 0} (P : A → Type 0) (q : A → Bool) (xs : List A) → AllByRecursion P xs → AllByRecursion P (filter q xs)
-all_kept P q [] all = tt
-all_kept {A} P q (x ∷ xs) all = at (q x) (all_kept P q xs all.1)
-  where
-    at : (b : Bool) → AllByRecursion P (filter q xs) → AllByRecursion P (cond b (x ∷ filter q xs) (filter q xs))
-    at true h = (all.0, h)
-    at false h = h
+use Rattle.erd_normal.proofs.Common.{◌≡◌, Bool, true, false, cond, List, [], ◌∷◌, filter, is_lt, is_gt, Ordering, Less, Equal, Greater, sym, refl, ap, ◌∙◌, true≢false, IsTotalOrder, AllByRecursion, all_weakened, with_inserted, rising_list, NeverFalls, rising_never_falls, In-all, all_from_In}
 
 module _ {A : Type 0} {cmp : A → A → Ordering} (order : IsTotalOrder cmp) where
   -- a value that is above none stands first
@@ -36,20 +27,14 @@ module _ {A : Type 0} {cmp : A → A → Ordering} (order : IsTotalOrder cmp) wh
       lower false true new old is more = ap (λ zs. y ∷ zs) more
       lower false false new old is more = more
 
-      higher : (a : Bool) (zs : List A) → AllByRecursion (λ z. is_lt (cmp z x) ≡ false) zs → cond a (x ∷ zs) zs ≡ cond a (with_inserted cmp x zs) zs
-      higher true zs all = sym (stands_first x zs all)
-      higher false zs all = refl
-
       at : (low : Bool) → is_lt (cmp y x) ≡ low → filter q (with_inserted cmp x ys) ≡ cond (q x) (with_inserted cmp x (filter q ys)) (filter q ys)
           → filter q (cond low (y ∷ with_inserted cmp x ys) (x ∷ (y ∷ ys))) ≡ cond (q x) (with_inserted cmp x (filter q (y ∷ ys))) (filter q (y ∷ ys))
       at true is more = lower (q x) (q y) (filter q (with_inserted cmp x ys)) (filter q ys) is more
-      at false is more = higher (q x) (filter q (y ∷ ys)) (all_kept (λ z. is_lt (cmp z x) ≡ false) q (y ∷ ys) (is, none_below x y ys is rise.0))
+      at false is more = ap (λ zs. cond (q x) zs (filter q (y ∷ ys))) (sym (stands_first x (filter q (y ∷ ys)) (all_from_In (λ z. is_lt (cmp z x) ≡ false) (filter q (y ∷ ys)) (λ z h. In-all (λ z. is_lt (cmp z x) ≡ false) z (y ∷ ys) (is, none_below x y ys is rise.0) (kept_has q (y ∷ ys) z h)))))
 
   pub filter_rising : (q : A → Bool) (xs : List A) → filter q (rising_list cmp xs) ≡ rising_list cmp (filter q xs)
   filter_rising q [] = refl
-  filter_rising q (x ∷ xs) = kept_inserted q x (rising_list cmp xs) (rising_never_falls order xs) ∙ at (q x) (filter_rising q xs)
-    where
-      at : (b : Bool) → filter q (rising_list cmp xs) ≡ rising_list cmp (filter q xs)
-          → cond b (with_inserted cmp x (filter q (rising_list cmp xs))) (filter q (rising_list cmp xs)) ≡ rising_list cmp (cond b (x ∷ filter q xs) (filter q xs))
-      at true h = ap (with_inserted cmp x) h
-      at false h = h
+  filter_rising q (x ∷ xs) =
+      kept_inserted q x (rising_list cmp xs) (rising_never_falls order xs)
+      ∙ ap (λ ys. cond (q x) (with_inserted cmp x ys) ys) (filter_rising q xs)
+      ∙ elim (q x) as (λ b. cond b (with_inserted cmp x (rising_list cmp (filter q xs))) (rising_list cmp (filter q xs)) ≡ rising_list cmp (cond b (x ∷ filter q xs) (filter q xs))) [ true ↦ refl | false ↦ refl ]

@@ -1,6 +1,6 @@
 -- The rank of a key in a list: how many entries have lesser keys, wherever they stand. Ranks tell the keys of entries apart.
-use Rattle.erd_normal.proofs.Common.{◌≡◌, ℕ, suc, ◌<◌, true, List, [], ◌∷◌, length, filter, is_lt, Ordering, Less, Equal, Greater, refl, ap, arith, tied_itself, IsTotalOrder, less, Has, greater_turned, In-from_has}
-use Rattle.erd_meaning.proofs.orders.Counted.{more_pass}
+use Rattle.erd_normal.proofs.Common.{◌≡◌, ℕ, suc, ◌<◌, true, List, [], ◌∷◌, length, filter, is_lt, Ordering, Less, Equal, Greater, refl, ap, arith, tied_itself, IsTotalOrder, less, greater_turned, In}
+use Rattle.erd_meaning.proofs.orders.RisingOrders.{more_pass}
 
 -- how many entries have keys below this one
 abbrev pub rank_by : {A K : Type 0} → (A → K) → (K → K → Ordering) → K → List A → ℕ
@@ -13,20 +13,20 @@ all_pass (x ∷ xs) = ap suc (all_pass xs)
 -- ---- ranks tell keys apart
 
 module _ {A K : Type 0} (key : A → K) {cmp : K → K → Ordering} (order : IsTotalOrder cmp) (xs : List A) where
-  rank_rises : (x : A) (k : K) → Has xs x → cmp (key x) k ≡ Less → rank_by key cmp (key x) xs < rank_by key cmp k xs
+  rank_rises : (x : A) (k : K) → In x xs → cmp (key x) k ≡ Less → rank_by key cmp (key x) xs < rank_by key cmp k xs
   rank_rises x k h below =
       more_pass (λ y. is_lt (cmp (key y) (key x))) (λ y. is_lt (cmp (key y) k)) (λ y e. ap is_lt (order.trans (key y) (key x) k (less (cmp (key y) (key x)) e) below))
-      x xs (ap is_lt (tied_itself order (key x))) (ap is_lt below) (In-from_has x xs h)
+      x xs (ap is_lt (tied_itself order (key x))) (ap is_lt below) h
 
   -- the rank of an entry is below the number of entries
-  pub rank_low : (x : A) → Has xs x → rank_by key cmp (key x) xs < length xs
+  pub rank_low : (x : A) → In x xs → rank_by key cmp (key x) xs < length xs
   rank_low x h =
-      let low = more_pass (λ y. is_lt (cmp (key y) (key x))) (λ y. true) (λ y e. refl) x xs (ap is_lt (tied_itself order (key x))) refl (In-from_has x xs h) in
+      let low = more_pass (λ y. is_lt (cmp (key y) (key x))) (λ y. true) (λ y e. refl) x xs (ap is_lt (tied_itself order (key x))) refl h in
       let all : length (filter (λ y. true) xs) ≡ length xs = all_pass xs in
       omega (arith, low, all)
 
   -- two entries of one rank have keys that compare as equal
-  pub rank_exact : (x y : A) → Has xs x → Has xs y → rank_by key cmp (key x) xs ≡ rank_by key cmp (key y) xs → cmp (key x) (key y) ≡ Equal
+  pub rank_exact : (x y : A) → In x xs → In y xs → rank_by key cmp (key x) xs ≡ rank_by key cmp (key y) xs → cmp (key x) (key y) ≡ Equal
   rank_exact x y h k same = at (cmp (key x) (key y)) refl
     where
       at : (o : Ordering) → cmp (key x) (key y) ≡ o → o ≡ Equal

@@ -1,5 +1,5 @@
 -- Lists whose elements each pass a test, and the list of families.
-use Rattle.erd_normal.proofs.Common.{◌≡◌, ℕ, zero, suc, ◌+◌, Bool, true, false, ◌&&◌, List, [], ◌∷◌, ◌++◌, slice_get, Some, Contains, flat_map, sym, refl, ap, ◌∙◌, subst, append_assoc, append-nil, arith, lit<, and_parts, IsDistinct, list_all, families, family_number, Family, family, all_by_entry, here, later, all-Has, Has, append-has, has-append_left}
+use Rattle.erd_normal.proofs.Common.{◌≡◌, zero, suc, Bool, true, false, List, [], ◌∷◌, ◌++◌, Contains, flat_map, sym, refl, ap, ◌∙◌, subst, append_assoc, append-nil, arith, lit<, and_parts, list_all, families, family_number, Family, family, IsDistinct, In, In-all, In-append_left, In-append_right, all_from_In, inl, inr}
 
 -- ---- entries of a list that stand one after another
 
@@ -13,8 +13,8 @@ pub part_self : {A : Type 0} (xs : List A) → IsPart xs xs
 part_self xs = record { before = []; after = []; is = append-nil xs }
 
 -- what stands in the part stands in the list
-pub part_has : {A : Type 0} (part whole : List A) → IsPart part whole → (x : A) → Has part x → Has whole x
-part_has part whole p x h = subst (λ xs. Has xs x) p.is (append-has p.before (part ++ p.after) x (has-append_left part p.after x h))
+pub part_has : {A : Type 0} (part whole : List A) → IsPart part whole → (x : A) → In x part → In x whole
+part_has part whole p x h = subst (λ xs. In x xs) p.is (In-append_right x p.before (part ++ p.after) (In-append_left x part p.after h))
 
 distinct_after : {A : Type 0} (test : A → A → Bool) (xs ys : List A) → IsDistinct test (xs ++ ys) → IsDistinct test ys
 unfolding IsDistinct
@@ -25,16 +25,17 @@ distinct_before : {A : Type 0} (test : A → A → Bool) (xs ys : List A) → Is
 unfolding IsDistinct
 distinct_before test [] ys d = tt
 distinct_before test (x ∷ xs) ys d =
-    (all_by_entry (λ y. test x y ≡ false) xs (λ y h. all-Has (λ y. test x y ≡ false) (xs ++ ys) y d.0 (has-append_left xs ys y h)), distinct_before test xs ys d.1)
+    (all_from_In (λ y. test x y ≡ false) xs (λ y h. In-all (λ y. test x y ≡ false) y (xs ++ ys) d.0 (In-append_left y xs ys h)), distinct_before test xs ys d.1)
 
 -- entries that are all different are so in a part
 pub part_distinct : {A : Type 0} (test : A → A → Bool) (part whole : List A) → IsPart part whole → IsDistinct test whole → IsDistinct test part
 part_distinct test part whole p d = distinct_before test part p.after (distinct_after test p.before (part ++ p.after) (subst (IsDistinct test) (sym p.is) d))
 
 -- the list of one entry is a part of all entries' lists, one after another
-pub part_flat : {A B : Type 0} (f : A → List B) (xs : List A) (x : A) → Has xs x → IsPart (f x) (flat_map f xs)
-part_flat f xs x (here {xs = ys}) = record { before = []; after = flat_map f ys; is = refl }
-part_flat f xs x (later {y = y} {xs = ys} h) =
+pub part_flat : {A B : Type 0} (f : A → List B) (xs : List A) (x : A) → In x xs → IsPart (f x) (flat_map f xs)
+part_flat f [] x h = absurd h
+part_flat f (y ∷ ys) x (inl e) = record { before = []; after = flat_map f ys; is = ap (λ z. f z ++ flat_map f ys) (sym e) }
+part_flat f (y ∷ ys) x (inr h) =
     let p = part_flat f ys x h in
     record { before = f y ++ p.before; after = p.after; is = append_assoc (f y) p.before (f x ++ p.after) ∙ ap (λ zs. f y ++ zs) p.is }
 
@@ -48,23 +49,3 @@ passed test (y ∷ ys) x h (suc k, low, is) = passed test ys x (and_parts (test 
 pub is_family : (f : Family) → Contains families f
 is_family family.Unit = (0, lit< tt, refl)
 is_family f = (family_number f, lit< tt, refl)
-
--- each element passes the test with its position, counted from one on
-abbrev pub all_from : {A : Type 0} → (ℕ → A → Bool) → ℕ → List A → Bool
-all_from test i [] = true
-all_from test i (x ∷ xs) = test i x && all_from test (i + 1) xs
-
-passed_from : {A : Type 0} (test : ℕ → A → Bool) (n : ℕ) (xs : List A) (i : ℕ) (x : A) → all_from test n xs ≡ true → slice_get xs i ≡ Some x → test (n + i) x ≡ true
-passed_from test n [] i x h is = absurd (cc is)
-passed_from test n (y ∷ ys) zero x h is =
-    let same : y ≡ x = cc in
-    let at : n ≡ n + 0 = omega arith in
-    subst (λ z. test (n + 0) z ≡ true) same (subst (λ m. test m y ≡ true) at (and_parts (test n y) _ h).0)
-passed_from test n (y ∷ ys) (suc i) x h is =
-    let at : (n + 1) + i ≡ n + suc i = omega arith in
-    subst (λ m. test m x ≡ true) at (passed_from test (n + 1) ys i x (and_parts (test n y) _ h).1 is)
-
--- counted from zero on
-pub passed_at : {A : Type 0} (test : ℕ → A → Bool) (xs : List A) (i : ℕ) (x : A) → all_from test 0 xs ≡ true → slice_get xs i ≡ Some x → test i x ≡ true
-passed_at test xs i x h is =
-    let at : 0 + i ≡ i = omega arith in subst (λ m. test m x ≡ true) at (passed_from test 0 xs i x h is)

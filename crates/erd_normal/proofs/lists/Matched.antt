@@ -1,6 +1,5 @@
 -- Lists whose entries are related one by one, but for their order.
-use Rattle.erd_normal.proofs.Common.{◌≡◌, suc, ◌≤◌, Bool, true, false, cond, ◌||◌, List, [], ◌∷◌, ◌++◌, map, length, Some, None, filter, Option, find, flat_map, filter_map, option_and_then, is_eq, Ordering, Less, Equal, sym, refl, ap, ◌∙◌, subst, ap₂, true≢false, arith, false_from_ne_true, on_total, IsTotalOrder, AllByRecursion, IsDistinct, cons_option, list_any, IsStrictlySortedBy, eq_by_cmp, ordering_reverse, has_mapped, all_by_entry, all_weakened, here, later, all-Has, rising_unique, Has, one_kept, two_exchanged, in_turn, reordered_self, reordered_back, reordered_map, reordered_after, reordered_before, reordered_flat, any-reordered, length-reordered, count-reordered, all-reordered, reordered-has, Reordered}
-use Rattle.erd_meaning.proofs.orders.Reordered.{no_entry}
+use Rattle.erd_normal.proofs.Common.{◌≡◌, suc, ◌≤◌, Bool, true, false, cond, ◌||◌, List, [], ◌∷◌, ◌++◌, map, length, Some, None, filter, Option, find, flat_map, filter_map, option_and_then, is_eq, Ordering, Less, Equal, sym, refl, ap, ◌∙◌, subst, ap₂, true≢false, arith, false_from_ne_true, on_total, IsTotalOrder, AllByRecursion, cons_option, list_any, eq_by_cmp, ordering_reverse, all_weakened, rising_unique, IsDistinct, IsStrictlySortedBy, reordered_flat, count-reordered, all-reordered, IsPermutation, IsPermutation-map, IsPermutation-append_left, IsPermutation-append_right, length_permutation, list_any-IsPermutation, IsPermutation-refl, IsPermutation-sym, IsPermutation-trans, along_permutation, In, In-all, In-map, all_from_In, inl, inr, reordered-In}
 use Rattle.erd_normal.proofs.lists.FoundInParts.{AreApart}
 
 -- ---- lists whose entries are related one by one
@@ -16,7 +15,7 @@ pub data Paired {A B : Type 0} (R : A → B → Type 0) : List A → List B → 
 pub record Matched {A B : Type 0} (R : A → B → Type 0) (xs : List A) (ys : List B) : Type 0 where
   pub middle : List B
   pub paired : Paired R xs middle
-  pub reordered : Reordered middle ys
+  pub reordered : IsPermutation middle ys
 
 -- ---- entry by entry
 
@@ -29,22 +28,22 @@ paired_append us vs none h = h
 paired_append us vs (more r rest) h = more r (paired_append us vs rest h)
 
 -- a relation that holds of related entries of the lists
-pub paired_within : {A B : Type 0} {R : A → B → Type 0} (S : A → B → Type 0) {xs : List A} {ys : List B} → ((x : A) (y : B) → Has xs x → R x y → S x y) → Paired R xs ys → Paired S xs ys
+pub paired_within : {A B : Type 0} {R : A → B → Type 0} (S : A → B → Type 0) {xs : List A} {ys : List B} → ((x : A) (y : B) → In x xs → R x y → S x y) → Paired R xs ys → Paired S xs ys
 paired_within S h none = none
-paired_within S h (more {x = x} {y = y} r rest) = more (h x y here r) (paired_within S (λ a b i. h a b (later i)) rest)
+paired_within S h (more {x = x} {y = y} r rest) = more (h x y (inl refl) r) (paired_within S (λ a b i. h a b (inr i)) rest)
 
-paired_back : {A B : Type 0} {R : A → B → Type 0} {xs : List A} {ys : List B} (y : B) → Paired R xs ys → Has ys y → (x : A) × Has xs x × R x y
-paired_back y none h = elim h [ ]
-paired_back y (more {x = x} r rest) here = (x, here, r)
-paired_back y (more r rest) (later h) = let b = paired_back y rest h in (b.0, later b.1, b.2)
+paired_back : {A B : Type 0} {R : A → B → Type 0} {xs : List A} {ys : List B} (y : B) → Paired R xs ys → In y ys → (x : A) × In x xs × R x y
+paired_back y none h = absurd h
+paired_back {A} {B} {R} y (more {x = x} r rest) (inl e) = (x, inl refl, subst (R x) e r)
+paired_back y (more r rest) (inr h) = let b = paired_back y rest h in (b.0, inr b.1, b.2)
 
 -- ---- in some order
 
 pub matched_none : {A B : Type 0} (R : A → B → Type 0) → Matched R [] []
-matched_none R = record { middle = []; paired = none; reordered = no_entry }
+matched_none R = record { middle = []; paired = none; reordered = IsPermutation-refl [] }
 
-pub matched_then : {A B : Type 0} {R : A → B → Type 0} {xs : List A} {ys zs : List B} → Matched R xs ys → Reordered ys zs → Matched R xs zs
-matched_then h k = record { middle = h.middle; paired = h.paired; reordered = in_turn h.reordered k }
+pub matched_then : {A B : Type 0} {R : A → B → Type 0} {xs : List A} {ys zs : List B} → Matched R xs ys → IsPermutation ys zs → Matched R xs zs
+matched_then h k = record { middle = h.middle; paired = h.paired; reordered = IsPermutation-trans _ _ _ h.reordered k }
 
 -- the values of a function
 paired_with_values : {A B : Type 0} (f : A → B) (xs : List A) → Paired (λ x y. f x ≡ y) xs (map f xs)
@@ -52,38 +51,38 @@ paired_with_values f [] = none
 paired_with_values f (x ∷ xs) = more refl (paired_with_values f xs)
 
 pub matched_map : {A B : Type 0} (f : A → B) (xs : List A) → Matched (λ x y. f x ≡ y) xs (map f xs)
-matched_map f xs = record { middle = map f xs; paired = paired_with_values f xs; reordered = reordered_self (map f xs) }
+matched_map f xs = record { middle = map f xs; paired = paired_with_values f xs; reordered = IsPermutation-refl (map f xs) }
 
-pub matched_within : {A B : Type 0} {R : A → B → Type 0} (S : A → B → Type 0) {xs : List A} {ys : List B} → ((x : A) (y : B) → Has xs x → R x y → S x y) → Matched R xs ys → Matched S xs ys
+pub matched_within : {A B : Type 0} {R : A → B → Type 0} (S : A → B → Type 0) {xs : List A} {ys : List B} → ((x : A) (y : B) → In x xs → R x y → S x y) → Matched R xs ys → Matched S xs ys
 matched_within S h m = record { middle = m.middle; paired = paired_within S h m.paired; reordered = m.reordered }
 
 -- each entry of the second list has one of the first to which it is related
-pub matched_back : {A B : Type 0} {R : A → B → Type 0} {xs : List A} {ys : List B} (y : B) → Matched R xs ys → Has ys y → (x : A) × Has xs x × R x y
-matched_back y m h = paired_back y m.paired (reordered-has y (reordered_back m.reordered) h)
+pub matched_back : {A B : Type 0} {R : A → B → Type 0} {xs : List A} {ys : List B} (y : B) → Matched R xs ys → In y ys → (x : A) × In x xs × R x y
+matched_back y m h = paired_back y m.paired (reordered-In y (IsPermutation-sym _ _ m.reordered) h)
 
-paired_on : {A B : Type 0} {R : A → B → Type 0} {xs : List A} {ys : List B} (x : A) → Paired R xs ys → Has xs x → (y : B) × Has ys y × R x y
-paired_on x none h = elim h [ ]
-paired_on x (more {y = y} r rest) here = (y, here, r)
-paired_on x (more r rest) (later h) = let b = paired_on x rest h in (b.0, later b.1, b.2)
+paired_on : {A B : Type 0} {R : A → B → Type 0} {xs : List A} {ys : List B} (x : A) → Paired R xs ys → In x xs → (y : B) × In y ys × R x y
+paired_on x none h = absurd h
+paired_on {A} {B} {R} x (more {y = y} r rest) (inl e) = (y, inl refl, subst (λ z. R z y) e r)
+paired_on x (more r rest) (inr h) = let b = paired_on x rest h in (b.0, inr b.1, b.2)
 
 -- and each of the first has one of the second
-pub matched_on : {A B : Type 0} {R : A → B → Type 0} {xs : List A} {ys : List B} (x : A) → Matched R xs ys → Has xs x → (y : B) × Has ys y × R x y
-matched_on x m h = let b = paired_on x m.paired h in (b.0, reordered-has b.0 m.reordered b.1, b.2)
+pub matched_on : {A B : Type 0} {R : A → B → Type 0} {xs : List A} {ys : List B} (x : A) → Matched R xs ys → In x xs → (y : B) × In y ys × R x y
+matched_on x m h = let b = paired_on x m.paired h in (b.0, reordered-In b.0 m.reordered b.1, b.2)
 
 pub matched_append : {A B : Type 0} {R : A → B → Type 0} {xs us : List A} {ys vs : List B} → Matched R xs ys → Matched R us vs → Matched R (xs ++ us) (ys ++ vs)
 matched_append {ys = ys} m n = record {
   middle = m.middle ++ n.middle;
   paired = paired_append _ n.middle m.paired n.paired;
-  reordered = in_turn (reordered_before n.middle m.reordered) (reordered_after ys n.reordered);
+  reordered = IsPermutation-trans _ _ _ (IsPermutation-append_left n.middle _ _ m.reordered) (IsPermutation-append_right ys _ _ n.reordered);
 }
 
-flat_paired : {A B C D : Type 0} {R : A → B → Type 0} {S : C → D → Type 0} (f : A → List C) (g : B → List D) → {xs : List A} {ys : List B} → ((x : A) (y : B) → Has xs x → R x y → Matched S (f x) (g y))
+flat_paired : {A B C D : Type 0} {R : A → B → Type 0} {S : C → D → Type 0} (f : A → List C) (g : B → List D) → {xs : List A} {ys : List B} → ((x : A) (y : B) → In x xs → R x y → Matched S (f x) (g y))
     → Paired R xs ys → Matched S (flat_map f xs) (flat_map g ys)
 flat_paired {S = S} f g each none = matched_none S
-flat_paired f g each (more {x = x} {y = y} r rest) = matched_append (each x y here r) (flat_paired f g (λ a b h. each a b (later h)) rest)
+flat_paired f g each (more {x = x} {y = y} r rest) = matched_append (each x y (inl refl) r) (flat_paired f g (λ a b h. each a b (inr h)) rest)
 
 -- lists of lists
-pub matched_flat : {A B C D : Type 0} {R : A → B → Type 0} {S : C → D → Type 0} (f : A → List C) (g : B → List D) → {xs : List A} {ys : List B} → ((x : A) (y : B) → Has xs x → R x y → Matched S (f x) (g y))
+pub matched_flat : {A B C D : Type 0} {R : A → B → Type 0} {S : C → D → Type 0} (f : A → List C) (g : B → List D) → {xs : List A} {ys : List B} → ((x : A) (y : B) → In x xs → R x y → Matched S (f x) (g y))
     → Matched R xs ys → Matched S (flat_map f xs) (flat_map g ys)
 matched_flat f g each m = matched_then (flat_paired f g each m.paired) (reordered_flat g m.reordered)
 
@@ -93,7 +92,7 @@ paired_mapped f g h none = none
 paired_mapped f g h (more {x = x} {y = y} r rest) = more (h x y r) (paired_mapped f g h rest)
 
 pub matched_mapped : {A B C D : Type 0} {R : A → B → Type 0} {S : C → D → Type 0} (f : A → C) (g : B → D) → ((x : A) (y : B) → R x y → S (f x) (g y)) → {xs : List A} {ys : List B} → Matched R xs ys → Matched S (map f xs) (map g ys)
-matched_mapped f g h m = record { middle = map g m.middle; paired = paired_mapped f g h m.paired; reordered = reordered_map g m.reordered }
+matched_mapped f g h m = record { middle = map g m.middle; paired = paired_mapped f g h m.paired; reordered = IsPermutation-map g _ _ m.reordered }
 
 -- ---- what is found
 
@@ -107,19 +106,17 @@ nothing_kept test (x ∷ xs) h = ap (λ b. cond b (x ∷ filter test xs) (filter
 
 pub one_if_apart : {A : Type 0} (test : A → Bool) (xs : List A) → AreApart test xs → AtMostOne test xs
 one_if_apart test [] h = record { few = omega arith }
-one_if_apart {A} test (x ∷ xs) h = at (test x) refl (one_if_apart test xs h.1)
-  where
-    at : (b : Bool) → test x ≡ b → AtMostOne test xs → AtMostOne test (x ∷ xs)
-    at true is few =
-        record { few = let e : filter test (x ∷ xs) ≡ x ∷ [] = rw (is, nothing_kept test xs (h.0 is)) refl in let l = ap length e in omega arith }
-    at false is few = record { few = let e : filter test (x ∷ xs) ≡ filter test xs = rw is refl in let l = ap length e in let f = few.few in omega arith }
+one_if_apart test (x ∷ xs) h = record {
+  few = (elim (test x) as (λ b. test x ≡ b → length (cond b (x ∷ filter test xs) (filter test xs)) ≤ 1) [
+    | true ↦ λ is. rw (nothing_kept test xs (h.0 is)) (omega arith)
+    | false ↦ λ is. (one_if_apart test xs h.1).few
+  ]) refl;
+}
 
 rest_few : {A : Type 0} (test : A → Bool) (x : A) (xs : List A) → AtMostOne test (x ∷ xs) → AtMostOne test xs
-rest_few {A} test x xs h = at (test x) refl
-  where
-    at : (b : Bool) → test x ≡ b → AtMostOne test xs
-    at true is = record { few = let e : filter test (x ∷ xs) ≡ x ∷ filter test xs = rw is refl in let l = ap length e in let f = h.few in omega arith }
-    at false is = record { few = let e : filter test (x ∷ xs) ≡ filter test xs = rw is refl in let l = ap length e in let f = h.few in omega arith }
+rest_few test x xs h = record {
+  few = (elim (test x) as (λ b. length (cond b (x ∷ filter test xs) (filter test xs)) ≤ 1 → length (filter test xs) ≤ 1) [ true ↦ λ l. omega arith | false ↦ λ l. l ]) h.few;
+}
 
 not_both : {A : Type 0} (test : A → Bool) (x y : A) (xs : List A) → AtMostOne test (x ∷ (y ∷ xs)) → test x ≡ true → test y ≡ true → ⊥
 not_both test x y xs h p q =
@@ -131,16 +128,14 @@ either_first {A} test x y xs h = at (test x) (test y) refl refl
   where
     at : (a b : Bool) → test x ≡ a → test y ≡ b → cond (test x) (Some x) (cond (test y) (Some y) (find test xs)) ≡ cond (test y) (Some y) (cond (test x) (Some x) (find test xs))
     at true true p q = absurd (not_both test x y xs h p q)
-    at true false p q = rw (p, q) refl
-    at false true p q = rw (p, q) refl
-    at false false p q = rw (p, q) refl
+    at a b p q = rw (p, q) refl
 
-pub find-reordered : {A : Type 0} (test : A → Bool) {xs ys : List A} → Reordered xs ys → AtMostOne test xs → find test xs ≡ find test ys
-find-reordered test no_entry few = refl
-find-reordered test (one_kept {x = x} {xs = xs} h) few = ap (λ o. cond (test x) (Some x) o) (find-reordered test h (rest_few test x xs few))
-find-reordered test (two_exchanged {x = x} {y = y} {xs = xs}) few = either_first test x y xs few
-find-reordered test (in_turn h k) few =
-    find-reordered test h few ∙ find-reordered test k (record { few = subst (λ n. n ≤ 1) (count-reordered test h) few.few })
+pub find-reordered : {A : Type 0} (test : A → Bool) {xs ys : List A} → IsPermutation xs ys → AtMostOne test xs → find test xs ≡ find test ys
+find-reordered test = along_permutation (λ xs ys. AtMostOne test xs → find test xs ≡ find test ys)
+    (λ xs few. refl)
+    (λ x xs ys p h few. ap (λ o. cond (test x) (Some x) o) (h (rest_few test x xs few)))
+    (either_first test)
+    (λ xs ys zs p h k few. h few ∙ k (record { few = subst (λ n. n ≤ 1) (count-reordered test p) few.few }))
 
 -- what is found in both, or in neither
 pub data Both {A B : Type 0} (R : A → B → Type 0) : Option A → Option B → Type 0 where
@@ -157,23 +152,14 @@ said_same f g same (Some x) None h = elim h [ ]
 module _ {A B : Type 0} {R : A → B → Type 0} (test : A → Bool) (test' : B → Bool) (same : (x : A) (y : B) → R x y → test x ≡ test' y) where
   pub paired_find : {xs : List A} {ys : List B} → Paired R xs ys → Both R (find test xs) (find test' ys)
   paired_find none = neither
-  paired_find (more {x = x} {y = y} {xs = xs} {ys = ys} r rest) = at (test x) (test' y) (same x y r) (paired_find rest)
-    where
-      at : (a b : Bool) → a ≡ b → Both R (find test xs) (find test' ys) → Both R (cond a (Some x) (find test xs)) (cond b (Some y) (find test' ys))
-      at true true e h = both r
-      at true false e h = cc
-      at false true e h = cc
-      at false false e h = h
+  paired_find (more {x = x} {y = y} {xs = xs} {ys = ys} r rest) =
+      rw (same x y r) (elim (test' y) as (λ b. Both R (cond b (Some x) (find test xs)) (cond b (Some y) (find test' ys))) [ true ↦ both r | false ↦ paired_find rest ])
 
   pub paired_count : {xs : List A} {ys : List B} → Paired R xs ys → length (filter test xs) ≡ length (filter test' ys)
   paired_count none = refl
-  paired_count (more {x = x} {y = y} {xs = xs} {ys = ys} r rest) = at (test x) (test' y) (same x y r) (paired_count rest)
-    where
-      at : (a b : Bool) → a ≡ b → length (filter test xs) ≡ length (filter test' ys) → length (cond a (x ∷ filter test xs) (filter test xs)) ≡ length (cond b (y ∷ filter test' ys) (filter test' ys))
-      at true true e h = ap suc h
-      at true false e h = cc
-      at false true e h = cc
-      at false false e h = h
+  paired_count (more {x = x} {y = y} {xs = xs} {ys = ys} r rest) =
+      rw (same x y r)
+      (elim (test' y) as (λ b. length (cond b (x ∷ filter test xs) (filter test xs)) ≡ length (cond b (y ∷ filter test' ys) (filter test' ys))) [ true ↦ ap suc (paired_count rest) | false ↦ paired_count rest ])
 
   pub matched_find : {xs : List A} {ys : List B} → Matched R xs ys → AtMostOne test xs → Both R (find test xs) (find test' ys)
   matched_find {xs = xs} m few =
@@ -185,38 +171,37 @@ module _ {A B : Type 0} {R : A → B → Type 0} (test : A → Bool) (test' : B 
 
 -- ---- lists of values that are all different
 
-pub distinct-reordered : {A : Type 0} (test : A → A → Bool) {xs ys : List A} → ((x y : A) → Has xs x → Has xs y → test x y ≡ false → test y x ≡ false)
-    → Reordered xs ys → IsDistinct test xs → IsDistinct test ys
+pub distinct-reordered : {A : Type 0} (test : A → A → Bool) {xs ys : List A} → IsPermutation xs ys → ((x y : A) → In x xs → In y xs → test x y ≡ false → test y x ≡ false)
+    → IsDistinct test xs → IsDistinct test ys
 unfolding IsDistinct
-distinct-reordered test turns no_entry d = d
-distinct-reordered test turns (one_kept {x = x} h) d =
-    (all-reordered (λ y. test x y ≡ false) h d.0, distinct-reordered test (λ y z i j. turns y z (later i) (later j)) h d.1)
-distinct-reordered test turns (two_exchanged {x = x} {y = y}) d = ((turns x y here (later here) d.0.0, d.1.0), (d.0.1, d.1.1))
-distinct-reordered test turns (in_turn h k) d =
-    distinct-reordered test (λ x y i j. turns x y (reordered-has x (reordered_back h) i) (reordered-has y (reordered_back h) j)) k (distinct-reordered test turns h d)
+distinct-reordered {A} test = along_permutation (λ xs ys. ((x y : A) → In x xs → In y xs → test x y ≡ false → test y x ≡ false) → IsDistinct test xs → IsDistinct test ys)
+    (λ xs turns d. d)
+    (λ x xs ys p h turns d. (all-reordered (λ y. test x y ≡ false) p d.0, h (λ y z i j. turns y z (inr i) (inr j)) d.1))
+    (λ x y xs turns d. ((turns x y (inl refl) (inr (inl refl)) d.0.0, d.1.0), (d.0.1, d.1.1)))
+    (λ xs ys zs p h k turns d. k (λ x y i j. turns x y (reordered-In x (IsPermutation-sym xs ys p) i) (reordered-In y (IsPermutation-sym xs ys p) j)) (h turns d))
 
 -- lists of values that are all different are matched by such lists, where a test that tells the others' entries apart tells theirs apart
 pub distinct-paired : {A B : Type 0} {R : A → B → Type 0} (test : A → A → Bool) (test' : B → B → Bool) {xs : List A} {ys : List B}
-    → ((x x' : A) (y y' : B) → Has xs x → Has xs x' → R x y → R x' y' → test' y y' ≡ true → test x x' ≡ true) → Paired R xs ys → IsDistinct test xs → IsDistinct test' ys
+    → ((x x' : A) (y y' : B) → In x xs → In x' xs → R x y → R x' y' → test' y y' ≡ true → test x x' ≡ true) → Paired R xs ys → IsDistinct test xs → IsDistinct test' ys
 unfolding IsDistinct
 distinct-paired test test' tells none d = tt
 distinct-paired {A} {B} {R} test test' tells (more {x = x} {y = y} {xs = xs} {ys = ys} r rest) d = (
   apart (λ x' h. h) rest d.0,
-  distinct-paired test test' (λ a a' b b' i j. tells a a' b b' (later i) (later j)) rest d.1,
+  distinct-paired test test' (λ a a' b b' i j. tells a a' b b' (inr i) (inr j)) rest d.1,
 )
   where
-    apart : {us : List A} {vs : List B} → ((x' : A) → Has us x' → Has xs x') → Paired R us vs → AllByRecursion (λ x'. test x x' ≡ false) us → AllByRecursion (λ y'. test' y y' ≡ false) vs
+    apart : {us : List A} {vs : List B} → ((x' : A) → In x' us → In x' xs) → Paired R us vs → AllByRecursion (λ x'. test x x' ≡ false) us → AllByRecursion (λ y'. test' y y' ≡ false) vs
     apart inside none a = tt
     apart inside (more {x = x'} {y = y'} s more_of) a =
-        (false_from_ne_true (test' y y') (λ e. true≢false (sym (tells x x' y y' here (later (inside x' here)) r s e) ∙ a.0)), apart (λ z h. inside z (later h)) more_of a.1)
+        (false_from_ne_true (test' y y') (λ e. true≢false (sym (tells x x' y y' (inl refl) (inr (inside x' (inl refl))) r s e) ∙ a.0)), apart (λ z h. inside z (inr h)) more_of a.1)
 
 -- a test that sees no order
 abbrev pub IsEven : {A : Type 0} → (A → A → Bool) → Type 0
 IsEven {A} test = (x y : A) → test x y ≡ false → test y x ≡ false
 
 pub distinct_matched : {A B : Type 0} {R : A → B → Type 0} (test : A → A → Bool) (test' : B → B → Bool) {xs : List A} {ys : List B} → IsEven test'
-    → ((x x' : A) (y y' : B) → Has xs x → Has xs x' → R x y → R x' y' → test' y y' ≡ true → test x x' ≡ true) → Matched R xs ys → IsDistinct test xs → IsDistinct test' ys
-distinct_matched test test' even tells m d = distinct-reordered test' (λ x y i j. even x y) m.reordered (distinct-paired test test' tells m.paired d)
+    → ((x x' : A) (y y' : B) → In x xs → In x' xs → R x y → R x' y' → test' y y' ≡ true → test x x' ≡ true) → Matched R xs ys → IsDistinct test xs → IsDistinct test' ys
+distinct_matched test test' even tells m d = distinct-reordered test' m.reordered (λ x y i j. even x y) (distinct-paired test test' tells m.paired d)
 
 pub even_order : {A : Type 0} (cmp : A → A → Ordering) → IsTotalOrder cmp → IsEven (eq_by_cmp cmp)
 even_order cmp order d e h = ap is_eq (order.antisymm e d) ∙ at (cmp d e) h
@@ -231,15 +216,15 @@ paired_length none = refl
 paired_length (more r rest) = ap suc (paired_length rest)
 
 pub matched_length : {A B : Type 0} {R : A → B → Type 0} {xs : List A} {ys : List B} → Matched R xs ys → length xs ≡ length ys
-matched_length m = paired_length m.paired ∙ length-reordered m.reordered
+matched_length m = paired_length m.paired ∙ sym (length_permutation _ _ m.reordered)
 
 -- entries that are equal are the same entries in some order
 pub paired_equal : {A : Type 0} {R : A → A → Type 0} {xs ys : List A} → ((x y : A) → R x y → x ≡ y) → Paired R xs ys → xs ≡ ys
 paired_equal same none = refl
 paired_equal same (more {x = x} {y = y} r rest) = ap₂ ◌∷◌ (same x y r) (paired_equal same rest)
 
-pub matched_equal : {A : Type 0} {R : A → A → Type 0} {xs ys : List A} → ((x y : A) → R x y → x ≡ y) → Matched R xs ys → Reordered xs ys
-matched_equal {ys = ys} same m = subst (λ zs. Reordered zs ys) (sym (paired_equal same m.paired)) m.reordered
+pub matched_equal : {A : Type 0} {R : A → A → Type 0} {xs ys : List A} → ((x y : A) → R x y → x ≡ y) → Matched R xs ys → IsPermutation xs ys
+matched_equal {ys = ys} same m = subst (λ zs. IsPermutation zs ys) (sym (paired_equal same m.paired)) m.reordered
 
 -- whether an entry passes a test
 pub paired_any : {A B : Type 0} {R : A → B → Type 0} (test : A → Bool) (test' : B → Bool) {xs : List A} {ys : List B} → ((x : A) (y : B) → R x y → test x ≡ test' y) → Paired R xs ys → list_any test xs ≡ list_any test' ys
@@ -247,7 +232,7 @@ paired_any test test' same none = refl
 paired_any test test' same (more {x = x} {y = y} r rest) = ap₂ ◌||◌ (same x y r) (paired_any test test' same rest)
 
 pub matched_any : {A B : Type 0} {R : A → B → Type 0} (test : A → Bool) (test' : B → Bool) {xs : List A} {ys : List B} → ((x : A) (y : B) → R x y → test x ≡ test' y) → Matched R xs ys → list_any test xs ≡ list_any test' ys
-matched_any test test' same m = paired_any test test' same m.paired ∙ any-reordered test' m.reordered
+matched_any test test' same m = paired_any test test' same m.paired ∙ list_any-IsPermutation test' _ _ m.reordered
 
 -- no two entries pass a test that two different ones do not pass
 pub apart_distinct : {A : Type 0} (test : A → Bool) (both_pass : A → A → Bool) (xs : List A) → ((x y : A) → test x ≡ true → test y ≡ true → both_pass x y ≡ true) → IsDistinct both_pass xs → AreApart test xs
@@ -268,7 +253,7 @@ paired_kept f g same (more {x = x} {y = y} r rest) = ap₂ cons_option (same x y
 rising_by : {B K : Type 0} (cmp : K → K → Ordering) (key : B → K) (ys : List B) → IsStrictlySortedBy cmp (map key ys) → IsStrictlySortedBy (λ x y. cmp (key x) (key y)) ys
 unfolding IsStrictlySortedBy
 rising_by cmp key [] rise = tt
-rising_by cmp key (y ∷ ys) rise = (all_by_entry (λ z. cmp (key y) (key z) ≡ Less) ys (λ z h. all-Has (λ l. cmp (key y) l ≡ Less) (map key ys) (key z) rise.0 (has_mapped key ys z h)), rising_by cmp key ys rise.1)
+rising_by cmp key (y ∷ ys) rise = (all_from_In (λ z. cmp (key y) (key z) ≡ Less) ys (λ z h. In-all (λ l. cmp (key y) l ≡ Less) (key z) (map key ys) rise.0 (In-map key z ys h)), rising_by cmp key ys rise.1)
 
 pub matched_rising : {A B K : Type 0} {R : A → B → Type 0} (cmp : K → K → Ordering) → IsTotalOrder cmp → (key : A → K) (key' : B → K) → ((x : A) (y : B) → R x y → key x ≡ key' y) → (xs : List A) (ys : List B)
     → IsStrictlySortedBy cmp (map key xs) → IsStrictlySortedBy cmp (map key' ys) → Matched R xs ys → Paired R xs ys
@@ -276,5 +261,5 @@ matched_rising {R = R} cmp order key key' same xs ys rise rise' m =
     subst (Paired R xs)
     (rising_unique (λ x y. cmp (key' x) (key' y)) (on_total key' order) m.middle ys
     (rising_by cmp key' m.middle (subst (IsStrictlySortedBy cmp) (paired_map key key' same m.paired) rise)) (rising_by cmp key' ys rise')
-    (λ y h. reordered-has y m.reordered h) (λ y h. reordered-has y (reordered_back m.reordered) h))
+    (λ y h. reordered-In y m.reordered h) (λ y h. reordered-In y (IsPermutation-sym _ _ m.reordered) h))
     m.paired

@@ -1,47 +1,18 @@
 -- Numbers that never fall along an order: when they are sorted, they are those of the values in that order.
-use Rattle.erd_normal.proofs.Common.{◌≡◌, ℕ, ◌<◌, ◌≤◌, Bool, true, false, cond, List, [], ◌∷◌, map, length, Some, None, filter, Option, IsPermutation, IsSorted, filter_map, option_and_then, nat_cmp, is_lt, is_gt, Ordering, Less, Equal, Greater, sym, refl, ap, ◌∙◌, subst, arith, ranked, nat_cmp_total, by_ranked, CmpEqualImpliesEq, exact_unsigned, IsTotalOrder, alike_right, AllByRecursion, cons_option, SwapsInRange, apply_swaps, ordering_reverse, Data, as_str, Family, less, in_turn, reordered_self, reordered_back, reordered_map, reordered_rising, reordered_swap, whole-reordered, length-reordered, Reordered, rising_from_sort, inserted_exchange, NeverFalls, rising_never_falls, key_cmp, Preference, with_inserted, rising_list, key_named, keys_named, key_cmp_total, key_cmp_exact}
+use Rattle.erd_normal.proofs.Common.{◌≡◌, ℕ, ◌<◌, ◌≤◌, true, false, cond, List, [], ◌∷◌, map, length, filter, IsPermutation, IsSorted, option_and_then, nat_cmp, is_lt, is_gt, Ordering, Less, Equal, Greater, sym, refl, ap, ◌∙◌, arith, nat_cmp_total, CmpEqualImpliesEq, exact_unsigned, IsTotalOrder, AllByRecursion, ordering_reverse, Data, as_str, Family, less, key_cmp, Preference, with_inserted, rising_list, key_named, keys_named, key_cmp_total, key_cmp_exact, ranked, by_ranked, alike_right, reordered_rising, whole-reordered, rising_from_sort, inserted_exchange, NeverFalls, rising_never_falls, IsPermutation-map, IsPermutation-sym, IsPermutation-trans, reordered_kept}
 use Rattle.erd_normal.proofs.lists.BuiltLists.{all_map}
+use Rattle.erd_meaning.proofs.orders.RisingOrders.{no_fewer}
 
 -- ---- a list in the order of an exact comparison is the same, in whichever order its entries came
 
 module _ {A : Type 0} {cmp : A → A → Ordering} (order : IsTotalOrder cmp) (exact : CmpEqualImpliesEq cmp) where
-  abbrev with_kept : Option A → List A → List A
-  with_kept None zs = zs
-  with_kept (Some x) zs = with_inserted cmp x zs
-
-  kept_step : (o : Option A) (ys : List A) → rising_list cmp (cons_option o ys) ≡ with_kept o (rising_list cmp ys)
-  kept_step None ys = refl
-  kept_step (Some x) ys = refl
-
-  kept_exchange : (o p : Option A) (zs : List A) → with_kept o (with_kept p zs) ≡ with_kept p (with_kept o zs)
-  kept_exchange None None zs = refl
-  kept_exchange None (Some y) zs = refl
-  kept_exchange (Some x) None zs = refl
-  kept_exchange (Some x) (Some y) zs = inserted_exchange order exact x y zs
-
-  pub rising_kept-reordered : {B : Type 0} (f : B → Option A) {xs ys : List B} → Reordered xs ys → rising_list cmp (filter_map f xs) ≡ rising_list cmp (filter_map f ys)
-  rising_kept-reordered f h =
-      whole-reordered (λ xs. rising_list cmp (filter_map f xs)) (λ x. with_kept (f x)) (λ x xs. kept_step (f x) (filter_map f xs)) (λ x y. kept_exchange (f x) (f y)) h
-
-  pub rising-reordered : {xs ys : List A} → Reordered xs ys → rising_list cmp xs ≡ rising_list cmp ys
+  pub rising-reordered : {xs ys : List A} → IsPermutation xs ys → rising_list cmp xs ≡ rising_list cmp ys
   rising-reordered h = whole-reordered (rising_list cmp) (with_inserted cmp) (λ x xs. refl) (inserted_exchange order exact) h
 
-pub rising_keys_named-reordered : (π : Preference) (t : Data) (f : Family) {ds es : List Data} → Reordered ds es → rising_list key_cmp (keys_named π t f ds) ≡ rising_list key_cmp (keys_named π t f es)
-rising_keys_named-reordered π t f h = rising_kept-reordered key_cmp_total key_cmp_exact (λ r. option_and_then (key_named π t f) (as_str r)) h
+pub rising_keys_named-reordered : (π : Preference) (t : Data) (f : Family) {ds es : List Data} → IsPermutation ds es → rising_list key_cmp (keys_named π t f ds) ≡ rising_list key_cmp (keys_named π t f es)
+rising_keys_named-reordered π t f h = rising-reordered key_cmp_total key_cmp_exact (reordered_kept (λ r. option_and_then (key_named π t f) (as_str r)) h)
 
 -- ---- numbers that never fall along an order: when they are sorted, they are those of the values in that order
-
--- ---- exchanges
-
-swaps_reordered : {A : Type 0} (xs : List A) (moves : List (ℕ × ℕ)) → SwapsInRange (length xs) moves → Reordered xs (apply_swaps xs moves)
-swaps_reordered xs [] below = reordered_self xs
-swaps_reordered xs (p ∷ ps) below =
-    let before = swaps_reordered xs ps below.2 in
-    let long : length xs ≡ length (apply_swaps xs ps) = length-reordered before in
-    in_turn before (reordered_swap (apply_swaps xs ps) p.0 p.1 (omega (arith, below.0, long)) (omega (arith, below.1, long)))
-
-pub permuted_reordered : {A : Type 0} (xs ys : List A) → IsPermutation xs ys → Reordered xs ys
-permuted_reordered xs ys h = subst (Reordered xs) (sym h.is) (swaps_reordered xs h.moves h.below)
 
 -- ---- a list that never falls is in order
 
@@ -74,8 +45,8 @@ module _ {A : Type 0} {cmp : A → A → Ordering} (order : IsTotalOrder cmp) (n
   -- sorted numbers are those of the sorted values
   pub numbers_in_order : (xs : List A) (ns : List ℕ) → IsPermutation (map number xs) ns → IsSorted nat_cmp ns → ns ≡ map number (rising_list cmp xs)
   numbers_in_order xs ns same sorted =
-      let all : Reordered ns (map number (rising_list cmp xs)) =
-      in_turn (reordered_back (permuted_reordered (map number xs) ns same)) (reordered_map number (reordered_rising cmp xs)) in
+      let all : IsPermutation ns (map number (rising_list cmp xs)) =
+      IsPermutation-trans _ _ _ (IsPermutation-sym _ _ same) (IsPermutation-map number _ _ (reordered_rising cmp xs)) in
       rising_from_sort nat_cmp nat_cmp_total ns ns sorted (λ z. refl)
       ∙ (rising-reordered nat_cmp_total exact_unsigned all
       ∙ stays nat_cmp_total (map number (rising_list cmp xs)) (numbers_never_fall (rising_list cmp xs) (rising_never_falls order xs)))
@@ -88,15 +59,6 @@ module _ {K X : Type 0} {cmp : K → K → Ordering} (order : IsTotalOrder cmp) 
   below_too_at k l x Equal is low below = ap is_lt (sym (alike_right order k l (key x) is)) ∙ below
   below_too_at k l x Greater is low below = cc
 
-  more_at : (p q : Bool) (x : X) (xs ys : List X) → (p ≡ true → q ≡ true) → length xs ≤ length ys → length (cond p (x ∷ xs) xs) ≤ length (cond q (x ∷ ys) ys)
-  more_at true true x xs ys too low = omega arith
-  more_at true false x xs ys too low = let h : false ≡ true = too refl in cc
-  more_at false true x xs ys too low = omega arith
-  more_at false false x xs ys too low = low
-
   -- how many have lesser keys never falls along the order of keys
   pub ranks_climb : (k l : K) (xs : List X) → is_gt (cmp k l) ≡ false → length (filter (λ x. is_lt (cmp (key x) k)) xs) ≤ length (filter (λ x. is_lt (cmp (key x) l)) xs)
-  ranks_climb k l [] low = omega arith
-  ranks_climb k l (x ∷ xs) low =
-      more_at (is_lt (cmp (key x) k)) (is_lt (cmp (key x) l)) x (filter (λ x. is_lt (cmp (key x) k)) xs) (filter (λ x. is_lt (cmp (key x) l)) xs)
-      (below_too_at k l x (cmp k l) refl low) (ranks_climb k l xs low)
+  ranks_climb k l xs low = no_fewer (λ x. is_lt (cmp (key x) k)) (λ x. is_lt (cmp (key x) l)) (λ x. below_too_at k l x (cmp k l) refl low) xs

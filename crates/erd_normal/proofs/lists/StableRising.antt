@@ -1,5 +1,5 @@
 -- A stable sorting by keys is the rising list.
-use Rattle.erd_normal.proofs.Common.{◌≡◌, Bool, true, false, not, ◌&&◌, ◌⊎◌, List, [], ◌∷◌, map, filter, IsSortedBy, is_eq, is_lt, Ordering, Less, sym, refl, ap, ◌∙◌, ap₂, inl, inr, Bor, tied_itself, on_total, filter_agree, ranks_by, Equal-is, IsStrictWeakOrder, IsTotalOrder, alike_right, IsStableBy, ties, ordering_reverse, by_first, rising_from_sort, rising_list_map, rising_list, pairs_of, IsStablySorted}
+use Rattle.erd_normal.proofs.Common.{◌≡◌, Bool, true, false, cond, not, ◌&&◌, ◌⊎◌, List, [], ◌∷◌, map, filter, is_eq, is_lt, Ordering, Less, sym, refl, ap, ◌∙◌, ap₂, inl, inr, Bor, tied_itself, on_total, ranks_by, Equal-is, IsStrictWeakOrder, IsTotalOrder, ties, ordering_reverse, rising_list, IsSortedBy, filter_agree, alike_right, IsStableBy, by_first, rising_from_sort, rising_list_map, pairs_of, IsStablySorted}
 use denote.Param.Members.{Mut}
 use Rattle.std.proofs.lemmas.Fn.{always_returns_same}
 use Rattle.std.specs.Fn.{Called, ComparesAs}
@@ -9,12 +9,8 @@ use Rattle.std.specs.Fn.{Called, ComparesAs}
 -- a test is passed by none of a list, or by something
 one_or_none : {X : Type 0} (p : X → Bool) (xs : List X) → (filter p xs ≡ []) ⊎ ((x : X) × (p x ≡ true))
 one_or_none p [] = inl refl
-one_or_none {X} p (x ∷ xs) = at (p x) refl (one_or_none p xs)
-  where
-    at : (b : Bool) → p x ≡ b → (filter p xs ≡ []) ⊎ ((y : X) × (p y ≡ true)) → (filter p (x ∷ xs) ≡ []) ⊎ ((y : X) × (p y ≡ true))
-    at true is rest = inr (x, is)
-    at false is (inl none) = inl (rw is none)
-    at false is (inr one) = inr one
+one_or_none {X} p (x ∷ xs) =
+    (elim (p x) as (λ b. p x ≡ b → (cond b (x ∷ filter p xs) (filter p xs) ≡ []) ⊎ ((y : X) × (p y ≡ true))) [ true ↦ λ is. inr (x, is) | false ↦ λ is. one_or_none p xs ]) refl
 
 -- neither is less than the other exactly if they are equal
 level : (a b : Ordering) → b ≡ ordering_reverse a → not (is_lt a) && not (is_lt b) ≡ is_eq b

@@ -1,5 +1,5 @@
 -- Records that are alike: objects of one class whose members mean the same, and selections of one name.
-use Rattle.erd_normal.proofs.Common.{◌≡◌, ℕ, Bool, true, false, List, Some, None, Option, option_map, option_and_then, is_eq, Equal, sym, refl, ap, ◌∙◌, ap₂, tied_itself, options_total, option_cmp, Data, Class, family, Role, MemberKind, kind, object_in, ObjectIn, Within, entries_of, class_of_object, asked, Object, no_shape_fault, is_selections, options_exact, equal_names, IsAccepted, Preference, PlainValue, SelectionRecord, MemberValue, a_plain, a_selection_map, Record, NameParts, unless_empty, plain_member, record_with, selection_record, selection_map, member_value, name_in_class, selection_role, name_of, name_cmp, name_cmp_total, by_name, fun_ext}
+use Rattle.erd_normal.proofs.Common.{◌≡◌, ℕ, Bool, true, false, List, Some, None, Option, option_map, option_and_then, is_eq, Equal, sym, refl, ap, ◌∙◌, ap₂, tied_itself, options_total, option_cmp, Data, Class, family, Role, MemberKind, kind, object_in, ObjectIn, Within, entries_of, class_of_object, asked, Object, no_shape_fault, is_selections, options_exact, equal_names, IsAccepted, Preference, PlainValue, SelectionRecord, MemberValue, a_plain, a_selection_map, Record, NameParts, unless_empty, plain_member, record_with, selection_record, selection_map, member_value, name_in_class, selection_role, name_of, name_cmp, name_cmp_total, by_name, fun_ext, as_str, Family, is_same_json, key_cmp, json_set, key_set, key_named, keys_named, is_some, if◌then◌else◌, codes, bytes_eq, list_all, family_of_class, rows_of_class, kind_of_identity, kind_of_member, class, text_exact, kind_of_class, kind_of_type, IsPermutation, list_any-IsPermutation, reordered_kept}
 
 -- ---- the records of the objects of accepted reports: each object has one, of its class, and each selection has a name
 
@@ -41,8 +41,6 @@ map_in o = λ n. None
 
 -- ---- records that are alike: objects of one class whose members mean the same, and selections of one name
 
--- ---- records
-
 -- objects of one class whose members mean the same have one record
 pub record_alike : {V : Type 0} (m n : Class → List ℕ → Option V) (r : Role) (e d : Data) (c : Class) → class_of_object r e ≡ Some c → class_of_object r d ≡ Some c → ((name : List ℕ) → m c name ≡ n c name)
     → record_with m r e ≡ record_with n r d
@@ -77,3 +75,59 @@ pub named_tied : (π : Preference) (t : Data) (name : NameParts) (x y : Data) �
 named_tied π t name x y h k =
     ap₂ (option_cmp name_cmp) (options_exact name_cmp equal_names (name_of π t x) (Some name) h) (options_exact name_cmp equal_names (name_of π t y) (Some name) k)
     ∙ tied_itself (options_total name_cmp_total) (Some name)
+
+-- ---- what sets mean does not depend on the order of their arrays
+
+pub json_set-reordered : {ds es : List Data} → IsPermutation ds es → json_set ds ≡ json_set es
+json_set-reordered h = fun_ext (λ d. list_any-IsPermutation (is_same_json d) _ _ h)
+
+-- the set of the keys that references name
+pub keys_named-reordered : (π : Preference) (t : Data) (f : Family) {ds es : List Data} → IsPermutation ds es → key_set (keys_named π t f ds) ≡ key_set (keys_named π t f es)
+keys_named-reordered π t f h = fun_ext (λ k. list_any-IsPermutation (λ l. is_eq (key_cmp l k)) _ _ (reordered_kept (λ r. option_and_then (key_named π t f) (as_str r)) h))
+
+-- ---- the order of a ballot and the selections of contests stand in few classes
+
+-- a member of this kind is neither the order of a ballot nor the selections of a contest
+abbrev pub is_flat : MemberKind → Bool
+is_flat kind.Content = false
+is_flat (kind.Keyed family.Selection) = false
+is_flat k = true
+
+identity_flat : (c : Class) → is_flat (kind_of_identity c) ≡ true
+identity_flat c = at (is_some (family_of_class c))
+  where
+    at : (b : Bool) → is_flat (if b then kind.Identity else kind.StrangeIdentity) ≡ true
+    at true = refl
+    at false = refl
+
+-- what holds of the kinds of a class holds of a member's, whatever its name
+by_rows : (P : MemberKind → Bool) (c : Class) (name : List ℕ) → list_all (λ m. P m.kind) (rows_of_class c) ≡ true → P kind.ClassText ≡ true → P (kind_of_identity c) ≡ true → P kind.StrangeReference ≡ true
+    → P kind.Carried ≡ true → P (kind_of_member c name) ≡ true
+by_rows P c name lines typed id reference carried = at (bytes_eq name (codes "@type")) refl
+  where
+    at : (b : Bool) → bytes_eq name (codes "@type") ≡ b → P (kind_of_member c name) ≡ true
+    at true is = ap (λ n. P (kind_of_member c n)) (text_exact name (codes "@type") is) ∙ ap P (kind_of_type c) ∙ typed
+    at false is = kind_of_class P c name is lines id reference carried
+
+-- ---- classes that have no ballot's order and no selections
+
+abbrev pub is_flat_class : Class → Bool
+is_flat_class class.ElectionReport = true
+is_flat_class class.Election = true
+is_flat_class class.CandidateSelection = true
+is_flat_class class.BallotMeasureSelection = true
+is_flat_class class.PartySelection = true
+is_flat_class c = false
+
+rows_flat : (c : Class) → is_flat_class c ≡ true → list_all (λ m. is_flat m.kind) (rows_of_class c) ≡ true
+rows_flat class.ElectionReport e = refl
+rows_flat c e = cc
+
+pub kind_is_flat : (c : Class) (name : List ℕ) → is_flat_class c ≡ true → is_flat (kind_of_member c name) ≡ true
+kind_is_flat c name flat = by_rows is_flat c name (rows_flat c flat) refl (identity_flat c) refl refl
+
+-- ---- the selections of a contest
+
+pub flat_no_selections : (k : MemberKind) → is_flat k ≡ true → is_selections k ≡ false
+flat_no_selections (kind.Keyed family.Selection) e = cc
+flat_no_selections k e = refl

@@ -1,6 +1,6 @@
 -- Two reports mean the same, if their elections and their objects are matched, each with one of its key that means the same, and related objects are
 -- held by elections with one key.
-use Rattle.erd_normal.proofs.Common.{◌≡◌, ℕ, Bool, true, false, List, map, Some, None, codes, Option, option_map, find, flat_map, option_and_then, bytes_eq, is_eq, Equal, sym, refl, ap, ◌∙◌, subst, ap₂, tied_itself, options_total, option_cmp, eq_by_cmp, Data, is_envelope_name, kind_of_member, class, Family, family, Role, role, kind, Has, entries_at, objects_distinct, elections_distinct, no_identity_fault, values-placed_entries, same_meaning, distinct_map, options_exact, equal_keys, IsAccepted, has_keys, key_cmp, Preference, key_of, Placed, placed_entries, report_of, elections, objects, meaning, object_record, record_in_election, placed_with_key, records_of, election_records, key_cmp_total, Key, by_key}
+use Rattle.erd_normal.proofs.Common.{◌≡◌, ℕ, Bool, true, false, List, map, Some, None, codes, Option, option_map, find, flat_map, option_and_then, bytes_eq, is_eq, Equal, sym, refl, ap, ◌∙◌, subst, ap₂, tied_itself, options_total, option_cmp, eq_by_cmp, Data, is_envelope_name, kind_of_member, class, Family, family, Role, role, kind, entries_at, objects_distinct, elections_distinct, no_identity_fault, values-placed_entries, same_meaning, distinct_map, options_exact, equal_keys, IsAccepted, has_keys, key_cmp, Preference, key_of, Placed, placed_entries, report_of, elections, objects, meaning, object_record, record_in_election, placed_with_key, records_of, election_records, key_cmp_total, Key, by_key, In}
 use Rattle.erd_meaning.proofs.meanings.HeldValues.{Held, held_by, held_in_elections, held_in_none, held_of, held_record, held_values, mapped_then}
 use Rattle.erd_normal.proofs.lists.FoundInParts.{find_values}
 use Rattle.erd_normal.proofs.lists.Matched.{AtMostOne, Matched, apart_distinct, matched_find, matched_flat, matched_mapped, one_if_apart, said_same}
@@ -91,11 +91,11 @@ module _ (π : Preference) (t u : Data) (accepted : IsAccepted π t) where
 -- where elections are matched, each with one of its key and of related objects, objects are held by elections with one key
 module _ (π : Preference) (t u : Data) (E : Data → Data → Type 0) (R : Family → Data → Data → Type 0)
     (of_elections : Matched E (entries_at (codes "Election") t) (entries_at (codes "Election") u))
-    (keys : (d e : Data) → Has (entries_at (codes "Election") t) d → E d e → key_of π d ≡ key_of π e)
+    (keys : (d e : Data) → In d (entries_at (codes "Election") t) → E d e → key_of π d ≡ key_of π e)
     (in_report : (f : Family) (name : List ℕ) → bytes_eq name (codes "@type") ≡ false → is_envelope_name name ≡ false → kind_of_member class.ElectionReport name ≡ kind.Keyed f
     → Matched (R f) (entries_at name t) (entries_at name u))
     (in_election : (f : Family) (name : List ℕ) → bytes_eq name (codes "@type") ≡ false → kind_of_member class.Election name ≡ kind.Keyed f
-    → (d e : Data) → Has (entries_at (codes "Election") t) d → E d e → Matched (R f) (entries_at name d) (entries_at name e)) where
+    → (d e : Data) → In d (entries_at (codes "Election") t) → E d e → Matched (R f) (entries_at name d) (entries_at name e)) where
   by_none : (f : Family) (name : List ℕ) → bytes_eq name (codes "Election") ≡ false → Matched (R f) (entries_at name t) (entries_at name u)
       → Matched (HeldAlike (R f)) (map (held_of π t) (placed_entries name (report_of t))) (map (held_of π u) (placed_entries name (report_of u)))
   by_none f name other matched =

@@ -1,5 +1,5 @@
 -- Entries of a list in the order of their keys, each with its position.
-use Rattle.erd_normal.proofs.Common.{◌≡◌, ℕ, zero, suc, ◌+◌, ◌<◌, Bool, true, false, cond, List, [], ◌∷◌, map, length, get_or, drop, slice_get, Some, filter, Ordering, sym, refl, ap, ◌∙◌, subst, add-one, arith, on_total, IsTotalOrder, enumerate_from, In, by_first, rising_list_map, has_from_In, In-rising, rising_list}
+use Rattle.erd_normal.proofs.Common.{◌≡◌, ℕ, zero, suc, ◌+◌, ◌<◌, Bool, true, false, cond, List, [], ◌∷◌, map, length, get_or, drop, slice_get, Some, filter, Ordering, sym, refl, ap, ◌∙◌, subst, add-one, arith, on_total, IsTotalOrder, enumerate_from, In, rising_list, by_first, rising_list_map, In-rising}
 use Rattle.erd_normal.proofs.lists.FilteredRising.{filter_rising}
 use Rattle.erd_normal.proofs.lists.NumberedKept.{numbered_stands}
 use Rattle.erd_normal.proofs.lists.StableRising.{map_after}
@@ -15,17 +15,10 @@ kept_by_position : {A : Type 0} (q : ℕ → Bool) (r : A → Bool) (n : ℕ) (x
 kept_by_position q r n [] each = refl
 kept_by_position {A} q r n (x ∷ xs) each =
     let first : n ≡ n + 0 = omega arith in
-    at (q n) (r x) (ap q first ∙ each 0 x refl)
-    (kept_by_position q r (n + 1) xs (λ i y e. let next : n + 1 + i ≡ n + suc i = omega arith in ap q next ∙ each (suc i) y e))
-  where
-    later : List (ℕ × A)
-    later = filter (λ p. q p.0) (enumerate_from (n + 1) xs)
-
-    at : (a b : Bool) → a ≡ b → map (λ (p : ℕ × A). p.1) later ≡ filter r xs → map (λ (p : ℕ × A). p.1) (cond a ((n, x) ∷ later) later) ≡ cond b (x ∷ filter r xs) (filter r xs)
-    at true true e h = ap (λ ys. x ∷ ys) h
-    at true false e h = cc
-    at false true e h = cc
-    at false false e h = h
+    let later : List (ℕ × A) = filter (λ p. q p.0) (enumerate_from (n + 1) xs) in
+    let more : map (λ (p : ℕ × A). p.1) later ≡ filter r xs = kept_by_position q r (n + 1) xs (λ i y e. let next : n + 1 + i ≡ n + suc i = omega arith in ap q next ∙ each (suc i) y e) in
+    ap (λ b. map (λ (p : ℕ × A). p.1) (cond b ((n, x) ∷ later) later)) (ap q first ∙ each 0 x refl)
+    ∙ elim (r x) as (λ b. map (λ (p : ℕ × A). p.1) (cond b ((n, x) ∷ later) later) ≡ cond b (x ∷ filter r xs) (filter r xs)) [ true ↦ ap (λ ys. x ∷ ys) more | false ↦ more ]
 
 module _ {A K : Type 0} (cmp : K → K → Ordering) (key : A → K) (xs : List A) where
   abbrev pub by_keys : A → A → Ordering
@@ -47,7 +40,7 @@ module _ {A K : Type 0} (cmp : K → K → Ordering) (key : A → K) (xs : List 
   -- each stands at its position
   pub stands : (p : ℕ × A) → In p entries → slice_get xs p.0 ≡ Some p.1
   stands p inside =
-      let place = numbered_stands 0 xs p (has_from_In p (enumerate_from 0 xs) (In-rising (λ (a b : ℕ × A). by_keys a.1 b.1) p (enumerate_from 0 xs) inside)) in
+      let place = numbered_stands 0 xs p ((In-rising (λ (a b : ℕ × A). by_keys a.1 b.1) p (enumerate_from 0 xs) inside)) in
       let count : place.0 + 0 ≡ place.0 = omega arith in
       ap (slice_get xs) (place.1 ∙ count) ∙ place.2
 

@@ -1,6 +1,6 @@
 -- The objects of one election among the sorted objects of a family: they are the objects that it holds, in the order of their keys.
-use Rattle.erd_normal.proofs.Common.{◌≡◌, ℕ, zero, suc, ◌+◌, ◌<◌, ◌≤◌, Bool, true, false, cond, List, [], ◌∷◌, ◌++◌, map, length, if◌then◌else◌, ◌==◌, slice_get, Some, None, codes, filter, Option, option_map, flat_map, option_and_then, bytes_eq, unwrap_or, sym, refl, ap, ◌∙◌, ap₂, append-nil, arith, Decides-eqb, length-map, filter-append, slice_get_past, options_total, enumerate_from, option_cmp, option_map_or, Data, Items, no_items, item, Family, family, At, Name, has_at, list_of_items, entries_at, skeleton, values-placed_entries, election_entries, Skeleton, by_first, rising_list_map, In-from_has, IsAccepted, has_keys, key_cmp, Preference, key_of, key_in, rising_keys, rising_election_keys, Placed, placed_from, placed_entries, report_of, elections, objects, election_of_place, rising_list, key_cmp_total, Key, in_order_of_keys, rising_objects, rising_elections, part_at, objects_in_part, by_key}
-use Rattle.erd_normal.proofs.lists.NumberedKept.{kept_has}
+use Rattle.erd_normal.proofs.Common.{◌≡◌, ℕ, zero, suc, ◌+◌, ◌<◌, ◌≤◌, Bool, true, false, cond, List, [], ◌∷◌, ◌++◌, map, length, if◌then◌else◌, ◌==◌, slice_get, Some, None, codes, filter, Option, option_map, flat_map, option_and_then, bytes_eq, unwrap_or, sym, refl, ap, ◌∙◌, append-nil, arith, ne_eqb, Decides-eqb, length-map, filter-append, slice_get_past, options_total, enumerate_from, option_cmp, option_map_or, Data, Items, no_items, item, Family, family, Step, At, Name, list_of_items, entries_at, IsAccepted, has_keys, key_cmp, Preference, key_of, key_in, rising_keys, Placed, placed_from, placed_entries, report_of, elections, objects, election_of_place, rising_list, key_cmp_total, option_map-Some, skeleton, values-placed_entries, election_entries, Skeleton, by_first, rising_list_map, rising_election_keys, Key, in_order_of_keys, rising_objects, rising_elections, part_at, objects_in_part, by_key, In-filter, in_at}
+use Rattle.erd_normal.proofs.built.FamilyNames.{family_name}
 use Rattle.erd_normal.proofs.lists.StableRising.{map_after}
 use Rattle.erd_normal.proofs.ranks.InOrder.{positions, stands, values_kept}
 
@@ -32,13 +32,13 @@ module _ (π : Preference) (t : Data) (f : Family) (keyed : has_keys f ≡ true)
 
 -- an object that stands in a part is that at its position, and its family has keys
 pub in_part_there : (π : Preference) (t : Data) (f : Family) (part k : ℕ) (o : ℕ × Placed) → slice_get (objects_in_part π t f part) k ≡ Some o → (has_keys f ≡ true) × (slice_get (objects f t) o.0 ≡ Some o.1)
-in_part_there π t f part k o e = at (has_keys f) refl e
-  where
-    at : (b : Bool) → has_keys f ≡ b → slice_get (filter (λ (o : ℕ × Placed). part_at t f o.0 == part) (if b then in_order_of_keys π (objects f t) else [])) k ≡ Some o → (has_keys f ≡ true) × (slice_get (objects f t) o.0 ≡ Some o.1)
-    at true keyed e =
-        let inside = kept_has (λ (o : ℕ × Placed). part_at t f o.0 == part) (in_order_of_keys π (objects f t)) o (has_at (filter (λ (o : ℕ × Placed). part_at t f o.0 == part) (in_order_of_keys π (objects f t))) k o e) in
-        (keyed, stands (option_cmp key_cmp) (λ (o : Placed). key_of π o.value) (objects f t) o (In-from_has o (in_order_of_keys π (objects f t)) inside))
-    at false none e = cc
+in_part_there π t f part k o =
+    (elim (has_keys f) as (λ b. has_keys f ≡ b → slice_get (filter (λ (o : ℕ × Placed). part_at t f o.0 == part) (if b then in_order_of_keys π (objects f t) else [])) k ≡ Some o → (has_keys f ≡ true) × (slice_get (objects f t) o.0 ≡ Some o.1)) [
+      | true ↦ λ keyed e.
+          let inside = (In-filter (λ (o : ℕ × Placed). part_at t f o.0 == part) o (in_order_of_keys π (objects f t)) (in_at (filter (λ (o : ℕ × Placed). part_at t f o.0 == part) (in_order_of_keys π (objects f t))) k o e)).0 in
+          (keyed, stands (option_cmp key_cmp) (λ (o : Placed). key_of π o.value) (objects f t) o inside)
+      | false ↦ λ none e. cc
+    ]) refl
 
 -- ---- an object that is found at a position
 
@@ -53,13 +53,11 @@ found_key π t f i o keyed at =
     ap (option_and_then (λ (o : Placed). if has_keys f then key_of π o.value else None)) at ∙ ap (λ b. if b then key_of π o.value else None) keyed
 
 pub seen_key : (π : Preference) (x : Option Placed) (d : Data) → option_map (λ (o : Placed). o.value) x ≡ Some d → option_and_then (λ (o : Placed). key_of π o.value) x ≡ key_of π d
-seen_key π None d e = cc
-seen_key π (Some o) d e = let same : o.value ≡ d = cc in ap (key_of π) same
+seen_key π x d e = let o = option_map-Some (λ (o : Placed). o.value) x d e in ap (option_and_then (λ (o : Placed). key_of π o.value)) o.1 ∙ ap (key_of π) o.2
 
 -- what is made of it
 pub seen_value : {B : Type 0} (f : Data → B) (none : B) (x : Option Placed) (d : Data) → option_map (λ (o : Placed). o.value) x ≡ Some d → option_map_or (λ (o : Placed). f o.value) x none ≡ f d
-seen_value f none None d e = cc
-seen_value f none (Some o) d e = let same : o.value ≡ d = cc in ap f same
+seen_value f none x d e = let o = option_map-Some (λ (o : Placed). o.value) x d e in ap (λ x. option_map_or (λ (o : Placed). f o.value) x none) o.1 ∙ ap f o.2
 
 pub unseen_value : {B : Type 0} (f : Data → List B) (x : Option Placed) → None ≡ option_map (λ (o : Placed). o.value) x → [] ≡ option_map_or (λ (o : Placed). f o.value) x []
 unseen_value f None e = refl
@@ -73,63 +71,44 @@ found_below (o ∷ os) (suc i) low e = found_below os i (omega arith) e
 
 -- ---- which objects stand in an election
 
--- the objects of the election at position n + j
-here_kept : (n j : ℕ) (name : List ℕ) (k : ℕ) (ds : List Data) → filter (is_in n) (placed_from (Name (codes "Election") ∷ At n ∷ Name name ∷ []) k ds) ≡ placed_from (Name (codes "Election") ∷ At n ∷ Name name ∷ []) k ds
-here_kept n j name k [] = refl
-here_kept n j name k (d ∷ ds) = rw ((Decides-eqb n n).1 refl) (ap (λ os. record { place = Name (codes "Election") ∷ At n ∷ Name name ∷ At k ∷ []; value = d } ∷ os) (here_kept n j name (k + 1) ds))
+-- entries of one part are kept all, or none
+one_part : (i n : ℕ) (p : List Step) → ((k : ℕ) (d : Data) → part_of (record { place = p ++ At k ∷ []; value = d }) ≡ n) → (k : ℕ) (ds : List Data) → filter (is_in i) (placed_from p k ds) ≡ cond (n == i) (placed_from p k ds) []
+one_part i n p part k [] = elim (n == i) as (λ b. placed_from p k [] ≡ cond b (placed_from p k []) []) [ true ↦ refl | false ↦ refl ]
+one_part i n p part k (d ∷ ds) =
+    let o : Placed = record { place = p ++ At k ∷ []; value = d } in
+    let rest : List Placed = placed_from p (k + 1) ds in
+    ap (λ m. cond (m == i) (o ∷ filter (is_in i) rest) (filter (is_in i) rest)) (part k d)
+    ∙ ap (λ os. cond (n == i) (o ∷ os) os) (one_part i n p part (k + 1) ds)
+    ∙ elim (n == i) as (λ b. cond b (o ∷ cond b rest []) (cond b rest []) ≡ cond b (o ∷ rest) []) [ true ↦ refl | false ↦ refl ]
 
-none_kept : (n i : ℕ) → (n == i) ≡ false → (name : List ℕ) (k : ℕ) (ds : List Data) → filter (is_in i) (placed_from (Name (codes "Election") ∷ At n ∷ Name name ∷ []) k ds) ≡ []
-none_kept n i other name k [] = refl
-none_kept n i other name k (d ∷ ds) = rw other (none_kept n i other name (k + 1) ds)
-
-unequal : (n i : ℕ) → (n ≡ i → ⊥) → (n == i) ≡ false
-unequal n i other = at (n == i) refl
-  where
-    at : (b : Bool) → (n == i) ≡ b → (n == i) ≡ false
-    at true e = absurd (other ((Decides-eqb n i).0 e))
-    at false e = e
+-- the objects of the election at position n, and those of later ones
+from_one : (name : List ℕ) (i n : ℕ) (e : Data) (es : List Data) → filter (is_in i) (flat_map (placed_entries name) (placed_from (Name (codes "Election") ∷ []) n (e ∷ es)))
+    ≡ cond (n == i) (placed_from (Name (codes "Election") ∷ At n ∷ Name name ∷ []) 0 (entries_at name e)) [] ++ filter (is_in i) (flat_map (placed_entries name) (placed_from (Name (codes "Election") ∷ []) (n + 1) es))
+from_one name i n e es =
+    let p : List Step = Name (codes "Election") ∷ At n ∷ Name name ∷ [] in
+    let rest : List Placed = flat_map (placed_entries name) (placed_from (Name (codes "Election") ∷ []) (n + 1) es) in
+    filter-append (is_in i) (placed_from p 0 (entries_at name e)) rest ∙ ap (λ os. os ++ filter (is_in i) rest) (one_part i n p (λ k d. refl) 0 (entries_at name e))
 
 -- those before have none
 none_before : (name : List ℕ) (i n : ℕ) (es : List Data) → i < n → filter (is_in i) (flat_map (placed_entries name) (placed_from (Name (codes "Election") ∷ []) n es)) ≡ []
 none_before name i n [] low = refl
-none_before name i n (e ∷ es) low =
-    filter-append (is_in i) (placed_from (Name (codes "Election") ∷ At n ∷ Name name ∷ []) 0 (entries_at name e)) (flat_map (placed_entries name) (placed_from (Name (codes "Election") ∷ []) (n + 1) es))
-    ∙ ap₂ ◌++◌ (none_kept n i (unequal n i (λ same. absurd (omega (arith, same)))) name 0 (entries_at name e)) (none_before name i (n + 1) es (omega arith))
+none_before name i n (e ∷ es) low = from_one name i n e es ∙ rw (ne_eqb n i (λ same. absurd (omega (arith, same)))) (none_before name i (n + 1) es (omega arith))
 
 held_by : (name : List ℕ) (i n j : ℕ) (es : List Data) → i ≡ n + j → filter (is_in i) (flat_map (placed_entries name) (placed_from (Name (codes "Election") ∷ []) n es))
     ≡ option_map_or (placed_entries name) (slice_get (placed_from (Name (codes "Election") ∷ []) n es) j) []
 held_by name i n j [] is = refl
 held_by name i n zero (e ∷ es) is =
-    let same : i ≡ n = omega arith in
-    let low : i < n + 1 = omega arith in
-    filter-append (is_in i) (placed_from (Name (codes "Election") ∷ At n ∷ Name name ∷ []) 0 (entries_at name e)) (flat_map (placed_entries name) (placed_from (Name (codes "Election") ∷ []) (n + 1) es))
-    ∙ (ap₂ ◌++◌ (ap (λ m. filter (is_in m) (placed_from (Name (codes "Election") ∷ At n ∷ Name name ∷ []) 0 (entries_at name e))) same ∙ here_kept n 0 name 0 (entries_at name e)) (none_before name i (n + 1) es low)
-    ∙ append-nil _)
-held_by name i n (suc j) (e ∷ es) is =
-    filter-append (is_in i) (placed_from (Name (codes "Election") ∷ At n ∷ Name name ∷ []) 0 (entries_at name e)) (flat_map (placed_entries name) (placed_from (Name (codes "Election") ∷ []) (n + 1) es))
-    ∙ ap₂ ◌++◌ (none_kept n i (unequal n i (λ same. absurd (omega (arith, same, is)))) name 0 (entries_at name e)) (held_by name i (n + 1) j es (omega (arith, is)))
+    let same : n ≡ i = omega arith in
+    from_one name i n e es ∙ rw ((Decides-eqb n i).1 same, none_before name i (n + 1) es (omega arith)) (append-nil _)
+held_by name i n (suc j) (e ∷ es) is = from_one name i n e es ∙ rw (ne_eqb n i (λ same. absurd (omega (arith, same, is)))) (held_by name i (n + 1) j es (omega (arith, is)))
 
 -- the objects that an election holds
 pub in_elections_kept : (t : Data) (name : List ℕ) (i : ℕ) → filter (is_in i) (flat_map (placed_entries name) (elections t)) ≡ option_map_or (placed_entries name) (slice_get (elections t) i) []
 in_elections_kept t name i = held_by name i 0 i (entries_at (codes "Election") t) (let count : i ≡ 0 + i = omega arith in count)
 
-outside : (name : List ℕ) → bytes_eq name (codes "Election") ≡ false → (i k : ℕ) (ds : List Data) → filter (is_in i) (placed_from (Name name ∷ []) k ds) ≡ cond (0 == i) (placed_from (Name name ∷ []) k ds) []
-outside name other i k [] = at (0 == i)
-  where
-    at : (b : Bool) → [] ≡ cond b (placed_from (Name name ∷ []) k []) []
-    at true = refl
-    at false = refl
-outside name other i k (d ∷ ds) = rw other (at (0 == i) (outside name other i (k + 1) ds))
-  where
-    at : (b : Bool) → filter (is_in i) (placed_from (Name name ∷ []) (k + 1) ds) ≡ cond b (placed_from (Name name ∷ []) (k + 1) ds) []
-        → cond b (record { place = Name name ∷ At k ∷ []; value = d } ∷ filter (is_in i) (placed_from (Name name ∷ []) (k + 1) ds)) (filter (is_in i) (placed_from (Name name ∷ []) (k + 1) ds))
-        ≡ cond b (placed_from (Name name ∷ []) k (d ∷ ds)) []
-    at true h = ap (λ os. record { place = Name name ∷ At k ∷ []; value = d } ∷ os) h
-    at false h = h
-
 -- and those of the report
 pub in_report_kept : (t : Data) (name : List ℕ) → bytes_eq name (codes "Election") ≡ false → (i : ℕ) → filter (is_in i) (placed_entries name (report_of t)) ≡ cond (0 == i) (placed_entries name (report_of t)) []
-in_report_kept t name other i = outside name other i 0 (entries_at name t)
+in_report_kept t name other i = one_part i 0 (Name name ∷ []) (λ k d. rw other refl) 0 (entries_at name t)
 
 -- ---- no object stands in a part that is not there
 
@@ -148,7 +127,7 @@ module _ (t : Data) (s : Skeleton t) (i : ℕ) (high : length (elections t) ≤ 
       let many : length (elections t) ≡ length (list_of_items s.es) =
       sym (length-map (elections t) (λ (e : Placed). e.value))
       ∙ ap length (values-placed_entries (codes "Election") (report_of t) ∙ election_entries t s) in
-      unequal 0 i (λ same. absurd (omega (arith, same, some, many, high)))
+      ne_eqb 0 i (λ same. absurd (omega (arith, same, some, many, high)))
 
   none_in_report : (name : List ℕ) → bytes_eq name (codes "Election") ≡ false → filter (is_in i) (placed_entries name (report_of t)) ≡ []
   none_in_report name other = in_report_kept t name other i ∙ ap (λ b. cond b (placed_entries name (report_of t)) []) later_than_none
@@ -157,15 +136,11 @@ module _ (t : Data) (s : Skeleton t) (i : ℕ) (high : length (elections t) ≤ 
   none_in_elections name = in_elections_kept t name i ∙ ap (λ o. option_map_or (placed_entries name) o []) (slice_get_past (elections t) i high)
 
   none_held : (f : Family) → has_keys f ≡ true → filter (is_in i) (objects f t) ≡ []
-  none_held family.Unit keyed = none_in_report (codes "GpUnit") refl
-  none_held family.Party keyed = none_in_report (codes "Party") refl
-  none_held family.Person keyed = none_in_report (codes "Person") refl
-  none_held family.Office keyed = none_in_report (codes "Office") refl
-  none_held family.Header keyed = none_in_report (codes "Header") refl
   none_held family.Candidate keyed = none_in_elections (codes "Candidate")
   none_held family.Contest keyed = none_in_elections (codes "Contest")
   none_held family.Style keyed = none_in_elections (codes "BallotStyle")
   none_held family.Selection keyed = cc
+  none_held f keyed = none_in_report (family_name f) refl
 
 pub no_part : (π : Preference) (t : Data) (f : Family) → IsAccepted π t → has_keys f ≡ true → (i : ℕ) → length (elections t) ≤ i → objects_in_part π t f i ≡ []
 no_part π t f accepted keyed i high =

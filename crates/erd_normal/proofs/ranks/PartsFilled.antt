@@ -1,5 +1,6 @@
 -- Parts that are filled one entry after another: each has those entries that are put into it, in their order.
-use Rattle.erd_normal.proofs.Common.{◌≡◌, ℕ, zero, suc, ◌+◌, ◌<◌, ◌≤◌, Bool, true, false, cond, List, [], ◌∷◌, ◌++◌, map, length, get_or, get_or as slice_index_or, take, ◌==◌, slice_get, slice_set, Some, None, filter, Option, Vec, option_map, Global, unwrap_or, sym, refl, ap, ◌∙◌, subst, true≢false, append-nil, arith, Decides-eqb, take_more, filter-append, slice_get-map, option_map_or}
+use Rattle.erd_normal.proofs.Common.{◌≡◌, ℕ, zero, suc, ◌+◌, ◌<◌, ◌≤◌, true, false, cond, List, [], ◌∷◌, ◌++◌, map, length, get_or, get_or as slice_index_or, take, ◌==◌, slice_get, slice_set, Some, None, filter, Option, option_map, unwrap_or, sym, refl, ap, ◌∙◌, subst, true≢false, append-nil, arith, Decides-eqb, take_more, filter-append, slice_get-map, slice_get_past, option_map_or, Global, Vec}
+use Rattle.std.proofs.lemmas.Option.{slice_get-get_or}
 
 -- the entries of a part, or none if the part is not there
 abbrev pub in_part : {T A : Type 0} → (T → List A) → List T → ℕ → List A
@@ -20,16 +21,11 @@ part_kept items (p ∷ parts) (suc i) (suc j) new other = part_kept items parts 
 
 -- a part that is there
 pub part_is : {T A : Type 0} (items : T → List A) (parts : List T) (i : ℕ) (d : T) → i < length parts → items (slice_index_or parts i d) ≡ in_part items parts i
-part_is items [] i d low = absurd (omega arith)
-part_is items (p ∷ parts) zero d low = refl
-part_is items (p ∷ parts) (suc i) d low = part_is items parts i d (omega arith)
+part_is items parts i d low = ap (λ x. option_map_or items x []) (sym (slice_get-get_or parts i d low))
 
 -- a part that is not there
 pub part_missing : {T A : Type 0} (items : T → List A) (parts : List T) (i : ℕ) → length parts ≤ i → in_part items parts i ≡ []
-part_missing items [] zero high = refl
-part_missing items [] (suc i) high = refl
-part_missing items (p ∷ parts) zero high = absurd (omega arith)
-part_missing items (p ∷ parts) (suc i) high = part_missing items parts i (omega arith)
+part_missing items parts i high = ap (λ x. option_map_or items x []) (slice_get_past parts i high)
 
 or_none : {A B : Type 0} (f : A → List B) (x : Option A) → option_map_or f x [] ≡ unwrap_or (option_map f x) []
 or_none f None = refl
@@ -42,17 +38,6 @@ part_listed {A} {B} parts f xs i e =
     or_none items (slice_get parts i)
     ∙ (ap (λ x. unwrap_or x []) (sym (slice_get-map items parts i) ∙ (ap (λ ys. slice_get ys i) e ∙ slice_get-map f xs i))
     ∙ sym (or_none f (slice_get xs i)))
-
--- an entry that is there is the same under any default
-pub get_or_here : (ns : List ℕ) (k : ℕ) → k < length ns → get_or ns k 0 ≡ get_or ns k (get_or ns k 0)
-get_or_here [] k low = absurd (omega arith)
-get_or_here (n ∷ ns) zero low = refl
-get_or_here (n ∷ ns) (suc k) low = get_or_here_later ns k (get_or ns k 0) (omega arith)
-  where
-    get_or_here_later : (ns : List ℕ) (k d : ℕ) → k < length ns → get_or ns k 0 ≡ get_or ns k d
-    get_or_here_later [] k d low = absurd (omega arith)
-    get_or_here_later (n ∷ ns) zero d low = refl
-    get_or_here_later (n ∷ ns) (suc k) d low = get_or_here_later ns k d (omega arith)
 
 -- ---- entries that are put into parts one after another
 
@@ -71,15 +56,9 @@ module _ {A : Type 0} (part : A → ℕ) (rising : List A) (count : ℕ) where
         → (part e < count → new (part e) ≡ old (part e) ++ e ∷ [])
         → ((j : ℕ) → (j ≡ part e → ⊥) → new j ≡ old j)
         → i < count → new i ≡ put_in (k + 1) i
-    one_put old new before here elsewhere inside = at (part e == i) refl
-      where
-        at : (b : Bool) → (part e == i) ≡ b → new i ≡ put_in (k + 1) i
-        at true same =
-            let one : part e ≡ i = (Decides-eqb (part e) i).0 same in
-            subst (λ j. j < count → new j ≡ old j ++ e ∷ []) one here inside
-            ∙ (ap (λ xs. xs ++ e ∷ []) (before inside)
-            ∙ sym (next_kept ∙ ap (λ b. put_in k i ++ cond b (e ∷ []) []) same))
-        at false other =
-            elsewhere i (λ same. true≢false (sym ((Decides-eqb (part e) i).1 (sym same)) ∙ other))
-            ∙ (before inside
-            ∙ sym (next_kept ∙ (ap (λ b. put_in k i ++ cond b (e ∷ []) []) other ∙ append-nil (put_in k i))))
+    one_put old new before here elsewhere inside =
+        (elim (part e == i) as (λ b. (part e == i) ≡ b → new i ≡ put_in k i ++ cond b (e ∷ []) []) [
+          | true ↦ λ same. subst (λ j. j < count → new j ≡ old j ++ e ∷ []) ((Decides-eqb (part e) i).0 same) here inside ∙ ap (λ xs. xs ++ e ∷ []) (before inside)
+          | false ↦ λ other. elsewhere i (λ same. true≢false (sym ((Decides-eqb (part e) i).1 (sym same)) ∙ other)) ∙ (before inside ∙ sym (append-nil (put_in k i)))
+        ]) refl
+        ∙ sym next_kept

@@ -1,14 +1,15 @@
 -- The selections of a contest in the order of their names, and their ranks.
-use Rattle.erd_normal.proofs.Common.{◌≡◌, ℕ, ◌+◌, ◌<◌, ◌≤◌, List, [], ◌∷◌, ◌++◌, map, length, take, drop, replicate, slice_get, Some, None, codes, Option, option_map, flat_map, option_copied, Ordering, sym, refl, ap, ◌∙◌, subst, arith, length-take, Bor, on_total, length-map, drop_all, take_more, same_Some, slice_get-map, slice_get_within, get_or_from_slice_get, IsTotalOrder, options_total, AllByRecursion, enumerate_from, option_cmp, eq_by_cmp, Data, family, Name, Has, entries_at, values-placed_from, in_at, distinct_map, by_first, rising_list_map, rank_map, IsAccepted, Preference, NameParts, Placed, contests, selections_of_contest, objects, rising_list, name_of, name_cmp, positioned, rank_by, positions_by, name_cmp_total, rank_of_name, by_name, lent_name_cmp, rising_selections, AreSelectionRanks}
+use Rattle.erd_normal.proofs.Common.{◌≡◌, ℕ, ◌+◌, ◌<◌, ◌≤◌, List, [], ◌∷◌, ◌++◌, map, length, take, drop, replicate, slice_get, Some, None, codes, Option, option_map, flat_map, option_copied, Ordering, sym, refl, ap, ◌∙◌, subst, arith, length-take, Bor, on_total, length-map, take_more, same_Some, slice_get-map, slice_get_within, get_or_from_slice_get, IsTotalOrder, options_total, AllByRecursion, enumerate_from, option_cmp, eq_by_cmp, Data, family, Name, entries_at, IsAccepted, Preference, NameParts, Placed, contests, selections_of_contest, objects, rising_list, name_of, name_cmp, positioned, rank_by, positions_by, name_cmp_total, drop_all, values-placed_from, in_at, distinct_map, by_first, rising_list_map, rank_map, rank_of_name, by_name, lent_name_cmp, rising_selections, AreSelectionRanks, In}
+use Rattle.std.proofs.lemmas.List.Folds.{flat_map-map}
 use Rattle.erd_meaning.specs.NumberedNames.{numbered_name_cmp, numbered_parts}
 use Rattle.erd_meaning.specs.Places.{places_put}
 use Rattle.erd_meaning.specs.RankedNames.{RankedParts, ranked_name}
 use Rattle.erd_meaning.specs.code.NumberedOrders.{numbered_name_cmp_total}
 use Rattle.erd_meaning.proofs.orders.OrdersMade.{all_low, ranks_are}
 use Rattle.erd_meaning.proofs.selections.PositionedKeys.{positioned-append, positioned_made}
-use Rattle.erd_meaning.proofs.selections.RanksInTurn.{numbered_names_alike}
+use Rattle.erd_meaning.proofs.selections.RankedReports.{numbered_names_alike}
 use Rattle.erd_normal.proofs.canonical.RisingReports.{selection_values_distinct}
-use Rattle.erd_normal.proofs.lists.NumberedParts.{in_part}
+use Rattle.erd_normal.proofs.lists.NumberedKept.{in_part}
 use Rattle.erd_normal.proofs.lists.StableRising.{map_after}
 use Rattle.erd_normal.proofs.ranks.InOrder.{Next, entries, left_there, next, positions, stands, values}
 
@@ -117,7 +118,7 @@ module _ (π : Preference) (t : Data) where
         drop_all k (rising_list (by_name π t) inside) (omega (arith, end, one, other))
 
   -- the places of the positions are the ranks
-  pub places_are_ranks : IsAccepted π t → (contest : Placed) → Has (objects family.Contest t) contest
+  pub places_are_ranks : IsAccepted π t → (contest : Placed) → In contest (objects family.Contest t)
       → places_put 0 (rising_selections π t contest.value) (replicate (length (rising_selections π t contest.value)) 0) ≡ ranks_in contest.value
   places_are_ranks accepted contest has =
       let ds = entries_at (codes "ContestSelection") contest.value in
@@ -151,18 +152,13 @@ module _ (π : Preference) (t : Data) where
 
   -- ---- the report
 
-  -- the lists of the values, one after another
-  through_values : {B : Type 0} (g : Data → List B) (os : List Placed) → flat_map g (map (λ o. o.value) os) ≡ flat_map (λ o. g o.value) os
-  through_values g [] = refl
-  through_values g (o ∷ os) = ap (λ ys. g o.value ++ ys) (through_values g os)
-
   pub selections_ranked : (ranks : List ℕ) → ranks ≡ flat_map ranks_in (map (λ o. o.value) (contests t)) → AreSelectionRanks π t ranks
   selections_ranked ranks is i c contest o numbered at =
       let h = in_part (λ x. ranks_in x.value) selections_of_contest as_many (contests t) 0 i c o numbered in
       let after : c ≡ 0 + h.index = h.after in
       let index : h.index ≡ c = omega arith in
       let one : h.one ≡ contest = same_Some h.one contest (sym h.at ∙ (ap (slice_get (contests t)) index ∙ at)) in
-      ap (λ ms. slice_get ms i) (is ∙ through_values ranks_in (contests t))
+      ap (λ ms. slice_get ms i) (is ∙ flat_map-map ranks_in (λ (o : Placed). o.value) (contests t))
       ∙ (h.same
       ∙ (ap (λ x. slice_get (ranks_in x.value) h.inner) one
       ∙ contest_rank contest h.inner o (subst (λ x. slice_get (selections_of_contest x) h.inner ≡ Some o) one h.there)))

@@ -1,8 +1,7 @@
 -- What a reference to a selection becomes, by the ranks of the selection and its contest.
-use Rattle.erd_normal.proofs.Common.{◌≡◌, ℕ, true, false, List, [], ◌==◌, slice_get, Some, None, codes, Option, option_map, find, option_and_then, sym, refl, ap, ◌∙◌, subst, ap₂, true≢false, slice_get-map, option_map_or, Data, string, family_number, Family, family, Has, entries_at, find-Some, option_map-Some, stands, flat-has, one_object, has_id-Some, owner_is, in_at, with_part, place_of, In-from_has, has_from_In, IsAccepted, Preference, key_of, key_in, rank_of, id_in, selection_in, FindsId, NameParts, Placed, contests, selections_of_contest, objects, numbered_selections, id_of, has_id, name_of, canonical_selection_id, rank_of_name, id_of_selection, contest_with, selection_with, normal_selection_reference, AreSelectionRanks}
-use Rattle.erd_meaning.proofs.selections.NamesTold.{Numbered}
-use Rattle.erd_meaning.proofs.selections.NumberedSelections.{OfContest, of_its_contest, placed_of_contests}
-use Rattle.erd_meaning.proofs.identity.ObjectFamilies.{family_exact, itself}
+use Rattle.erd_normal.proofs.Common.{◌≡◌, ℕ, true, false, List, [], ◌==◌, slice_get, Some, None, codes, Option, option_map, find, option_and_then, sym, refl, ap, ◌∙◌, subst, ap₂, slice_get-map, option_map_or, Data, string, family_number, Family, family, entries_at, IsAccepted, Preference, key_of, key_in, rank_of, id_in, selection_in, FindsId, NameParts, Placed, contests, selections_of_contest, objects, numbered_selections, id_of, has_id, name_of, find-Some, option_map-Some, stands, one_object, has_id-Some, owner_is, in_at, with_part, place_of, canonical_selection_id, rank_of_name, id_of_selection, contest_with, selection_with, normal_selection_reference, AreSelectionRanks, In, In-flat_map}
+use Rattle.erd_meaning.proofs.selections.NamesTold.{Numbered, OfContest, of_its_contest, placed_of_contests}
+use Rattle.erd_meaning.proofs.identity.ObjectFamilies.{family_exact}
 use Rattle.erd_normal.proofs.canonical.ContestSelections.{one_contest}
 use Rattle.erd_normal.proofs.lists.FoundInParts.{FoundSelection, owner_found}
 use Rattle.erd_normal.proofs.meaning.AlikeRecords.{has_name}
@@ -36,17 +35,17 @@ module _ (π : Preference) (t : Data) (id : List ℕ) where
       let o : Placed = hit.0.one in
       let o_at : slice_get (objects family.Selection t) i ≡ Some o = hit.0.at in
       let is : id_of o.value ≡ Some id = hit.1 in
-      let of_report : Has (objects family.Selection t) o = has_from_In o (objects family.Selection t) (in_at (objects family.Selection t) i o o_at) in
+      let of_report : In o (objects family.Selection t) = (in_at (objects family.Selection t) i o o_at) in
       let s = numbered_at t i o o_at in
       let c : OfContest t (s.0, o) = of_its_contest t (s.0, o) (in_at {A = Numbered} (numbered_selections t) i (s.0, o) s.1) in
       let n = has_name π t accepted o.value (record { place = o.place; is = stands π t accepted family.Selection o of_report }) in
       let f : FoundSelection t id o.value = owner_found t id o.value (owner_is π t accepted family.Selection o id of_report is) in
       let one : f.selection ≡ o =
-      one_object π t accepted family.Selection family.Selection f.selection o id (flat-has selections_of_contest (contests t) f.contest f.selection f.of_report f.of_contest) of_report
+      one_object π t accepted family.Selection family.Selection f.selection o id (In-flat_map selections_of_contest f.selection f.contest (contests t) f.of_report f.of_contest) of_report
       (ap id_of f.value ∙ is) is in
       let whole : f.contest ≡ c.contest =
-      one_contest π t accepted f.contest c.contest o f.of_report (has_from_In c.contest (contests t) c.there) (subst (Has (selections_of_contest f.contest)) one f.of_contest)
-      (has_from_In o (selections_of_contest c.contest) c.inside) in
+      one_contest π t accepted f.contest c.contest o f.of_report (c.there) (subst (λ z. In z (selections_of_contest f.contest)) one f.of_contest)
+      (c.inside) in
       record {
         number = s.0;
         contest = c.contest;
@@ -61,22 +60,21 @@ module _ (π : Preference) (t : Data) (id : List ℕ) where
       }
 
   -- no selection has it
-  unnamed : ((i : ℕ) → id_in family.Selection t i ≡ Some id → ⊥) → string [] ≡ normal_selection_reference π t (string id)
-  unnamed none = at (contest_with t id) refl
+  pub unselected : ((i : ℕ) → id_in family.Selection t i ≡ Some id → ⊥) → string [] ≡ normal_selection_reference π t (string id)
+  unselected none =
+      (elim (contest_with t id) as (λ c. contest_with t id ≡ c → string [] ≡ string (option_map_or (λ (c : Placed). option_map_or (λ (o : Placed). id_of_selection π t c.value o.value) (selection_with id c) []) c [])) [
+        | None ↦ λ is. refl
+        | Some c ↦ λ is.
+            let found = find-Some (λ (c : Placed). option_map_or (λ (o : Placed). true) (find (λ o. has_id id o.value) (selections_of_contest c)) false) (contests t) c is in
+            absurd (inside c found.0 (find (λ o. has_id id o.value) (selections_of_contest c)) refl found.1)
+      ]) refl
     where
-      inside : (c : Placed) → Has (contests t) c → (o : Option Placed) → find (λ o. has_id id o.value) (selections_of_contest c) ≡ o → option_map_or (λ o. true) o false ≡ true → ⊥
+      inside : (c : Placed) → In c (contests t) → (o : Option Placed) → find (λ o. has_id id o.value) (selections_of_contest c) ≡ o → option_map_or (λ o. true) o false ≡ true → ⊥
       inside c of_report None is h = cc
       inside c of_report (Some o) is h =
           let found = find-Some (λ (o : Placed). has_id id o.value) (selections_of_contest c) o is in
-          let place = place_of o (objects family.Selection t) (In-from_has o (objects family.Selection t) (flat-has selections_of_contest (contests t) c o of_report found.0)) in
+          let place = place_of o (objects family.Selection t) (In-flat_map selections_of_contest o c (contests t) of_report found.0) in
           none place.0 (ap (option_and_then (λ (o : Placed). id_of o.value)) place.1 ∙ has_id-Some id o.value found.1)
-
-      at : (c : Option Placed) → contest_with t id ≡ c
-          → string [] ≡ string (option_map_or (λ (c : Placed). option_map_or (λ (o : Placed). id_of_selection π t c.value o.value) (selection_with id c) []) c [])
-      at None is = refl
-      at (Some c) is =
-          let found = find-Some (λ (c : Placed). option_map_or (λ (o : Placed). true) (find (λ o. has_id id o.value) (selections_of_contest c)) false) (contests t) c is in
-          absurd (inside c found.0 (find (λ o. has_id id o.value) (selections_of_contest c)) refl found.1)
 
 -- what is looked up where a selection is found
 module _ (π : Preference) (t : Data) (id : List ℕ) (i : ℕ) (s : SelectionAt π t id i) where
@@ -97,16 +95,3 @@ pub selection_found : (t : Data) (id : List ℕ) (g : Family) (i : ℕ) → Find
 selection_found t id g i finds same =
     let one : g ≡ family.Selection = family_exact g family.Selection same in
     (finds family.Selection i).0 (ap (λ h. Some (h, i)) one)
-
--- an object of another family is found
-pub selection_elsewhere : (π : Preference) (t : Data) (id : List ℕ) (g : Family) (i : ℕ) → FindsId t id (Some (g, i)) → (family_number g == family_number family.Selection) ≡ false
-    → string [] ≡ normal_selection_reference π t (string id)
-selection_elsewhere π t id g i finds other = unnamed π t id (λ j e.
-    let same : Some (g, i) ≡ Some (family.Selection, j) = (finds family.Selection j).1 e in
-    let one : g ≡ family.Selection = ap (λ o. option_map_or (λ (x : Family × ℕ). x.0) o g) same in
-    let equal : (family_number g == family_number family.Selection) ≡ true = subst (λ h. (family_number g == family_number h) ≡ true) one (itself (family_number g)) in
-    true≢false (sym equal ∙ other))
-
--- no object is found
-pub selection_nowhere : (π : Preference) (t : Data) (id : List ℕ) → FindsId t id None → string [] ≡ normal_selection_reference π t (string id)
-selection_nowhere π t id finds = unnamed π t id (λ j e. let none : None ≡ Some (family.Selection, j) = (finds family.Selection j).1 e in cc)

@@ -1,11 +1,11 @@
 -- A renaming and an exchange of two entries of a set make values that are alike.
-use Rattle.erd_normal.proofs.Common.{◌≡◌, ℕ, zero, suc, ◌<◌, Bool, true, false, cond, ◌&&◌, List, [], ◌∷◌, length, IsSomeAnd, if◌then◌else◌, IsTrue, Some, None, Option, option_map, swap, option_and_then, nat_cmp, is_eq, Ordering, Equal, sym, refl, ap, ◌∙◌, subst, arith, is_eq-slice_cmp, slice_cmp, Data, null, boolean, number, string, array, object, Items, no_items, item, Members, no_members, member, get_member, get_item, items_of, role, Step, At, Name, list_of_items-items_of, text_from_equal, list_of_items, entries_of, scope_inside, want_of_name, entry_want, is_compared_set, is_table_set, Asked, asked, is_repeated, asked_of_member, asked_inside, asked_from, Scope, Want, Object, reordered_self, reordered_swap, Reordered, Renaming, replaced_text, is_id_text, renamed_value, renamed_items, renamed_members, changed_at, member_changed, item_changed, swapped, exchanged, HasEntries}
+use Rattle.erd_normal.proofs.Common.{◌≡◌, ℕ, zero, suc, ◌<◌, Bool, true, false, cond, ◌&&◌, List, [], ◌∷◌, length, IsSomeAnd, if◌then◌else◌, IsTrue, Some, None, Option, option_map, swap, option_and_then, nat_cmp, is_eq, Ordering, Equal, sym, refl, ap, ◌∙◌, subst, arith, is_eq-slice_cmp, slice_cmp, Data, null, string, array, object, Items, no_items, item, Members, no_members, member, get_member, get_item, items_of, role, Step, At, Name, list_of_items-items_of, text_from_equal, list_of_items, entries_of, scope_inside, want_of_name, entry_want, is_compared_set, is_table_set, Asked, asked, is_repeated, asked_of_member, asked_inside, asked_from, Scope, Want, Object, Renaming, replaced_text, is_id_text, renamed_value, renamed_items, renamed_members, changed_at, member_changed, item_changed, swapped, exchanged, HasEntries, IsPermutation, IsPermutation-swap, IsPermutation-refl}
 
 -- ---- two values that are alike: spelled otherwise, with the same said. A renaming and an exchange make values that are alike
 
 -- the entries of a set may stand in another order
 abbrev pub IsArranged : Bool → List Data → List Data → Type 0
-IsArranged true ds es = Reordered ds es
+IsArranged true ds es = IsPermutation ds es
 IsArranged false ds es = ds ≡ es
 
 -- `@id` texts and references of the table are the same but for a function of texts, sets have entries that are alike in
@@ -31,7 +31,7 @@ abbrev mutual
 -- ---- a renaming and an exchange of two entries of a set make values that are alike
 
 arranged_self : (b : Bool) (ds : List Data) → IsArranged b ds ds
-arranged_self true ds = reordered_self ds
+arranged_self true ds = IsPermutation-refl ds
 arranged_self false ds = refl
 
 -- ---- renaming
@@ -42,17 +42,14 @@ text_renamed pairs s false = refl
 
 mutual
   pub renamed_alike : (pairs : Renaming) (w : Option Want) (d : Data) → Alike (replaced_text pairs) w d (renamed_value pairs w d)
-  renamed_alike pairs None null = refl
-  renamed_alike pairs None e = refl
-  renamed_alike pairs (Some w) null = refl
-  renamed_alike pairs (Some w) (boolean b) = refl
-  renamed_alike pairs (Some w) (number n) = refl
   renamed_alike pairs (Some w) (string s) = text_renamed pairs s (is_id_text w)
   renamed_alike pairs (Some w) (array ds) =
       let es = renamed_items pairs (entry_want w) ds in
       (list_of_items es, es, refl, renamed_entries pairs (entry_want w) ds, arranged_self (is_table_set w) (list_of_items es))
   renamed_alike pairs (Some w) (object ms) =
       (renamed_members pairs (scope_inside w (object ms)) ms, refl, renamed_names pairs (scope_inside w (object ms)) ms)
+  renamed_alike pairs None null = refl
+  renamed_alike pairs w d = refl
 
   renamed_entries : (pairs : Renaming) (w : Option Want) (ds : Items) → AreAlike (replaced_text pairs) w ds (list_of_items (renamed_items pairs w ds))
   renamed_entries pairs w no_items = refl
@@ -75,14 +72,11 @@ text_kept s false = refl
 
 mutual
   pub alike_self : (w : Option Want) (d : Data) → Alike as_it_is w d d
-  alike_self None null = refl
-  alike_self None e = refl
-  alike_self (Some w) null = refl
-  alike_self (Some w) (boolean b) = refl
-  alike_self (Some w) (number n) = refl
   alike_self (Some w) (string s) = text_kept s (is_id_text w)
   alike_self (Some w) (array ds) = (list_of_items ds, ds, refl, entries_self (entry_want w) ds, arranged_self (is_table_set w) (list_of_items ds))
   alike_self (Some w) (object ms) = (ms, refl, members_self (scope_inside w (object ms)) ms)
+  alike_self None null = refl
+  alike_self w d = refl
 
   entries_self : (w : Option Want) (ds : Items) → AreAlike as_it_is w ds (list_of_items ds)
   entries_self w no_items = refl
@@ -106,7 +100,7 @@ swapped_alike i j w (array ds) set low high =
       refl,
       entries_self (entry_want w) ds,
       subst (λ b. IsArranged b (list_of_items ds) (list_of_items es)) (sym set)
-          (subst (Reordered (list_of_items ds)) (sym (list_of_items-items_of (swap (list_of_items ds) i j))) (reordered_swap (list_of_items ds) i j low high)),
+          (subst (IsPermutation (list_of_items ds)) (sym (list_of_items-items_of (swap (list_of_items ds) i j))) (IsPermutation-swap (list_of_items ds) _ i j low high refl)),
     )
 swapped_alike i j w e set low high = absurd (omega arith)
 

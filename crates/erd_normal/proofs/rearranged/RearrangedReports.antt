@@ -1,21 +1,20 @@
 -- A rearranged report is a tree, is accepted as it was, says the same and so means the same: by each change, and so by all.
-use Rattle.erd_normal.proofs.Common.{◌≡◌, ℕ, true, false, ◌⊎◌, List, [], ◌∷◌, IsSomeAnd, IsTrue, Some, None, Option, option_and_then, sym, refl, ap, ◌∙◌, subst, inl, inr, true≢false, Data, object, get_member, is_envelope_name, role, Reason, Step, Name, object_in, report_class, ObjectIn, Within-step, Within-root, within-tree, Within, is_shape_fault, IsTree, scope_inside, want_of_name, Asked, asked, asked_of_member, asked_inside, asked_from, Scope, scope, Want, Object, no_shape_fault, IsAccepted, Preference, RearrangedMeansTheSame, Renaming, replaced_text, renamed, exchanged, Change, a_renaming, an_exchange, IsAllowed, changed, IsRearrangement, IsRenaming, RearrangedSaysTheSame, HasSoundEnvelope, Sides, is_envelope, SaysTheSame}
+use Rattle.erd_normal.proofs.Common.{◌≡◌, ℕ, true, false, ◌⊎◌, List, [], ◌∷◌, Some, None, Option, sym, refl, ap, ◌∙◌, subst, Data, object, get_member, is_envelope_name, role, Reason, Step, Name, object_in, report_class, ObjectIn, Within-step, Within-root, within-tree, Within, is_shape_fault, IsTree, scope_inside, want_of_name, Asked, asked, asked_of_member, asked_inside, asked_from, Scope, scope, Want, Object, no_shape_fault, IsAccepted, Preference, RearrangedMeansTheSame, Renaming, replaced_text, renamed, exchanged, Change, a_renaming, an_exchange, IsAllowed, changed, IsRearrangement, IsRenaming, RearrangedSaysTheSame, HasSoundEnvelope, Sides, is_envelope, SaysTheSame, ⊎_elim, and_then-Some}
 use Rattle.erd_normal.proofs.lists.Matched.{Both, both}
 use Rattle.erd_normal.proofs.rearranged.AlikeChanges.{Alike, as_it_is, exchanged_alike, renamed_alike}
 use Rattle.erd_normal.proofs.rearranged.AlikeParts.{alike_member, alike_tree}
-use Rattle.erd_normal.proofs.same.FromAlike.{ComesBack, alike_same, alike_says}
-use Rattle.erd_normal.proofs.same.Lookups.{of_object}
-use Rattle.erd_normal.proofs.same.Places.{envelope_quiet, is_quiet, quiet_step}
-use Rattle.erd_normal.proofs.same.Types.{scope_same}
-use Rattle.erd_normal.proofs.same.accepted.AbsentMembers.{IsSound}
+use Rattle.erd_normal.proofs.same.FromAlike.{ComesBack, alike_same, alike_says, comes_back, texts_come_back, turned_back, covers, id_covered}
+use Rattle.erd_normal.proofs.same.Lookups.{of_object, scope_same}
+use Rattle.erd_normal.proofs.same.CameFrom.{envelope_quiet, is_quiet, quiet_step}
+use Rattle.erd_normal.proofs.same.accepted.RequiredMembers.{IsSound}
 use Rattle.erd_normal.proofs.same.accepted.AcceptedShape.{no_fault_at}
-use Rattle.erd_normal.proofs.same.accepted.AskedAgain.{AskedAgain, HasSoundMembers, again_from, of_report}
+use Rattle.erd_normal.proofs.same.accepted.AskedAgain.{AskedAgain, HasSoundMembers, again_from, none_asked}
 use Rattle.erd_normal.proofs.rearranged.RearrangedIds.{alike_ids, TellsIds}
-use Rattle.erd_normal.proofs.same.Basics.{says_itself}
+use Rattle.erd_normal.proofs.same.Back.{says_itself}
 use Rattle.erd_normal.proofs.same.InTurn.{says_in_turn}
-use Rattle.erd_normal.proofs.same.Rearrangements.{comes_back, texts_come_back, turned_back, covers, id_covered}
 use Rattle.erd_normal.proofs.same.accepted.Accepted.{same_is_accepted}
 use Rattle.erd_normal.proofs.same.means.Meanings.{saying_the_same_means_the_same}
+use Rattle.erd_normal.proofs.same.Steady.{of_report}
 
 -- ---- a report that is alike to an accepted one has no fault of shape in its envelope: each of its members says the same as that of the other one
 
@@ -76,30 +75,17 @@ module _ (π : Preference) (ρ σ : List ℕ → List ℕ) (t u : Data) (back : 
 
   no_fault : (n : List ℕ) (b c : Asked) → Within u b → Found b → (ss : List Step) → asked_from b ss ≡ Some c → Within u c → (r : Reason) → is_shape_fault c r ≡ false
   no_fault n b c inside f ss e there r =
-      at (again_from m tree right_tree π accepted (λ x. is_quiet x.want ≡ true) (λ x y s h found. quiet_step x.want x.value s y h found) no_report ss b inside f.quiet f.again c e)
-    where
-      at : AskedAgain m c ⊎ IsSound c → is_shape_fault c r ≡ false
-      at (inl again) = no_fault_at m tree right_tree π accepted c r there again
-      at (inr sound) = sound.no_fault r
+      ⊎_elim (no_fault_at m tree right_tree π accepted c r there) (λ (sound : IsSound c). sound.no_fault r)
+      (again_from m tree right_tree π accepted (λ x. is_quiet x.want ≡ true) (λ x y s h found. quiet_step x.want x.value s y h found) no_report ss b inside f.quiet f.again c e)
 
   pub alike_envelope : HasSoundEnvelope u
-  alike_envelope (Name n ∷ ss) r inside fault = at (asked_inside (Object role.Report) u (Name n)) refl fault
-    where
-      last : (b : Asked) → asked_inside (Object role.Report) u (Name n) ≡ Some b → (o : Option Asked) → asked_from b ss ≡ o → IsSomeAnd o (λ a. IsTrue (is_shape_fault a r)) → ⊥
-      last b is None found h = h
-      last b is (Some c) found h =
-          let place = ap (option_and_then (λ x. asked_from x ss)) is ∙ found in
-          let stands : Within u b = Within-step u (asked (Object role.Report) u) b (Name n) (Within-root u) is in
-          true≢false (sym h ∙ no_fault n b c stands (found_at n inside b is) ss found (record { place = Name n ∷ ss; is = place }) r)
-
-      at : (o : Option Asked) → asked_inside (Object role.Report) u (Name n) ≡ o → IsSomeAnd (option_and_then (λ b. asked_from b ss) o) (λ a. IsTrue (is_shape_fault a r)) → ⊥
-      at None is h = h
-      at (Some b) is h = last b is (asked_from b ss) refl h
+  alike_envelope (Name n ∷ ss) r inside fault =
+      none_asked u (λ a. is_shape_fault a r) (Name n ∷ ss) (λ c is.
+      let b = and_then-Some (λ x. asked_from x ss) (asked_inside (Object role.Report) u (Name n)) c is in
+      no_fault n b.0 c (Within-step u (asked (Object role.Report) u) b.0 (Name n) (Within-root u) b.1) (found_at n inside b.0 b.1) ss b.2 (record { place = Name n ∷ ss; is = is }) r) fault
   alike_envelope d r inside fault = cc
 
 -- ---- a rearranged report is a tree, is accepted as it was, says the same and so means the same: by each change, and so by all
-
--- ---- one change
 
 -- the report is as good as an accepted one, and says the same
 record IsAsGood (π : Preference) (t u : Data) : Type 0 where

@@ -1,10 +1,9 @@
--- If u says what t says, t says what u says.
-use Rattle.erd_normal.proofs.Common.{List, Option, IsPermutation, sym, subst, IsPermutation-sym, Data, Items, Members, items_of, list_of_items-items_of, list_of_items, entry_want, Scope, Want, IsPermutation-reordered, SaysBack, Sides, not_asked, a_null, a_flag, a_number, a_text, an_id, a_list, a_set, an_object, no_entry, one_entry, no_member, in_both, left_only, right_only, Same, SameEntries, SameMembers}
-use Rattle.erd_normal.proofs.lists.Matched.{Paired, none, more}
-use Rattle.erd_normal.proofs.lists.NumbersInOrder.{permuted_reordered}
+-- Each report says what it says, and if u says what t says, t says what u says.
+use Rattle.erd_normal.proofs.Common.{List, Option, IsPermutation, sym, subst, IsPermutation-sym, Data, Items, Members, items_of, list_of_items-items_of, list_of_items, entry_want, Scope, Want, SaysBack, Sides, not_asked, a_null, a_flag, a_number, a_text, an_id, a_list, a_set, an_object, no_entry, one_entry, no_member, in_both, left_only, right_only, Same, SameEntries, SameMembers, is_table_set, ◌≡◌, true, false, Some, array, ℕ, Bool, None, refl, IsPermutation-refl, null, boolean, number, string, object, no_items, item, no_members, member, role, scope_inside, want_of_name, Object, is_id_text, SaysItself, StandsFor}
+use Rattle.erd_normal.proofs.lists.Matched.{Paired, none, more, Matched}
 use Rattle.erd_normal.proofs.lists.BuiltLists.{items_again}
 use Rattle.erd_normal.proofs.same.Lists.{follows}
-use Rattle.erd_normal.proofs.same.Types.{scope_same}
+use Rattle.erd_normal.proofs.same.Lookups.{scope_same}
 
 abbrev pub turned : Sides → Sides
 turned m = record { left = m.right; right = m.left; there = m.back; back = m.there }
@@ -31,12 +30,24 @@ pub record SetMoved (m : Sides) (w : Option Want) (es ds : Items) : Type 0 where
 
 pub set_swapped : (m : Sides) (w : Option Want) (ds fs es : Items) → IsPermutation (list_of_items ds) (list_of_items fs) → SameEntries m w es fs → SetMoved m w es ds
 set_swapped m w ds fs es p h =
-    let f = follows (permuted_reordered (list_of_items fs) (list_of_items ds) (IsPermutation-sym (list_of_items ds) (list_of_items fs) p)) (paired_flip (entries_paired m h)) in
+    let f = follows (IsPermutation-sym (list_of_items ds) (list_of_items fs) p) (paired_flip (entries_paired m h)) in
     record {
       moved = items_of f.new;
-      permuted = subst (IsPermutation (list_of_items es)) (sym (list_of_items-items_of f.new)) (IsPermutation-reordered f.reordered);
+      permuted = subst (IsPermutation (list_of_items es)) (sym (list_of_items-items_of f.new)) f.reordered;
       entries = subst (SameEntries m w (items_of f.new)) (items_again ds) (paired_entries m w (paired_flip f.paired));
     }
+
+-- arrays whose entries say the same say the same
+module _ (m : Sides) where
+  pub set_says : (w : Want) (ds es : Items) → is_table_set w ≡ true → Matched (Same m (entry_want w)) (list_of_items ds) (list_of_items es) → Same m (Some w) (array ds) (array es)
+  set_says w ds es is h =
+      let f = follows h.reordered (paired_flip h.paired) in
+      a_set (items_of f.new) is (subst (IsPermutation (list_of_items ds)) (sym (list_of_items-items_of f.new)) f.reordered)
+      (subst (SameEntries m (entry_want w) (items_of f.new)) (items_again es) (paired_entries m (entry_want w) (paired_flip f.paired)))
+
+  pub list_says : (w : Want) (ds es : Items) → is_table_set w ≡ false → Paired (Same m (entry_want w)) (list_of_items ds) (list_of_items es) → Same m (Some w) (array ds) (array es)
+  list_says w ds es is h =
+      a_list is (subst (λ x. SameEntries m (entry_want w) x es) (items_again ds) (subst (SameEntries m (entry_want w) (items_of (list_of_items ds))) (items_again es) (paired_entries m (entry_want w) h)))
 
 -- ---- the other way round
 
@@ -66,3 +77,44 @@ mutual
 
 pub says_back : SaysBack
 says_back t u h = record { there = h.back; back = h.there; same = same_back (record { left = t; right = u; there = h.there; back = h.back }) h.same }
+
+-- ---- each report says what it says
+
+abbrev pub as_it_is : List ℕ → List ℕ
+as_it_is s = s
+
+-- what is asked says what it says, with all that is inside it, where each text of an `@id` stands for itself
+module _ (m : Sides) (H : Option Want → Type 0) (texts : (w : Want) (s : List ℕ) → H (Some w) → is_id_text w ≡ true → StandsFor m s s) (entries : (w : Want) → H (Some w) → H (entry_want w))
+    (names : (w : Want) (ms : Members) → H (Some w) → (n : List ℕ) → H (want_of_name (scope_inside w (object ms)) n)) where
+  text_self : (w : Want) (s : List ℕ) (b : Bool) → is_id_text w ≡ b → H (Some w) → Same m (Some w) (string s) (string s)
+  text_self w s true is h = an_id is (texts w s h is)
+  text_self w s false is h = a_text is
+
+  array_self : (w : Want) (ds : Items) (b : Bool) → is_table_set w ≡ b → SameEntries m (entry_want w) ds ds → Same m (Some w) (array ds) (array ds)
+  array_self w ds true is h = a_set ds is (IsPermutation-refl (list_of_items ds)) h
+  array_self w ds false is h = a_list is h
+
+  mutual
+    pub same_self : (o : Option Want) (d : Data) → H o → Same m o d d
+    same_self None d h = not_asked
+    same_self (Some w) null h = a_null
+    same_self (Some w) (boolean b) h = a_flag
+    same_self (Some w) (number n) h = a_number
+    same_self (Some w) (string s) h = text_self w s (is_id_text w) refl h
+    same_self (Some w) (array ds) h = array_self w ds (is_table_set w) refl (entries_self (entry_want w) ds (entries w h))
+    same_self (Some w) (object ms) h = an_object (members_self (scope_inside w (object ms)) ms (names w ms h))
+
+    pub entries_self : (o : Option Want) (ds : Items) → H o → SameEntries m o ds ds
+    entries_self o no_items h = no_entry
+    entries_self o (item d ds) h = one_entry (same_self o d h) (entries_self o ds h)
+
+    members_self : (s : Scope) (ms : Members) → ((n : List ℕ) → H (want_of_name s n)) → SameMembers m s ms ms
+    members_self s no_members h = no_member
+    members_self s (member k d ms) h = in_both (same_self (want_of_name s k) d (h k)) (members_self s ms h)
+
+pub says_itself : SaysItself
+says_itself t = record {
+  there = as_it_is;
+  back = as_it_is;
+  same = same_self (record { left = t; right = t; there = as_it_is; back = as_it_is }) (λ o. Unit {0}) (λ w s h is. (refl, refl)) (λ w h. tt) (λ w ms h n. tt) (Some (Object role.Report)) t tt;
+}

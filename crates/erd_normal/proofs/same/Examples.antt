@@ -1,64 +1,113 @@
--- The small ballot and its canonical form.
-use Rattle.erd_normal.proofs.Common.{ℕ, List, [], ◌∷◌, ◌++◌, codes, refl, serde_json_on_literals, read_is_tree, tree_of, small_ballot_with, small_ballot, small_ballot_canonical, Renaming, replaced_text, SaysTheSame}
+-- Reports that say the same as the small ballot, and reports that do not, by the laws and by computation.
+use Rattle.erd_normal.proofs.Common.{◌≡◌, ℕ, ◌^◌, ◌<◌, Bool, true, false, not, List, ◌++◌, length, is_some, Some, None, codes, Option, sym, refl, ap, ◌∙◌, subst, true≢false, lit<, digits, serde_json_on_literals, Data, Family, family, read_is_tree, no_fault_listed, IsTree, tree_of, small_ballot_with, small_ballot, small_ballot_canonical, local_key, IsAccepted, objects, meaning, MemberValue, a_plain, a_content, first_node, a_header, normal_tree, SaysTheSame}
+use Rattle.erd_meaning.specs.Meaning.{Meaning}
 use Rattle.erd_check.proofs.Reports.{contest_node, header_node}
-use Rattle.erd_check.proofs.WholeExamples.{small_ballot_is_faultless}
-use Rattle.erd_normal.proofs.same.Decided.{tested_says}
-use Rattle.erd_normal.proofs.same.Differ.{differ_unrelated}
-use Rattle.erd_normal.proofs.same.Rearrangements.{turned_back}
+use Rattle.erd_check.proofs.WholeExamples.{small_ballot_is_faultless, small_ballot_canonical_is_faultless}
+use Rattle.erd_meaning.proofs.refused.Refused.{accepted_by_lists}
 use Rattle.erd_normal.proofs.examples.RearrangedExamples.{edited}
-use Rattle.erd_normal.proofs.same.Basics.{as_it_is}
+use Rattle.erd_normal.proofs.meaning.AlikeRecords.{members_in}
+use Rattle.erd_normal.proofs.same.Back.{says_back}
+use Rattle.erd_normal.proofs.same.InTurn.{says_in_turn}
+use Rattle.erd_normal.proofs.same.means.Meanings.{saying_the_same_means_the_same}
+use Rattle.erd_normal.proofs.same.normal.SaidReports.{normal_tree_says}
+use Rattle.erd_meaning.proofs.examples.RefusedExamples.{small_ballot_is_accepted}
 
--- the names of the canonical form
-abbrev canonical_names : Renaming
-canonical_names =
-    (codes "a1", codes "gp1") ∷ (codes "a2", codes "gp2") ∷ (codes "a3", codes "pa1") ∷ (codes "a4", codes "hd1") ∷ (codes "a5", codes "ca1") ∷ (codes "a6", codes "ca2") ∷ (codes "a7", codes "ca3")
-    ∷ (codes "a8", codes "co1") ∷ (codes "a9", codes "cs1-2") ∷ (codes "a10", codes "cs1-3") ∷ (codes "a11", codes "cs1-1") ∷ (codes "a12", codes "co2") ∷ (codes "a13", codes "cs2-2") ∷ (codes "a14", codes "cs2-1")
-    ∷ (codes "a16", codes "pe1") ∷ (codes "a17", codes "of1") ∷ []
+abbrev given : Data
+given = tree_of small_ballot
 
-pub canonical_says : SaysTheSame (tree_of small_ballot) (tree_of small_ballot_canonical)
+abbrev canonical : Data
+canonical = tree_of small_ballot_canonical
+
+given_tree : IsTree given
+given_tree = small_ballot_is_faultless.tree
+
+-- ---- what says the same
+
+few_given : (f : Family) → length (objects f given) < 2 ^ 64
 unfolding serde_json_on_literals
-canonical_says = tested_says (replaced_text canonical_names) (replaced_text (turned_back canonical_names)) (tree_of small_ballot) (tree_of small_ballot_canonical) refl
+few_given family.Unit = lit< tt
+few_given f = lit< tt
 
--- ---- what may be added
+given_built : normal_tree None given ≡ canonical
+unfolding serde_json_on_literals digits
+given_built = refl
+
+-- the canonical form
+pub canonical_says : SaysTheSame given canonical
+canonical_says = subst (SaysTheSame given) given_built (normal_tree_says None given small_ballot_is_accepted given_tree (record { few = few_given }))
 
 -- a style with an `@id`, an empty array of the table and an outside member
-abbrev more_members : List ℕ
-more_members = edited (codes "{\"@type\":\"ElectionResults.BallotStyle\"") (codes "{\"@id\":\"s\",\"@type\":\"ElectionResults.BallotStyle\",\"PartyIds\":[]") (edited (codes "\"VotesAllowed\":1") (codes "\"VotesAllowed\":1,\"OtherCounts\":[]") small_ballot)
+abbrev more_text : List ℕ
+more_text = edited (codes "{\"@type\":\"ElectionResults.BallotStyle\"") (codes "{\"@id\":\"s\",\"@type\":\"ElectionResults.BallotStyle\",\"PartyIds\":[]") (edited (codes "\"VotesAllowed\":1") (codes "\"VotesAllowed\":1,\"OtherCounts\":[]") small_ballot)
 
-pub more_says : SaysTheSame (tree_of small_ballot) (tree_of more_members)
+abbrev more_members : Data
+more_members = tree_of more_text
+
+few_more : (f : Family) → length (objects f more_members) < 2 ^ 64
 unfolding serde_json_on_literals
-more_says = tested_says as_it_is as_it_is (tree_of small_ballot) (tree_of more_members) refl
+few_more family.Unit = lit< tt
+few_more f = lit< tt
 
--- ---- what is not the same
+more_tree : IsTree more_members
+unfolding serde_json_on_literals
+more_tree = read_is_tree more_text more_members refl
+
+more_accepted : IsAccepted None more_members
+unfolding serde_json_on_literals
+more_accepted = accepted_by_lists None more_members more_tree (no_fault_listed more_members refl refl) refl refl refl
+
+more_built : normal_tree None more_members ≡ canonical
+unfolding serde_json_on_literals digits
+more_built = refl
+
+pub more_says : SaysTheSame given more_members
+more_says =
+    let back : SaysTheSame canonical more_members = says_back more_members canonical (subst (SaysTheSame more_members) more_built (normal_tree_says None more_members more_accepted more_tree (record { few = few_more }))) in
+    says_in_turn given canonical more_members given_tree small_ballot_canonical_is_faultless.tree more_tree canonical_says back
+
+-- ---- what does not, since it means something else
+
+means_else : (u : Data) → IsTree u → (test : Meaning → Bool) → test (meaning None given) ≡ true → test (meaning None u) ≡ false → SaysTheSame given u → ⊥
+means_else u tree test left right h = true≢false (sym left ∙ ap test (sym (saying_the_same_means_the_same None given u given_tree tree small_ballot_is_accepted h)) ∙ right)
 
 -- another identifier
 abbrev other_value : List ℕ
 other_value = small_ballot_with (codes "K4") (header_node ++ codes "," ++ contest_node)
 
-pub other_value_differs : SaysTheSame (tree_of small_ballot) (tree_of other_value) → ⊥
+pub other_value_differs : SaysTheSame given (tree_of other_value) → ⊥
 unfolding serde_json_on_literals
-other_value_differs = differ_unrelated (tree_of small_ballot) (tree_of other_value) small_ballot_is_faultless.tree (read_is_tree other_value (tree_of other_value) refl) refl
+other_value_differs = means_else (tree_of other_value) (read_is_tree other_value (tree_of other_value) refl) (λ m. is_some (m.objects family.Candidate (local_key (codes "K3")))) refl refl
 
 -- another order of the ballot
 abbrev other_order : List ℕ
 other_order = small_ballot_with (codes "K3") (contest_node ++ codes "," ++ header_node)
 
-pub other_order_differs : SaysTheSame (tree_of small_ballot) (tree_of other_order) → ⊥
+abbrev is_header_first : Option MemberValue → Bool
+is_header_first (Some (a_plain (a_content (first_node (a_header k inside others) rest)))) = true
+is_header_first o = false
+
+pub other_order_differs : SaysTheSame given (tree_of other_order) → ⊥
 unfolding serde_json_on_literals
-other_order_differs = differ_unrelated (tree_of small_ballot) (tree_of other_order) small_ballot_is_faultless.tree (read_is_tree other_order (tree_of other_order) refl) refl
+other_order_differs =
+    means_else (tree_of other_order) (read_is_tree other_order (tree_of other_order) refl)
+    (λ m. is_header_first (members_in (m.objects family.Style (local_key (codes "S1"))) (codes "OrderedContent"))) refl refl
+
+-- the report has no member of this name
+abbrev lacks_member : List ℕ → Meaning → Bool
+lacks_member name m = not (is_some (members_in m.report name))
 
 -- `false` in place of an absent member
 abbrev with_false : List ℕ
 with_false = edited (codes "{\"Status\"") (codes "{\"IsTest\":false,\"Status\"") small_ballot
 
-pub with_false_differs : SaysTheSame (tree_of with_false) (tree_of small_ballot) → ⊥
+pub with_false_differs : SaysTheSame (tree_of with_false) given → ⊥
 unfolding serde_json_on_literals
-with_false_differs = differ_unrelated (tree_of with_false) (tree_of small_ballot) (read_is_tree with_false (tree_of with_false) refl) small_ballot_is_faultless.tree refl
+with_false_differs h = means_else (tree_of with_false) (read_is_tree with_false (tree_of with_false) refl) (lacks_member (codes "IsTest")) refl refl (says_back (tree_of with_false) given h)
 
 -- an empty array that is carried
 abbrev with_carried : List ℕ
 with_carried = edited (codes "{\"Status\"") (codes "{\"Colors\":[],\"Status\"") small_ballot
 
-pub with_carried_differs : SaysTheSame (tree_of with_carried) (tree_of small_ballot) → ⊥
+pub with_carried_differs : SaysTheSame (tree_of with_carried) given → ⊥
 unfolding serde_json_on_literals
-with_carried_differs = differ_unrelated (tree_of with_carried) (tree_of small_ballot) (read_is_tree with_carried (tree_of with_carried) refl) small_ballot_is_faultless.tree refl
+with_carried_differs h = means_else (tree_of with_carried) (read_is_tree with_carried (tree_of with_carried) refl) (lacks_member (codes "Colors")) refl refl (says_back (tree_of with_carried) given h)

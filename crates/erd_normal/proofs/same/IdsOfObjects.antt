@@ -1,10 +1,69 @@
--- What a value is, by what the table asks of it: so an `@id` that it asks for is that of an object of a family.
-use Rattle.erd_normal.proofs.Common.{◌≡◌, ℕ, Bool, true, false, cond, ◌&&◌, List, [], ◌∷◌, is_some, Some, None, codes, Option, option_map, flat_map, option_and_then, bytes_eq, sym, refl, ap, ◌∙◌, subst, and_parts, AllByRecursion, option_map_or, Data, string, array, object, Items, Members, get_member, get_item, as_str, role_of_class, family_of_role, family_of_class, kind_of_member, is_required, Class, Family, family, Role, role, MemberKind, kind, Step, At, Name, string_from_text, text_exact, Has, Within-step, wanted_within, Within, list_of_items, entries_of, entries_at, class_of_object, scope_inside, want_of_kind, is_report_class, member_want, carried_want, want_of_name, entry_want, is_compared_set, Asked, asked, is_repeated, asked_inside, asked_from, asked_at, scope, Want, Carried, ClassText, Member, Object, Reference, Status, no_shape_fault, owned, unrepeated_reference, flat-has, class_role, IsAccepted, has_keys, Preference, owner}
+-- The `@id`s of a report: what shares one, what a text names, and which texts are `@id`s.
+use Rattle.erd_normal.proofs.Common.{◌≡◌, ℕ, Bool, true, false, cond, ◌&&◌, List, [], is_some, Some, None, codes, Option, option_map, flat_map, option_and_then, bytes_eq, sym, refl, ap, ◌∙◌, subst, and_parts, AllByRecursion, option_map_or, Data, string, array, object, Items, Members, get_member, get_item, as_str, role_of_class, family_of_role, family_of_class, kind_of_member, is_required, Class, Family, family, Role, role, MemberKind, kind, Step, At, string_from_text, text_exact, Within-step, wanted_within, Within, list_of_items, entries_of, entries_at, class_of_object, scope_inside, want_of_kind, is_report_class, member_want, want_of_name, entry_want, Asked, asked, is_repeated, asked_at, scope, Want, Carried, ClassText, Member, Object, Reference, Status, no_shape_fault, owned, unrepeated_reference, class_role, IsAccepted, has_keys, Preference, owner, slice_get, find, IsDistinct, position_of, no_identity_fault, find-Some, has_id-Some, has_id-from, one_id, distinct_from_one_place, distinct_map, id_in, Placed, objects, id_of, has_id, In, In-flat_map}
 use Rattle.erd_normal.proofs.built.AskedMembers.{all_items}
 use Rattle.erd_normal.proofs.built.FamilyNames.{family_name, holds, home, is_home, is_report_role}
-use Rattle.erd_normal.proofs.same.FamilyValues.{family_values}
+use Rattle.erd_normal.proofs.same.FamilyValues.{family_values, object_values, value_placed}
 use Rattle.erd_normal.proofs.same.Lists.{entry_has}
-use Rattle.erd_normal.proofs.same.SharedIds.{IsId}
+use Rattle.erd_normal.proofs.throughout.InsideValues.{all_inside}
+use Rattle.erd_normal.proofs.lists.FoundInParts.{find_values}
+
+-- an object of the report writes this `@id`
+pub record IsId (t : Data) (id : List ℕ) : Type 0 where
+  pub family : Family
+  pub value : Data
+  pub stands : In value (family_values family t)
+  pub is : id_of value ≡ Some id
+
+-- the two values write one `@id`
+abbrev pub have_one_id : Data → Data → Bool
+have_one_id d e = option_map_or (λ id. has_id id e) (id_of d) false
+
+pub id_of_both : (d e : Data) → have_one_id d e ≡ true → (id : List ℕ) × (id_of d ≡ Some id) × (id_of e ≡ Some id)
+id_of_both d e h = at (id_of d) refl h
+  where
+    at : (o : Option (List ℕ)) → id_of d ≡ o → option_map_or (λ id. has_id id e) o false ≡ true → (id : List ℕ) × (id_of d ≡ Some id) × (id_of e ≡ Some id)
+    at None is h = cc
+    at (Some x) is h = (x, is, has_id-Some x e h)
+
+pub by_one_id : (d e : Data) (id : List ℕ) → id_of d ≡ Some id → id_of e ≡ Some id → have_one_id d e ≡ true
+by_one_id d e id a b = rw a (has_id-from id e b)
+
+-- ---- what a text names
+
+-- what a text names is found among the values of the family
+pub owner_found : (t : Data) (f : Family) (id : List ℕ) → owner t f id ≡ find (has_id id) (family_values f t)
+owner_found t f id = find_values (has_id id) (λ (o : Placed). o.value) (objects f t) ∙ ap (find (has_id id)) (object_values f t)
+
+pub owner_stands : (t : Data) (f : Family) (id : List ℕ) (o : Data) → owner t f id ≡ Some o → In o (family_values f t) × (id_of o ≡ Some id)
+owner_stands t f id o e = let x = find-Some (has_id id) (family_values f t) o (sym (owner_found t f id) ∙ e) in (x.0, has_id-Some id o x.1)
+
+-- a text that names an object is an `@id` of the report
+pub owned_id : (t : Data) (f : Family) (id : List ℕ) (o : Data) → owner t f id ≡ Some o → IsId t id
+owned_id t f id o e = let x = owner_stands t f id o e in record { family = f; value = o; stands = x.0; is = x.1 }
+
+-- ---- an accepted report
+
+module _ (π : Preference) (t : Data) (accepted : IsAccepted π t) where
+  id_at : (f : Family) (i : ℕ) (o : Placed) (id : List ℕ) → slice_get (objects f t) i ≡ Some o → id_of o.value ≡ Some id → id_in f t i ≡ Some id
+  id_at f i o id at is = ap (option_and_then (λ (o : Placed). id_of o.value)) at ∙ is
+
+  -- no two objects of a family share one
+  pub ids_distinct : (f : Family) → IsDistinct have_one_id (family_values f t)
+  ids_distinct f =
+      subst (IsDistinct have_one_id) (object_values f t)
+      (distinct_map (λ (o : Placed). o.value) have_one_id (objects f t)
+      (distinct_from_one_place (λ o p. have_one_id o.value p.value) (objects f t) (λ i j o p a b e.
+      let s = id_of_both o.value p.value e in
+      (one_id π t s.0 f f i j (no_identity_fault π t accepted) (id_at f i o s.0 a s.1) (id_at f j p s.0 b s.2)).1)))
+
+  -- and objects that do are of one family
+  pub one_family : (f g : Family) (d e : Data) (id : List ℕ) → In d (family_values f t) → In e (family_values g t) → id_of d ≡ Some id → id_of e ≡ Some id → f ≡ g
+  one_family f g d e id h k a b =
+      let o = value_placed f t d h in
+      let p = value_placed g t e k in
+      let i = position_of (objects f t) o.0 o.1 in
+      let j = position_of (objects g t) p.0 p.1 in
+      (one_id π t id f g i.0 j.0 (no_identity_fault π t accepted) (id_at f i.0 o.0 id i.1 (ap id_of o.2 ∙ a)) (id_at g j.0 p.0 id j.1 (ap id_of p.2 ∙ b))).0
 
 -- ---- a reference of an accepted report names an object of its family
 
@@ -26,32 +85,32 @@ module _ (π : Preference) (t : Data) (accepted : IsAccepted π t) where
 
 -- ---- what a value is, by what the table asks of it: so an `@id` that it asks for is that of an object of a family
 
--- ---- what a value is, by what is asked of it
-
 abbrev pub IsPart : Data → Want → Data → Type 0
 IsPart t (Object role.Report) d = d ≡ t
-IsPart t (Object role.Election) d = Has (entries_at (codes "Election") t) d
-IsPart t (Object (role.OfFamily f)) d = Has (family_values f t) d
-IsPart t (Member (kind.Keyed f) required) d = (x : Data) → Has (entries_of d) x → Has (family_values f t) x
-IsPart t (Member kind.Elections required) d = (x : Data) → Has (entries_of d) x → Has (entries_at (codes "Election") t) x
+IsPart t (Object role.Election) d = In d (entries_at (codes "Election") t)
+IsPart t (Object (role.OfFamily f)) d = In d (family_values f t)
+IsPart t (Member (kind.Keyed f) required) d = (x : Data) → In x (entries_of d) → In x (family_values f t)
+IsPart t (Member kind.Elections required) d = (x : Data) → In x (entries_of d) → In x (entries_at (codes "Election") t)
 IsPart t (Member kind.Identity required) d = (s : List ℕ) → d ≡ string s → IsId t s
 IsPart t (Member (kind.Many f) required) d = has_keys f ≡ true
 IsPart t w d = Unit {0}
 
-found_entry : (name : List ℕ) (ms : Members) (x y : Data) → get_member name ms ≡ Some x → Has (entries_of x) y → Has (entries_at name (object ms)) y
-found_entry name ms x y found h = subst (λ o. Has (option_map_or entries_of o []) y) (sym found) h
+found_entry : (name : List ℕ) (ms : Members) (x y : Data) → get_member name ms ≡ Some x → In y (entries_of x) → In y (entries_at name (object ms))
+found_entry name ms x y found h = subst (λ o. In y (option_map_or entries_of o [])) (sym found) h
 
-same_part : (t x : Data) (w v : Want) → Some w ≡ Some v → IsPart t w x → IsPart t v x
-same_part t x w v e h = let one : w ≡ v = cc in subst (λ z. IsPart t z x) one h
+-- the same, where something is asked
+abbrev PartOf : Data → Option Want → Data → Type 0
+PartOf t None x = Unit {0}
+PartOf t (Some w) x = IsPart t w x
 
 module _ (t : Data) (ms : Members) (x : Data) where
-  top_entry : (name : List ℕ) → object ms ≡ t → get_member name ms ≡ Some x → (y : Data) → Has (entries_of x) y → Has (entries_at name t) y
-  top_entry name part found y h = subst (λ z. Has (entries_at name z) y) part (found_entry name ms x y found h)
+  top_entry : (name : List ℕ) → object ms ≡ t → get_member name ms ≡ Some x → (y : Data) → In y (entries_of x) → In y (entries_at name t)
+  top_entry name part found y h = subst (λ z. In y (entries_at name z)) part (found_entry name ms x y found h)
 
-  nested_entry : (name : List ℕ) (ds : List Data) → Has ds (object ms) → get_member name ms ≡ Some x → (y : Data) → Has (entries_of x) y → Has (flat_map (entries_at name) ds) y
-  nested_entry name ds part found y h = flat-has (entries_at name) ds (object ms) y part (found_entry name ms x y found h)
+  nested_entry : (name : List ℕ) (ds : List Data) → In (object ms) ds → get_member name ms ≡ Some x → (y : Data) → In y (entries_of x) → In y (flat_map (entries_at name) ds)
+  nested_entry name ds part found y h = In-flat_map (entries_at name) y (object ms) ds part (found_entry name ms x y found h)
 
-  home_entry : (r : Role) (f : Family) → holds r f ≡ true → IsPart t (Object r) (object ms) → get_member (family_name f) ms ≡ Some x → (y : Data) → Has (entries_of x) y → Has (family_values f t) y
+  home_entry : (r : Role) (f : Family) → holds r f ≡ true → IsPart t (Object r) (object ms) → get_member (family_name f) ms ≡ Some x → (y : Data) → In y (entries_of x) → In y (family_values f t)
   home_entry role.Report family.Unit p part found = top_entry (codes "GpUnit") part found
   home_entry role.Report family.Party p part found = top_entry (codes "Party") part found
   home_entry role.Report family.Person p part found = top_entry (codes "Person") part found
@@ -63,7 +122,7 @@ module _ (t : Data) (ms : Members) (x : Data) where
   home_entry (role.OfFamily family.Contest) family.Selection p part found = nested_entry (codes "ContestSelection") (family_values family.Contest t) part found
   home_entry r f p part found = cc
 
-  elections_part : (r : Role) → is_report_role r ≡ true → IsPart t (Object r) (object ms) → get_member (codes "Election") ms ≡ Some x → (y : Data) → Has (entries_of x) y → Has (entries_at (codes "Election") t) y
+  elections_part : (r : Role) → is_report_role r ≡ true → IsPart t (Object r) (object ms) → get_member (codes "Election") ms ≡ Some x → (y : Data) → In y (entries_of x) → In y (entries_at (codes "Election") t)
   elections_part role.Report p part found = top_entry (codes "Election") part found
   elections_part r p part found = cc
 
@@ -95,64 +154,33 @@ module _ (t : Data) (ms : Members) (x : Data) where
       at true = tt
       at false = kind_part r c n (kind_of_member c n) (is_required c n) role (home c n) part found
 
-  class_part : (r : Role) (o : Option Class) (n : List ℕ) (v : Want) → class_of_object r (object ms) ≡ o → IsPart t (Object r) (object ms) → want_of_name (scope.Members r o) n ≡ Some v → get_member n ms ≡ Some x
-      → IsPart t v x
-  class_part r o n v among part asks found = at (bytes_eq n (codes "@type")) refl o among asks
+  class_part : (r : Role) (n : List ℕ) (o : Option Class) → class_of_object r (object ms) ≡ o → IsPart t (Object r) (object ms) → get_member n ms ≡ Some x → PartOf t (want_of_name (scope.Members r o) n) x
+  class_part r n o among part found = at (bytes_eq n (codes "@type")) refl o among
     where
-      at : (b : Bool) → bytes_eq n (codes "@type") ≡ b → (o : Option Class) → class_of_object r (object ms) ≡ o → cond b (Some (ClassText r)) (option_map (λ c. member_want c n) o) ≡ Some v → IsPart t v x
-      at true is o among e = same_part t x (ClassText r) v e tt
-      at false is None among e = cc
-      at false is (Some c) among e = same_part t x (member_want c n) v e (member_part r c n (class_role r (object ms) c among) is part found)
+      at : (b : Bool) → bytes_eq n (codes "@type") ≡ b → (o : Option Class) → class_of_object r (object ms) ≡ o → PartOf t (cond b (Some (ClassText r)) (option_map (λ c. member_want c n) o)) x
+      at true is o among = tt
+      at false is None among = tt
+      at false is (Some c) among = member_part r c n (class_role r (object ms) c among) is part found
 
   carried_part : (b : Bool) → IsPart t (cond b (Member kind.StrangeIdentity false) Carried) x
   carried_part true = tt
   carried_part false = tt
 
-  name_part : (w : Want) (n : List ℕ) (v : Want) → IsPart t w (object ms) → want_of_name (scope_inside w (object ms)) n ≡ Some v → get_member n ms ≡ Some x → IsPart t v x
-  name_part (Object r) n v part asks found = class_part r (class_of_object r (object ms)) n v refl part asks found
-  name_part (Member kind.Label required) n v part asks found = class_part role.Label (class_of_object role.Label (object ms)) n v refl tt asks found
-  name_part Carried n v part asks found = same_part t x (carried_want n) v asks (carried_part _)
-  name_part w n v part asks found = cc
+  name_part : (w : Want) (n : List ℕ) → IsPart t w (object ms) → get_member n ms ≡ Some x → PartOf t (want_of_name (scope_inside w (object ms)) n) x
+  name_part (Object r) n part found = class_part r n (class_of_object r (object ms)) refl part found
+  name_part (Member kind.Label required) n part found = class_part role.Label n (class_of_object role.Label (object ms)) refl tt found
+  name_part Carried n part found = carried_part _
+  name_part w n part found = tt
 
-entry_part : (t : Data) (w : Want) (ds : Items) (i : ℕ) (v : Want) (x : Data) → IsPart t w (array ds) → entry_want w ≡ Some v → get_item i ds ≡ Some x → IsPart t v x
-entry_part t (Member (kind.Keyed f) required) ds i v x part asks found = same_part t x (Object (role.OfFamily f)) v asks (part x (entry_has ds i x found))
-entry_part t (Member kind.Elections required) ds i v x part asks found = same_part t x (Object role.Election) v asks (part x (entry_has ds i x found))
-entry_part t (Member (kind.Many f) required) ds i v x part asks found = same_part t x (Reference f) v asks tt
-entry_part t (Member kind.Identifiers required) ds i v x part asks found = same_part t x (Object role.Identifier) v asks tt
-entry_part t (Member kind.Languages required) ds i v x part asks found = same_part t x (Object role.Language) v asks tt
-entry_part t (Member kind.Content required) ds i v x part asks found = same_part t x (Object role.Content) v asks tt
-entry_part t (Member kind.Ordered required) ds i v x part asks found = same_part t x (Reference family.Selection) v asks tt
-entry_part t Carried ds i v x part asks found = same_part t x Carried v asks tt
-entry_part t w ds i v x part asks found = cc
-
--- ---- along the place
-
-part_some : (t : Data) (make : Want → Data → Asked) → ((v : Want) (d : Data) → (make v d).want ≡ v) → ((v : Want) (d : Data) → (make v d).value ≡ d) → (o : Option Want) (p : Option Data) (c : Asked)
-    → ((v : Want) (d : Data) → o ≡ Some v → p ≡ Some d → IsPart t v d) → option_and_then (λ v. option_map (make v) p) o ≡ Some c → IsPart t c.want c.value
-part_some t make want value None p c each e = cc
-part_some t make want value (Some v) None c each e = cc
-part_some t make want value (Some v) (Some d) c each e =
-    let one : make v d ≡ c = cc in
-    subst (λ x. IsPart t x.want x.value) one (subst (λ w. IsPart t w (make v d).value) (sym (want v d)) (subst (IsPart t v) (sym (value v d)) (each v d refl refl)))
-
-part_step : (t : Data) (w : Want) (d : Data) (s : Step) (c : Asked) → IsPart t w d → asked_inside w d s ≡ Some c → IsPart t c.want c.value
-part_step t w (object ms) (Name n) c part e =
-    part_some t asked (λ v d. refl) (λ v d. refl) (want_of_name (scope_inside w (object ms)) n) (get_member n ms) c (λ v x asks found. name_part t ms x w n v part asks found) e
-part_step t w (array ds) (At i) c part e =
-    part_some t (λ v d. record { want = v; value = d; repeated = is_compared_set w && is_repeated ds i d }) (λ v d. refl) (λ v d. refl) (entry_want w) (get_item i ds) c
-    (λ v x asks found. entry_part t w ds i v x part asks found) e
-part_step t w d s c part e = cc
-
-part_from : (t : Data) (ss : List Step) (a c : Asked) → IsPart t a.want a.value → asked_from a ss ≡ Some c → IsPart t c.want c.value
-part_from t [] a c part e = let one : a ≡ c = cc in subst (λ x. IsPart t x.want x.value) one part
-part_from t (s ∷ ss) a c part e = at (asked_inside a.want a.value s) refl (λ b. part_from t ss b c)
-  where
-    at : (o : Option Asked) → asked_inside a.want a.value s ≡ o → ((b : Asked) → IsPart t b.want b.value → asked_from b ss ≡ Some c → IsPart t c.want c.value) → IsPart t c.want c.value
-    at None is step = let g : None ≡ Some c = ap (option_and_then (λ b. asked_from b ss)) (sym is) ∙ e in cc
-    at (Some b) is step = step b (part_step t a.want a.value s b part is) (ap (option_and_then (λ b. asked_from b ss)) (sym is) ∙ e)
+entry_part : (t : Data) (w : Want) (ds : Items) (i : ℕ) (x : Data) → IsPart t w (array ds) → get_item i ds ≡ Some x → PartOf t (entry_want w) x
+entry_part t (Member (kind.Keyed f) required) ds i x part found = part x (entry_has ds i x found)
+entry_part t (Member kind.Elections required) ds i x part found = part x (entry_has ds i x found)
+entry_part t w ds i x part found = tt
 
 pub part_at : (t : Data) (p : List Step) (a : Asked) → asked_at t p ≡ Some a → IsPart t a.want a.value
-part_at t p a stands = part_from t p (asked (Object role.Report) t) a refl stands
+part_at t p a stands =
+    all_inside (IsPart t) (λ w ms n v x part asks found. subst (λ o. PartOf t o x) asks (name_part t ms x w n part found))
+    (λ w ds i v x part asks found. subst (λ o. PartOf t o x) asks (entry_part t w ds i x part found)) (asked (Object role.Report) t) p a refl stands
 
 -- the text where an `@id` is asked for is the `@id` of an object
 pub asked_id : (t : Data) (p : List Step) (a : Asked) (required : Bool) (s : List ℕ) → asked_at t p ≡ Some a → a.want ≡ Member kind.Identity required → a.value ≡ string s → IsId t s

@@ -1,9 +1,9 @@
 -- If v says what t says, and u what v says, then u says what t says.
-use Rattle.erd_normal.proofs.Common.{◌≡◌, ℕ, Bool, true, false, List, [], Some, None, Option, IsPermutation, sym, refl, ap, ◌∙◌, subst, IsPermutation-sym, IsPermutation-trans, Num, Data, null, boolean, number, string, array, object, Items, no_items, item, Members, no_members, member, role, is_reference, IsTree, list_of_items, scope_inside, want_of_name, entry_want, is_table_set, Scope, Want, Object, Reference, length-reordered, Reordered, is_id_text, SaysInTurn, Sides, StandsFor, IsUnused, an_empty_array, of_the_envelope, an_unused_id, not_asked, a_null, a_flag, a_number, a_text, an_id, a_list, a_set, an_object, no_entry, one_entry, no_member, in_both, left_only, right_only, MayBeAbsent, Same, SameEntries, SameMembers}
+use Rattle.erd_normal.proofs.Common.{◌≡◌, ℕ, Bool, true, false, List, [], Some, None, Option, IsPermutation, sym, refl, ap, ◌∙◌, subst, IsPermutation-sym, IsPermutation-trans, Num, Data, null, boolean, number, string, array, object, Items, no_items, item, Members, no_members, member, role, is_reference, IsTree, list_of_items, scope_inside, want_of_name, entry_want, is_table_set, Scope, Want, Object, Reference, is_id_text, SaysInTurn, Sides, StandsFor, IsUnused, an_empty_array, of_the_envelope, an_unused_id, not_asked, a_null, a_flag, a_number, a_text, an_id, a_list, a_set, an_object, no_entry, one_entry, no_member, in_both, left_only, right_only, MayBeAbsent, Same, SameEntries, SameMembers, true≢false}
 use Rattle.erd_normal.proofs.same.Back.{same_back, set_swapped, turned}
 use Rattle.erd_normal.proofs.same.CameFrom.{CameFrom, reference_came_from}
-use Rattle.erd_normal.proofs.same.Types.{scope_same}
-use Rattle.erd_normal.proofs.lists.NumbersInOrder.{permuted_reordered}
+use Rattle.erd_normal.proofs.same.Lookups.{scope_same}
+use Rattle.std.proofs.lemmas.List.Sorted.{length_permutation}
 
 -- ---- what may be absent, along the relation
 
@@ -13,14 +13,9 @@ pub record OtherText (m : Sides) (id : List ℕ) (c : Data) : Type 0 where
   pub pair : StandsFor m id other
 
 pub id_text : (m : Sides) {w : Want} {x c : Data} (id : List ℕ) → Same m (Some w) x c → is_id_text w ≡ true → x ≡ string id → OtherText m id c
-id_text m id a_null h e = cc
-id_text m id a_flag h e = cc
-id_text m id a_number h e = cc
-id_text m id (a_text is) h e = let x : false ≡ true = sym is ∙ h in cc
+id_text m id (a_text is) h e = absurd (true≢false (sym h ∙ is))
 id_text m id (an_id {s = s} {s' = s'} is pair) h e = let one : s ≡ id = cc in record { other = s'; is = refl; pair = subst (λ z. StandsFor m z s') one pair }
-id_text m id (a_list is g) h e = cc
-id_text m id (a_set fs is p g) h e = cc
-id_text m id (an_object g) h e = cc
+id_text m id same h e = cc
 
 pub reference_is_id : (w : Want) → is_reference w ≡ true → is_id_text w ≡ true
 reference_is_id (Reference f) h = refl
@@ -29,23 +24,18 @@ reference_is_id w h = cc
 nothing_same : (m : Sides) {o : Option Want} {es : Items} → SameEntries m o no_items es → es ≡ no_items
 nothing_same m no_entry = refl
 
-nothing_moved : (fs : Items) → Reordered [] (list_of_items fs) → fs ≡ no_items
+nothing_moved : (fs : Items) → IsPermutation [] (list_of_items fs) → fs ≡ no_items
 nothing_moved no_items h = refl
-nothing_moved (item f fs) h = let e = length-reordered h in cc
+nothing_moved (item f fs) h = let e = length_permutation _ _ h in cc
 
 empty_same : (m : Sides) {w : Want} {x c : Data} → Same m (Some w) x c → x ≡ array no_items → c ≡ array no_items
-empty_same m a_null e = cc
-empty_same m a_flag e = cc
-empty_same m a_number e = cc
-empty_same m (a_text is) e = cc
-empty_same m (an_id is pair) e = cc
 empty_same m (a_list {w = w} {ds = ds} {es = es} is h) e =
     let none : ds ≡ no_items = cc in ap array (nothing_same m (subst (λ x. SameEntries m (entry_want w) x es) none h))
 empty_same m (a_set {w = w} {ds = ds} {es = es} fs is p h) e =
     let none : ds ≡ no_items = cc in
-    let moved : fs ≡ no_items = nothing_moved fs (subst (λ x. Reordered (list_of_items x) (list_of_items fs)) none (permuted_reordered (list_of_items ds) (list_of_items fs) p)) in
+    let moved : fs ≡ no_items = nothing_moved fs (subst (λ x. IsPermutation (list_of_items x) (list_of_items fs)) none p) in
     ap array (nothing_same m (subst (λ x. SameEntries m (entry_want w) x es) moved h))
-empty_same m (an_object h) e = cc
+empty_same m h e = cc
 
 module _ (m : Sides) (left_tree : IsTree m.left) (right_tree : IsTree m.right) (root : Same m (Some (Object role.Report)) m.left m.right) where
   unused_along : (id id' : List ℕ) → StandsFor m id id' → IsUnused m.left id → IsUnused m.right id'
@@ -87,9 +77,8 @@ module _ (t v u : Data) (there back there' back' : List ℕ → List ℕ) where
     -- members of the middle that may be absent
     only_left : {s : Scope} {ms ns : Members} → SameMembers one s ms ns → ns ≡ no_members → SameMembers whole s ms no_members
     only_left no_member e = no_member
-    only_left (in_both h rest) e = cc
     only_left (left_only h rest) e = left_only h (only_left rest e)
-    only_left (right_only h rest) e = cc
+    only_left h e = cc
 
     -- the first member of the middle, which stands in the last too
     through_both : {s : Scope} {ms ns : Members} (k : List ℕ) (e c : Data) (ns' ps : Members) → SameMembers one s ms ns → ns ≡ member k e ns' → Same two (want_of_name s k) e c
@@ -130,23 +119,13 @@ module _ (t v u : Data) (there back there' back' : List ℕ → List ℕ) where
 
     text_kept : (w : Want) (s : List ℕ) (d e : Data) → is_id_text w ≡ false → Same one (Some w) d e → e ≡ string s → Same whole (Some w) d e
     text_kept w s d e plain (a_text is) h = a_text is
-    text_kept w s d e plain (an_id is pair) h = let x : true ≡ false = sym is ∙ plain in cc
-    text_kept w s d e plain a_null h = cc
-    text_kept w s d e plain a_flag h = cc
-    text_kept w s d e plain a_number h = cc
-    text_kept w s d e plain (a_list is g) h = cc
-    text_kept w s d e plain (a_set fs is p g) h = cc
-    text_kept w s d e plain (an_object g) h = cc
+    text_kept w s d e plain (an_id is pair) h = absurd (true≢false (sym is ∙ plain))
+    text_kept w s d e plain same h = cc
 
     id_kept : (w : Want) (b c : List ℕ) (d e : Data) → is_id_text w ≡ true → StandsFor two b c → Same one (Some w) d e → e ≡ string b → Same whole (Some w) d (string c)
     id_kept w b c d e is pair (an_id {s = a} {s' = b'} i h) text = let same : b' ≡ b = cc in an_id is (stand_in_turn a b c (subst (StandsFor one a) same h) pair)
-    id_kept w b c d e is pair (a_text plain) text = let x : false ≡ true = sym plain ∙ is in cc
-    id_kept w b c d e is pair a_null text = cc
-    id_kept w b c d e is pair a_flag text = cc
-    id_kept w b c d e is pair a_number text = cc
-    id_kept w b c d e is pair (a_list i g) text = cc
-    id_kept w b c d e is pair (a_set fs i p g) text = cc
-    id_kept w b c d e is pair (an_object g) text = cc
+    id_kept w b c d e is pair (a_text plain) text = absurd (true≢false (sym is ∙ plain))
+    id_kept w b c d e is pair same text = cc
 
     list_kept : (w : Want) (d : Data) (es gs : Items) → is_table_set w ≡ false → Same one (Some w) d (array es)
         → ((ds : Items) → SameEntries one (entry_want w) ds es → SameEntries whole (entry_want w) ds gs) → Same whole (Some w) d (array gs)

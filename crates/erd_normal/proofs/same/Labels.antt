@@ -1,25 +1,26 @@
 -- The worst case of the names of selections: a label with translations. Labels that say the same have one text, with their translations
 -- in rising order.
-use Rattle.erd_normal.proofs.Common.{◌≡◌, ℕ, Bool, true, false, cond, List, [], ◌∷◌, ◌++◌, map, Some, None, codes, Option, bytes_eq, Ordering, Greater, sym, refl, ap, ◌∙◌, subst, ap₂, nat_list_cmp_total, exact_bytes, option_map_or, match_ordering, get_member-put, Data, null, array, object, Members, no_members, member, put, get_member, items_of, comma_if, compact_text, items_text, members_text, kind_of_member, is_required, text_cmp, class, role, kind, text_exact, members_unique, put-trees, kind_of_unlisted_has, IsTree, AreMembers, entries_of, entries_at, class_of_object, member_want, want_of_name, Scope, scope, Want, ClassText, Member, Object, reordered_map, Reordered, rising_list_map, rising_list, compact_cmp, with_rising_text, Sides, MayBeAbsent, Same, SameMembers}
-use Rattle.erd_meaning.proofs.orders.Reordered.{no_entry}
+use Rattle.erd_normal.proofs.Common.{◌≡◌, ℕ, Bool, true, false, List, [], ◌∷◌, ◌++◌, map, Some, None, codes, Option, bytes_eq, Ordering, Greater, sym, refl, ap, ◌∙◌, subst, ap₂, nat_list_cmp_total, exact_bytes, option_map_or, match_ordering, get_member-put, Data, null, array, object, Members, no_members, member, put, get_member, items_of, comma_if, compact_text, items_text, members_text, kind_of_member, text_cmp, class, role, kind, text_exact, members_unique, put-trees, kind_of_unlisted_has, IsTree, AreMembers, entries_of, entries_at, class_of_object, want_of_name, Scope, scope, Member, rising_list_map, rising_list, compact_cmp, with_rising_text, Sides, MayBeAbsent, Same, SameMembers, Items, list_of_items, Want, Object, JsonMap, JsonSet, Label, untranslated, translated, json_set, label_beside_text, label_of, a_set, is_id_text, StandsFor, true≢false, IsPermutation, IsPermutation-map, IsPermutation-refl}
 use Rattle.erd_normal.proofs.built.NormalGets.{put_elsewhere, put_twice}
 use Rattle.erd_normal.proofs.lists.Matched.{matched_equal}
 use Rattle.erd_normal.proofs.lists.NumbersInOrder.{rising-reordered}
-use Rattle.erd_normal.proofs.same.Lookups.{Aligned, both_there, not_both, MayLack, lookups, of_object}
+use Rattle.erd_normal.proofs.same.Lookups.{Aligned, both_there, not_both, MayLack, lookups, of_object, lacks_none, merged}
 use Rattle.erd_normal.proofs.same.Related.{entries_matched, lacking_empty}
-use Rattle.erd_normal.proofs.same.Steady.{is_steady, is_steady_kind, stays_one, steady_of_kind, steady_same, is_plain, is_plain_kind, plain_of_kind}
+use Rattle.erd_normal.proofs.same.Steady.{is_steady, is_steady_kind, stays_one, steady_of_kind, steady_same, is_plain, is_plain_kind, plain_of_kind, AllPlain, plain_entry, plain_no_id, plain_scope}
+use Rattle.erd_normal.proofs.throughout.InsideValues.{known_passes}
+use Rattle.erd_normal.proofs.same.Lists.{ApartBy, AreSound, itself, json_sets_reordered}
+use Rattle.erd_normal.proofs.same.Back.{same_self, entries_self}
 
 -- ---- texts of values in order
 
 -- arrays whose entries have the same texts have one text
 entries_one_text : (b : Bool) (xs ys : List Data) → map compact_text xs ≡ map compact_text ys → items_text b (items_of xs) ≡ items_text b (items_of ys)
 entries_one_text b [] [] e = refl
-entries_one_text b [] (y ∷ ys) e = cc
-entries_one_text b (x ∷ xs) [] e = cc
 entries_one_text b (x ∷ xs) (y ∷ ys) e =
     let first : compact_text x ≡ compact_text y = cc in
     let rest : map compact_text xs ≡ map compact_text ys = cc in
     ap₂ (λ s r. comma_if b ++ (s ++ r)) first (entries_one_text true xs ys rest)
+entries_one_text b xs ys e = cc
 
 array_one_text : (xs ys : List Data) → map compact_text xs ≡ map compact_text ys → compact_text (array (items_of xs)) ≡ compact_text (array (items_of ys))
 array_one_text xs ys e = ap (λ s. 91 ∷ s) (entries_one_text false xs ys e)
@@ -36,9 +37,9 @@ put_one_text b k d e (member l f ms) same = at (text_cmp k l) (put_one_text true
     at x later = rw same
 
 -- lists with the same entries have the same texts in rising order
-rising_texts : {xs ys : List Data} → Reordered xs ys → map compact_text (rising_list compact_cmp xs) ≡ map compact_text (rising_list compact_cmp ys)
+rising_texts : {xs ys : List Data} → IsPermutation xs ys → map compact_text (rising_list compact_cmp xs) ≡ map compact_text (rising_list compact_cmp ys)
 rising_texts {xs = xs} {ys = ys} h =
-    rising_list_map compact_text text_cmp xs ∙ rising-reordered nat_list_cmp_total exact_bytes (reordered_map compact_text h) ∙ sym (rising_list_map compact_text text_cmp ys)
+    rising_list_map compact_text text_cmp xs ∙ rising-reordered nat_list_cmp_total exact_bytes (IsPermutation-map compact_text _ _ h) ∙ sym (rising_list_map compact_text text_cmp ys)
 
 -- ---- labels
 
@@ -51,44 +52,36 @@ plain_beside k e f = rw f (kind_of_unlisted_has is_plain_kind class.Internationa
 pub steady_beside : (k : List ℕ) → bytes_eq k (codes "@type") ≡ false → bytes_eq k (codes "Text") ≡ false → is_steady_kind (kind_of_member class.InternationalizedText k) ≡ true
 steady_beside k e f = rw f (kind_of_unlisted_has is_steady_kind class.InternationalizedText k e refl refl refl)
 
--- what holds of all that is asked beside `Text`
-pub asked_beside : (P : Want → Bool) (k : List ℕ) → P (ClassText role.Label) ≡ true → (bytes_eq k (codes "@type") ≡ false → P (member_want class.InternationalizedText k) ≡ true) → (v : Want) → want_of_name in_label k ≡ Some v → P v ≡ true
-asked_beside P k text other v asks = at (bytes_eq k (codes "@type")) refl
-  where
-    at : (b : Bool) → bytes_eq k (codes "@type") ≡ b → P v ≡ true
-    at true is = let one : ClassText role.Label ≡ v = let g : Some (ClassText role.Label) ≡ Some v = rw is at asks in cc in ap P (sym one) ∙ text
-    at false is =
-        let g : Some (member_want class.InternationalizedText k) ≡ Some v = sym (ap (λ b. cond b (Some (ClassText role.Label)) (Some (member_want class.InternationalizedText k))) is) ∙ asks in
-        let one : member_want class.InternationalizedText k ≡ v = cc in
-        ap P (sym one) ∙ other is
+-- all that is asked beside `Text` is plain
+pub all_plain_beside : (k : List ℕ) → bytes_eq k (codes "Text") ≡ false → AllPlain (want_of_name in_label k)
+all_plain_beside k other = known_passes is_plain role.Label class.InternationalizedText k refl (λ e. plain_of_kind (kind_of_member class.InternationalizedText k) _ (plain_beside k e other))
 
 -- the members of labels of the class
 record LabelMembers (ms ns : Members) : Type 0 where
   beside : (k : List ℕ) → bytes_eq k (codes "Text") ≡ false → get_member k ms ≡ get_member k ns
-  texts : Reordered (entries_at (codes "Text") (object ms)) (entries_at (codes "Text") (object ns))
+  texts : IsPermutation (entries_at (codes "Text") (object ms)) (entries_at (codes "Text") (object ns))
 
 module _ (m : Sides) where
   -- nothing beside `Text` may be absent
   beside_stays : (t : Data) (k : List ℕ) (d : Data) → bytes_eq k (codes "Text") ≡ false → MayBeAbsent t in_label k d → ⊥
   beside_stays t k d other h =
       stays_one t in_label k d
-      (asked_beside is_steady k refl (λ e. steady_of_kind (kind_of_member class.InternationalizedText k) (is_required class.InternationalizedText k) (steady_beside k e other))) refl h
+      (known_passes is_steady role.Label class.InternationalizedText k refl (λ e. steady_of_kind (kind_of_member class.InternationalizedText k) _ (steady_beside k e other))) refl h
 
   none_beside : (t : Data) (k : List ℕ) (o : Option Data) → bytes_eq k (codes "Text") ≡ false → MayLack t in_label k o → o ≡ None
   none_beside t k None other h = refl
   none_beside t k (Some d) other h = absurd (beside_stays t k d other (h.each d refl))
 
   same_beside : (k : List ℕ) (o p : Option Data) → bytes_eq k (codes "Text") ≡ false → Aligned m in_label k o p → o ≡ p
-  same_beside k (Some d) (Some e) other (both_there h) =
-      ap Some (steady_same m (λ v asks. asked_beside is_plain k refl (λ e. plain_of_kind (kind_of_member class.InternationalizedText k) (is_required class.InternationalizedText k) (plain_beside k e other)) v asks) h)
+  same_beside k (Some d) (Some e) other (both_there h) = ap Some (steady_same m h (all_plain_beside k other))
   same_beside k o p other (not_both l r) = none_beside m.left k o other l ∙ sym (none_beside m.right k p other r)
 
-  same_texts : (o p : Option Data) → Aligned m in_label (codes "Text") o p → Reordered (option_map_or entries_of o []) (option_map_or entries_of p [])
+  same_texts : (o p : Option Data) → Aligned m in_label (codes "Text") o p → IsPermutation (option_map_or entries_of o []) (option_map_or entries_of p [])
   same_texts (Some d) (Some e) (both_there h) =
-      matched_equal (λ x y same. steady_same m (λ v asks. let one : Object role.Language ≡ v = cc in ap is_plain (sym one)) same) (entries_matched m (Member kind.Languages true) h)
+      matched_equal (λ x y same. steady_same m same refl) (entries_matched m (Member kind.Languages true) h)
   same_texts o p (not_both l r) =
-      subst (λ x. Reordered x (option_map_or entries_of p [])) (sym (lacking_empty m.left in_label (codes "Text") o refl l))
-      (subst (Reordered []) (sym (lacking_empty m.right in_label (codes "Text") p refl r)) no_entry)
+      subst (λ x. IsPermutation x (option_map_or entries_of p [])) (sym (lacking_empty m.left in_label (codes "Text") o refl l))
+      (subst (IsPermutation []) (sym (lacking_empty m.right in_label (codes "Text") p refl r)) (IsPermutation-refl []))
 
   label_members : (ms ns : Members) → AreMembers ms → AreMembers ns → SameMembers m in_label ms ns → LabelMembers ms ns
   label_members ms ns left right h = record {
@@ -123,3 +116,59 @@ label_text m required ms e among left right h =
     let tree : AreMembers o.members = subst IsTree o.is_object right in
     text_of_members ms o.members left tree (label_members m ms o.members left tree (subst (λ c. SameMembers m (scope.Members role.Label c) ms o.members) among o.same))
     ∙ sym (ap (λ x. compact_text (with_rising_text x)) o.is_object)
+
+-- ---- completeness: labels of one class that mean the same say the same
+
+plain_text : (m : Sides) (w : Want) (s : List ℕ) → is_plain w ≡ true → is_id_text w ≡ true → StandsFor m s s
+plain_text m w s plain is = absurd (true≢false (sym is ∙ plain_no_id w plain))
+
+-- what is plain says what it says, whatever the functions of texts
+pub plain_self : (m : Sides) (o : Option Want) (d : Data) → AllPlain o → Same m o d d
+plain_self m = same_self m AllPlain (plain_text m) plain_entry plain_scope
+
+-- the parts of what a label means
+abbrev map_of : Label → JsonMap
+map_of (translated beside texts) = beside
+map_of (untranslated s) = λ name. None
+
+abbrev set_of : Label → JsonSet
+set_of (translated beside texts) = texts
+set_of (untranslated s) = λ d. false
+
+-- the translations of a label, as an accepted report has them
+pub record Translations (ms : Members) : Type 0 where
+  pub items : Items
+  pub stands : get_member (codes "Text") ms ≡ Some (array items)
+  pub sound : AreSound (list_of_items items)
+  pub apart : ApartBy itself (list_of_items items)
+
+module _ (m : Sides) where
+  -- equal members that are plain
+  pub equal_aligned : (s : Scope) (k : List ℕ) (o p : Option Data) → AllPlain (want_of_name s k) → o ≡ p → Aligned m s k o p
+  equal_aligned s k None p plain e = subst (Aligned m s k None) e (not_both (lacks_none m.left s k) (lacks_none m.right s k))
+  equal_aligned s k (Some d) p plain e = subst (Aligned m s k (Some d)) e (both_there (plain_self m (want_of_name s k) d plain))
+
+  texts_same : (ds es : Items) → IsPermutation (list_of_items ds) (list_of_items es) → Same m (Some (Member kind.Languages true)) (array ds) (array es)
+  texts_same ds es h =
+      a_set es refl h (entries_self m AllPlain (plain_text m) plain_entry plain_scope (Some (Object role.Language)) es refl)
+
+  pub labels_say : (ms ns : Members) → AreMembers ms → AreMembers ns → (left : Translations ms) (right : Translations ns) → get_member (codes "@type") ms ≡ get_member (codes "@type") ns
+      → label_of (object ms) ≡ label_of (object ns) → SameMembers m in_label ms ns
+  labels_say ms ns tree tree' left right types same = merged m in_label ms ns tree tree' (λ k. at k (bytes_eq k (codes "Text")) (bytes_eq k (codes "@type")) refl refl)
+    where
+      sets : json_set (list_of_items left.items) ≡ json_set (list_of_items right.items)
+      sets = let h = ap set_of same in rw (left.stands, right.stands) at h
+
+      at : (k : List ℕ) (a b : Bool) → bytes_eq k (codes "Text") ≡ a → bytes_eq k (codes "@type") ≡ b → Aligned m in_label k (get_member k ms) (get_member k ns)
+      at k true b is type =
+          let name : k ≡ codes "Text" = text_exact k (codes "Text") is in
+          subst (λ x. Aligned m in_label x (get_member x ms) (get_member x ns)) (sym name)
+          (rw (left.stands, right.stands) (both_there (texts_same left.items right.items (json_sets_reordered (list_of_items left.items) (list_of_items right.items) left.sound right.sound left.apart right.apart sets))))
+      at k false true is type =
+          let name : k ≡ codes "@type" = text_exact k (codes "@type") type in
+          equal_aligned in_label k (get_member k ms) (get_member k ns) (all_plain_beside k is)
+          (ap (λ x. get_member x ms) name ∙ types ∙ sym (ap (λ x. get_member x ns) name))
+      at k false false is type =
+          let h : label_beside_text (object ms) k ≡ label_beside_text (object ns) k = ap (λ l. map_of l k) same in
+          equal_aligned in_label k (get_member k ms) (get_member k ns) (all_plain_beside k is)
+          (rw (type, is) at h)

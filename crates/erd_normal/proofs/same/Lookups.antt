@@ -1,5 +1,5 @@
--- What stands under a name in objects that say the same: in both, or it may be absent.
-use Rattle.erd_normal.proofs.Common.{◌≡◌, ℕ, List, Some, None, Option, nat_cmp, Ordering, Equal, sym, refl, ap, ◌∙◌, subst, slice_cmp, match_ordering, Data, object, Members, member, get_member, get_member-before, text_from_equal, AreMembers, scope_inside, want_of_name, Scope, Want, Sides, an_object, no_member, in_both, left_only, right_only, MayBeAbsent, Same, SameMembers}
+-- What stands under a name in objects that say the same: in both, or it may be absent; and members from what stands under names.
+use Rattle.erd_normal.proofs.Common.{◌≡◌, ℕ, List, Some, None, Option, nat_cmp, Ordering, Equal, sym, refl, ap, ◌∙◌, subst, slice_cmp, match_ordering, Data, object, Members, member, get_member, get_member-before, text_from_equal, AreMembers, scope_inside, want_of_name, Scope, Want, Sides, an_object, no_member, in_both, left_only, right_only, MayBeAbsent, Same, SameMembers, true, false, codes, option_and_then, bytes_eq, as_str, class_in_role, Class, class, Role, role, kind, class_of_object, scope_of_object, member_want, scope, Carried, ClassText, Member, Object, is_id_text, is_envelope, an_empty_array, of_the_envelope, an_unused_id, an_id, option_map_or, true≢false, Less, Greater, nat_list_cmp_total, ordering_reverse, no_members, text_cmp, get_member-first, IsBeforeFirst}
 
 -- what stands under a name among members is the first value, or what stands under it among the others
 pub get_one : (Q : Option Data → Type 0) (n k : List ℕ) (d : Data) (ms : Members) → (n ≡ k → Q (Some d)) → Q (get_member n ms) → Q (get_member n (member k d ms))
@@ -66,3 +66,154 @@ module _ (m : Sides) where
 
   pub of_object : (w : Want) (ms : Members) (e : Data) → Same m (Some w) (object ms) e → SameObject w ms e
   of_object w ms e (an_object {ns = ns} h) = record { members = ns; is_object = refl; same = h }
+
+-- ---- `@type` is never left out, so objects that say the same have the same class
+
+asks_class : (s : Scope) (w : Want) → want_of_name s (codes "@type") ≡ Some w → ((r : Role) → ClassText r ≡ w → ⊥) → (Carried ≡ w → ⊥) → ⊥
+asks_class scope.Nothing w e h k = cc
+asks_class (scope.Members r c) w e h k = let g : ClassText r ≡ w = cc in absurd (h r g)
+asks_class scope.Carried w e h k = let g : Carried ≡ w = cc in absurd (k g)
+
+no_envelope_type : (s : Scope) → is_envelope s (codes "@type") ≡ true → ⊥
+no_envelope_type (scope.Members r (Some class.ElectionReport)) e = cc
+no_envelope_type s e = cc
+
+pub type_stays : (t : Data) (s : Scope) (d : Data) → MayBeAbsent t s (codes "@type") d → ⊥
+type_stays t s d (an_empty_array k required asks is empty) = asks_class s (Member k required) asks (λ r e. cc) (λ e. cc)
+type_stays t s d (of_the_envelope h) = no_envelope_type s h
+type_stays t s d (an_unused_id id required asks is unused) = asks_class s (Member kind.Identity required) asks (λ r e. cc) (λ e. cc)
+
+type_plain : (s : Scope) → option_map_or is_id_text (want_of_name s (codes "@type")) false ≡ false
+type_plain scope.Nothing = refl
+type_plain s = refl
+
+-- ---- texts
+
+pub text_same : (m : Sides) {o : Option Want} {d e : Data} → Same m o d e → option_map_or is_id_text o false ≡ false → as_str d ≡ as_str e
+text_same m (an_id is h) plain = absurd (true≢false (sym is ∙ plain))
+text_same m h plain = refl
+
+-- ---- classes
+
+module _ (m : Sides) where
+  -- a text under `@type`, when it is found among members
+  abbrev type_text : Members → Option (List ℕ)
+  type_text ms = option_and_then as_str (get_member (codes "@type") ms)
+
+  pub type_same : {s : Scope} {ms ns : Members} → SameMembers m s ms ns → type_text ms ≡ type_text ns
+  type_same no_member = refl
+  type_same (in_both {s = s} {k = k} {d = d} {e = e} {ms = ms} {ns = ns} h rest) =
+      get_both (λ o p. option_and_then as_str o ≡ option_and_then as_str p) (codes "@type") k d e ms ns
+      (λ named. text_same m h (ap (λ n. option_map_or is_id_text (want_of_name s n) false) (sym named) ∙ type_plain s)) (type_same rest)
+  type_same (left_only {s = s} {k = k} {d = d} {ms = ms} {ns = ns} h rest) =
+      get_one (λ o. option_and_then as_str o ≡ type_text ns) (codes "@type") k d ms (λ named. absurd (type_stays m.left s d (subst (λ x. MayBeAbsent m.left s x d) (sym named) h))) (type_same rest)
+  type_same (right_only {s = s} {k = k} {e = e} {ms = ms} {ns = ns} h rest) =
+      get_one (λ o. type_text ms ≡ option_and_then as_str o) (codes "@type") k e ns (λ named. absurd (type_stays m.right s e (subst (λ x. MayBeAbsent m.right s x e) (sym named) h))) (type_same rest)
+
+  pub class_same : {s : Scope} (r : Role) (ms ns : Members) → SameMembers m s ms ns → class_of_object r (object ms) ≡ class_of_object r (object ns)
+  class_same r ms ns h = ap (option_and_then (class_in_role r)) (type_same h)
+
+  -- the same is asked of the members of objects that say the same
+  pub scope_same : {s : Scope} (w : Want) (ms ns : Members) → SameMembers m s ms ns → scope_of_object w (object ms) ≡ scope_of_object w (object ns)
+  scope_same (Object r) ms ns h = ap (scope.Members r) (class_same r ms ns h)
+  scope_same (Member kind.Label required) ms ns h = ap (scope.Members role.Label) (class_same role.Label ms ns h)
+  scope_same Carried ms ns h = refl
+  scope_same w ms ns h = refl
+
+-- what is asked of a name in an object of a known class
+pub asked_of_name : (r : Role) (c : Class) (name : List ℕ) → bytes_eq name (codes "@type") ≡ false → want_of_name (scope.Members r (Some c)) name ≡ Some (member_want c name)
+asked_of_name r c name other = rw other refl
+
+-- ---- from names to members: where what stands under each name is aligned, the members say the same
+
+module _ (m : Sides) (s : Scope) where
+  abbrev pub AllAligned : Members → Members → Type 0
+  AllAligned ms ns = (n : List ℕ) → Aligned m s n (get_member n ms) (get_member n ns)
+
+  nothing : (n : List ℕ) (o p : Option Data) → o ≡ None → p ≡ None → Aligned m s n o p
+  nothing n o p e f =
+      subst (λ x. Aligned m s n x p) (sym e) (subst (Aligned m s n None) (sym f) (not_both (lacks_none m.left s n) (lacks_none m.right s n)))
+
+  -- the rest of the left members, of the right ones, and of both
+  left_rest_at : (n : List ℕ) (d : Data) (o p : Option Data) (c : Ordering) → Aligned m s n (match_ordering c o (Some d) o) p → (c ≡ Equal → Aligned m s n o p) → Aligned m s n o p
+  left_rest_at n d o p Equal h equal = equal refl
+  left_rest_at n d o p e h equal = h
+
+  right_rest_at : (n : List ℕ) (e : Data) (o p : Option Data) (c : Ordering) → Aligned m s n o (match_ordering c p (Some e) p) → (c ≡ Equal → Aligned m s n o p) → Aligned m s n o p
+  right_rest_at n e o p Equal h equal = equal refl
+  right_rest_at n e o p d h equal = h
+
+  both_rest_at : (n : List ℕ) (d e : Data) (o p : Option Data) (c : Ordering) → Aligned m s n (match_ordering c o (Some d) o) (match_ordering c p (Some e) p) → (c ≡ Equal → Aligned m s n o p) → Aligned m s n o p
+  both_rest_at n d e o p Equal h equal = equal refl
+  both_rest_at n d e o p k h equal = h
+
+  gone : (n k : List ℕ) (ms : Members) → AreMembers ms → IsBeforeFirst k ms → slice_cmp nat_cmp n k ≡ Equal → get_member n ms ≡ None
+  gone n k ms tree before is = ap (λ x. get_member x ms) (text_from_equal n k is) ∙ get_member-before k ms tree before
+
+  left_rest : (k : List ℕ) (d : Data) (ms ns : Members) → AreMembers (member k d ms) → get_member k ns ≡ None → AllAligned (member k d ms) ns → AllAligned ms ns
+  left_rest k d ms ns tree none h n =
+      left_rest_at n d (get_member n ms) (get_member n ns) (slice_cmp nat_cmp n k) (h n)
+      (λ is. nothing n (get_member n ms) (get_member n ns) (gone n k ms tree.2 tree.0 is) (ap (λ x. get_member x ns) (text_from_equal n k is) ∙ none))
+
+  right_rest : (k : List ℕ) (e : Data) (ms ns : Members) → AreMembers (member k e ns) → get_member k ms ≡ None → AllAligned ms (member k e ns) → AllAligned ms ns
+  right_rest k e ms ns tree none h n =
+      right_rest_at n e (get_member n ms) (get_member n ns) (slice_cmp nat_cmp n k) (h n)
+      (λ is. nothing n (get_member n ms) (get_member n ns) (ap (λ x. get_member x ms) (text_from_equal n k is) ∙ none) (gone n k ns tree.2 tree.0 is))
+
+  both_rest : (k : List ℕ) (d e : Data) (ms ns : Members) → AreMembers (member k d ms) → AreMembers (member k e ns) → AllAligned (member k d ms) (member k e ns) → AllAligned ms ns
+  both_rest k d e ms ns left right h n =
+      both_rest_at n d e (get_member n ms) (get_member n ns) (slice_cmp nat_cmp n k) (h n)
+      (λ is. nothing n (get_member n ms) (get_member n ns) (gone n k ms left.2 left.0 is) (gone n k ns right.2 right.0 is))
+
+  -- one member, by what is aligned under its name
+  first_both : (k : List ℕ) (d e : Data) (ms ns : Members) (o p : Option Data) → Some d ≡ o → Some e ≡ p → Aligned m s k o p → SameMembers m s ms ns → SameMembers m s (member k d ms) (member k e ns)
+  first_both k d e ms ns (Some d') (Some e') is its (both_there h) rest =
+      let left : d' ≡ d = cc in let right : e' ≡ e = cc in
+      in_both (subst (λ x. Same m (want_of_name s k) x e) left (subst (Same m (want_of_name s k) d') right h)) rest
+  first_both k d e ms ns o p is its (not_both h g) rest = left_only (h.each d (sym is)) (right_only (g.each e (sym its)) rest)
+
+  first_left : (k : List ℕ) (d : Data) (ms ns : Members) (o p : Option Data) → Some d ≡ o → p ≡ None → Aligned m s k o p → SameMembers m s ms ns → SameMembers m s (member k d ms) ns
+  first_left k d ms ns (Some d') (Some e') is its (both_there h) rest = cc
+  first_left k d ms ns o p is its (not_both h g) rest = left_only (h.each d (sym is)) rest
+
+  first_right : (k : List ℕ) (e : Data) (ms ns : Members) (o p : Option Data) → o ≡ None → Some e ≡ p → Aligned m s k o p → SameMembers m s ms ns → SameMembers m s ms (member k e ns)
+  first_right k e ms ns (Some d') (Some e') is its (both_there h) rest = cc
+  first_right k e ms ns o p is its (not_both h g) rest = right_only (g.each e (sym its)) rest
+
+  -- a name below the first stands at none
+  below_first : (k l : List ℕ) (d : Data) (ms : Members) → AreMembers (member l d ms) → text_cmp k l ≡ Less → get_member k (member l d ms) ≡ None
+  below_first k l d ms tree less = get_member-before k (member l d ms) tree less
+
+  right_alone : (ns : Members) → AreMembers ns → AllAligned no_members ns → SameMembers m s no_members ns
+  right_alone no_members tree h = no_member
+  right_alone (member l e ns) tree h =
+      first_right l e no_members ns None (get_member l (member l e ns)) refl (sym (get_member-first l e ns)) (h l)
+      (right_alone ns tree.2 (right_rest l e no_members ns tree refl h))
+
+  with_first : (k : List ℕ) (d : Data) (ms ns : Members) → AreMembers (member k d ms) → AreMembers ns → ((ps : Members) → AreMembers ps → AllAligned ms ps → SameMembers m s ms ps)
+      → AllAligned (member k d ms) ns → SameMembers m s (member k d ms) ns
+  with_first k d ms no_members left right rest h =
+      first_left k d ms no_members (get_member k (member k d ms)) None (sym (get_member-first k d ms)) refl (h k) (rest no_members right (left_rest k d ms no_members left refl h))
+  with_first k d ms (member l e ns) left right rest h = at (text_cmp k l) refl (λ g. with_first k d ms ns left right.2 rest g)
+    where
+      at : (o : Ordering) → text_cmp k l ≡ o → (AllAligned (member k d ms) ns → SameMembers m s (member k d ms) ns) → SameMembers m s (member k d ms) (member l e ns)
+      at Less is more_of =
+          let none = below_first k l e ns right is in
+          first_left k d ms (member l e ns) (get_member k (member k d ms)) (get_member k (member l e ns)) (sym (get_member-first k d ms)) none (h k)
+          (rest (member l e ns) right (left_rest k d ms (member l e ns) left none h))
+      at Equal is more_of =
+          let same : l ≡ k = sym (text_from_equal k l is) in
+          let right' : AreMembers (member k e ns) = subst (λ x. AreMembers (member x e ns)) same right in
+          let h' : AllAligned (member k d ms) (member k e ns) = subst (λ x. AllAligned (member k d ms) (member x e ns)) same h in
+          subst (λ x. SameMembers m s (member k d ms) (member x e ns)) (sym same)
+          (first_both k d e ms ns (get_member k (member k d ms)) (get_member k (member k e ns)) (sym (get_member-first k d ms)) (sym (get_member-first k e ns)) (h' k)
+          (rest ns right'.2 (both_rest k d e ms ns left right' h')))
+      at Greater is more_of =
+          let less : text_cmp l k ≡ Less = nat_list_cmp_total.antisymm l k ∙ ap ordering_reverse is in
+          let none = below_first l k d ms left less in
+          first_right l e (member k d ms) ns (get_member l (member k d ms)) (get_member l (member l e ns)) none (sym (get_member-first l e ns)) (h l)
+          (more_of (right_rest l e (member k d ms) ns right none h))
+
+  pub merged : (ms ns : Members) → AreMembers ms → AreMembers ns → AllAligned ms ns → SameMembers m s ms ns
+  merged no_members ns left right h = right_alone ns right h
+  merged (member k d ms) ns left right h = with_first k d ms ns left right (λ ps tree g. merged ms ps left.2 tree g) h

@@ -1,11 +1,13 @@
 -- What an `@id` names in a report, and what the text that it stands for names in one that says the same.
-use Rattle.erd_normal.proofs.Common.{◌≡◌, ℕ, Bool, true, false, List, Some, None, codes, Option, find, option_and_then, bytes_eq, sym, refl, ap, ◌∙◌, subst, false_from_ne_true, both_ways, option_map_or, Data, object, get_member, as_str, is_required, Family, role, kind, text_exact, text_itself, ObjectIn, Within-root, want_by_kind, IsTree, scope_inside, want_of_name, Scope, scope, Want, Member, Object, no_shape_fault, has_id-Some, IsAccepted, Preference, key_of, id_of, has_id, owner, key_named, ReferencesNameTheSame, IsUsed, Sides, StandsFor, IsUnused, is_array_kind, is_envelope, an_empty_array, of_the_envelope, an_unused_id, a_null, a_flag, a_number, a_text, an_id, a_list, a_set, an_object, MayBeAbsent, Same}
+use Rattle.erd_normal.proofs.Common.{◌≡◌, ℕ, Bool, true, false, List, Some, None, codes, Option, find, option_and_then, bytes_eq, sym, refl, ap, ◌∙◌, subst, false_from_ne_true, both_ways, option_map_or, Data, as_str, is_required, Family, role, kind, text_exact, text_itself, Within-root, want_by_kind, IsTree, want_of_name, Scope, scope, Member, Object, no_shape_fault, has_id-Some, IsAccepted, Preference, key_of, id_of, has_id, owner, key_named, ReferencesNameTheSame, IsUsed, Sides, StandsFor, IsUnused, is_array_kind, is_envelope, an_empty_array, of_the_envelope, an_unused_id, a_text, an_id, MayBeAbsent, Same, get}
 use Rattle.erd_normal.proofs.built.NormalGets.{kind_of_family_id}
 use Rattle.erd_normal.proofs.lists.Matched.{AtMostOne, Both, apart_distinct, matched_find, one_if_apart, said_same}
-use Rattle.erd_normal.proofs.same.FamilyValues.{family_values}
-use Rattle.erd_normal.proofs.same.SharedIds.{owner_found, by_one_id, have_one_id, ids_distinct}
-use Rattle.erd_normal.proofs.same.Lookups.{Aligned, both_there, not_both, MayLack}
-use Rattle.erd_normal.proofs.same.Related.{Related, asks_name, family_matched, no_report, object_of, objects_of, related_key}
+use Rattle.erd_normal.proofs.same.FamilyValues.{family_values, outside}
+use Rattle.erd_normal.proofs.same.IdsOfObjects.{owner_found, by_one_id, have_one_id, ids_distinct}
+use Rattle.erd_normal.proofs.same.Lookups.{Aligned, both_there, not_both, MayLack, asked_of_name}
+use Rattle.erd_normal.proofs.same.Related.{Related}
+use Rattle.erd_normal.proofs.same.Families.{family_matched, related_key}
+use Rattle.erd_normal.proofs.same.means.Members.{BothObjects, both_objects, envelope_is}
 
 -- ---- the `@id`s of related objects
 
@@ -26,14 +28,9 @@ unused_of t s required (Some d) asks other h a is = at (h.each d refl)
 
 -- texts of `@id`s that say the same
 texts_same : (m : Sides) (required : Bool) {x y : Data} → Same m (Some (Member kind.Identity required)) x y → (d e : Data) → id_of d ≡ as_str x → id_of e ≡ as_str y → IdsAlike m d e
-texts_same m required a_null d e left right = no_ids (λ a is. let x : None ≡ Some a = sym left ∙ is in cc) (λ b is. let x : None ≡ Some b = sym right ∙ is in cc)
-texts_same m required a_flag d e left right = no_ids (λ a is. let x : None ≡ Some a = sym left ∙ is in cc) (λ b is. let x : None ≡ Some b = sym right ∙ is in cc)
-texts_same m required a_number d e left right = no_ids (λ a is. let x : None ≡ Some a = sym left ∙ is in cc) (λ b is. let x : None ≡ Some b = sym right ∙ is in cc)
 texts_same m required (a_text is) d e left right = cc
 texts_same m required (an_id {s = a} {s' = b} is h) d e left right = two_ids a b left right h
-texts_same m required (a_list is h) d e left right = no_ids (λ a is. let x : None ≡ Some a = sym left ∙ is in cc) (λ b is. let x : None ≡ Some b = sym right ∙ is in cc)
-texts_same m required (a_set fs is p h) d e left right = no_ids (λ a is. let x : None ≡ Some a = sym left ∙ is in cc) (λ b is. let x : None ≡ Some b = sym right ∙ is in cc)
-texts_same m required (an_object h) d e left right = no_ids (λ a is. let x : None ≡ Some a = sym left ∙ is in cc) (λ b is. let x : None ≡ Some b = sym right ∙ is in cc)
+texts_same m required h d e left right = no_ids (λ a is. let x : None ≡ Some a = sym left ∙ is in cc) (λ b is. let x : None ≡ Some b = sym right ∙ is in cc)
 
 ids_found : (m : Sides) (s : Scope) (required : Bool) (o p : Option Data) → want_of_name s (codes "@id") ≡ Some (Member kind.Identity required) → is_envelope s (codes "@id") ≡ false
     → Aligned m s (codes "@id") o p → (d e : Data) → id_of d ≡ option_and_then as_str o → id_of e ≡ option_and_then as_str p → IdsAlike m d e
@@ -56,18 +53,10 @@ has_same m s s' d e pair left right (no_ids none_left none_right) =
 module _ (m : Sides) (left_tree : IsTree m.left) (right_tree : IsTree m.right) (π : Preference) (accepted : IsAccepted π m.left) (root : Related m (Object role.Report) m.left m.right) where
   pub ids_alike : (f : Family) (d e : Data) → Related m (Object (role.OfFamily f)) d e → IdsAlike m d e
   ids_alike f d e r =
-      let o : ObjectIn m.left (role.OfFamily f) d = object_of m left_tree right_tree (no_shape_fault π m.left accepted) (role.OfFamily f) d e r in
-      let w : Want = Object (role.OfFamily f) in
-      let pair = objects_of m left_tree right_tree w o.ms e (subst (λ x. Related m w x e) o.is_object r) in
-      let kinded = kind_of_family_id o.class f o.role in
-      let asks = asks_name m left_tree right_tree (no_shape_fault π m.left accepted) (role.OfFamily f) o.class o.ms (codes "@id") kind.Identity o.at.among refl kinded
-      ∙ ap Some (want_by_kind o.class (codes "@id") kind.Identity kinded refl) in
-      let other = ap (λ c. is_envelope (scope.Members (role.OfFamily f) c) (codes "@id")) o.at.among ∙ no_report m left_tree right_tree (no_shape_fault π m.left accepted) (role.OfFamily f) o.class (codes "@id") o.role (λ is. cc) in
-      let same : o.ms ≡ pair.ms = let x = pair.left_is in cc in
-      ids_found m (scope_inside w (object pair.ms)) (is_required o.class (codes "@id")) (get_member (codes "@id") pair.ms) (get_member (codes "@id") pair.ns)
-      (ap (λ x. want_of_name (scope_inside w (object x)) (codes "@id")) (sym same) ∙ asks)
-      (ap (λ x. is_envelope (scope_inside w (object x)) (codes "@id")) (sym same) ∙ other) (pair.found (codes "@id")) d e
-      (ap id_of o.is_object ∙ ap (λ x. id_of (object x)) same) (ap id_of pair.right_is)
+      let o : BothObjects m (role.OfFamily f) d e = both_objects m left_tree right_tree (no_shape_fault π m.left accepted) (role.OfFamily f) d e r in
+      ids_found m (scope.Members (role.OfFamily f) (Some o.class)) (is_required o.class (codes "@id")) (get (codes "@id") d) (get (codes "@id") e)
+      (asked_of_name (role.OfFamily f) o.class (codes "@id") refl ∙ ap Some (want_by_kind o.class (codes "@id") kind.Identity (kind_of_family_id o.class f o.role) refl))
+      (envelope_is (role.OfFamily f) o.class (codes "@id") ∙ outside (role.OfFamily f) o.class (codes "@id") o.role (λ x. cc)) (o.aligned (codes "@id")) d e refl refl
 
   one_owner : (f : Family) (s : List ℕ) → AtMostOne (has_id s) (family_values f m.left)
   one_owner f s =

@@ -1,9 +1,7 @@
 -- A report that says the same as an accepted one means the same.
 pub mod Members
 pub mod References
-pub mod Labels
 pub mod Names
 pub mod Contents
 pub mod Records
-pub mod Selections
 pub mod Meanings

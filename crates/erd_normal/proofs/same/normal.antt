@@ -1,6 +1,5 @@
 -- The canonical tree says what the report says, and so do reports that mean the same.
 pub mod NewIds
-pub mod NewReferences
 pub mod SaidValues
 pub mod SaidObjects
 pub mod SaidReports

@@ -1,5 +1,5 @@
 -- Compact texts tell values apart that hold whole numbers alone, of the size that `serde_json` reads.
-use Rattle.erd_normal.proofs.Common.{◌≡◌, ℕ, suc, ◌^◌, ◌<◌, ◌≤◌, Bool, true, false, cond, not, ◌&&◌, List, [], ◌∷◌, ◌++◌, length, get_or, pos, negsuc, nat_lt, ◌==◌, Some, decimal, sym, refl, ap, ◌∙◌, ap₂, true≢false, append_assoc, arith, lt-ltb, eqb-false, and_from, decimal_is_IsNumeral, decimal_nonempty, AllByRecursion, Num, unsigned, negative, float, Data, null, boolean, number, string, array, object, Items, no_items, item, Members, no_members, member, number_of, number_text, comma_if, compact_text, items_text, members_text, IsFittingNumber, HasFittingNumbers, ItemsHaveFittingNumbers, MembersHaveFittingNumbers}
+use Rattle.erd_normal.proofs.Common.{◌≡◌, ℕ, suc, ◌^◌, ◌<◌, ◌≤◌, Bool, true, false, cond, not, ◌&&◌, List, [], ◌∷◌, ◌++◌, length, get_or, drop, pos, negsuc, nat_lt, ◌==◌, Some, sym, refl, ap, ◌∙◌, ap₂, true≢false, append_assoc, arith, eqb-false, and_from, AllByRecursion, Data, null, boolean, string, array, object, Items, no_items, item, Members, no_members, member, comma_if, compact_text, items_text, members_text, Num, unsigned, negative, float, number, number_of, decimal, lt-ltb, decimal_is_IsNumeral, decimal_nonempty, number_text, IsFittingNumber, HasFittingNumbers, ItemsHaveFittingNumbers, MembersHaveFittingNumbers}
 use Rattle.std.proofs.lemmas.Str.Parse.{digit_at}
 use Rattle.serde_json.proofs.Numbers.{number_of-decimal, number_of-negative}
 use Rattle.erd_normal.proofs.texts.WrittenStrings.{string_exact}
@@ -51,27 +51,16 @@ digits_in (d ∷ ds) h = let first = h 0 (omega arith) in (digit_in d first.0 fi
 decimal_in : (n : ℕ) → n < 2 ^ 64 → AllByRecursion (λ b. in_number b ≡ true) (decimal n)
 decimal_in n h = digits_in (decimal n) (λ i l. digit_at (decimal n) i (decimal_is_IsNumeral n h).0.1 l)
 
-number_in : (n : Num) → IsFittingNumber n → AllByRecursion (λ b. in_number b ≡ true) (number_text n)
-number_in (unsigned n) h = decimal_in n h
+number_in : (n : Num) → IsFittingNumber n → AllByRecursion (λ b. in_number b ≡ true) (number_text n) × (0 < length (number_text n))
+number_in (unsigned n) h = (decimal_in n h, decimal_nonempty n h)
 number_in (negative (pos n)) h = absurd h
-number_in (negative (negsuc n)) h = (refl, decimal_in (suc n) (omega arith))
+number_in (negative (negsuc n)) h = ((refl, decimal_in (suc n) (omega arith)), omega arith)
 number_in (float x) h = absurd h
-
-number_nonempty : (n : Num) → IsFittingNumber n → 0 < length (number_text n)
-number_nonempty (unsigned n) h = decimal_nonempty n h
-number_nonempty (negative (pos n)) h = absurd h
-number_nonempty (negative (negsuc n)) h = omega arith
-number_nonempty (float x) h = absurd h
 
 -- ---- the first byte
 
 abbrev first_byte : List ℕ → ℕ
-first_byte [] = 0
-first_byte (b ∷ r) = b
-
-abbrev after_first : List ℕ → List ℕ
-after_first [] = []
-after_first (b ∷ r) = r
+first_byte w = get_or w 0 0
 
 -- what begins with this byte: the numbers and the truth values have one sign each
 abbrev sign_of_byte : ℕ → ℕ
@@ -94,42 +83,32 @@ run_sign [] r some h = absurd (omega arith)
 run_sign (x ∷ xs) r some h = ap (λ c. cond c 4 (cond (x == 102) 116 x)) h.0
 
 sign_is : (d : Data) (r : List ℕ) → HasFittingNumbers d → sign_of_text (compact_text d ++ r) ≡ sign_of d
-sign_is null r h = refl
 sign_is (boolean true) r h = refl
 sign_is (boolean false) r h = refl
-sign_is (number n) r h = run_sign (number_text n) r (number_nonempty n h) (number_in n h)
-sign_is (string s) r h = refl
-sign_is (array ds) r h = refl
-sign_is (object ms) r h = refl
+sign_is (number n) r h = run_sign (number_text n) r (number_in n h).1 (number_in n h).0
+sign_is d r h = refl
 
 same_sign : (d e : Data) (r q : List ℕ) → HasFittingNumbers d → HasFittingNumbers e → compact_text d ++ r ≡ compact_text e ++ q → sign_of d ≡ sign_of e
 same_sign d e r q h k same = sym (sign_is d r h) ∙ ap sign_of_text same ∙ sign_is e q k
 
-unlike : (m n : ℕ) → (m == n) ≡ false → m ≡ n → ⊥
-unlike m n e same = eqb-false m n e same
-
 no_bracket : (d : Data) → sign_of d ≡ 93 → ⊥
-no_bracket null e = unlike 110 93 refl e
-no_bracket (boolean b) e = unlike 116 93 refl e
-no_bracket (number n) e = unlike 4 93 refl e
-no_bracket (string s) e = unlike 34 93 refl e
-no_bracket (array ds) e = unlike 91 93 refl e
-no_bracket (object ms) e = unlike 123 93 refl e
+no_bracket null e = eqb-false 110 93 refl e
+no_bracket d e = eqb-false (sign_of d) 93 refl e
 
 -- a value does not begin with a closing bracket
 not_over : (later : Bool) (d : Data) (ds : Items) (r q : List ℕ) → HasFittingNumbers d → 93 ∷ r ≡ items_text later (item d ds) ++ q → ⊥
-not_over true d ds r q h e = unlike 93 44 refl (ap first_byte e)
+not_over true d ds r q h e = eqb-false 93 44 refl (ap first_byte e)
 not_over false d ds r q h e =
     no_bracket d (sym (ap sign_of_text (e ∙ append_assoc (compact_text d) (items_text true ds) q) ∙ sign_is d (items_text true ds ++ q) h))
 
 no_more_members : (later : Bool) (k : List ℕ) (d : Data) (ms : Members) (r q : List ℕ) → 125 ∷ r ≡ members_text later (member k d ms) ++ q → ⊥
-no_more_members true k d ms r q e = unlike 125 44 refl (ap first_byte e)
-no_more_members false k d ms r q e = unlike 125 34 refl (ap first_byte e)
+no_more_members true k d ms r q e = eqb-false 125 44 refl (ap first_byte e)
+no_more_members false k d ms r q e = eqb-false 125 34 refl (ap first_byte e)
 
 -- ---- values
 
 no_comma : (later : Bool) (xs ys r q : List ℕ) → (comma_if later ++ xs) ++ r ≡ (comma_if later ++ ys) ++ q → xs ++ r ≡ ys ++ q
-no_comma true xs ys r q e = ap after_first e
+no_comma true xs ys r q e = ap (drop 1) e
 no_comma false xs ys r q e = e
 
 items_ended : (ds : Items) (r : List ℕ) → is_ended (items_text true ds ++ r) ≡ true
@@ -140,35 +119,29 @@ members_ended : (ms : Members) (r : List ℕ) → is_ended (members_text true ms
 members_ended no_members r = refl
 members_ended (member k d ms) r = refl
 
-numbers_exact : (m n : Num) (r q : List ℕ) → IsFittingNumber m → IsFittingNumber n → is_ended r ≡ true → is_ended q ≡ true → number_text m ++ r ≡ number_text n ++ q → (number m ≡ number n) × (r ≡ q)
-numbers_exact m n r q h k e g same =
-    let x = run_exact (number_text m) (number_text n) r q (number_in m h) (number_in n k) e g same in
-    (ap number (number_exact m n h k x.0), x.1)
-
-differ : (d e : Data) (r q : List ℕ) → HasFittingNumbers d → HasFittingNumbers e → (sign_of d ≡ sign_of e → ⊥) → compact_text d ++ r ≡ compact_text e ++ q → (d ≡ e) × (r ≡ q)
-differ d e r q h k other same = absurd (other (same_sign d e r q h k same))
-
 mutual
   value_exact : (d e : Data) (r q : List ℕ) → HasFittingNumbers d → HasFittingNumbers e → is_ended r ≡ true → is_ended q ≡ true → compact_text d ++ r ≡ compact_text e ++ q → (d ≡ e) × (r ≡ q)
-  value_exact null null r q h k f g same = (refl, ap (λ w. after_first (after_first (after_first (after_first w)))) same)
-  value_exact (boolean true) (boolean true) r q h k f g same = (refl, ap (λ w. after_first (after_first (after_first (after_first w)))) same)
-  value_exact (boolean false) (boolean false) r q h k f g same = (refl, ap (λ w. after_first (after_first (after_first (after_first (after_first w))))) same)
-  value_exact (boolean true) (boolean false) r q h k f g same = absurd (unlike 116 102 refl (ap first_byte same))
-  value_exact (boolean false) (boolean true) r q h k f g same = absurd (unlike 102 116 refl (ap first_byte same))
-  value_exact (number m) (number n) r q h k f g same = numbers_exact m n r q h k f g same
+  value_exact null null r q h k f g same = (refl, ap (drop 4) same)
+  value_exact (boolean true) (boolean true) r q h k f g same = (refl, ap (drop 4) same)
+  value_exact (boolean false) (boolean false) r q h k f g same = (refl, ap (drop 5) same)
+  value_exact (boolean true) (boolean false) r q h k f g same = absurd (eqb-false 116 102 refl (ap first_byte same))
+  value_exact (boolean false) (boolean true) r q h k f g same = absurd (eqb-false 102 116 refl (ap first_byte same))
+  value_exact (number m) (number n) r q h k f g same =
+      let x = run_exact (number_text m) (number_text n) r q (number_in m h).0 (number_in n k).0 f g same in
+      (ap number (number_exact m n h k x.0), x.1)
   value_exact (string s) (string t) r q h k f g same = let x = string_exact s t r q same in (ap string x.0, x.1)
   value_exact (array ds) (array es) r q h k f g same =
-      let rest : items_text false ds ++ r ≡ items_text false es ++ q = ap after_first same in
+      let rest : items_text false ds ++ r ≡ items_text false es ++ q = ap (drop 1) same in
       let x = items_exact false ds es r q h k rest in
       (ap array x.0, x.1)
   value_exact (object ms) (object ns) r q h k f g same =
-      let rest : members_text false ms ++ r ≡ members_text false ns ++ q = ap after_first same in
+      let rest : members_text false ms ++ r ≡ members_text false ns ++ q = ap (drop 1) same in
       let x = members_exact false ms ns r q h k rest in
       (ap object x.0, x.1)
-  value_exact d e r q h k f g same = differ d e r q h k (λ s. unlike (sign_of d) (sign_of e) refl s) same
+  value_exact d e r q h k f g same = absurd (eqb-false (sign_of d) (sign_of e) refl (same_sign d e r q h k same))
 
   items_exact : (later : Bool) (ds es : Items) (r q : List ℕ) → ItemsHaveFittingNumbers ds → ItemsHaveFittingNumbers es → items_text later ds ++ r ≡ items_text later es ++ q → (ds ≡ es) × (r ≡ q)
-  items_exact later no_items no_items r q h k same = (refl, ap after_first same)
+  items_exact later no_items no_items r q h k same = (refl, ap (drop 1) same)
   items_exact later no_items (item e es) r q h k same = absurd (not_over later e es r q k.0 same)
   items_exact later (item d ds) no_items r q h k same = absurd (not_over later d ds q r h.0 (sym same))
   items_exact later (item d ds) (item e es) r q h k same =
@@ -179,7 +152,7 @@ mutual
       (ap₂ item first.0 rest.0, rest.1)
 
   members_exact : (later : Bool) (ms ns : Members) (r q : List ℕ) → MembersHaveFittingNumbers ms → MembersHaveFittingNumbers ns → members_text later ms ++ r ≡ members_text later ns ++ q → (ms ≡ ns) × (r ≡ q)
-  members_exact later no_members no_members r q h k same = (refl, ap after_first same)
+  members_exact later no_members no_members r q h k same = (refl, ap (drop 1) same)
   members_exact later no_members (member b e ns) r q h k same = absurd (no_more_members later b e ns r q same)
   members_exact later (member a d ms) no_members r q h k same = absurd (no_more_members later a d ms q r (sym same))
   members_exact later (member a d ms) (member b e ns) r q h k same =
@@ -187,7 +160,7 @@ mutual
       let its = 58 ∷ (compact_text e ++ members_text true ns) in
       let here = no_comma later (compact_text (string a) ++ mine) (compact_text (string b) ++ its) r q same in
       let names = string_exact a b (mine ++ r) (its ++ q) (sym (append_assoc (compact_text (string a)) mine r) ∙ here ∙ append_assoc (compact_text (string b)) its q) in
-      let after : (compact_text d ++ members_text true ms) ++ r ≡ (compact_text e ++ members_text true ns) ++ q = ap after_first names.1 in
+      let after : (compact_text d ++ members_text true ms) ++ r ≡ (compact_text e ++ members_text true ns) ++ q = ap (drop 1) names.1 in
       let first = value_exact d e (members_text true ms ++ r) (members_text true ns ++ q) h.0 k.0 (members_ended ms r) (members_ended ns q)
       (sym (append_assoc (compact_text d) (members_text true ms) r) ∙ after ∙ append_assoc (compact_text e) (members_text true ns) q) in
       let rest = members_exact true ms ns r q h.1 k.1 first.1 in

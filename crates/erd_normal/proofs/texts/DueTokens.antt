@@ -1,6 +1,7 @@
 -- Members that are put into an object, written in the order of their names.
-use Rattle.erd_normal.proofs.Common.{◌≡◌, ℕ, zero, suc, ◌+◌, ◌<◌, Bool, true, false, List, [], ◌∷◌, ◌++◌, length, get_or, drop, is_some, if◌then◌else◌, Some, None, string_bytes, Option, Less, Equal, Greater, sym, refl, ap, ◌∙◌, subst, append_assoc, append-nil, nat_list_cmp_total, drop_more, exact_bytes, slice_get_read, option_map_or, ordering_reverse, Token, begin_array, end_array, key, Entry, Data, item, Members, no_members, member, put, items_of, view, items_view, members_view, Value, text_cmp, all_at, before_put, is_empty_array, IsBeforeFirst, put_all, due_value, IsWholeDue, due_list, IsBeforeAll, NamesRise, AreWholeDue, WritesThrough, unless_no_entry, array_of, value_tokens, items_tokens, members_tokens, member_tokens}
+use Rattle.erd_normal.proofs.Common.{◌≡◌, ℕ, zero, suc, ◌+◌, ◌<◌, ◌≤◌, Bool, true, false, List, [], ◌∷◌, ◌++◌, map, length, get_or, drop, is_some, slice_get, Some, None, string_bytes, Option, Less, Equal, Greater, sym, refl, ap, ◌∙◌, subst, append_assoc, append-nil, arith, nat_list_cmp_total, length-map, drop_more, exact_bytes, slice_get_read, option_map_or, ordering_reverse, Data, item, Members, no_members, member, put, items_of, view, items_view, members_view, Value, text_cmp, IsBeforeFirst, drop_all, Token, begin_array, end_array, key, Entry, all_at, before_put, put_all, due_value, IsWholeDue, due_list, IsBeforeAll, NamesRise, AreWholeDue, WritesThrough, array_of, value_tokens, items_tokens, members_tokens, member_tokens}
 use Rattle.erd_normal.specs.declared.text.due_members.DueMember.{DueMember}
+use Rattle.erd_normal.proofs.ranks.InOrder.{left_there}
 
 -- ---- tokens that are written one value after another
 
@@ -23,14 +24,6 @@ pub member_then : (name : List ℕ) (d : Data) (rest was keyed now : List Token)
     → was ++ key name ∷ (value_tokens d ++ rest) ≡ now ++ rest
 member_then name d rest was keyed now first second =
     sym (then_rest keyed (value_tokens d) now rest _ second (then_rest was (key name ∷ []) keyed (value_tokens d ++ rest) _ first refl))
-
--- a value that is kept
-pub kept_value : (d v w : Data) → unless_no_entry d v ≡ Some w → v ≡ w
-kept_value d v w e = at (is_empty_array d) e
-  where
-    at : (b : Bool) → (if b then None else Some v) ≡ Some w → v ≡ w
-    at true e = cc
-    at false e = cc
 
 -- a member that is kept
 pub kept_member : (name : List ℕ) (r : Option Data) (was keyed now : List Token) → is_some r ≡ true → keyed ≡ was ++ key name ∷ [] → ((d : Data) → r ≡ Some d → now ≡ keyed ++ value_tokens d)
@@ -56,6 +49,20 @@ array_written was begun now left all first none written =
     ap (λ ds. now ++ items_tokens (items_of ds)) (sym none)
     ∙ (written
     ∙ (ap (λ ts. ts ++ items_tokens (items_of all)) first ∙ append_assoc was (begin_array ∷ []) (items_tokens (items_of all))))
+
+-- one entry more of a list
+pub entry_written : {A : Type 0} (each : A → Data) (xs : List A) (k : ℕ) (x : A) (out now all : List Token) → slice_get xs k ≡ Some x → now ≡ out ++ value_tokens (each x)
+    → out ++ items_tokens (items_of (map each (drop k xs))) ≡ all → now ++ items_tokens (items_of (map each (drop (k + 1) xs))) ≡ all
+entry_written each xs k x out now all at written before =
+    then_rest out (value_tokens (each x)) now (items_tokens (items_of (map each (drop (k + 1) xs)))) all written
+    (ap (λ ys. out ++ items_tokens (items_of (map each ys))) (sym (left_there xs k x at)) ∙ before)
+
+-- and all of them, which stand at these places
+pub entries_written : {A : Type 0} (each : ℕ × A → Data) (ps : List (ℕ × A)) (places : List ℕ) (k : ℕ) (was begun out now : List Token) → places ≡ map (λ (p : ℕ × A). p.0) ps → length places ≤ k → begun ≡ was ++ begin_array ∷ []
+    → out ++ items_tokens (items_of (map each (drop k ps))) ≡ begun ++ items_tokens (items_of (map each ps)) → now ≡ out ++ end_array ∷ [] → now ≡ was ++ value_tokens (array_of (map each ps))
+entries_written {A} each ps places k was begun out now are end first before written =
+    let long = ap length are ∙ length-map ps (λ (p : ℕ × A). p.0) in
+    written ∙ array_written was begun out (map each (drop k ps)) (map each ps) first (ap (map each) (drop_all k ps (omega (arith, end, long)))) before
 
 -- ---- members that are put into an object, written in the order of their names
 
@@ -90,44 +97,45 @@ none_through ps name out low = record {
   replaced = λ e. cc;
 }
 
-pub greater_through : (p : List ℕ × Data) (ps : List (List ℕ × Data)) (name : List ℕ) (out : List Token) → text_cmp p.0 name ≡ Greater → NamesRise (p ∷ ps) → WritesThrough (p ∷ ps) (p ∷ ps) name false out out
-greater_through p ps name out e rise =
+pub greater_through : {all ps : List (List ℕ × Data)} {p : List ℕ × Data} → all ≡ p ∷ ps → NamesRise all → (name : List ℕ) (out : List Token) → text_cmp p.0 name ≡ Greater → WritesThrough all all name false out out
+greater_through {ps = ps} {p = p} apart rise name out e =
     let below : text_cmp name p.0 ≡ Less = nat_list_cmp_total.antisymm name p.0 ∙ ap ordering_reverse e in
-    none_through (p ∷ ps) name out (below, before_too name p.0 ps below rise.0)
+    rw apart (none_through (p ∷ ps) name out (below, before_too name p.0 ps below (subst NamesRise apart rise).0))
 
 -- the first that is put has the name
-pub equal_through : (p : List ℕ × Data) (ps : List (List ℕ × Data)) (name : List ℕ) (was now : List Token) → text_cmp p.0 name ≡ Equal → NamesRise (p ∷ ps)
-    → now ≡ was ++ key p.0 ∷ value_tokens p.1 → WritesThrough (p ∷ ps) ps name true was now
-equal_through p ps name was now e rise written = record {
+pub equal_through : {all ps : List (List ℕ × Data)} {p : List ℕ × Data} → all ≡ p ∷ ps → NamesRise all → (name : List ℕ) (was now : List Token) → text_cmp p.0 name ≡ Equal
+    → now ≡ was ++ key p.0 ∷ value_tokens p.1 → WritesThrough all ps name true was now
+equal_through {ps = ps} {p = p} apart rise name was now e written = rw apart (record {
   kept = λ f. cc;
   replaced = λ f v ms.
       let same : p.0 ≡ name = exact_bytes p.0 name e in
       let itself : text_cmp p.0 p.0 ≡ Equal = ap (text_cmp p.0) same ∙ e in
-      let there : put_all (p ∷ ps) (member p.0 v ms) ≡ member p.0 p.1 (put_all ps ms) = ap (put p.0 p.1) (stays_first p.0 v ps ms rise.0) ∙ rw itself refl in
+      let there : put_all (p ∷ ps) (member p.0 v ms) ≡ member p.0 p.1 (put_all ps ms) = ap (put p.0 p.1) (stays_first p.0 v ps ms (subst NamesRise apart rise).0) ∙ rw itself refl in
       ap (λ n. was ++ members_tokens (put_all (p ∷ ps) (member n v ms))) (sym same)
       ∙ sym (then_rest was (key p.0 ∷ value_tokens p.1) now (members_tokens (put_all ps ms)) _ written (ap (λ x. was ++ members_tokens x) (sym there)));
-}
+})
 
 -- the first that is put comes before the name
-pub less_through : (p : List ℕ × Data) (ps left : List (List ℕ × Data)) (name : List ℕ) (taken : Bool) (was mid now : List Token) → text_cmp p.0 name ≡ Less → NamesRise (p ∷ ps)
-    → mid ≡ was ++ key p.0 ∷ value_tokens p.1 → WritesThrough ps left name taken mid now → WritesThrough (p ∷ ps) left name taken was now
-less_through p ps left name taken was mid now e rise written rest =
+pub less_through : {all ps : List (List ℕ × Data)} {p : List ℕ × Data} → all ≡ p ∷ ps → NamesRise all → (left : List (List ℕ × Data)) (name : List ℕ) (taken : Bool) (was mid now : List Token) → text_cmp p.0 name ≡ Less
+    → mid ≡ was ++ key p.0 ∷ value_tokens p.1 → WritesThrough ps left name taken mid now → WritesThrough all left name taken was now
+less_through {ps = ps} {p = p} apart rise left name taken was mid now e written rest =
     let first : (v : Data) (ms : Members) → was ++ members_tokens (put_all (p ∷ ps) (member name v ms)) ≡ mid ++ members_tokens (put_all ps (member name v ms)) =
     λ v ms.
     sym (then_rest was (key p.0 ∷ value_tokens p.1) mid (members_tokens (put_all ps (member name v ms))) _ written
-    (ap (λ x. was ++ members_tokens x) (sym (put_before p.0 p.1 (put_all ps (member name v ms)) (before_all p.0 ps (member name v ms) rise.0 e))))) in
-    record {
+    (ap (λ x. was ++ members_tokens x) (sym (put_before p.0 p.1 (put_all ps (member name v ms)) (before_all p.0 ps (member name v ms) (subst NamesRise apart rise).0 e))))) in
+    rw apart (record {
       kept = λ f v ms. first v ms ∙ rest.kept f v ms;
       replaced = λ f v ms. first v ms ∙ rest.replaced f v ms;
-    }
+    })
 
 -- ---- to the end
 
-pub first_of_all : (p : List ℕ × Data) (ps : List (List ℕ × Data)) (was mid now : List Token) → NamesRise (p ∷ ps) → mid ≡ was ++ key p.0 ∷ value_tokens p.1
-    → mid ++ members_tokens (put_all ps no_members) ≡ now ++ members_tokens no_members → was ++ members_tokens (put_all (p ∷ ps) no_members) ≡ now ++ members_tokens no_members
-first_of_all p ps was mid now rise written rest =
-    sym (then_rest was (key p.0 ∷ value_tokens p.1) mid (members_tokens (put_all ps no_members)) _ written
-    (ap (λ x. was ++ members_tokens x) (sym (put_before p.0 p.1 (put_all ps no_members) (before_all p.0 ps no_members rise.0 tt)))))
+pub first_of_all : {all ps : List (List ℕ × Data)} {p : List ℕ × Data} → all ≡ p ∷ ps → NamesRise all → (was mid now : List Token) → mid ≡ was ++ key p.0 ∷ value_tokens p.1
+    → mid ++ members_tokens (put_all ps no_members) ≡ now ++ members_tokens no_members → was ++ members_tokens (put_all all no_members) ≡ now ++ members_tokens no_members
+first_of_all {ps = ps} {p = p} apart rise was mid now written rest =
+    ap (λ qs. was ++ members_tokens (put_all qs no_members)) apart
+    ∙ sym (then_rest was (key p.0 ∷ value_tokens p.1) mid (members_tokens (put_all ps no_members)) _ written
+    (ap (λ x. was ++ members_tokens x) (sym (put_before p.0 p.1 (put_all ps no_members) (before_all p.0 ps no_members (subst NamesRise apart rise).0 tt)))))
     ∙ rest
 
 -- ---- of a list that is taken apart
@@ -138,35 +146,9 @@ rise_from zero ms rise = rise
 rise_from (suc n) [] rise = tt
 rise_from (suc n) (m ∷ ms) rise = rise_from n ms rise.1
 
-module _ (ms : List DueMember) (at : ℕ) (m : DueMember) (low : at < length ms) (is : m ≡ get_or ms at m) (rise : NamesRise (due_list ms)) where
-  -- the member at the position, and those after it
-  apart : due_list (drop at ms) ≡ (m.name.now, due_value m.value) ∷ due_list (drop (at + 1) ms)
-  apart = ap due_list (drop_more ms at m low) ∙ ap (λ (x : DueMember). (x.name.now, due_value x.value) ∷ due_list (drop (at + 1) ms)) (sym is)
+-- the member at a position, and those after it
+pub apart_at : (ms : List DueMember) (at : ℕ) (m : DueMember) → at < length ms → m ≡ get_or ms at m → due_list (drop at ms) ≡ (m.name.now, due_value m.value) ∷ due_list (drop (at + 1) ms)
+apart_at ms at m low is = ap due_list (drop_more ms at m low) ∙ ap (λ (x : DueMember). (x.name.now, due_value x.value) ∷ due_list (drop (at + 1) ms)) (sym is)
 
-  rises : NamesRise ((m.name.now, due_value m.value) ∷ due_list (drop (at + 1) ms))
-  rises = subst NamesRise apart (rise_from at ms rise)
-
-  pub whole_at : AreWholeDue ms → IsWholeDue m.value
-  whole_at whole = all_at (λ (x : DueMember). IsWholeDue x.value) ms at m whole (slice_get_read ms (length ms) at m refl low is)
-
-  pub greater_at : (name : List ℕ) (out : List Token) → text_cmp m.name.now name ≡ Greater → WritesThrough (due_list (drop at ms)) (due_list (drop at ms)) name false out out
-  greater_at name out e = rw apart (greater_through (m.name.now, due_value m.value) (due_list (drop (at + 1) ms)) name out e rises)
-
-  pub equal_at : (name : List ℕ) (was now : List Token) → text_cmp m.name.now name ≡ Equal → now ≡ was ++ key m.name.now ∷ value_tokens (due_value m.value)
-      → WritesThrough (due_list (drop at ms)) (due_list (drop (at + 1) ms)) name true was now
-  equal_at name was now e written =
-      subst (λ ps. WritesThrough ps (due_list (drop (at + 1) ms)) name true was now) (sym apart)
-      (equal_through (m.name.now, due_value m.value) (due_list (drop (at + 1) ms)) name was now e rises written)
-
-  pub less_at : (left : List (List ℕ × Data)) (name : List ℕ) (taken : Bool) (was mid now : List Token) → text_cmp m.name.now name ≡ Less → mid ≡ was ++ key m.name.now ∷ value_tokens (due_value m.value)
-      → WritesThrough (due_list (drop (at + 1) ms)) left name taken mid now → WritesThrough (due_list (drop at ms)) left name taken was now
-  less_at left name taken was mid now e written rest =
-      subst (λ ps. WritesThrough ps left name taken was now) (sym apart)
-      (less_through (m.name.now, due_value m.value) (due_list (drop (at + 1) ms)) left name taken was mid now e rises written rest)
-
-  pub rest_at : (was mid now : List Token) → mid ≡ was ++ key m.name.now ∷ value_tokens (due_value m.value)
-      → mid ++ members_tokens (put_all (due_list (drop (at + 1) ms)) no_members) ≡ now ++ members_tokens no_members
-      → was ++ members_tokens (put_all (due_list (drop at ms)) no_members) ≡ now ++ members_tokens no_members
-  rest_at was mid now written rest =
-      ap (λ ps. was ++ members_tokens (put_all ps no_members)) apart
-      ∙ first_of_all (m.name.now, due_value m.value) (due_list (drop (at + 1) ms)) was mid now rises written rest
+pub whole_at : (ms : List DueMember) (at : ℕ) (m : DueMember) → at < length ms → m ≡ get_or ms at m → AreWholeDue ms → IsWholeDue m.value
+whole_at ms at m low is whole = all_at (λ (x : DueMember). IsWholeDue x.value) ms at m whole (slice_get_read ms (length ms) at m refl low is)

@@ -1,48 +1,27 @@
 -- What stands in a value whose numbers fit has numbers that fit.
-use Rattle.erd_normal.proofs.Common.{◌≡◌, ℕ, zero, suc, ◌^◌, ◌<◌, false, List, [], ◌∷◌, Some, None, Option, Ordering, Less, Equal, Greater, refl, subst, inl, inr, arith, or_from, AllByRecursion, option_map_or, match_ordering, Num, float, Data, number, array, object, Items, no_items, item, Members, no_members, member, put, get_member, get_item, is_float, has_float, items_have_float, members_have_float, text_cmp, get_member-first, found_cases, get_member-tree, In, all_weakened, put-trees, within-holds, Within, get_member-later, IsFittingNumber, HasFittingNumbers, ItemsHaveFittingNumbers, MembersHaveFittingNumbers, IsTree, AreMembers, list_of_items, Asked, Preference, array_of, normal_tree}
-use Rattle.erd_normal.proofs.lists.BuiltLists.{array_of-tree, trees_listed, all_both}
+use Rattle.erd_normal.proofs.Common.{◌≡◌, ℕ, ◌^◌, ◌<◌, List, [], ◌∷◌, Some, None, Option, Less, Equal, Greater, refl, ap, ◌∙◌, subst, arith, AllByRecursion, option_map_or, match_ordering, Data, Items, no_items, item, Members, no_members, member, put, get_member, get_item, text_cmp, In, In-all, all_weakened, Within, IsTree, list_of_items, Asked, Preference, AreMembers, get_member-first, found_cases, get_member-tree, put-trees, within-holds, get_member-later, HasFittingNumbers, ItemsHaveFittingNumbers, MembersHaveFittingNumbers, array_of, normal_tree}
+use Rattle.erd_normal.proofs.lists.BuiltLists.{entry_holds, items_again, array_of-tree, trees_listed, all_both}
 use Rattle.erd_normal.proofs.built.NormalMembers.{each_member, trees_of_each}
 use Rattle.erd_normal.proofs.built.NormalTrees.{IsPartwise, normal_tree-holds}
-
-pub get_item-fitting : (i : ℕ) (v : Data) (ds : Items) → ItemsHaveFittingNumbers ds → get_item i ds ≡ Some v → HasFittingNumbers v
-get_item-fitting i v no_items h e = cc
-get_item-fitting zero v (item d ds) h e = let same : d ≡ v = cc in subst HasFittingNumbers same h.0
-get_item-fitting (suc i) v (item d ds) h e = get_item-fitting i v ds h.1 e
 
 pub get_member-fitting : (k : List ℕ) (v : Data) (ms : Members) → MembersHaveFittingNumbers ms → get_member k ms ≡ Some v → HasFittingNumbers v
 get_member-fitting k v no_members h e = cc
 get_member-fitting k v (member l d ms) h e = found_cases k l v d ms e (λ name same. subst HasFittingNumbers same h.0) (λ found. get_member-fitting k v ms h.1 found)
 
+listed-fit : (ds : Items) → ItemsHaveFittingNumbers ds → AllByRecursion HasFittingNumbers (list_of_items ds)
+listed-fit no_items fit = tt
+listed-fit (item d ds) fit = (fit.0, listed-fit ds fit.1)
+
+get_item-fitting : (i : ℕ) (v : Data) (ds : Items) → ItemsHaveFittingNumbers ds → get_item i ds ≡ Some v → HasFittingNumbers v
+get_item-fitting i v ds h e = entry_holds HasFittingNumbers (list_of_items ds) i v (listed-fit ds h) (ap (get_item i) (items_again ds) ∙ e)
+
 -- an entry of an array
 pub entry-fitting : (ds : Items) (d : Data) → ItemsHaveFittingNumbers ds → In d (list_of_items ds) → HasFittingNumbers d
-entry-fitting no_items d h i = absurd i
-entry-fitting (item v ds) d h (inl e) = subst HasFittingNumbers e h.0
-entry-fitting (item v ds) d h (inr i) = entry-fitting ds d h.1 i
+entry-fitting ds d h i = In-all HasFittingNumbers d (list_of_items ds) (listed-fit ds h) i
 
 -- what is asked of in a report
 pub within-fitting : (t : Data) (a : Asked) → HasFittingNumbers t → Within t a → HasFittingNumbers a.value
 within-fitting = within-holds HasFittingNumbers (record { of_object = get_member-fitting; of_array = get_item-fitting })
-
--- ---- values whose numbers fit have no float
-
-number-no_float : (n : Num) → IsFittingNumber n → is_float n ≡ false
-number-no_float (float x) h = absurd h
-number-no_float d h = refl
-
-mutual
-  pub fitting-no_float : (d : Data) → HasFittingNumbers d → has_float d ≡ false
-  fitting-no_float (number n) h = number-no_float n h
-  fitting-no_float (array ds) h = items_fitting-no_float ds h
-  fitting-no_float (object ms) h = members_fitting-no_float ms h
-  fitting-no_float e h = refl
-
-  items_fitting-no_float : (ds : Items) → ItemsHaveFittingNumbers ds → items_have_float ds ≡ false
-  items_fitting-no_float no_items h = refl
-  items_fitting-no_float (item d ds) h = or_from (has_float d) (items_have_float ds) (fitting-no_float d h.0) (items_fitting-no_float ds h.1)
-
-  members_fitting-no_float : (ms : Members) → MembersHaveFittingNumbers ms → members_have_float ms ≡ false
-  members_fitting-no_float no_members h = refl
-  members_fitting-no_float (member k d ms) h = or_from (has_float d) (members_have_float ms) (fitting-no_float d h.0) (members_fitting-no_float ms h.1)
 
 -- ---- where the numbers in a report fit, so do those in what is built of it
 
@@ -50,29 +29,24 @@ array_of-fits : (ds : List Data) → AllByRecursion HasFittingNumbers ds → Has
 array_of-fits [] all = tt
 array_of-fits (d ∷ ds) all = (all.0, array_of-fits ds all.1)
 
-listed-fit : (ds : Items) → ItemsHaveFittingNumbers ds → AllByRecursion HasFittingNumbers (list_of_items ds)
-listed-fit no_items fit = tt
-listed-fit (item d ds) fit = (fit.0, listed-fit ds fit.1)
-
-put-fit_at : (o : Ordering) (k l : List ℕ) (v d : Data) (ms rest : Members) → MembersHaveFittingNumbers (member l d ms) → HasFittingNumbers v → MembersHaveFittingNumbers rest
-    → MembersHaveFittingNumbers (match_ordering o (member k v (member l d ms)) (member l v ms) (member l d rest))
-put-fit_at Less k l v d ms rest fit new later = (new, fit)
-put-fit_at Equal k l v d ms rest fit new later = (new, fit.1)
-put-fit_at Greater k l v d ms rest fit new later = (fit.0, later)
-
 put-fit : (k : List ℕ) (v : Data) (ms : Members) → MembersHaveFittingNumbers ms → HasFittingNumbers v → MembersHaveFittingNumbers (put k v ms)
 put-fit k v no_members fit new = (new, tt)
-put-fit k v (member l d ms) fit new = put-fit_at (text_cmp k l) k l v d ms (put k v ms) fit new (put-fit k v ms fit.1 new)
+put-fit k v (member l d ms) fit new =
+    elim (text_cmp k l) as (λ o. MembersHaveFittingNumbers (match_ordering o (member k v (member l d ms)) (member l v ms) (member l d (put k v ms)))) [
+      | Less ↦ (new, fit)
+      | Equal ↦ (new, fit.1)
+      | Greater ↦ (fit.0, put-fit k v ms fit.1 new)
+    ]
 
 fit_of_each : (value : List ℕ → Data → Option Data) (ms : Members) → AreMembers ms → MembersHaveFittingNumbers ms
     → ((name : List ℕ) (d v : Data) → get_member name ms ≡ Some d → HasFittingNumbers d → value name d ≡ Some v → HasFittingNumbers v) → MembersHaveFittingNumbers (each_member value ms)
 fit_of_each value no_members rise fits each = tt
 fit_of_each value (member l d ms) rise fits each =
-    at (value l d) refl (fit_of_each value ms rise.2 fits.1 (λ name e v found. each name e v (get_member-later l name d e ms rise found)))
-  where
-    at : (r : Option Data) → value l d ≡ r → MembersHaveFittingNumbers (each_member value ms) → MembersHaveFittingNumbers (option_map_or (λ v. member l v (each_member value ms)) r (each_member value ms))
-    at None given h = h
-    at (Some v) given h = (each l d v (get_member-first l d ms) fits.0 given, h)
+    let h = fit_of_each value ms rise.2 fits.1 (λ name e v found. each name e v (get_member-later l name d e ms rise found)) in
+    (elim (value l d) as (λ r. value l d ≡ r → MembersHaveFittingNumbers (option_map_or (λ v. member l v (each_member value ms)) r (each_member value ms))) [
+      | None ↦ λ given. h
+      | Some v ↦ λ given. (each l d v (get_member-first l d ms) fits.0 given, h)
+    ]) refl
 
 -- a tree whose numbers fit
 abbrev IsFitting : Data → Type 0

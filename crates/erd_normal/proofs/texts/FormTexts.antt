@@ -1,10 +1,9 @@
 -- The text that is written for a report is the text of its canonical form.
-use Rattle.erd_normal.proofs.Common.{◌≡◌, ℕ, suc, ◌≤◌, max, List, [], Some, IsUtf8, Option, option_map, option_and_then, Less, sym, refl, ap, ◌∙◌, subst, ap₂, append-nil, arith, AllByRecursion, Token, Data, number, array, object, Items, no_items, item, Members, no_members, member, put, depth, items_depth, members_depth, of_json, of_items, of_members, read, max_depth, outline, items_outline, members_outline, text_cmp, before_all, HasFittingNumbers, ItemsHaveFittingNumbers, MembersHaveFittingNumbers, IsTree, AreTrees, AreMembers, IsShallow, names, no_shape_fault, IsAccepted, Preference, IsBounded, normal_tree, value_tokens}
+use Rattle.erd_normal.proofs.Common.{◌≡◌, ℕ, suc, ◌≤◌, List, [], Some, Option, option_map, option_and_then, Less, sym, refl, ap, ◌∙◌, subst, ap₂, append-nil, arith, nat_list_cmp_total, AllByRecursion, ordering_reverse, Data, array, object, Items, no_items, item, Members, no_members, member, put, text_cmp, IsTree, IsAccepted, Preference, IsBounded, number, depth, members_depth, of_json, of_items, of_members, read, max_depth, AreTrees, AreMembers, IsShallow, names, max, IsUtf8, ⊤, Token, items_depth, outline, items_outline, members_outline, before_all, HasFittingNumbers, ItemsHaveFittingNumbers, MembersHaveFittingNumbers, no_shape_fault, normal_tree, value_tokens}
 use Rattle.serde_json.proofs.Texts.{print-outline}
 use Rattle.json.specs.Lex.{tokens}
 use Rattle.json.proofs.Printed.Trees.{value-json_tokens}
 use Rattle.json.specs.Print.{print}
-use Rattle.erd_normal.proofs.built.BuiltMembers.{AreBelow, are_below_one, joined, joined_none, joined_one, none_below, put_above}
 use Rattle.erd_normal.proofs.texts.CompactTexts.{number_read}
 use Rattle.erd_normal.specs.CanonicalText.{IsCanonicalText}
 use Rattle.erd_normal.proofs.built.NormalDepths.{normal_tree-depth}
@@ -13,6 +12,50 @@ use Rattle.erd_normal.proofs.canonical.NormalForms.{form_built, only_form_built,
 use Rattle.erd_normal.proofs.texts.FittingNumbers.{normal_tree-fits}
 use Rattle.json.specs.Json as json
 use Rattle.json.specs.Tree as tree
+
+-- ---- members that are put one after another, in the order of their names, stand in that order
+
+-- members, and then others
+abbrev joined : Members → Members → Members
+joined no_members ns = ns
+joined (member k d ms) ns = member k d (joined ms ns)
+
+-- the names of the members are all below a name
+abbrev IsBelow : Members → List ℕ → Type 0
+IsBelow no_members l = ⊤
+IsBelow (member k d ms) l = (text_cmp k l ≡ Less) × IsBelow ms l
+
+-- the names of the members are all below those of others
+abbrev AreBelow : Members → Members → Type 0
+AreBelow ms no_members = ⊤
+AreBelow ms (member k d ns) = IsBelow ms k × AreBelow ms ns
+
+joined_none : (ms : Members) → joined ms no_members ≡ ms
+joined_none no_members = refl
+joined_none (member k d ms) = ap (member k d) (joined_none ms)
+
+joined_one : (ms : Members) (k : List ℕ) (d : Data) (ns : Members) → joined (joined ms (member k d no_members)) ns ≡ joined ms (member k d ns)
+joined_one no_members k d ns = refl
+joined_one (member l e ms) k d ns = ap (member l e) (joined_one ms k d ns)
+
+-- a name above all goes last
+put_above : (k : List ℕ) (d : Data) (ms : Members) → IsBelow ms k → put k d ms ≡ joined ms (member k d no_members)
+put_above k d no_members h = refl
+put_above k d (member l e ms) h =
+    let turned = nat_list_cmp_total.antisymm k l ∙ ap ordering_reverse h.0 in
+    rw turned (ap (member l e) (put_above k d ms h.1))
+
+below_one : (ms : Members) (k : List ℕ) (d : Data) (l : List ℕ) → IsBelow ms l → text_cmp k l ≡ Less → IsBelow (joined ms (member k d no_members)) l
+below_one no_members k d l h e = (e, tt)
+below_one (member j v ms) k d l h e = (h.0, below_one ms k d l h.1 e)
+
+are_below_one : (ms : Members) (k : List ℕ) (d : Data) (ns : Members) → AreBelow ms ns → AllByRecursion (λ l. text_cmp k l ≡ Less) (names ns) → AreBelow (joined ms (member k d no_members)) ns
+are_below_one ms k d no_members h e = tt
+are_below_one ms k d (member l v ns) h e = (below_one ms k d l h.0 e.0, are_below_one ms k d ns h.1 e.1)
+
+none_below : (ns : Members) → AreBelow no_members ns
+none_below no_members = tt
+none_below (member k d ns) = (tt, none_below ns)
 
 -- ---- what is written for a value is read back as it
 

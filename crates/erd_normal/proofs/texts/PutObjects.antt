@@ -1,5 +1,5 @@
 -- Objects with members put in.
-use Rattle.erd_normal.proofs.Common.{◌≡◌, ℕ, Bool, true, false, not, List, [], ◌∷◌, is_some, if◌then◌else◌, Some, None, codes, refl, ap, Data, null, string, Members, no_members, member, is_envelope_name, Class, Family, family, MemberKind, kind, is_empty_array, entries_at, Preference, rising_list, compact_cmp, with_rising_text, put_in, unless_no_entry, array_of, normal_value, normal_members, with_id, envelope_values, in_envelope, holds_parts, written_object_value, written_election_value, written_report_value}
+use Rattle.erd_normal.proofs.Common.{◌≡◌, ℕ, true, false, not, List, [], ◌∷◌, is_some, if◌then◌else◌, Some, None, codes, refl, ap, Data, null, string, Members, no_members, member, Class, Family, family, MemberKind, kind, entries_at, Preference, rising_list, compact_cmp, with_rising_text, is_empty_array, is_envelope_name, put_in, unless_no_entry, array_of, normal_value, normal_members, normal_node_value, with_id, envelope_values, in_envelope, holds_parts, written_object_value, written_election_value, written_report_value}
 
 -- members that are kept as they are
 pub copied : (c : Class) (ms : Members) → normal_members (λ name k d. Some d) c ms ≡ ms
@@ -38,13 +38,14 @@ other_report_value π t name (kind.Keyed f) d keyed elections other = absurd (ke
 other_report_value π t name kind.Elections d keyed elections other = absurd (elections refl)
 other_report_value π t name k d keyed elections other = rw other refl
 
+-- a member that is no list of contests and headers
+pub other_node_value : (π : Preference) (t : Data) (k : MemberKind) (d inside : Data) → (k ≡ kind.Content → ⊥) → normal_node_value π t (Some k) d inside ≡ normal_value π t k d
+other_node_value π t kind.Content d inside other = absurd (other refl)
+other_node_value π t k d inside other = refl
+
 -- a value is kept unless it is an empty array
 pub kept_unless_empty : (d v : Data) → is_some (unless_no_entry d v) ≡ not (is_empty_array d)
-kept_unless_empty d v = at (is_empty_array d)
-  where
-    at : (b : Bool) → is_some (if b then None else Some v) ≡ not b
-    at true = refl
-    at false = refl
+kept_unless_empty d v = elim (is_empty_array d) as (λ b. is_some (if b then None else Some v) ≡ not b) [ true ↦ refl | false ↦ refl ]
 
 -- a member of an object is kept: its content or its selections unless empty, and others by their kind
 pub kept_in_object : (π : Preference) (t : Data) (i : ℕ) (k : MemberKind) (d : Data) → is_some (written_object_value π t i k d) ≡ (if holds_parts k then not (is_empty_array d) else is_some (normal_value π t k d))

@@ -1,5 +1,5 @@
 -- The text that is written for a string tells the string, whatever follows.
-use Rattle.erd_normal.proofs.Common.{◌≡◌, ℕ, zero, suc, ◌+◌, ◌-◌, ◌*◌, ◌/◌, ◌%◌, ◌<◌, ◌≤◌, cond, ◌||◌, ◌⊎◌, List, [], ◌∷◌, ◌++◌, nat_lt, ◌==◌, Some, None, Option, option_map, flat_map, unwrap_or, sym, refl, ap, ◌∙◌, subst, ap₂, inl, inr, append_assoc, arith, le-ltb, ne_eqb, cases_lt, cases_eq, serde_json_on_literals, string, compact_text}
+use Rattle.erd_normal.proofs.Common.{◌≡◌, ℕ, zero, suc, ◌+◌, ◌-◌, ◌<◌, ◌≤◌, cond, ◌||◌, List, [], ◌∷◌, ◌++◌, nat_lt, ◌==◌, Some, None, Option, option_map, flat_map, unwrap_or, sym, refl, ap, ◌∙◌, subst, ap₂, inl, inr, append_assoc, arith, ne_eqb, string, compact_text, serde_json_on_literals, ◌*◌, ◌/◌, ◌%◌, le-ltb, cases_lt, cases_eq}
 use Rattle.std.specs.Char.{digit_char}
 
 -- ---- what is written for a byte
@@ -51,11 +51,7 @@ Each P (suc n) = P n × Each P n
 
 each_sound : (P : ℕ → Type 0) (n : ℕ) → Each P n → (x : ℕ) → x < n → P x
 each_sound P zero h x lt = absurd (omega arith)
-each_sound P (suc n) h x lt = go (each_sound P n h.1 x) (cases_eq x n)
-  where
-    go : (x < n → P x) → (x ≡ n) ⊎ (x ≡ n → ⊥) → P x
-    go below (inl e) = subst P (sym e) h.0
-    go below (inr ne) = below (omega arith)
+each_sound P (suc n) h x lt = elim (cases_eq x n) [ inl e ↦ subst P (sym e) h.0 | inr ne ↦ each_sound P n h.1 x (omega arith) ]
 
 controls : Each Reads 32
 controls = (λ u. refl, (λ u. refl, (λ u. refl, (λ u. refl, (λ u. refl, (λ u. refl, (λ u. refl, (λ u. refl, (λ u. refl, (λ u. refl, (λ u. refl, (λ u. refl, (λ u. refl, (λ u. refl, (λ u. refl, (λ u. refl, (λ u. refl, (λ u. refl, (λ u. refl, (λ u. refl, (λ u. refl, (λ u. refl, (λ u. refl, (λ u. refl, (λ u. refl, (λ u. refl, (λ u. refl, (λ u. refl, (λ u. refl, (λ u. refl, (λ u. refl, (λ u. refl, tt))))))))))))))))))))))))))))))))
@@ -68,13 +64,13 @@ plain_reads : (x : ℕ) → (x ≡ 34 → ⊥) → (x ≡ 92 → ⊥) → 32 ≤
 plain_reads x q b l u = ap (λ w. byte_read (w ++ u)) (plain_byte x q b l) ∙ rw (ne_eqb x 34 q, ne_eqb x 92 b)
 
 reads : (x : ℕ) → Reads x
-reads x = go (cases_eq x 34) (cases_eq x 92) (cases_lt x 32)
-  where
-    go : (x ≡ 34) ⊎ (x ≡ 34 → ⊥) → (x ≡ 92) ⊎ (x ≡ 92 → ⊥) → (x < 32) ⊎ (32 ≤ x) → Reads x
-    go (inl e) b c = subst Reads (sym e) (λ u. refl)
-    go (inr q) (inl e) c = subst Reads (sym e) (λ u. refl)
-    go (inr q) (inr b) (inl c) = each_sound Reads 32 controls x c
-    go (inr q) (inr b) (inr l) = plain_reads x q b l
+reads x = elim (cases_eq x 34) [
+  | inl e ↦ subst Reads (sym e) (λ u. refl)
+  | inr q ↦ elim (cases_eq x 92) [
+    | inl e ↦ subst Reads (sym e) (λ u. refl)
+    | inr b ↦ elim (cases_lt x 32) [ inl c ↦ each_sound Reads 32 controls x c | inr l ↦ plain_reads x q b l ]
+  ]
+]
 
 -- ---- strings
 

@@ -1,10 +1,10 @@
 -- What holds of all that is asked inside what is built of a member without objects.
-use Rattle.erd_normal.proofs.Common.{◌≡◌, ℕ, Bool, true, false, List, [], ◌∷◌, map, is_some, Some, codes, option_and_then, bytes_eq, sym, refl, ap, ◌∙◌, subst, inl, inr, AllByRecursion, Data, string, array, object, Items, Members, get_item, get, as_str, items_of, class_in_role, kind_of_member, Class, class, Family, family, Role, role, reason, MemberKind, kind, array_from, text_exact, of_label, faultless, wanted_within, classed, member_within, Classed, Within, kind_of_unlisted_has, is_empty_array, ShapeFault, NoneOf, IsTree, list_of_items, entries_of, text_of, class_of_object, want_of_kind, member_want, Asked, asked, is_repeated, ClassText, Member, Object, Reference, Preference, rising_list, compact_cmp, with_rising_text, id_prefix, normal_id, normal_reference, reference_cmp, normal_selection_reference, array_of, normal_value}
-use Rattle.erd_normal.proofs.built.AskedMembers.{asked_in_object, entries_asked, label_class, label_texts}
-use Rattle.erd_normal.proofs.lists.BuiltLists.{all_map, entry_holds, given_unless}
+use Rattle.erd_normal.proofs.Common.{◌≡◌, ℕ, Bool, true, false, List, [], ◌∷◌, map, is_some, Some, codes, option_and_then, bytes_eq, sym, refl, ap, ◌∙◌, subst, inl, inr, AllByRecursion, Data, string, array, object, Items, Members, get_item, get, as_str, items_of, class_in_role, kind_of_member, Class, class, Family, family, Role, role, reason, MemberKind, kind, text_exact, of_label, faultless, wanted_within, classed, member_within, Classed, Within, kind_of_unlisted_has, is_empty_array, ShapeFault, NoneOf, IsTree, list_of_items, entries_of, class_of_object, want_of_kind, member_want, Asked, asked, is_repeated, ClassText, Member, Object, Reference, Preference, rising_list, compact_cmp, with_rising_text, id_prefix, normal_reference, reference_cmp, normal_selection_reference, array_of, normal_value, is_text, is_array, Want, entry_want, is_compared_set, is_reference, get_member}
+use Rattle.erd_normal.proofs.built.AskedMembers.{asked_in_object, label_class, label_texts}
+use Rattle.erd_normal.proofs.lists.BuiltLists.{entry_holds}
 use Rattle.erd_normal.proofs.throughout.UnrepeatedEntries.{rising_entry}
 use Rattle.erd_normal.proofs.built.NormalGets.{get_label-other, get_label-text}
-use Rattle.erd_normal.proofs.throughout.ThroughoutValues.{Throughout, apart_by_kind, is_apart, is_apart_kind, throughout_array, throughout_by_steps, throughout_kept, throughout_list, throughout_text}
+use Rattle.erd_normal.proofs.throughout.ThroughoutValues.{Throughout, apart_by_kind, is_apart, is_apart_kind, throughout_array, throughout_by_steps, throughout_kept, throughout_text, throughout_built_list, throughout_unless}
 
 -- ---- what is built
 
@@ -59,13 +59,14 @@ type_text r c d v among stands = at v (subst (λ o. option_and_then (class_in_ro
     at v e = cc
 
 -- references that are built are texts
-built_texts : (π : Preference) (t : Data) (f : Family) (ds : List Data) → AllByRecursion (λ x. (s : List ℕ) × (x ≡ string s)) (map (normal_reference π t f) ds)
+built_texts : (π : Preference) (t : Data) (f : Family) (ds : List Data) → AllByRecursion (λ x. is_text x ≡ true) (map (normal_reference π t f) ds)
 built_texts π t f [] = tt
-built_texts π t f (x ∷ xs) = ((normal_id π t f (text_of x), refl), built_texts π t f xs)
+built_texts π t f (x ∷ xs) = (refl, built_texts π t f xs)
 
 -- a label that is an object, and the one that is built of it, whose translations rise
 pub record BuiltLabel (t : Data) (ms : Members) : Type 0 where
   pub texts : Items
+  pub found : get_member (codes "Text") ms ≡ Some (array texts)
   pub inside : Within t (asked (Member kind.Languages true) (array texts))
   pub kept : class_of_object role.Label (object ms) ≡ Some class.InternationalizedText
   pub among : class_of_object role.Label (with_rising_text (object ms)) ≡ Some class.InternationalizedText
@@ -78,6 +79,7 @@ built_label t clean required ms w =
     let kept : class_of_object role.Label (object ms) ≡ Some class.InternationalizedText = cl.among ∙ ap Some (label_class cl.class cl.role) in
     record {
       texts = texts.0;
+      found = texts.1;
       inside = texts.2;
       kept = kept;
       among = ap (λ o. option_and_then (class_in_role role.Label) (option_and_then as_str o)) (get_label-other (codes "@type") (object ms) refl) ∙ kept;
@@ -88,7 +90,7 @@ module _ (π : Preference) (t : Data) (clean : NoneOf (ShapeFault t)) (tree : Is
   pub throughout_type : (r : Role) (c : Class) (d v : Data) → class_of_object r d ≡ Some c → get (codes "@type") d ≡ Some v → Throughout P (asked (ClassText r) v)
   throughout_type r c d v among stands =
       let text = type_text r c d v among stands in
-      subst (λ x. Throughout P (asked (ClassText r) x)) (sym text.1) (throughout_text P (ClassText r) text.0 false (holds.class_text r c text.0 text.2))
+      subst (λ x. Throughout P (asked (ClassText r) x)) (sym text.1) (throughout_text P (ClassText r) (string text.0) false refl (holds.class_text r c text.0 text.2))
 
   -- ---- sets
 
@@ -97,49 +99,21 @@ module _ (π : Preference) (t : Data) (clean : NoneOf (ShapeFault t)) (tree : Is
   references f named required d filled w =
       throughout_array P (Member (kind.Many f) required) (Reference f) (items_of (built_references π t f d)) refl (holds.many f named required d w filled)
       (λ i e found.
-      let text = entry_holds (λ x. (s : List ℕ) × (x ≡ string s)) (built_references π t f d) i e (built_texts π t f (rising_list (reference_cmp π t f) (entries_of d))) found in
-      at i e text.0 text.1 (holds.many_entry f named required d w i e found))
-    where
-      at : (i : ℕ) (e : Data) (s : List ℕ) → e ≡ string s → P (record { want = Reference f; value = e; repeated = is_repeated (items_of (built_references π t f d)) i e })
-          → Throughout P (record { want = Reference f; value = e; repeated = is_repeated (items_of (built_references π t f d)) i e })
-      at i e s is h =
-          subst (λ x. Throughout P (record { want = Reference f; value = x; repeated = is_repeated (items_of (built_references π t f d)) i x })) (sym is)
-          (throughout_text P (Reference f) s (is_repeated (items_of (built_references π t f d)) i (string s))
-          (subst (λ x. P (record { want = Reference f; value = x; repeated = is_repeated (items_of (built_references π t f d)) i x })) is h))
+      throughout_text P (Reference f) e (is_repeated (items_of (built_references π t f d)) i e)
+      (entry_holds (λ x. is_text x ≡ true) (built_references π t f d) i e (built_texts π t f (rising_list (reference_cmp π t f) (entries_of d))) found) (holds.many_entry f named required d w i e found))
+
+  -- identifiers or translations
+  rising_set : (w v : Want) (d : Data) → is_array d ≡ true → entry_want w ≡ Some v → is_compared_set w ≡ true → is_reference v ≡ false → is_apart v ≡ true → Within t (asked w d)
+      → P (asked w (array_of (rising_list compact_cmp (entries_of d)))) → Throughout P (asked w (array_of (rising_list compact_cmp (entries_of d))))
+  rising_set w v (array ds) is want set other apart inside here =
+      throughout_array P w v (items_of (rising_list compact_cmp (list_of_items ds))) want here
+      (rising_entry t clean tree w v compact_cmp ds want set other inside (Throughout P) (λ e within. throughout_kept t P holds.kept (asked v e) within apart))
+  rising_set w v d is want set other apart inside here = cc
 
   languages : (required : Bool) (d : Data) → is_empty_array d ≡ false → Within t (asked (Member kind.Languages required) d)
       → Throughout P (asked (Member kind.Languages required) (array_of (rising_list compact_cmp (entries_of d))))
   languages required d filled w =
-      let ds = array_from d (wanted_within t clean (asked (Member kind.Languages required) d) w) in
-      let inside : Within t (asked (Member kind.Languages required) (array ds.0)) = subst (λ x. Within t (asked (Member kind.Languages required) x)) ds.1 w in
-      let here = subst (λ x. P (asked (Member kind.Languages required) (array_of (rising_list compact_cmp (entries_of x))))) ds.1 (holds.languages required d w filled) in
-      subst (λ x. Throughout P (asked (Member kind.Languages required) (array_of (rising_list compact_cmp (entries_of x))))) (sym ds.1)
-      (throughout_array P (Member kind.Languages required) (Object role.Language) (items_of (rising_list compact_cmp (list_of_items ds.0))) refl here
-      (rising_entry t clean tree (Member kind.Languages required) (Object role.Language) compact_cmp ds.0 refl refl refl inside (Throughout P)
-      (λ e within. throughout_kept t P holds.kept (asked (Object role.Language) e) within refl)))
-
-  identifiers : (required : Bool) (d : Data) → is_empty_array d ≡ false → Within t (asked (Member kind.Identifiers required) d)
-      → Throughout P (asked (Member kind.Identifiers required) (array_of (rising_list compact_cmp (entries_of d))))
-  identifiers required d filled w =
-      let ds = array_from d (wanted_within t clean (asked (Member kind.Identifiers required) d) w) in
-      let inside : Within t (asked (Member kind.Identifiers required) (array ds.0)) = subst (λ x. Within t (asked (Member kind.Identifiers required) x)) ds.1 w in
-      let here = subst (λ x. P (asked (Member kind.Identifiers required) (array_of (rising_list compact_cmp (entries_of x))))) ds.1 (holds.identifiers required d w filled) in
-      subst (λ x. Throughout P (asked (Member kind.Identifiers required) (array_of (rising_list compact_cmp (entries_of x))))) (sym ds.1)
-      (throughout_array P (Member kind.Identifiers required) (Object role.Identifier) (items_of (rising_list compact_cmp (list_of_items ds.0))) refl here
-      (rising_entry t clean tree (Member kind.Identifiers required) (Object role.Identifier) compact_cmp ds.0 refl refl refl inside (Throughout P)
-      (λ e within. throughout_kept t P holds.kept (asked (Object role.Identifier) e) within refl)))
-
-  ordered : (required : Bool) (d : Data) → is_empty_array d ≡ false → Within t (asked (Member kind.Ordered required) d)
-      → Throughout P (asked (Member kind.Ordered required) (array_of (map (normal_selection_reference π t) (entries_of d))))
-  ordered required d filled w =
-      let ds = array_from d (wanted_within t clean (asked (Member kind.Ordered required) d) w) in
-      let inside : Within t (asked (Member kind.Ordered required) (array ds.0)) = subst (λ x. Within t (asked (Member kind.Ordered required) x)) ds.1 w in
-      let here = subst (λ x. P (asked (Member kind.Ordered required) (array_of (map (normal_selection_reference π t) (entries_of x))))) ds.1 (holds.ordered required d w filled) in
-      subst (λ x. Throughout P (asked (Member kind.Ordered required) (array_of (map (normal_selection_reference π t) (entries_of x))))) (sym ds.1)
-      (throughout_list P (Member kind.Ordered required) (Reference family.Selection) (map (normal_selection_reference π t) (list_of_items ds.0)) refl refl here
-      (all_map (λ e. Within t (asked (Reference family.Selection) e)) (λ e. Throughout P (asked (Reference family.Selection) e)) (normal_selection_reference π t) (list_of_items ds.0)
-      (λ e within. throughout_text P (Reference family.Selection) (text_of (normal_selection_reference π t e)) false (holds.ordered_entry e within))
-      (entries_asked t (Member kind.Ordered required) (Reference family.Selection) ds.0 refl refl inside)))
+      rising_set (Member kind.Languages required) (Object role.Language) d (wanted_within t clean (asked (Member kind.Languages required) d) w) refl refl refl refl w (holds.languages required d w filled)
 
   -- ---- labels
 
@@ -170,7 +144,7 @@ module _ (π : Preference) (t : Data) (clean : NoneOf (ShapeFault t)) (tree : Is
               throughout_kept t P holds.kept (asked (member_want class.InternationalizedText name) v)
               (member_within t clean (Member kind.Label required) role.Label ms class.InternationalizedText name v of_label l.kept other w (sym (get_label-other name (object ms) is) ∙ found))
               (label_member name other is)
-  label required (string s) w = throughout_text P (Member kind.Label required) s false (holds.label required (string s) w)
+  label required (string s) w = throughout_text P (Member kind.Label required) (string s) false refl (holds.label required (string s) w)
   label required d w = let x : false ≡ true = wanted_within t clean (asked (Member kind.Label required) d) w in cc
 
   -- ---- by kind
@@ -181,25 +155,16 @@ module _ (π : Preference) (t : Data) (clean : NoneOf (ShapeFault t)) (tree : Is
   throughout_value kind.Label required d v plain w given = let same : with_rising_text d ≡ v = cc in subst (λ x. Throughout P (asked (Member kind.Label required) x)) same (label required d w)
   throughout_value (kind.One f) required d v plain w given =
       let same : normal_reference π t f d ≡ v = cc in
-      subst (λ x. Throughout P (asked (Reference f) x)) same (throughout_text P (Reference f) (normal_id π t f (text_of d)) false (holds.one f plain d w))
-  throughout_value (kind.Many f) required d v plain w given =
-      let parts = given_unless d (array_of (built_references π t f d)) v given in
-      subst (λ x. Throughout P (asked (Member (kind.Many f) required) x)) parts.1 (references f plain required d parts.0 w)
+      subst (λ x. Throughout P (asked (Reference f) x)) same (throughout_text P (Reference f) (normal_reference π t f d) false refl (holds.one f plain d w))
+  throughout_value (kind.Many f) required d v plain w given = throughout_unless P (Member (kind.Many f) required) d _ v given (λ filled. references f plain required d filled w)
   throughout_value kind.Identifiers required d v plain w given =
-      let parts = given_unless d (array_of (rising_list compact_cmp (entries_of d))) v given in
-      subst (λ x. Throughout P (asked (Member kind.Identifiers required) x)) parts.1 (identifiers required d parts.0 w)
-  throughout_value kind.Languages required d v plain w given =
-      let parts = given_unless d (array_of (rising_list compact_cmp (entries_of d))) v given in
-      subst (λ x. Throughout P (asked (Member kind.Languages required) x)) parts.1 (languages required d parts.0 w)
+      throughout_unless P (Member kind.Identifiers required) d _ v given (λ filled.
+      rising_set (Member kind.Identifiers required) (Object role.Identifier) d (wanted_within t clean (asked (Member kind.Identifiers required) d) w) refl refl refl refl w (holds.identifiers required d w filled))
+  throughout_value kind.Languages required d v plain w given = throughout_unless P (Member kind.Languages required) d _ v given (λ filled. languages required d filled w)
   throughout_value kind.Ordered required d v plain w given =
-      let parts = given_unless d (array_of (map (normal_selection_reference π t) (entries_of d))) v given in
-      subst (λ x. Throughout P (asked (Member kind.Ordered required) x)) parts.1 (ordered required d parts.0 w)
-  throughout_value kind.Identity required d v plain w given = cc
-  throughout_value kind.Outside required d v plain w given = cc
-  throughout_value (kind.Keyed f) required d v plain w given = cc
-  throughout_value kind.Elections required d v plain w given = cc
-  throughout_value kind.Content required d v plain w given = cc
-  throughout_value kind.ClassText required d v plain w given = cc
+      throughout_unless P (Member kind.Ordered required) d _ v given (λ filled.
+      throughout_built_list t P (Member kind.Ordered required) (Reference family.Selection) d (wanted_within t clean (asked (Member kind.Ordered required) d) w) refl refl w (λ xs. xs) (λ Q xs all. all)
+      (normal_selection_reference π t) (λ e within h. throughout_text P (Reference family.Selection) (normal_selection_reference π t e) false refl (holds.ordered_entry e within)) (holds.ordered required d w filled))
   throughout_value k required d v plain w given =
       let same : d ≡ v = cc in
-      subst (λ x. Throughout P (asked (want_of_kind k required) x)) same (throughout_kept t P holds.kept (asked (want_of_kind k required) d) w refl)
+      subst (λ x. Throughout P (asked (want_of_kind k required) x)) same (throughout_kept t P holds.kept (asked (want_of_kind k required) d) w cc)

@@ -1,6 +1,8 @@
 -- What holds of all that is asked inside a value, and of all that is asked inside what is built of a value without objects.
-use Rattle.erd_normal.proofs.Common.{◌≡◌, ℕ, Bool, true, false, ◌&&◌, ◌||◌, ◌⊎◌, List, [], ◌∷◌, if◌then◌else◌, Some, None, codes, Option, option_map, option_and_then, bytes_eq, sym, refl, ap, ◌∙◌, subst, inl, inr, AllByRecursion, Data, string, array, object, Items, Members, no_members, get_member, get_item, items_of, role_of_class, is_reference_name, kind_of_member, Class, class, Role, role, MemberKind, kind, Step, At, Name, Within-step, Within, kind_of_class, class_of_object, scope_inside, want_of_kind, member_want, want_of_name, entry_want, is_compared_set, Asked, asked, is_repeated, asked_of_member, asked_of_entry, asked_inside, asked_from, Want, Carried, ClassText, Member, Object, Reference, Status, class_role}
-use Rattle.erd_normal.proofs.lists.BuiltLists.{entry_holds}
+use Rattle.erd_normal.proofs.Common.{◌≡◌, ℕ, Bool, true, false, ◌&&◌, List, [], ◌∷◌, Some, None, Option, option_and_then, sym, refl, ap, subst, AllByRecursion, Data, string, array, Items, get_item, items_of, MemberKind, kind, Step, At, Name, Within-step, Within, want_of_kind, entry_want, is_compared_set, Asked, asked, is_repeated, asked_inside, asked_from, Want, Carried, ClassText, Member, Object, Reference, Status, option_map_or, is_text, is_array, map, entries_of, list_of_items, array_of, is_empty_array, unless_no_entry, In, In-all, all_from_In}
+use Rattle.erd_normal.proofs.lists.BuiltLists.{entry_holds, all_map, given_unless}
+use Rattle.erd_normal.proofs.throughout.InsideValues.{along, closed_names, is_apart_role, is_closed, one_inside}
+use Rattle.erd_normal.proofs.built.AskedMembers.{entries_asked}
 
 -- it holds of a value, and of all that is asked inside it
 pub record Throughout (P : Asked → Type 0) (a : Asked) : Type 0 where
@@ -19,11 +21,9 @@ throughout_by_steps P a here inside = record { each = at }
     at (s ∷ p) b e = onward s p b (asked_inside a.want a.value s) refl e
 
 -- a text
-pub throughout_text : (P : Asked → Type 0) (w : Want) (s : List ℕ) (b : Bool) → P (record { want = w; value = string s; repeated = b }) → Throughout P (record { want = w; value = string s; repeated = b })
-throughout_text P w s b here = throughout_by_steps P (record { want = w; value = string s; repeated = b }) here (λ q x e. inside q x e)
-  where
-    inside : (q : Step) (x : Asked) → asked_inside w (string s) q ≡ Some x → Throughout P x
-    inside q x e = cc
+pub throughout_text : (P : Asked → Type 0) (w : Want) (d : Data) (b : Bool) → is_text d ≡ true → P (record { want = w; value = d; repeated = b }) → Throughout P (record { want = w; value = d; repeated = b })
+throughout_text P w (string s) b is here = throughout_by_steps P (record { want = w; value = string s; repeated = b }) here (λ q x e. cc)
+throughout_text P w d b is here = cc
 
 -- an array
 pub throughout_array : (P : Asked → Type 0) (w v : Want) (ds : Items) → entry_want w ≡ Some v → P (asked w (array ds))
@@ -49,6 +49,23 @@ throughout_list P w v es want apart here all =
     (λ i d found. subst (λ b. Throughout P (record { want = v; value = d; repeated = b })) (sym (ap (λ b. b && is_repeated (items_of es) i d) apart))
     (entry_holds (λ e. Throughout P (asked v e)) es i d all found))
 
+-- an array of what is built of the entries of an array, after they are put in order
+pub throughout_built_list : (t : Data) (P : Asked → Type 0) (w v : Want) (d : Data) → is_array d ≡ true → entry_want w ≡ Some v → is_compared_set w ≡ false → Within t (asked w d)
+    → (arrange : List Data → List Data) → ((Q : Data → Type 0) (xs : List Data) → AllByRecursion Q xs → AllByRecursion Q (arrange xs))
+    → (f : Data → Data) → ((e : Data) → Within t (asked v e) → In e (entries_of d) → Throughout P (asked v (f e))) → P (asked w (array_of (map f (arrange (entries_of d)))))
+    → Throughout P (asked w (array_of (map f (arrange (entries_of d)))))
+throughout_built_list t P w v (array ds) is want apart inside arrange keeps f each here =
+    throughout_list P w v (map f (arrange (list_of_items ds))) want apart here
+    (all_map (λ e. Within t (asked v e) × In e (list_of_items ds)) (λ e. Throughout P (asked v e)) f (arrange (list_of_items ds)) (λ e both. each e both.0 both.1)
+    (keeps (λ e. Within t (asked v e) × In e (list_of_items ds)) (list_of_items ds)
+    (all_from_In (λ e. Within t (asked v e) × In e (list_of_items ds)) (list_of_items ds)
+    (λ e h. (In-all (λ x. Within t (asked v x)) e (list_of_items ds) (entries_asked t w v ds want apart inside) h, h)))))
+throughout_built_list t P w v d is want apart inside arrange keeps f each here = cc
+
+-- what is built of an array with entries
+pub throughout_unless : (P : Asked → Type 0) (w : Want) (d x v : Data) → unless_no_entry d x ≡ Some v → (is_empty_array d ≡ false → Throughout P (asked w x)) → Throughout P (asked w v)
+throughout_unless P w d x v given each = let parts = given_unless d x v given in subst (λ y. Throughout P (asked w y)) parts.1 (each parts.0)
+
 -- ---- what stays as it is
 
 -- a member of this kind stays as it is, with all that is inside it
@@ -62,12 +79,6 @@ is_apart_kind kind.StrangeIdentity = true
 is_apart_kind kind.Carried = true
 is_apart_kind k = false
 
--- so do external identifiers and translations
-abbrev pub is_apart_role : Role → Bool
-is_apart_role role.Identifier = true
-is_apart_role role.Language = true
-is_apart_role r = false
-
 -- what is asked of values that stay as they are
 abbrev pub is_apart : Want → Bool
 is_apart (Object r) = is_apart_role r
@@ -79,88 +90,28 @@ is_apart (Member k required) = is_apart_kind k
 is_apart Carried = true
 
 pub apart_by_kind : (k : MemberKind) (required : Bool) → is_apart_kind k ≡ true → is_apart (want_of_kind k required) ≡ true
-apart_by_kind kind.Carried required h = refl
-apart_by_kind (kind.One f) required h = cc
+apart_by_kind kind.Carried required h = h
 apart_by_kind k required h = h
 
-apart_classes : (r : Role) (c : Class) → is_apart_role r ≡ true → role_of_class c ≡ r → (c ≡ class.ExternalIdentifier) ⊎ (c ≡ class.LanguageString)
-apart_classes r class.ExternalIdentifier h e = inl refl
-apart_classes r class.LanguageString h e = inr refl
-apart_classes r c h e = let x : is_apart_role (role_of_class c) ≡ true = ap is_apart_role e ∙ h in cc
+apart_closed : (w : Want) → is_apart w ≡ true → is_closed w ≡ true
+apart_closed (Object r) h = h
+apart_closed (Member kind.Label required) h = h
+apart_closed w h = refl
 
-identifier_member : (name : List ℕ) → bytes_eq name (codes "@type") ≡ false → is_apart (member_want class.ExternalIdentifier name) ≡ true
-identifier_member name other = apart_by_kind (kind_of_member class.ExternalIdentifier name) _ (kind_of_class is_apart_kind class.ExternalIdentifier name other refl refl refl refl)
-
-language_member : (name : List ℕ) → bytes_eq name (codes "@type") ≡ false → is_apart (member_want class.LanguageString name) ≡ true
-language_member name other = apart_by_kind (kind_of_member class.LanguageString name) _ (kind_of_class is_apart_kind class.LanguageString name other refl refl refl refl)
-
-apart_member : (r : Role) (c : Class) (name : List ℕ) → is_apart_role r ≡ true → role_of_class c ≡ r → bytes_eq name (codes "@type") ≡ false → is_apart (member_want c name) ≡ true
-apart_member r c name h e other = elim (apart_classes r c h e) [
-  | inl is ↦ subst (λ x. is_apart (member_want x name) ≡ true) (sym is) (identifier_member name other)
-  | inr is ↦ subst (λ x. is_apart (member_want x name) ≡ true) (sym is) (language_member name other)
-]
-
--- what holds of the want of a member or an entry that is asked for
-want_of_member : (P : Want → Type 0) (ow : Option Want) (o : Option Data) (b : Asked) → ((w : Want) → ow ≡ Some w → P w) → asked_of_member ow o ≡ Some b → P b.want
-want_of_member P None o b h e = cc
-want_of_member P (Some w) None b h e = cc
-want_of_member P (Some w) (Some d) b h e = let same : asked w d ≡ b = cc in subst (λ x. P x.want) same (h w refl)
-
-want_of_entry : (P : Want → Type 0) (ow : Option Want) (set : Bool) (ds : Items) (i : ℕ) (b : Asked) → ((w : Want) → ow ≡ Some w → P w) → asked_of_entry ow set ds i ≡ Some b → P b.want
-want_of_entry P None set ds i b h e = cc
-want_of_entry P (Some w) set ds i b h e = at (get_item i ds) e
-  where
-    at : (o : Option Data) → option_map (λ d. record { want = w; value = d; repeated = set && is_repeated ds i d }) o ≡ Some b → P b.want
-    at None e = cc
-    at (Some d) e = let same : record { want = w; value = d; repeated = set && is_repeated ds i d } ≡ b = cc in subst (λ x. P x.want) same (h w refl)
-
-apart_name : (r : Role) (ms : Members) (n : List ℕ) (w : Want) → is_apart_role r ≡ true → want_of_name (scope_inside (Object r) (object ms)) n ≡ Some w → is_apart w ≡ true
-apart_name r ms n w h = at (bytes_eq n (codes "@type")) refl (class_of_object r (object ms)) refl
-  where
-    at : (type : Bool) → bytes_eq n (codes "@type") ≡ type → (o : Option Class) → class_of_object r (object ms) ≡ o
-        → (if type then Some (ClassText r) else option_map (λ c. member_want c n) o) ≡ Some w → is_apart w ≡ true
-    at true type o among e = let same : ClassText r ≡ w = cc in subst (λ x. is_apart x ≡ true) same refl
-    at false type None among e = cc
-    at false type (Some c) among e =
-        let same : member_want c n ≡ w = cc in
-        subst (λ x. is_apart x ≡ true) same (apart_member r c n h (class_role r (object ms) c among) type)
-
-carried_name : (n : List ℕ) (w : Want) → want_of_name (scope_inside Carried (object no_members)) n ≡ Some w → is_apart w ≡ true
-carried_name n w = at (bytes_eq n (codes "@id") || is_reference_name n)
-  where
-    at : (b : Bool) → Some (if b then Member kind.StrangeIdentity false else Carried) ≡ Some w → is_apart w ≡ true
-    at true e = let same : Member kind.StrangeIdentity false ≡ w = cc in subst (λ x. is_apart x ≡ true) same refl
-    at false e = let same : Carried ≡ w = cc in subst (λ x. is_apart x ≡ true) same refl
-
-apart_entry : (w v : Want) → is_apart w ≡ true → entry_want w ≡ Some v → is_apart v ≡ true
-apart_entry Carried v h e = let same : Carried ≡ v = cc in subst (λ x. is_apart x ≡ true) same refl
-apart_entry (Member (kind.Many f) required) v h e = cc
-apart_entry (Member (kind.Keyed f) required) v h e = cc
-apart_entry (Member k required) v h e = cc
-apart_entry w v h e = cc
-
-apart_names : (w : Want) (ms : Members) (n : List ℕ) (v : Want) → is_apart w ≡ true → want_of_name (scope_inside w (object ms)) n ≡ Some v → is_apart v ≡ true
-apart_names (Object r) ms n v h e = apart_name r ms n v h e
-apart_names Carried ms n v h e = carried_name n v e
-apart_names (Member kind.Label required) ms n v h e = cc
-apart_names (Member k required) ms n v h e = cc
-apart_names w ms n v h e = cc
+apart_entry : (w : Want) → is_apart w ≡ true → option_map_or is_apart (entry_want w) true ≡ true
+apart_entry (Member kind.Content required) h = cc
+apart_entry w h = cc
 
 -- all that is inside stays as it is too
 apart_inside : (w : Want) (d : Data) (s : Step) (b : Asked) → is_apart w ≡ true → asked_inside w d s ≡ Some b → is_apart b.want ≡ true
-apart_inside w (object ms) (Name n) b h e = want_of_member (λ v. is_apart v ≡ true) (want_of_name (scope_inside w (object ms)) n) (get_member n ms) b (λ v is. apart_names w ms n v h is) e
-apart_inside w (array ds) (At i) b h e = want_of_entry (λ v. is_apart v ≡ true) (entry_want w) (is_compared_set w) ds i b (λ v is. apart_entry w v h is) e
-apart_inside w d s b h e = cc
+apart_inside =
+    one_inside (λ w d. is_apart w ≡ true)
+    (λ w ms n v x h asks found. subst (λ o. option_map_or is_apart o true ≡ true) asks (closed_names is_apart is_apart_kind apart_by_kind (λ r. refl) refl refl refl refl refl w ms (apart_closed w h) n))
+    (λ w ds i v x h asks found. subst (λ o. option_map_or is_apart o true ≡ true) asks (apart_entry w h))
 
 -- what holds of each value of the report that stays as it is holds throughout
 pub throughout_kept : (t : Data) (P : Asked → Type 0) → ((a : Asked) → Within t a → is_apart a.want ≡ true → P a) → (a : Asked) → Within t a → is_apart a.want ≡ true → Throughout P a
-throughout_kept t P kept a w apart = record { each = λ p b e. along a p w apart b e }
-  where
-    along : (a : Asked) (p : List Step) → Within t a → is_apart a.want ≡ true → (b : Asked) → asked_from a p ≡ Some b → P b
-    along a [] w apart b e = let same : a ≡ b = cc in subst P same (kept a w apart)
-    along a (s ∷ p) w apart b e = at (asked_inside a.want a.value s) refl e (λ x. along x p)
-      where
-        at : (o : Option Asked) → asked_inside a.want a.value s ≡ o → option_and_then (λ x. asked_from x p) o ≡ Some b
-            → ((x : Asked) → Within t x → is_apart x.want ≡ true → (b : Asked) → asked_from x p ≡ Some b → P b) → P b
-        at None is e h = cc
-        at (Some x) is e h = h x (Within-step t a x s w is) (apart_inside a.want a.value s x apart is) b e
+throughout_kept t P kept a w apart = record {
+  each = λ p b e.
+      let h = along (λ x. Within t x × (is_apart x.want ≡ true)) (λ x y s h is. (Within-step t x y s h.0 is, apart_inside x.want x.value s y h.1 is)) a p b (w, apart) e in kept b h.0 h.1;
+}

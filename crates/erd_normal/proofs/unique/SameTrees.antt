@@ -1,49 +1,25 @@
 -- Canonical reports that say the same are equal.
-use Rattle.erd_normal.proofs.Common.{◌≡◌, ℕ, zero, suc, ◌≤◌, Bool, true, false, List, [], ◌∷◌, map, is_some, Some, None, Option, option_and_then, bytes_eq, Ordering, sym, refl, ap, ◌∙◌, subst, arith, IsTotalOrder, options_total, IsStrictlySortedBy, option_cmp, Data, string, array, object, Items, Members, depth, items_depth, members_depth, get_member, get, as_str, Row, envelope_rows, kind_in_rows, is_envelope_name, Family, family, role, MemberKind, kind, list_of_items_exact, text_exact, members_unique, get_member-depth, here, later, all-Has, rising_unique, Has, is_empty_array, AreMembers, list_of_items, scope_inside, want_of_name, entry_want, is_table_set, Want, Member, Object, reordered_back, reordered-has, has_keys, key_cmp, Preference, key_of, compact_cmp, name_of, name_cmp, key_cmp_total, compact_cmp_total, name_cmp_total, kind_wanted, RisesAs, HasCanonicalEnvelope, IsCanonical, Sides, IsUnused, is_envelope, an_empty_array, of_the_envelope, an_unused_id, a_null, a_flag, a_number, a_text, an_id, a_list, a_set, an_object, MayBeAbsent, Same, SameMembers}
+use Rattle.erd_normal.proofs.Common.{◌≡◌, ℕ, zero, suc, ◌≤◌, Bool, true, false, List, map, Some, None, Option, option_and_then, Ordering, sym, refl, ap, ◌∙◌, subst, arith, IsTotalOrder, options_total, IsStrictlySortedBy, option_cmp, Data, string, array, object, Items, Members, depth, items_depth, members_depth, get_member, get, as_str, is_envelope_name, Family, family, role, MemberKind, kind, list_of_items_exact, members_unique, get_member-depth, rising_unique, is_empty_array, AreMembers, list_of_items, scope_inside, want_of_name, entry_want, is_table_set, Want, Member, Object, has_keys, key_cmp, Preference, key_of, compact_cmp, name_of, name_cmp, key_cmp_total, compact_cmp_total, name_cmp_total, kind_wanted, RisesAs, HasCanonicalEnvelope, IsCanonical, Sides, IsUnused, is_envelope, an_empty_array, of_the_envelope, an_unused_id, a_null, a_flag, a_number, a_text, an_id, a_list, a_set, an_object, MayBeAbsent, Same, SameMembers, IsPermutation-sym, In, In-all, reordered-In}
 use Rattle.erd_normal.proofs.lists.BuiltLists.{listed_depth}
 use Rattle.erd_normal.proofs.lists.Matched.{Matched, matched_equal, paired_equal, matched_rising}
 use Rattle.erd_normal.proofs.same.Back.{entries_paired}
 use Rattle.erd_normal.proofs.same.FromAlike.{Stands, entry_stands, member_stands, stands_tree}
-use Rattle.erd_normal.proofs.same.IdsOfObjects.{asked_id, part_at, IsPart}
-use Rattle.erd_normal.proofs.same.Lookups.{Aligned, both_there, not_both, lookups}
+use Rattle.erd_normal.proofs.same.IdsOfObjects.{asked_id, part_at, IsPart, IsId}
+use Rattle.erd_normal.proofs.same.Lookups.{Aligned, both_there, not_both, lookups, scope_same}
 use Rattle.erd_normal.proofs.same.Related.{entries_matched, matched_within_both, paired_within_both}
-use Rattle.erd_normal.proofs.same.SharedIds.{IsId}
-use Rattle.erd_normal.proofs.same.Steady.{steady_same}
-use Rattle.erd_normal.proofs.same.Types.{scope_same}
-use Rattle.erd_normal.proofs.same.accepted.AskedAgain.{of_report}
+use Rattle.erd_normal.proofs.same.Steady.{steady_same, of_report}
 use Rattle.erd_normal.proofs.same.complete.Sets.{entry_key, MeanOne}
-use Rattle.erd_normal.proofs.unique.Closed.{all_used, closed_sides, one_text, referring_to_all}
-use Rattle.erd_normal.proofs.unique.Ids.{one_key, one_name}
+use Rattle.erd_normal.proofs.unique.Ids.{one_key, one_name, all_used, closed_sides, one_text, referring_to_all}
+use Rattle.erd_normal.proofs.throughout.ThroughoutReports.{of_envelope}
 
 -- ---- the envelopes of canonical reports are equal, member by member
 
--- the row of a name that rows have
-row_named : (k : List ℕ) (rows : List Row) → is_some (kind_in_rows rows k) ≡ true → (m : Row) × Has rows m × (bytes_eq k m.name ≡ true)
-row_named k [] e = cc
-row_named k (row ∷ rows) e = at (bytes_eq k row.name) refl (row_named k rows)
-  where
-    at : (b : Bool) → bytes_eq k row.name ≡ b → (is_some (kind_in_rows rows k) ≡ true → (m : Row) × Has rows m × (bytes_eq k m.name ≡ true)) → (m : Row) × Has (row ∷ rows) m × (bytes_eq k m.name ≡ true)
-    at true is h = (row, here, is)
-    at false is h = let r = h (rw is at e) in (r.0, later r.1, r.2)
-
-row_equal : (t u : Data) → HasCanonicalEnvelope t → HasCanonicalEnvelope u → (m : Row) → Has envelope_rows m → get m.name t ≡ get m.name u
-row_equal t u a b m here = a.format ∙ sym b.format
-row_equal t u a b m (later here) = a.date ∙ sym b.date
-row_equal t u a b m (later (later here)) = a.issuer ∙ sym b.issuer
-row_equal t u a b m (later (later (later here))) = a.abbreviation ∙ sym b.abbreviation
-row_equal t u a b m (later (later (later (later here)))) = a.application ∙ sym b.application
-row_equal t u a b m (later (later (later (later (later here))))) = a.notes ∙ sym b.notes
-row_equal t u a b m (later (later (later (later (later (later here)))))) = a.start ∙ sym b.start
-row_equal t u a b m (later (later (later (later (later (later (later here))))))) = a.end ∙ sym b.end
-row_equal t u a b m (later (later (later (later (later (later (later (later here)))))))) = a.identifiers ∙ sym b.identifiers
-row_equal t u a b m (later (later (later (later (later (later (later (later (later h))))))))) = elim h [ ]
-
 pub envelope_equal : (t u : Data) → HasCanonicalEnvelope t → HasCanonicalEnvelope u → (k : List ℕ) → is_envelope_name k ≡ true → get k t ≡ get k u
-envelope_equal t u a b k e = let r = row_named k envelope_rows e in subst (λ n. get n t ≡ get n u) (sym (text_exact k r.0.name r.2)) (row_equal t u a b r.0 r.1)
+envelope_equal t u a b =
+    of_envelope (λ k. get k t ≡ get k u) (a.format ∙ sym b.format) (a.date ∙ sym b.date) (a.issuer ∙ sym b.issuer) (a.abbreviation ∙ sym b.abbreviation) (a.application ∙ sym b.application) (a.notes ∙ sym b.notes)
+    (a.start ∙ sym b.start) (a.end ∙ sym b.end) (a.identifiers ∙ sym b.identifiers)
 
 -- ---- canonical reports that say the same are equal
-
--- ---- what may be absent
 
 -- outside its envelope a canonical report has no member that may be absent, if each `@id` is used
 none_absent : (π : Preference) (t l : Data) → IsCanonical π t → ((s : List ℕ) → IsId t s → IsUnused l s → ⊥) → (w : Want) (ms : Members) → Stands t w (object ms) → (n : List ℕ) (d : Data) → get_member n ms ≡ Some d
@@ -67,7 +43,7 @@ by_one_order cmp order key key' same xs ys rise rise' h = paired_equal (λ x y e
 
 by_texts : (xs ys : List Data) → IsStrictlySortedBy compact_cmp xs → IsStrictlySortedBy compact_cmp ys → Matched (λ x y. x ≡ y) xs ys → xs ≡ ys
 by_texts xs ys rise rise' h =
-    let r = matched_equal (λ x y e. e) h in rising_unique compact_cmp compact_cmp_total xs ys rise rise' (λ d i. reordered-has d r i) (λ d i. reordered-has d (reordered_back r) i)
+    let r = matched_equal (λ x y e. e) h in rising_unique compact_cmp compact_cmp_total xs ys rise rise' (λ d i. reordered-In d r i) (λ d i. reordered-In d (IsPermutation-sym _ _ r) i)
 
 module _ (π : Preference) (t u : Data) (canonical : IsCanonical π t) (canonical' : IsCanonical π u) (both : MeanOne π t u) where
   by_keys : (xs ys : List Data) → IsStrictlySortedBy (option_cmp key_cmp) (map (key_of π) xs) → IsStrictlySortedBy (option_cmp key_cmp) (map (key_of π) ys) → Matched (λ x y. x ≡ y) xs ys → xs ≡ ys
@@ -114,17 +90,17 @@ module _ (π : Preference) (t u : Data) (canonical : IsCanonical π t) (canonica
   -- ---- entries
 
   entry_equal : (n : ℕ) → Below n → (w w' : Want) (o : Option Want) → entry_want w ≡ o → entry_want w' ≡ o → (ds es : Items) → suc (items_depth ds) ≤ n → Stands t w (array ds) → Stands u w' (array es)
-      → (x y : Data) → Has (list_of_items ds) x → Has (list_of_items es) y → Same m o x y → x ≡ y
-  entry_equal n below w w' None asks asks' ds es small st st' x y i j h = steady_same m (λ v e. cc) h
+      → (x y : Data) → In x (list_of_items ds) → In y (list_of_items es) → Same m o x y → x ≡ y
+  entry_equal n below w w' None asks asks' ds es small st st' x y i j h = steady_same m h refl
   entry_equal n below w w' (Some v) asks asks' ds es small st st' x y i j h =
-      let low : depth x ≤ items_depth ds = all-Has (λ d. depth d ≤ items_depth ds) (list_of_items ds) x (listed_depth ds (items_depth ds) (omega arith)) i in
+      let low : depth x ≤ items_depth ds = In-all (λ d. depth d ≤ items_depth ds) x (list_of_items ds) (listed_depth ds (items_depth ds) (omega arith)) i in
       below v x y (omega (arith, low, small)) (entry_stands t w v (array ds) asks st x i) (entry_stands u w' v (array es) asks' st' y j) h
 
   -- ---- members
 
   module _ (n : ℕ) (below : Below n) (w : Want) (ms ns : Members) (small : suc (members_depth ms) ≤ n) (st : Stands t w (object ms)) (st' : Stands u w (object ns)) (scopes : scope_inside w (object ms) ≡ scope_inside w (object ns)) where
     value_at : (k : List ℕ) (o : Option Want) → want_of_name (scope_inside w (object ms)) k ≡ o → (d e : Data) → get_member k ms ≡ Some d → get_member k ns ≡ Some e → Same m o d e → d ≡ e
-    value_at k None asks d e is is' h = steady_same m (λ v e. cc) h
+    value_at k None asks d e is is' h = steady_same m h refl
     value_at k (Some v) asks d e is is' h =
         let low : depth d ≤ members_depth ms = get_member-depth k d ms is in
         below v d e (omega (arith, low, small)) (member_stands t w ms st k v d asks is) (member_stands u w ns st' k v e (ap (λ s. want_of_name s k) (sym scopes) ∙ asks) is') h
@@ -176,5 +152,5 @@ module _ (π : Preference) (t u : Data) (canonical : IsCanonical π t) (canonica
 
   -- and so are the entries of two arrays
   pub entries_equal : (w w' v : Want) (ds es : Items) → entry_want w ≡ Some v → entry_want w' ≡ Some v → Stands t w (array ds) → Stands u w' (array es)
-      → (x y : Data) → Has (list_of_items ds) x → Has (list_of_items es) y → Same m (Some v) x y → x ≡ y
+      → (x y : Data) → In x (list_of_items ds) → In y (list_of_items es) → Same m (Some v) x y → x ≡ y
   entries_equal w w' v ds es asks asks' st st' x y i j h = same_equal v x y (entry_stands t w v (array ds) asks st x i) (entry_stands u w' v (array es) asks' st' y j) h

@@ -1,9 +1,8 @@
 -- Canonical reports that mean the same are equal, since they say the same.
-use Rattle.erd_normal.proofs.Common.{◌≡◌, ℕ, Bool, true, false, List, [], Some, None, sym, refl, ap, ◌∙◌, subst, Data, array, Family, family, Role, role, MemberKind, kind, Step, array_from, list_of_items_exact, position_of, Within-root, wanted_within, unrepeated, within-tree, Within, ShapeFault, NoneOf, entries_of, Asked, asked, asked_at, Want, Member, Object, Reference, has-flat, no_shape_fault, Contains-Has, Has-Contains, flat-has, one_object, has_keys, Preference, Placed, contests, selections_of_contest, objects, IsObject, id_of, key_set, content_of, object_record, keys_named, kind_wanted, IsCanonical, ReferencesAgree, ObjectsAgree, CanonicalIsUnique, MeanAlike, Sides}
+use Rattle.erd_normal.proofs.Common.{◌≡◌, ℕ, Bool, true, false, List, [], Some, None, sym, refl, ap, ◌∙◌, subst, Data, array, Family, family, Role, role, MemberKind, kind, Step, list_of_items_exact, position_of, Within-root, wanted_within, unrepeated, within-tree, Within, ShapeFault, NoneOf, entries_of, Asked, asked, asked_at, Want, Member, Object, Reference, no_shape_fault, one_object, has_keys, Preference, Placed, contests, selections_of_contest, objects, IsObject, id_of, key_set, content_of, object_record, keys_named, kind_wanted, IsCanonical, ReferencesAgree, ObjectsAgree, CanonicalIsUnique, MeanAlike, Sides, NamesAgree, HaveSameNames, In-flat_map, In-flat_map_from, In-from_contains, contains_from_In}
 use Rattle.erd_normal.proofs.same.FromAlike.{Stands}
 use Rattle.erd_normal.proofs.same.complete.Objects.{all_says, classes_same, members_value, none_aligned, two_say, within_t, within_u}
 use Rattle.erd_normal.proofs.same.complete.Sets.{MeanOne, references_matched, TextsTied}
-use Rattle.erd_normal.proofs.unique.Closed.{none_alone, referring_to_all, closed_sides, one_text}
 use Rattle.erd_normal.proofs.unique.SameTrees.{same_equal, entries_equal, sets_equal}
 use Rattle.erd_normal.proofs.same.complete.Members.{leaves}
 use Rattle.erd_normal.proofs.lists.Matched.{paired_equal}
@@ -11,7 +10,7 @@ use Rattle.erd_normal.proofs.same.Back.{entries_paired}
 use Rattle.erd_normal.proofs.same.Related.{matched_within_both, paired_within_both}
 use Rattle.erd_normal.proofs.same.complete.Contents.{content_says}
 use Rattle.erd_normal.proofs.same.complete.Texts.{by_name, texts_tied}
-use Rattle.erd_normal.proofs.unique.Ids.{ids_alike}
+use Rattle.erd_normal.proofs.unique.Ids.{ids_alike, none_alone, referring_to_all, closed_sides, one_text}
 
 pub mean_one : (π : Preference) (t u : Data) → MeanAlike π t u → MeanOne π t u
 mean_one π t u alike = record { left_tree = alike.left_tree; right_tree = alike.right_tree; left = alike.left.accepted; right = alike.right.accepted; same = alike.same }
@@ -31,9 +30,9 @@ unique π t u alike =
 -- a selection has an `@id`
 selection_id : (π : Preference) (t : Data) → IsCanonical π t → (o : Placed) → IsObject t family.Selection o → (s : List ℕ) × (id_of o.value ≡ Some s)
 selection_id π t canonical o h =
-    let c = has-flat selections_of_contest (contests t) o (Has-Contains (objects family.Selection t) o h) in
+    let c = In-flat_map_from selections_of_contest (contests t) o (In-from_contains o (objects family.Selection t) h) in
     let i = position_of (selections_of_contest c.0) o c.2 in
-    (_, canonical.ids.selections i.0 c.0 o (Contains-Has (contests t) c.0 c.1) i.1)
+    (_, canonical.ids.selections i.0 c.0 o (contains_from_In c.0 (contests t) c.1) i.1)
 
 abbrev style_role : Role
 style_role = role.OfFamily family.Style
@@ -45,8 +44,8 @@ module _ (π : Preference) (t u : Data) (alike : MeanAlike π t u) where
   -- objects with one `@id` are one
   one_by_id : (f : Family) (one other : Placed) → IsObject t f one → IsObject u f other → id_of one.value ≡ id_of other.value → {s : List ℕ} → id_of one.value ≡ Some s → one.value ≡ other.value
   one_by_id f one other h k ids {s} is =
-      ap (λ o. o.value) (one_object π t alike.left.accepted f f one other s (Has-Contains (objects f t) one h)
-      (Has-Contains (objects f t) other (subst (λ x. IsObject x f other) (sym (unique π t u alike)) k)) is (sym ids ∙ is))
+      ap (λ o. o.value) (one_object π t alike.left.accepted f f one other s (In-from_contains one (objects f t) h)
+      (In-from_contains other (objects f t) (subst (λ x. IsObject x f other) (sym (unique π t u alike)) k)) is (sym ids ∙ is))
 
   -- styles have no `@id`, and their records leave out nothing
   style_alike : (one other : Placed) → IsObject t family.Style one → IsObject u family.Style other → object_record π t style_role one.value ≡ object_record π u style_role other.value → id_of one.value ≡ None → id_of other.value ≡ None
@@ -55,8 +54,8 @@ module _ (π : Preference) (t u : Data) (alike : MeanAlike π t u) where
       let alone = none_alone π t u alike.left alike.right both in
       let l = referring_to_all t in
       let r = referring_to_all u in
-      let w = within_t π t u both [] l r alone family.Style one (Has-Contains (objects family.Style t) one h) in
-      let w' = within_u π t u both [] l r alone family.Style other (Has-Contains (objects family.Style u) other k) in
+      let w = within_t π t u both [] l r alone family.Style one (In-from_contains one (objects family.Style t) h) in
+      let w' = within_u π t u both [] l r alone family.Style other (In-from_contains other (objects family.Style u) k) in
       same_equal π t u alike.left alike.right both (Object style_role) one.value other.value (record { repeated = false; inside = w }) (record { repeated = false; inside = w' })
       (two_say π t u both [] l r alone [] style_role one.value other.value w w' (classes_same π t u both [] l r alone style_role one.value other.value records) (leaves family.Style)
       (λ two. none_aligned π t u both [] l r alone style_role two.class two.ms two.ns two.at two.at' (ap id_of (sym two.is) ∙ none) (ap id_of (sym two.is') ∙ none'))
@@ -99,29 +98,27 @@ module _ (π : Preference) (t u : Data) (alike : MeanAlike π t u) where
 
   set_alike : (f : Family) (r r' : Bool) (v w : Data) → has_keys f ≡ true → Within t (asked (Member (kind.Many f) r) v) → Within u (asked (Member (kind.Many f) r') w)
       → key_set (keys_named π t f (entries_of v)) ≡ key_set (keys_named π u f (entries_of w)) → v ≡ w
+  set_alike f r r' (array ds) (array es) h inside inside' same =
+      let st : Stands t (Member (kind.Many f) r) (array ds) = record { repeated = false; inside = inside } in
+      let st' : Stands u (Member (kind.Many f) r') (array es) = record { repeated = false; inside = inside' } in
+      ap array (sets_equal π t u alike.left alike.right (mean_one π t u alike) (Member (kind.Many f) r) (Member (kind.Many f) r') (kind.Many f) r r' ds es refl refl refl st st'
+      (matched_within_both (λ x y. x ≡ y) (entries_equal π t u alike.left alike.right (mean_one π t u alike) (Member (kind.Many f) r) (Member (kind.Many f) r') (Reference f) ds es refl refl st st')
+      (references_matched π t u m alike.left.accepted alike.right.accepted tied f h r r' ds es inside inside' same)))
   set_alike f r r' v w h inside inside' same =
-      let ds = array_from v (wanted_within t (no_shape_fault π t alike.left.accepted) (asked (Member (kind.Many f) r) v) inside) in
-      let es = array_from w (wanted_within u (no_shape_fault π u alike.right.accepted) (asked (Member (kind.Many f) r') w) inside') in
-      let left : Within t (asked (Member (kind.Many f) r) (array ds.0)) = subst (λ x. Within t (asked (Member (kind.Many f) r) x)) ds.1 inside in
-      let right : Within u (asked (Member (kind.Many f) r') (array es.0)) = subst (λ x. Within u (asked (Member (kind.Many f) r') x)) es.1 inside' in
-      let st : Stands t (Member (kind.Many f) r) (array ds.0) = record { repeated = false; inside = left } in
-      let st' : Stands u (Member (kind.Many f) r') (array es.0) = record { repeated = false; inside = right } in
-      ds.1 ∙ ap array (sets_equal π t u alike.left alike.right (mean_one π t u alike) (Member (kind.Many f) r) (Member (kind.Many f) r') (kind.Many f) r r' ds.0 es.0 refl refl refl st st'
-      (matched_within_both (λ x y. x ≡ y) (entries_equal π t u alike.left alike.right (mean_one π t u alike) (Member (kind.Many f) r) (Member (kind.Many f) r') (Reference f) ds.0 es.0 refl refl st st')
-      (references_matched π t u m alike.left.accepted alike.right.accepted tied f h r r' ds.0 es.0 left right
-      (sym (ap (λ x. key_set (keys_named π t f (entries_of x))) ds.1) ∙ same ∙ ap (λ x. key_set (keys_named π u f (entries_of x))) es.1)))) ∙ sym es.1
+      let x = wanted_within t (no_shape_fault π t alike.left.accepted) (asked (Member (kind.Many f) r) v) inside in
+      let y = wanted_within u (no_shape_fault π u alike.right.accepted) (asked (Member (kind.Many f) r') w) inside' in
+      cc
 
   content_alike : (r r' : Bool) (v w : Data) → Within t (asked (Member kind.Content r) v) → Within u (asked (Member kind.Content r') w) → content_of π t v ≡ content_of π u w → v ≡ w
+  content_alike r r' (array ds) (array es) inside inside' same =
+      ap array (list_of_items_exact ds es (paired_equal (λ x y e. e) (paired_within_both (λ x y. x ≡ y)
+      (entries_equal π t u alike.left alike.right (mean_one π t u alike) (Member kind.Content r) (Member kind.Content r') (Object role.Content) ds es refl refl (record { repeated = false; inside = inside }) (record { repeated = false; inside = inside' }))
+      (entries_paired m (content_says π t u m alike.left.accepted alike.right.accepted tied r r' ds es
+      (within-tree t (asked (Member kind.Content r) (array ds)) alike.left_tree inside) (within-tree u (asked (Member kind.Content r') (array es)) alike.right_tree inside') inside inside' same)))))
   content_alike r r' v w inside inside' same =
-      let ds = array_from v (wanted_within t (no_shape_fault π t alike.left.accepted) (asked (Member kind.Content r) v) inside) in
-      let es = array_from w (wanted_within u (no_shape_fault π u alike.right.accepted) (asked (Member kind.Content r') w) inside') in
-      let left : Within t (asked (Member kind.Content r) (array ds.0)) = subst (λ x. Within t (asked (Member kind.Content r) x)) ds.1 inside in
-      let right : Within u (asked (Member kind.Content r') (array es.0)) = subst (λ x. Within u (asked (Member kind.Content r') x)) es.1 inside' in
-      ds.1 ∙ ap array (list_of_items_exact ds.0 es.0 (paired_equal (λ x y e. e) (paired_within_both (λ x y. x ≡ y)
-      (entries_equal π t u alike.left alike.right (mean_one π t u alike) (Member kind.Content r) (Member kind.Content r') (Object role.Content) ds.0 es.0 refl refl (record { repeated = false; inside = left }) (record { repeated = false; inside = right }))
-      (entries_paired m (content_says π t u m alike.left.accepted alike.right.accepted tied r r' ds.0 es.0
-      (within-tree t (asked (Member kind.Content r) (array ds.0)) alike.left_tree left) (within-tree u (asked (Member kind.Content r') (array es.0)) alike.right_tree right) left right
-      (sym (ap (content_of π t) ds.1) ∙ same ∙ ap (content_of π u) es.1)))))) ∙ sym es.1
+      let x = wanted_within t (no_shape_fault π t alike.left.accepted) (asked (Member kind.Content r) v) inside in
+      let y = wanted_within u (no_shape_fault π u alike.right.accepted) (asked (Member kind.Content r') w) inside' in
+      cc
 
 pub references_agree : ReferencesAgree
 references_agree π t u alike = record {
@@ -131,14 +128,18 @@ references_agree π t u alike = record {
       let w' = within_kind u (no_shape_fault π u alike.right.accepted) q b (kind.Many f) is' g in
       set_alike π t u alike f w.0 w'.0 a.value b.value h w.1 w'.1 same;
   selections = λ k n one other a b.
-      let c = Has-Contains (objects family.Contest t) a.contest a.contest_stands in
-      let d = Has-Contains (objects family.Contest u) b.contest b.contest_stands in
-      let x = Has-Contains (selections_of_contest a.contest) one a.stands in
-      let y = Has-Contains (selections_of_contest b.contest) other b.stands in
-      ids_alike π t u alike.left alike.right (mean_one π t u alike) family.Selection one other (flat-has selections_of_contest (contests t) a.contest one c x) (flat-has selections_of_contest (contests u) b.contest other d y)
+      let c = In-from_contains a.contest (objects family.Contest t) a.contest_stands in
+      let d = In-from_contains b.contest (objects family.Contest u) b.contest_stands in
+      let x = In-from_contains one (selections_of_contest a.contest) a.stands in
+      let y = In-from_contains other (selections_of_contest b.contest) b.stands in
+      ids_alike π t u alike.left alike.right (mean_one π t u alike) family.Selection one other (In-flat_map selections_of_contest one a.contest (contests t) c x) (In-flat_map selections_of_contest other b.contest (contests u) d y)
       (by_name refl a.contest b.contest c d (a.contest_key ∙ sym b.contest_key) x y (a.its_name ∙ sym b.its_name));
   contents = λ p q a b is is' e g same.
       let w = within_kind t (no_shape_fault π t alike.left.accepted) p a kind.Content is e in
       let w' = within_kind u (no_shape_fault π u alike.right.accepted) q b kind.Content is' g in
       content_alike π t u alike w.0 w'.0 a.value b.value w.1 w'.1 same;
 }
+
+-- canonical reports that mean the same have the same keys, names and `@id` texts, in the same order
+pub names_agree : NamesAgree
+names_agree π t u alike = subst (HaveSameNames π t) (unique π t u alike) (record { election_keys = refl; keys = λ f h. refl; names = refl; ids = λ f. refl })

@@ -1,18 +1,43 @@
 -- A report that says the same as an accepted one has no fault of references, where its envelope has no fault of shape.
-use Rattle.erd_normal.proofs.Common.{◌≡◌, ℕ, Bool, true, false, not, ◌&&◌, ◌⊎◌, List, [], is_some, IsSomeAnd, IsTrue, Some, None, codes, Option, option_and_then, bytes_eq, unwrap_or, sym, refl, ap, ◌∙◌, subst, inl, inr, true≢false, list_any, option_map_or, Data, string, object, get_member, as_str, kind_of_member, class, Family, family, role, Reason, reason, kind, Step, ObjectIn, all_by_entry, all-Has, Has, Within, names_wanted, is_reference, NoneOf, IsTree, entries_at, text_of, text_at, scope_inside, member_want, want_of_name, Asked, asked, asked_at, Scope, scope, Want, Member, Object, Reference, no_shape_fault, IsAccepted, Preference, is_unresolved, is_of_other_family, is_reference_fault, is_selection_in, is_other_selection, ReferenceFault, has_id, owner, class_of_node, HasSoundEnvelope, IsUsed, Sides, StandsFor, Same}
+use Rattle.erd_normal.proofs.Common.{◌≡◌, ℕ, Bool, true, false, not, ◌&&◌, ◌⊎◌, List, [], is_some, Some, None, codes, Option, option_and_then, bytes_eq, unwrap_or, sym, refl, ap, ◌∙◌, subst, inl, inr, true≢false, option_map_or, Data, string, object, get_member, as_str, kind_of_member, class, Family, family, role, Reason, reason, kind, Step, ObjectIn, Within, is_reference, NoneOf, IsTree, entries_at, text_of, text_at, member_want, Asked, asked, asked_at, Want, Member, Object, Reference, no_shape_fault, IsAccepted, Preference, is_unresolved, is_of_other_family, is_reference_fault, is_selection_in, is_other_selection, ReferenceFault, has_id, owner, class_of_node, HasSoundEnvelope, IsUsed, Sides, StandsFor, Same, Class, get, is_in_envelope, same_Some, object_in, unrepeated, is_none, families, is_owned, In, In-all, In-from_contains, all_from_In, any_at}
 use Rattle.erd_normal.proofs.canonical.ChosenEntries.{IsChosen, contest_named, entries_chosen, list_name}
 use Rattle.erd_normal.proofs.same.IdsOfObjects.{Refers, reference_refers}
 use Rattle.erd_normal.proofs.same.accepted.ListedSelections.{IsListSound, IsListed, none_elsewhere}
-use Rattle.erd_normal.proofs.same.accepted.SoundReferences.{and_no, names_sound}
 use Rattle.erd_normal.proofs.lists.Matched.{Both, both, Matched, matched_any, matched_back}
-use Rattle.erd_normal.proofs.same.FromAlike.{Stands, member_stands}
 use Rattle.erd_normal.proofs.same.InTurn.{OtherText, id_text}
-use Rattle.erd_normal.proofs.same.Lookups.{Aligned, both_there, not_both, MayLack}
 use Rattle.erd_normal.proofs.same.Owners.{has_same, ids_alike, owners_related}
-use Rattle.erd_normal.proofs.same.Related.{Objects, Related, no_report, object_of, objects_of, related_array, selections_matched}
-use Rattle.erd_normal.proofs.same.accepted.AbsentMembers.{IsSound, is_lone}
-use Rattle.erd_normal.proofs.same.accepted.AskedAgain.{AskedAgain, asked_again, none_repeated}
-use Rattle.erd_normal.proofs.same.accepted.RequiredMembers.{required_stays}
+use Rattle.erd_normal.proofs.same.Related.{Related}
+use Rattle.erd_normal.proofs.same.Families.{selections_matched}
+use Rattle.erd_normal.proofs.same.accepted.RequiredMembers.{IsSound, is_lone}
+use Rattle.erd_normal.proofs.same.accepted.AskedAgain.{AskedAgain, asked_again, none_repeated, none_asked}
+use Rattle.erd_normal.proofs.same.means.References.{used}
+use Rattle.erd_normal.proofs.same.means.Members.{BothObjects, Told, both_told, both_objects, steady_nothing, told_entries, none_told}
+use Rattle.erd_normal.proofs.same.Steady.{is_steady_kind}
+use Rattle.erd_normal.proofs.lists.Lists.{is_family}
+
+-- it has no fault of references by itself
+pub record IsSoundIn (u : Data) (a : Asked) : Type 0 where
+  pub sound : (r : Reason) → is_reference_fault u a r ≡ false
+
+-- the second of two tests fails
+pub and_no : (b : Bool) → b && false ≡ false
+and_no true = refl
+and_no false = refl
+
+-- a reference that names an object of the family, and repeats none
+pub names_sound : (u : Data) (f : Family) (s : List ℕ) (o : Data) (b : Bool) → b ≡ false → owner u f s ≡ Some o → IsSoundIn u (record { want = Reference f; value = string s; repeated = b })
+names_sound u f s o b first owned = record { sound = at }
+  where
+    known : is_owned u s ≡ true
+    known = any_at (λ g. is_some (owner u g s)) f families (In-from_contains f families (is_family f)) (ap is_some owned)
+
+    at : (r : Reason) → is_reference_fault u (record { want = Reference f; value = string s; repeated = b }) r ≡ false
+    at reason.Repeated = ap (λ x. x && true) first
+    at reason.Unresolved = ap not known
+    at reason.WrongFamily = ap (λ x. is_none x && is_owned u s) owned
+    at r = refl
+
+-- ---- references of a report that says the same as an accepted one
 
 -- what is no reference has no fault of this kind
 no_reference : (u : Data) (a : Asked) (w : Want) → a.want ≡ w → is_reference w ≡ false → (r : Reason) → is_reference_fault u a r ≡ false
@@ -27,38 +52,24 @@ which_reference : (w : Want) → is_reference w ≡ true → (f : Family) × (w 
 which_reference (Reference f) e = (f, refl)
 which_reference w e = cc
 
-used : (t : Data) (f : Family) (d : Data) (s : List ℕ) → Stands t (Reference f) d → d ≡ string s → IsUsed t s
-used t f d s stands text = record {
-  place = stands.inside.place;
-  asked = record { want = Reference f; value = d; repeated = stands.repeated };
-  stands = stands.inside.is;
-  reference = refl;
-  text = text;
-}
-
 module _ (m : Sides) (left_tree : IsTree m.left) (right_tree : IsTree m.right) (π : Preference) (accepted : IsAccepted π m.left) (sound : HasSoundEnvelope m.right)
     (root : Related m (Object role.Report) m.left m.right) where
   -- ---- each reference
-
-  -- a reference of the left report, and the one that stands for it in the right one
-  record RefersToo (f : Family) (d e : Data) : Type 0 where
-    id : List ℕ
-    text : d ≡ string id
-    other : List ℕ
-    other_text : e ≡ string other
-    pair : StandsFor m id other
-    left_used : IsUsed m.left id
-    right_used : IsUsed m.right other
-    target : Data
-    owned : owner m.left f id ≡ Some target
-    right_target : Data
-    right_owned : owner m.right f other ≡ Some right_target
-    related : Related m (Object (role.OfFamily f)) target right_target
 
   record Owned (f : Family) (other : List ℕ) (o : Data) : Type 0 where
     object : Data
     named : owner m.right f other ≡ Some object
     related : Related m (Object (role.OfFamily f)) o object
+
+  -- a reference of the left report, and the one that stands for it in the right one
+  record RefersToo (f : Family) (d e : Data) : Type 0 where
+    id : List ℕ
+    text : d ≡ string id
+    other : OtherText m id e
+    left_used : IsUsed m.left id
+    right_used : IsUsed m.right other.other
+    target : Data
+    kin : Owned f other.other target
 
   owned_too : (f : Family) (id other : List ℕ) (o : Data) → StandsFor m id other → IsUsed m.left id → IsUsed m.right other → owner m.left f id ≡ Some o → Owned f other o
   owned_too f id other o pair left right e = at (owner m.left f id) (owner m.right f other) e refl (owners_related m left_tree right_tree π accepted root f id other pair left right)
@@ -78,21 +89,7 @@ module _ (m : Sides) (left_tree : IsTree m.left) (right_tree : IsTree m.right) (
       let o = id_text m x.0 r.same refl x.1 in
       let left = used m.left f d x.0 r.left x.1 in
       let right = used m.right f e o.other r.right o.is in
-      let y = owned_too f x.0 o.other x.2.0 o.pair left right x.2.1 in
-      record {
-        id = x.0;
-        text = x.1;
-        other = o.other;
-        other_text = o.is;
-        pair = o.pair;
-        left_used = left;
-        right_used = right;
-        target = x.2.0;
-        owned = x.2.1;
-        right_target = y.object;
-        right_owned = y.named;
-        related = y.related;
-      }
+      record { id = x.0; text = x.1; other = o; left_used = left; right_used = right; target = x.2.0; kin = owned_too f x.0 o.other x.2.0 o.pair left right x.2.1 }
 
   -- what is asked again, as two values that are related
   related_again : (b : Asked) (w : Want) → b.want ≡ w → Within m.right b → (from : AskedAgain m b) → Related m w from.of.value b.value
@@ -105,9 +102,9 @@ module _ (m : Sides) (left_tree : IsTree m.left) (right_tree : IsTree m.right) (
   reference_sound : (b : Asked) (f : Family) → b.want ≡ Reference f → Within m.right b → AskedAgain m b → (r : Reason) → is_reference_fault m.right b r ≡ false
   reference_sound b f is inside from r =
       let s = refers_too f from.of.value b.value (related_again b (Reference f) is inside from) in
-      let here = (names_sound m.right f s.other s.right_target b.repeated from.first s.right_owned).sound r in
+      let here = (names_sound m.right f s.other.other s.kin.object b.repeated from.first s.kin.named).sound r in
       subst (λ w. is_reference_fault m.right (record { want = w; value = b.value; repeated = b.repeated }) r ≡ false) (sym is)
-      (subst (λ v. is_reference_fault m.right (record { want = Reference f; value = v; repeated = b.repeated }) r ≡ false) (sym s.other_text) here)
+      (subst (λ v. is_reference_fault m.right (record { want = Reference f; value = v; repeated = b.repeated }) r ≡ false) (sym s.other.is) here)
 
   -- what is asked for in a reference or in a ballot is asked again
   again : (b : Asked) → is_lone b.want ≡ false → AskedAgain m b ⊎ IsSound b → AskedAgain m b
@@ -132,93 +129,70 @@ module _ (m : Sides) (left_tree : IsTree m.left) (right_tree : IsTree m.right) (
   chosen_too id other d e pair left right r =
       matched_any (has_id id) (has_id other)
       (λ x y k. has_same m id other x y pair left right (ids_alike m left_tree right_tree π accepted root family.Selection x y k))
-      (selections_matched m left_tree right_tree (no_shape_fault π m.left accepted) root d e r)
+      (selections_matched m left_tree right_tree (no_shape_fault π m.left accepted) d e r)
 
-  -- what stands under a name in the left object, and must stand there, has one that says the same in the right object
-  standing : (s : Scope) (n : List ℕ) (w : Want) (v : Data) (o p : Option Data) → want_of_name s n ≡ Some w → o ≡ Some v → Aligned m s n o p → (MayLack m.left s n o → ⊥)
-      → (y : Data) × (p ≡ Some y) × Same m (Some w) v y
-  standing s n w v (Some d) (Some e) asks is (both_there h) stays =
-      let one : d ≡ v = cc in (e, refl, subst (λ z. Same m (Some w) z e) one (subst (λ x. Same m x d e) asks h))
-  standing s n w v o p asks is (not_both l r) stays = absurd (stays l)
+  -- what stands under a name in the left object, of a kind that never may be absent, has one that says the same in the right object
+  standing : (c : Class) (n : List ℕ) (w : Want) (v : Data) (o p : Option Data) → member_want c n ≡ w → is_steady_kind (kind_of_member c n) ≡ true → is_in_envelope c n ≡ false → o ≡ Some v → Told m c n o p
+      → (y : Data) × (p ≡ Some y) × Related m w v y
+  standing c n w v (Some d) (Some e) asks steady inside is (both_told r) = let one : d ≡ v = cc in (e, refl, subst (λ z. Related m w z e) one (subst (λ x. Related m x d e) asks r))
+  standing c n w v o p asks steady inside is (none_told k l) = let x : None ≡ Some v = sym (steady_nothing c n o steady inside k) ∙ is in cc
 
   module _ (d e : Data) (r : Related m (Object role.Content) d e) (among : class_of_node e ≡ Some class.OrderedContest) where
-    abbrev ballot : Want
-    ballot = Object role.Content
+    two : BothObjects m role.Content d e
+    two = both_objects m left_tree right_tree (no_shape_fault π m.left accepted) role.Content d e r
+
+    class_is : two.class ≡ class.OrderedContest
+    class_is = same_Some two.class class.OrderedContest (sym two.right ∙ among)
+
+    told : (name : List ℕ) → bytes_eq name (codes "@type") ≡ false → Told m class.OrderedContest name (get name d) (get name e)
+    told name other = subst (λ c. Told m c name (get name d) (get name e)) class_is (two.members name other)
 
     o : ObjectIn m.left role.Content d
-    o = object_of m left_tree right_tree (no_shape_fault π m.left accepted) role.Content d e r
-
-    pair : Objects m left_tree right_tree ballot (object o.ms) e
-    pair = objects_of m left_tree right_tree ballot o.ms e (subst (λ x. Related m ballot x e) o.is_object r)
-
-    members_same : o.ms ≡ pair.ms
-    members_same = let x = pair.left_is in cc
-
-    scopes : scope_inside ballot (object o.ms) ≡ scope_inside ballot (object pair.ns)
-    scopes = ap (λ x. scope_inside ballot (object x)) members_same ∙ pair.scopes
+    o = object_in m.left (no_shape_fault π m.left accepted) role.Content d (unrepeated m.left (no_shape_fault π m.left accepted) (Object role.Content) d r.left.repeated refl r.left.inside)
 
     here : class_of_node (object o.ms) ≡ Some class.OrderedContest
-    here = let classes : class_of_node (object o.ms) ≡ class_of_node (object pair.ns) = let x : scope.Members role.Content (class_of_node (object o.ms)) ≡ scope.Members role.Content (class_of_node (object pair.ns)) = scopes in cc in classes ∙ sym (ap class_of_node pair.right_is) ∙ among
-
-    class_is : o.class ≡ class.OrderedContest
-    class_is = let h : Some o.class ≡ Some class.OrderedContest = sym o.at.among ∙ here in cc
+    here = ap class_of_node (sym o.is_object) ∙ two.left ∙ ap Some class_is
 
     -- the reference to the contest
     contest : (v : Data) × (get_member (codes "ContestId") o.ms ≡ Some v) × Refers m.left family.Contest v
     contest = contest_named π m.left accepted o.ms o.at.inside here
 
-    asks_contest : want_of_name (scope_inside ballot (object o.ms)) (codes "ContestId") ≡ Some (Reference family.Contest)
-    asks_contest = ap (λ c. want_of_name (scope.Members role.Content c) (codes "ContestId")) here
-
-    contest_too : (y : Data) × (get_member (codes "ContestId") pair.ns ≡ Some y) × Same m (Some (Reference family.Contest)) contest.0 y
+    contest_too : (y : Data) × (get (codes "ContestId") e ≡ Some y) × Related m (Reference family.Contest) contest.0 y
     contest_too =
-        standing (scope_inside ballot (object o.ms)) (codes "ContestId") (Reference family.Contest) contest.0 (get_member (codes "ContestId") o.ms) (get_member (codes "ContestId") pair.ns) asks_contest contest.1
-        (subst (λ x. Aligned m (scope_inside ballot (object x)) (codes "ContestId") (get_member (codes "ContestId") x) (get_member (codes "ContestId") pair.ns)) (sym members_same) (pair.found (codes "ContestId")))
-        (required_stays m.left (no_shape_fault π m.left accepted) (asked ballot (object o.ms)) o.ms (codes "ContestId") o.at.inside refl
-        (ap (λ c. list_any (bytes_eq (codes "ContestId")) (names_wanted (scope.Members role.Content c))) here))
+        standing class.OrderedContest (codes "ContestId") (Reference family.Contest) contest.0 (get (codes "ContestId") d) (get (codes "ContestId") e) refl refl refl (ap (get (codes "ContestId")) o.is_object ∙ contest.1)
+        (told (codes "ContestId") refl)
 
     contest_text : OtherText m contest.2.0 contest_too.0
-    contest_text = id_text m contest.2.0 contest_too.2 refl contest.2.1
-
-    left_stands : Stands m.left ballot (object o.ms)
-    left_stands = record { repeated = false; inside = o.at.inside }
+    contest_text = id_text m contest.2.0 contest_too.2.same refl contest.2.1
 
     kin : Owned family.Contest contest_text.other contest.2.2.0
     kin =
-        owned_too family.Contest contest.2.0 contest_text.other contest.2.2.0 contest_text.pair
-        (used m.left family.Contest contest.0 contest.2.0 (member_stands m.left ballot o.ms left_stands (codes "ContestId") (Reference family.Contest) contest.0 asks_contest contest.1) contest.2.1)
-        (used m.right family.Contest contest_too.0 contest_text.other
-        (member_stands m.right ballot pair.ns pair.right (codes "ContestId") (Reference family.Contest) contest_too.0 (ap (λ s. want_of_name s (codes "ContestId")) (sym scopes) ∙ asks_contest) contest_too.1) contest_text.is)
-        contest.2.2.1
+        owned_too family.Contest contest.2.0 contest_text.other contest.2.2.0 contest_text.pair (used m.left family.Contest contest.0 contest.2.0 contest_too.2.left contest.2.1)
+        (used m.right family.Contest contest_too.0 contest_text.other contest_too.2.right contest_text.is) contest.2.2.1
 
     named : owner m.right family.Contest (text_at (codes "ContestId") e) ≡ Some kin.object
-    named =
-        ap (λ x. owner m.right family.Contest (text_at (codes "ContestId") x)) pair.right_is
-        ∙ ap (λ x. owner m.right family.Contest (unwrap_or (option_and_then as_str x) [])) (contest_too.1 ∙ ap Some contest_text.is) ∙ kin.named
+    named = ap (λ x. owner m.right family.Contest (unwrap_or (option_and_then as_str x) [])) (contest_too.1 ∙ ap Some contest_text.is) ∙ kin.named
 
     -- the lists
     lists : Matched (Related m (Reference family.Selection)) (entries_at list_name d) (entries_at list_name e)
-    lists =
-        related_array m left_tree right_tree (no_shape_fault π m.left accepted) role.Content d e o r list_name kind.Ordered (Member kind.Ordered false) (Reference family.Selection) refl
-        (ap (λ c. kind_of_member c list_name) class_is) (ap (λ c. member_want c list_name) class_is) refl
-        (no_report m left_tree right_tree (no_shape_fault π m.left accepted) role.Content o.class list_name o.role (λ x. cc))
+    lists = told_entries m class.OrderedContest list_name (Member kind.Ordered false) (Reference family.Selection) (get list_name d) (get list_name e) refl refl refl refl (told list_name refl)
 
-    entry_of_contest : (y : Data) → Has (entries_at list_name e) y → is_other_selection m.right e (Reference family.Selection) y ≡ false
+    entry_of_contest : (y : Data) → In y (entries_at list_name e) → is_other_selection m.right e (Reference family.Selection) y ≡ false
     unfolding contest
     entry_of_contest y h =
         let x = matched_back y lists h in
         let s : RefersToo family.Selection x.0 y = refers_too family.Selection x.0 y x.2 in
         let chosen : IsChosen π m.left accepted o.ms o.at.inside here x.0 =
-        all-Has (IsChosen π m.left accepted o.ms o.at.inside here) (entries_at list_name (object o.ms)) x.0 (entries_chosen π m.left accepted o.ms o.at.inside here) (subst (λ z. Has (entries_at list_name z) x.0) o.is_object x.1) in
-        let inside : is_selection_in kin.object s.other ≡ true =
-        sym (chosen_too s.id s.other contest.2.2.0 kin.object s.pair s.left_used s.right_used kin.related)
+        In-all (IsChosen π m.left accepted o.ms o.at.inside here) x.0 (entries_at list_name (object o.ms)) (entries_chosen π m.left accepted o.ms o.at.inside here) (subst (λ z. In x.0 (entries_at list_name z)) o.is_object x.1) in
+        let inside : is_selection_in kin.object s.other.other ≡ true =
+        sym (chosen_too s.id s.other.other contest.2.2.0 kin.object s.other.pair s.left_used s.right_used kin.related)
         ∙ sym (ap (λ z. is_selection_in contest.2.2.0 (text_of z)) s.text) ∙ chosen.1 in
-        ap (is_other_selection m.right e (Reference family.Selection)) s.other_text
-        ∙ ap (λ z. is_some (owner m.right family.Selection s.other) && option_map_or (λ c. not (is_selection_in c s.other)) z false) named
-        ∙ ap (λ b. is_some (owner m.right family.Selection s.other) && not b) inside ∙ and_no (is_some (owner m.right family.Selection s.other))
+        ap (is_other_selection m.right e (Reference family.Selection)) s.other.is
+        ∙ ap (λ z. is_some (owner m.right family.Selection s.other.other) && option_map_or (λ c. not (is_selection_in c s.other.other)) z false) named
+        ∙ ap (λ b. is_some (owner m.right family.Selection s.other.other) && not b) inside ∙ and_no (is_some (owner m.right family.Selection s.other.other))
 
     list_sound : IsListSound m.right e
-    list_sound = all_by_entry (λ y. is_other_selection m.right e (Reference family.Selection) y ≡ false) (entries_at list_name e) entry_of_contest
+    list_sound = all_from_In (λ y. is_other_selection m.right e (Reference family.Selection) y ≡ false) (entries_at list_name e) entry_of_contest
 
   listed : (p : List Step) (b : Asked) → asked_at m.right p ≡ Some b → IsListed m.right b
   listed p b e = record {
@@ -227,13 +201,6 @@ module _ (m : Sides) (left_tree : IsTree m.left) (right_tree : IsTree m.right) (
 
   -- ---- the report
 
-  by_asked : (p : List Step) (r : Reason) → IsSomeAnd (asked_at m.right p) (λ a. IsTrue (is_reference_fault m.right a r)) → ⊥
-  by_asked p r h = at (asked_at m.right p) refl h
-    where
-      at : (o : Option Asked) → asked_at m.right p ≡ o → IsSomeAnd o (λ a. IsTrue (is_reference_fault m.right a r)) → ⊥
-      at None is h = h
-      at (Some b) is h = true≢false (sym h ∙ sound_asked p b is r)
-
   pub same_references : NoneOf (ReferenceFault m.right)
   same_references p reason.SelectionOfOtherContest h = none_elsewhere m.right listed p h
-  same_references p r h = by_asked p r h
+  same_references p r h = none_asked m.right (λ b. is_reference_fault m.right b r) p (λ b is. sound_asked p b is r) h

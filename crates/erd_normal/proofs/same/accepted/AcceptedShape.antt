@@ -1,12 +1,10 @@
 -- A report that says the same as an accepted one has no fault of shape, where its envelope has none.
-use Rattle.erd_normal.proofs.Common.{◌≡◌, ℕ, Bool, true, false, not, ◌&&◌, ◌||◌, ◌⊎◌, List, length, is_some, is_none, IsSomeAnd, IsTrue, ◌==◌, Some, None, codes, Option, bytes_eq, sym, refl, ap, ◌∙◌, subst, ap₂, inl, inr, true≢false, list_any, option_map_or, Data, string, array, object, Members, get_member, as_bool, as_number, is_float, class_in_role, role, Reason, reason, MemberKind, kind, faultless, within-tree, Within, is_text, is_array, is_object, is_empty_array, lacks, has_kind, has_wanted_kind, names_wanted, is_wrong_class, wants_whole, is_outside, is_other_status, wants_entry, is_reference, is_shape_fault, ShapeFault, NoneOf, IsTree, list_of_items, scope_inside, is_elections, Asked, asked_at, Want, Carried, ClassText, Member, Object, Reference, Status, no_shape_fault, IsAccepted, Preference, is_id_text, HasSoundEnvelope, Sides, a_null, a_flag, a_number, a_text, an_id, a_list, a_set, an_object, Same, SameMembers}
+use Rattle.erd_normal.proofs.Common.{◌≡◌, ℕ, Bool, true, false, not, ◌&&◌, ◌⊎◌, List, length, is_none, ◌==◌, Some, codes, Option, bytes_eq, sym, refl, ap, ◌∙◌, subst, list_any, option_map_or, Data, string, array, object, Members, get_member, as_number, is_float, class_in_role, role, Reason, reason, MemberKind, kind, faultless, within-tree, Within, is_empty_array, lacks, has_kind, has_wanted_kind, names_wanted, is_wrong_class, wants_whole, is_outside, is_other_status, wants_entry, is_reference, is_shape_fault, ShapeFault, NoneOf, IsTree, list_of_items, scope_inside, is_elections, Asked, Want, ClassText, Member, Object, Status, no_shape_fault, IsAccepted, Preference, HasSoundEnvelope, Sides, an_id, a_list, a_set, an_object, Same, SameMembers, ⊎_elim}
 use Rattle.erd_normal.proofs.lists.Matched.{matched_length}
-use Rattle.erd_normal.proofs.same.Lookups.{Aligned, both_there, not_both, MayLack, lookups}
+use Rattle.erd_normal.proofs.same.Lookups.{Aligned, both_there, not_both, MayLack, lookups, scope_same, text_same}
 use Rattle.erd_normal.proofs.same.Related.{entries_matched}
-use Rattle.erd_normal.proofs.same.Types.{scope_same, text_same}
-use Rattle.erd_normal.proofs.same.accepted.AbsentMembers.{IsSound}
-use Rattle.erd_normal.proofs.same.accepted.AskedAgain.{AskedAgain, asked_again, flag_clear}
-use Rattle.erd_normal.proofs.same.accepted.RequiredMembers.{required_stays}
+use Rattle.erd_normal.proofs.same.accepted.AskedAgain.{AskedAgain, asked_again, flag_clear, none_asked}
+use Rattle.erd_normal.proofs.same.accepted.RequiredMembers.{required_stays, IsSound}
 
 -- ---- tests of values that say the same
 
@@ -17,26 +15,11 @@ module _ (m : Sides) (w : Want) where
       × ((ms ns : _) → test (object ms) ≡ test (object ns))
 
   pub same_kind : {A : Type 0} (test : Data → A) → SeesKind test → (d e : Data) → Same m (Some w) d e → test d ≡ test e
-  same_kind test sees d e a_null = refl
-  same_kind test sees d e a_flag = refl
-  same_kind test sees d e a_number = refl
-  same_kind test sees d e (a_text is) = refl
   same_kind test sees d e (an_id {s = s} {s' = s'} is h) = sees.0 s s'
   same_kind test sees d e (a_list {ds = ds} {es = es} is h) = sees.1 ds es (matched_length (entries_matched m w (a_list is h)))
   same_kind test sees d e (a_set {ds = ds} {es = es} fs is p h) = sees.1 ds es (matched_length (entries_matched m w (a_set fs is p h)))
   same_kind test sees d e (an_object {ms = ms} {ns = ns} h) = sees.2 ms ns
-
-  same_is_text : (d e : Data) → Same m (Some w) d e → is_text d ≡ is_text e
-  same_is_text = same_kind is_text (λ s s'. refl, λ ds es l. refl, λ ms ns. refl)
-
-  same_is_array : (d e : Data) → Same m (Some w) d e → is_array d ≡ is_array e
-  same_is_array = same_kind is_array (λ s s'. refl, λ ds es l. refl, λ ms ns. refl)
-
-  same_is_object : (d e : Data) → Same m (Some w) d e → is_object d ≡ is_object e
-  same_is_object = same_kind is_object (λ s s'. refl, λ ds es l. refl, λ ms ns. refl)
-
-  same_flag : (d e : Data) → Same m (Some w) d e → as_bool d ≡ as_bool e
-  same_flag = same_kind as_bool (λ s s'. refl, λ ds es l. refl, λ ms ns. refl)
+  same_kind test sees d e h = refl
 
   same_number : (d e : Data) → Same m (Some w) d e → as_number d ≡ as_number e
   same_number = same_kind as_number (λ s s'. refl, λ ds es l. refl, λ ms ns. refl)
@@ -46,38 +29,25 @@ module _ (m : Sides) (w : Want) where
 
 -- ---- faults, but for members that are lacking
 
-kind_same : (m : Sides) (k : MemberKind) (required : Bool) (d e : Data) → Same m (Some (Member k required)) d e → has_kind k d ≡ has_kind k e
-kind_same m kind.Identity required d e h = same_is_text m (Member kind.Identity required) d e h
-kind_same m kind.Word required d e h = same_is_text m (Member kind.Word required) d e h
-kind_same m kind.Label required d e h =
-    ap₂ ◌||◌ (same_is_text m (Member kind.Label required) d e h) (same_is_object m (Member kind.Label required) d e h)
-kind_same m kind.Flag required d e h = ap is_some (same_flag m (Member kind.Flag required) d e h)
-kind_same m kind.Whole required d e h = ap is_some (same_number m (Member kind.Whole required) d e h)
-kind_same m (kind.Many f) required d e h = same_is_array m (Member (kind.Many f) required) d e h
-kind_same m kind.Identifiers required d e h = same_is_array m (Member kind.Identifiers required) d e h
-kind_same m kind.Languages required d e h = same_is_array m (Member kind.Languages required) d e h
-kind_same m (kind.Keyed f) required d e h = same_is_array m (Member (kind.Keyed f) required) d e h
-kind_same m kind.Elections required d e h = same_is_array m (Member kind.Elections required) d e h
-kind_same m kind.Content required d e h = same_is_array m (Member kind.Content required) d e h
-kind_same m kind.Ordered required d e h = same_is_array m (Member kind.Ordered required) d e h
-kind_same m k required d e h = refl
+kind_seen : (m : Sides) (w : Want) (k : MemberKind) → SeesKind m w (has_kind k)
+kind_seen m w kind.Identity = (λ s s'. refl, λ ds es l. refl, λ ms ns. refl)
+kind_seen m w k = (λ s s'. refl, λ ds es l. refl, λ ms ns. refl)
+
+want_seen : (m : Sides) (v w : Want) → SeesKind m v (has_wanted_kind w)
+want_seen m v (Member k required) = kind_seen m v k
+want_seen m v w = (λ s s'. refl, λ ds es l. refl, λ ms ns. refl)
 
 wanted_same : (m : Sides) (w : Want) (d e : Data) → Same m (Some w) d e → has_wanted_kind w d ≡ has_wanted_kind w e
-wanted_same m (Object r) d e h = same_is_object m (Object r) d e h
-wanted_same m (ClassText r) d e h = same_is_text m (ClassText r) d e h
-wanted_same m (Reference f) d e h = same_is_text m (Reference f) d e h
-wanted_same m Status d e h = same_is_text m Status d e h
-wanted_same m (Member k required) d e h = kind_same m k required d e h
-wanted_same m Carried d e h = refl
+wanted_same m w d e h = same_kind m w (has_wanted_kind w) (want_seen m w w) d e h
 
 class_text_same : (m : Sides) (w : Want) (d e : Data) → Same m (Some w) d e → is_wrong_class w d ≡ is_wrong_class w e
 class_text_same m (ClassText r) d e h =
-    ap (λ o. option_map_or (λ s. is_none (class_in_role r s)) o false) (text_same m h (λ v is. let one : ClassText r ≡ v = cc in ap is_id_text (sym one)))
+    ap (λ o. option_map_or (λ s. is_none (class_in_role r s)) o false) (text_same m h refl)
 class_text_same m w d e h = refl
 
 status_same : (m : Sides) (w : Want) (d e : Data) → Same m (Some w) d e → is_other_status w d ≡ is_other_status w e
 status_same m Status d e h =
-    ap (λ o. option_map_or (λ s. not (bytes_eq s (codes "pre-election"))) o false) (text_same m h (λ v is. let one : Status ≡ v = cc in ap is_id_text (sym one)))
+    ap (λ o. option_map_or (λ s. not (bytes_eq s (codes "pre-election"))) o false) (text_same m h refl)
 status_same m w d e h = refl
 
 -- what repeats an earlier value, and what lacks a member, is judged apart
@@ -118,16 +88,10 @@ module _ (m : Sides) (left_tree : IsTree m.left) (right_tree : IsTree m.right) (
       (λ named. aligned_stands a ms n (get_member n ms) (get_member n ns) inside value (ap (λ s. list_any (bytes_eq n) (names_wanted s)) scopes ∙ named) refl (lookups m n h left tree))
 
   none_lacks : (a : Asked) (w : Want) (d e : Data) (n : List ℕ) → Within m.left a → a.want ≡ w → a.value ≡ d → IsTree e → Same m (Some w) d e → list_any (bytes_eq n) (names_wanted (scope_inside w e)) && lacks e n ≡ false
-  none_lacks a w d e n inside want value tree a_null = refl
-  none_lacks a w d e n inside want value tree a_flag = refl
-  none_lacks a w d e n inside want value tree a_number = refl
-  none_lacks a w d e n inside want value tree (a_text is) = refl
-  none_lacks a w d e n inside want value tree (an_id is h) = refl
-  none_lacks a w d e n inside want value tree (a_list is h) = refl
-  none_lacks a w d e n inside want value tree (a_set fs is p h) = refl
   none_lacks a w d e n inside want value tree (an_object {ms = ms} {ns = ns} h) =
       subst (λ x. list_any (bytes_eq n) (names_wanted (scope_inside x (object ns))) && lacks (object ns) n ≡ false) want
       (object_lacks a ms ns n inside value tree (subst (λ x. SameMembers m (scope_inside x (object ms)) ms ns) (sym want) h))
+  none_lacks a w d e n inside want value tree h = refl
 
   same_asked : (a : Asked) (w : Want) → a.want ≡ w → (r : Reason) → is_shape_fault a r ≡ false → is_shape_fault (record { want = w; value = a.value; repeated = a.repeated }) r ≡ false
   same_asked a w e r h = subst (λ x. is_shape_fault (record { want = x; value = a.value; repeated = a.repeated }) r ≡ false) e h
@@ -148,13 +112,6 @@ module _ (m : Sides) (left_tree : IsTree m.left) (right_tree : IsTree m.right) (
 
   -- no value of the right report has a fault of shape
   pub same_shape : HasSoundEnvelope m.right → Same m (Some (Object role.Report)) m.left m.right → NoneOf (ShapeFault m.right)
-  same_shape sound same p r h = at (asked_at m.right p) refl h
-    where
-      no_fault : (b : Asked) → Within m.right b → AskedAgain m b ⊎ IsSound b → is_shape_fault b r ≡ false
-      no_fault b inside (inl from) = no_fault_at b r inside from
-      no_fault b inside (inr alone) = alone.no_fault r
-
-      at : (o : Option Asked) → asked_at m.right p ≡ o → IsSomeAnd o (λ a. IsTrue (is_shape_fault a r)) → ⊥
-      at None is h = h
-      at (Some b) is h =
-          true≢false (sym h ∙ no_fault b (record { place = p; is = is }) (asked_again m left_tree right_tree π accepted sound same p b is))
+  same_shape sound same p r =
+      none_asked m.right (λ b. is_shape_fault b r) p (λ b is.
+      ⊎_elim (no_fault_at b r (record { place = p; is = is })) (λ (alone : IsSound b). alone.no_fault r) (asked_again m left_tree right_tree π accepted sound same p b is))

@@ -1,7 +1,8 @@
 -- Where each list of references to selections holds selections of the contest that its object names, none is of another contest.
-use Rattle.erd_normal.proofs.Common.{◌≡◌, ℕ, zero, suc, Bool, true, false, ◌&&◌, List, [], ◌∷◌, ◌++◌, Some, None, Option, option_map, option_and_then, sym, refl, ap, ◌∙◌, subst, true≢false, same_Some, AllByRecursion, option_map_or, Data, array, object, Items, no_items, item, Members, get_member, get_item, role_of_class, Class, class, family, Role, role, kind, Step, At, Name, and_then-Some, list_of_items, entries_of, entries_at, class_of_object, scope_inside, member_want, want_of_name, entry_want, is_compared_set, Asked, asked, is_repeated, asked_of_member, asked_inside, asked_from, asked_at, Want, Carried, Member, Object, Reference, class_role, is_other_selection, NamesOtherContest, class_of_node}
-use Rattle.erd_meaning.proofs.references.SelectionEntries.{asked_from-append}
+use Rattle.erd_normal.proofs.Common.{◌≡◌, ℕ, Bool, true, false, ◌&&◌, List, [], ◌∷◌, ◌++◌, Some, None, Option, option_map, option_and_then, sym, refl, ap, ◌∙◌, subst, true≢false, same_Some, AllByRecursion, option_map_or, Data, array, object, Items, Members, get_member, get_item, role_of_class, Class, class, family, Role, role, kind, Step, At, Name, and_then-Some, list_of_items, entries_of, entries_at, class_of_object, scope_inside, member_want, want_of_name, entry_want, is_compared_set, Asked, asked, is_repeated, asked_of_member, asked_inside, asked_from, asked_at, Want, Carried, Member, Object, Reference, class_role, is_other_selection, NamesOtherContest, class_of_node, In-all}
+use Rattle.erd_meaning.proofs.references.ReferenceWalks.{asked_from-append}
 use Rattle.erd_normal.proofs.canonical.ChosenEntries.{list_name}
+use Rattle.erd_normal.proofs.same.Lists.{entry_has}
 
 -- ---- the lists of a report
 
@@ -33,11 +34,10 @@ record MemberFound (ow : Option Want) (o : Option Data) (b : Asked) : Type 0 whe
   same : want ≡ b.want
 
 member_found : (ow : Option Want) (o : Option Data) (b : Asked) → asked_of_member ow o ≡ Some b → MemberFound ow o b
-member_found None o b e = cc
-member_found (Some w) None b e = cc
 member_found (Some w) (Some d) b e =
     let is : asked w d ≡ b = cc in
     record { want = w; wanted = refl; found = ap (λ (x : Asked). Some x.value) is; same = ap (λ (x : Asked). x.want) is }
+member_found ow o b e = cc
 
 -- the list stands in an object of the class of contests in the order of a ballot
 record OfContest (w : Want) (d : Data) (b : Asked) : Type 0 where
@@ -61,14 +61,11 @@ class_listing r ms b want wanted same lists found = at (class_of_object r (objec
         let asks : member_want c list_name ≡ b.want = same_Some (member_want c list_name) want e ∙ same in
         of_class r ms c b among (only_contests c (ap lists_selections asks ∙ lists)) found
 
-no_label : role.Label ≡ role.Content → ⊥
-no_label e = cc
-
 in_contest : (w : Want) (ms : Members) (b : Asked) → MemberFound (want_of_name (scope_inside w (object ms)) list_name) (get_member list_name ms) b → lists_selections b.want ≡ true → OfContest w (object ms) b
 in_contest (Object r) ms b m lists =
     let h = class_listing r ms b m.want m.wanted m.same lists m.found in
     record { content = ap Object h.0; among = h.1; stands = (ms, refl, m.found) }
-in_contest (Member kind.Label required) ms b m lists = let h = class_listing role.Label ms b m.want m.wanted m.same lists m.found in absurd (no_label h.0)
+in_contest (Member kind.Label required) ms b m lists = let h : role.Label ≡ role.Content = (class_listing role.Label ms b m.want m.wanted m.same lists m.found).0 in cc
 in_contest Carried ms b m lists =
     let asks : Member kind.StrangeIdentity false ≡ b.want = same_Some (Member kind.StrangeIdentity false) m.want m.wanted ∙ m.same in
     absurd (true≢false (sym lists ∙ ap lists_selections (sym asks)))
@@ -95,8 +92,6 @@ entry_of w (array ds) i a e is = at (entry_want w) refl (get_item i ds) refl e
   where
     at : (ow : Option Want) → entry_want w ≡ ow → (o : Option Data) → get_item i ds ≡ o
         → option_and_then (λ v. option_map (λ d. record { want = v; value = d; repeated = is_compared_set w && is_repeated ds i d }) o) ow ≡ Some a → EntryOf w (array ds) i a
-    at None want o found e = cc
-    at (Some v) want None found e = cc
     at (Some v) want (Some d) found e =
         let same : record { want = v; value = d; repeated = is_compared_set w && is_repeated ds i d } ≡ a = cc in
         record {
@@ -105,12 +100,8 @@ entry_of w (array ds) i a e is = at (entry_want w) refl (get_item i ds) refl e
           is_array = refl;
           found = found ∙ ap (λ (x : Asked). Some x.value) same;
         }
+    at ow want o found e = cc
 entry_of w d i a e is = cc
-
-item_holds : (P : Data → Type 0) (ds : Items) (i : ℕ) (e : Data) → AllByRecursion P (list_of_items ds) → get_item i ds ≡ Some e → P e
-item_holds P no_items i e all found = cc
-item_holds P (item d ds) zero e all found = let same : d ≡ e = cc in subst P same all.0
-item_holds P (item d ds) (suc i) e all found = item_holds P ds i e all.1 found
 
 elsewhere_wants : (u d : Data) (w : Want) (e : Data) → is_other_selection u d w e ≡ true → w ≡ Reference family.Selection
 elsewhere_wants u d (Reference family.Selection) e h = refl
@@ -132,6 +123,6 @@ none_elsewhere u listed p h =
     let entries : entries_at list_name h.ordered_contest.value ≡ list_of_items entry.items =
     ap (entries_at list_name) owner.stands.1 ∙ ap (λ o. option_map_or entries_of o []) (owner.stands.2 ∙ ap Some entry.is_array) in
     let here : is_other_selection u h.ordered_contest.value (Reference family.Selection) h.entry.value ≡ false =
-    item_holds (λ e. is_other_selection u h.ordered_contest.value (Reference family.Selection) e ≡ false) entry.items h.position h.entry.value
-    (subst (AllByRecursion (λ e. is_other_selection u h.ordered_contest.value (Reference family.Selection) e ≡ false)) entries all) entry.found in
+    In-all (λ e. is_other_selection u h.ordered_contest.value (Reference family.Selection) e ≡ false) h.entry.value (list_of_items entry.items)
+    (subst (AllByRecursion (λ e. is_other_selection u h.ordered_contest.value (Reference family.Selection) e ≡ false)) entries all) (entry_has entry.items h.position h.entry.value entry.found) in
     true≢false (sym h.elsewhere ∙ ap (λ w. is_other_selection u h.ordered_contest.value w h.entry.value) wants ∙ here)

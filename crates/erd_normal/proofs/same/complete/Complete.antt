@@ -1,10 +1,10 @@
 -- Accepted reports that mean the same say the same, and so two preferences agree on which mean the same.
-use Rattle.erd_normal.proofs.Common.{◌≡◌, ℕ, zero, suc, true, false, List, [], ◌∷◌, length, Some, None, option_and_then, sym, refl, ap, ◌∙◌, subst, arith, Data, null, Family, role, Step, At, Name, Has, is_reference, Asked, asked, asked_inside, asked_from, asked_at, Object, one_object, Preference, Placed, objects, id_of, PreferencesAgree, Sides, IsUnused, Same}
+use Rattle.erd_normal.proofs.Common.{◌≡◌, ℕ, zero, suc, true, false, List, [], ◌∷◌, length, Some, None, option_and_then, sym, refl, ap, ◌∙◌, subst, arith, Data, null, Family, role, Step, At, Name, is_reference, Asked, asked, asked_inside, asked_from, asked_at, Object, one_object, Preference, Placed, objects, id_of, PreferencesAgree, Sides, IsUnused, Same, In}
 use Rattle.erd_normal.proofs.same.Back.{same_back, turned}
 use Rattle.erd_normal.proofs.same.CameFrom.{CameFrom, reference_came_from}
 use Rattle.erd_normal.proofs.same.InTurn.{OtherText, id_text, reference_is_id}
 use Rattle.erd_normal.proofs.same.complete.Objects.{AloneUnused, all_says}
-use Rattle.erd_normal.proofs.same.complete.Texts.{Counterpart, Couple, counterpart_back, couple_back, couple_there, one_counterpart, one_family, sides, back, there}
+use Rattle.erd_normal.proofs.same.complete.Texts.{Counterpart, Couple, counterpart_back, couple_back, one_counterpart, one_family, sides, back, there}
 use Rattle.erd_normal.proofs.same.complete.Sets.{MeanOne}
 use Rattle.erd_normal.proofs.same.means.Meanings.{saying_the_same_means_the_same}
 use Rattle.erd_normal.specs.SameForms.{MeaningTheSameSaysTheSame, SayingAndMeaningAgree}
@@ -39,39 +39,27 @@ module _ (π : Preference) (t u : Data) (both : MeanOne π t u) where
   idle_says default = all_says π t u both default null null (record { left = λ f o p a h k related is is'. nothing_used a; right = λ f o p b h k related is is'. nothing_used b })
 
   -- the couple of an object, by its `@id`
-  left_couple : (f : Family) (o p : Placed) (a : List ℕ) → Has (objects f t) o → Has (objects f u) p → Counterpart π t u f o p → id_of o.value ≡ Some a → (c : Couple π t u) → c.text ≡ a → c.other ≡ p
+  left_couple : (f : Family) (o p : Placed) (a : List ℕ) → In o (objects f t) → In p (objects f u) → Counterpart π t u f o p → id_of o.value ≡ Some a → (c : Couple π t u) → c.text ≡ a → c.other ≡ p
   left_couple f o p a h k related is c e =
       let one : c.one ≡ o = one_object π t both.left c.family f c.one o a c.one_stands h (c.is ∙ ap Some e) is in
-      let family : c.family ≡ f = one_family π t both.left c.family f o (subst (Has (objects c.family t)) one c.one_stands) h in
-      one_counterpart π t u both.left both.right f o c.other p (subst (λ g. Has (objects g u) c.other) family c.other_stands) k
+      let family : c.family ≡ f = one_family π t both.left c.family f o (subst (λ z. In z (objects c.family t)) one c.one_stands) h in
+      one_counterpart π t u both.left both.right f o c.other p (subst (λ g. In c.other (objects g u)) family c.other_stands) k
       (subst (λ g. Counterpart π t u g o c.other) family (subst (λ x. Counterpart π t u c.family x c.other) one c.related)) related
 
-  right_couple : (f : Family) (o p : Placed) (b : List ℕ) → Has (objects f t) o → Has (objects f u) p → Counterpart π t u f o p → id_of p.value ≡ Some b → (c : Couple π t u) → c.other_text ≡ b → c.one ≡ o
-  right_couple f o p b h k related is c e =
-      let other : c.other ≡ p = one_object π u both.right c.family f c.other p b c.other_stands k (c.other_is ∙ ap Some e) is in
-      let family : c.family ≡ f = one_family π u both.right c.family f p (subst (Has (objects c.family u)) other c.other_stands) k in
-      one_counterpart π u t both.right both.left f p c.one o (subst (λ g. Has (objects g t) c.one) family c.one_stands) h
-      (subst (λ g. Counterpart π u t g p c.one) family (subst (λ x. Counterpart π u t c.family x c.one) other (counterpart_back π t u c.family c.one c.other c.related))) (counterpart_back π t u f o p related)
+  alone_left : (f : Family) (o p : Placed) (a : List ℕ) → In o (objects f t) → In p (objects f u) → Counterpart π t u f o p → id_of o.value ≡ Some a → id_of p.value ≡ None → IsUnused t a
+  alone_left f o p a h k related is is' place asked_there stands reference text =
+      let m : Sides = idle (other_than a) in
+      let from : CameFrom (turned m) u asked_there = reference_came_from (turned m) u t both.right_tree both.left_tree (same_back m (idle_says (other_than a))) place asked_there stands reference in
+      let x : OtherText m a from.of.value = id_text m a (same_back (turned m) from.same) (reference_is_id asked_there.want reference) text in
+      let c = couple_back π t u both (other_than a) a x.other x.pair.1 (other_than_itself a) in
+      let other : c.0.other ≡ p = left_couple f o p a h k related is c.0 c.1 in
+      let e : Some c.0.other_text ≡ None = sym c.0.other_is ∙ ap (λ (z : Placed). id_of z.value) other ∙ is' in
+      cc
 
-  pub alone_unused : AloneUnused π t u t u
-  alone_unused = record {
-    left = λ f o p a h k related is is' place asked_there stands reference text.
-        let m : Sides = idle (other_than a) in
-        let from : CameFrom (turned m) u asked_there = reference_came_from (turned m) u t both.right_tree both.left_tree (same_back m (idle_says (other_than a))) place asked_there stands reference in
-        let x : OtherText m a from.of.value = id_text m a (same_back (turned m) from.same) (reference_is_id asked_there.want reference) text in
-        let c = couple_back π t u both (other_than a) a x.other x.pair.1 (other_than_itself a) in
-        let other : c.0.other ≡ p = left_couple f o p a h k related is c.0 c.1 in
-        let e : Some c.0.other_text ≡ None = sym c.0.other_is ∙ ap (λ (z : Placed). id_of z.value) other ∙ is' in
-        cc;
-    right = λ f o p b h k related is is' place asked_there stands reference text.
-        let m : Sides = idle (other_than b) in
-        let from : CameFrom m t asked_there = reference_came_from m t u both.left_tree both.right_tree (idle_says (other_than b)) place asked_there stands reference in
-        let x : OtherText (turned m) b from.of.value = id_text (turned m) b (same_back m from.same) (reference_is_id asked_there.want reference) text in
-        let c = couple_there π t u both (other_than b) x.other b x.pair.1 (other_than_itself b) in
-        let one : c.0.one ≡ o = right_couple f o p b h k related is' c.0 c.2 in
-        let e : Some c.0.text ≡ None = sym c.0.is ∙ ap (λ (z : Placed). id_of z.value) one ∙ is in
-        cc;
-  }
+pub alone_unused : (π : Preference) (t u : Data) → MeanOne π t u → AloneUnused π t u t u
+alone_unused π t u both =
+    let back : MeanOne π u t = record { left_tree = both.right_tree; right_tree = both.left_tree; left = both.right; right = both.left; same = sym both.same } in
+    record { left = alone_left π t u both; right = λ f o p b h k related is is'. alone_left π u t back f p o b k h (counterpart_back π t u f o p related) is' is }
 
 -- ---- accepted reports that mean the same say the same, and so two preferences agree on which mean the same
 

@@ -1,5 +1,5 @@
 -- The contests and headers of the ballots of an accepted report: what they refer to, and the arrays inside them.
-use Rattle.erd_normal.proofs.Common.{◌≡◌, ℕ, true, false, ◌⊎◌, List, Some, None, codes, Option, bytes_eq, is_eq, Ordering, Equal, sym, refl, ap, ◌∙◌, subst, inl, inr, is_eq-slice_cmp, Data, string, array, object, Items, Members, no_members, member, get_member, role_of_class, text_cmp, Class, class, family, role, kind, string_from_text, array_from, object_in, is_absent, is_filled_array, MayBeArray, ObjectAt, ObjectIn, all-Has, Has, of_role, wanted_within, lacks_none, member_within, Within, has_wanted_kind, entries_at, text_of, member_want, asked, Want, Member, Object, Reference, no_shape_fault, IsAccepted, Preference, is_selection_in, Content, no_content, owner, content_of, content_inside}
+use Rattle.erd_normal.proofs.Common.{◌≡◌, ℕ, true, false, ◌⊎◌, List, Some, None, codes, Option, bytes_eq, is_eq, Ordering, Equal, sym, refl, ap, ◌∙◌, subst, inl, inr, is_eq-slice_cmp, Data, string, array, object, Items, Members, no_members, member, get_member, role_of_class, text_cmp, Class, class, family, role, kind, string_from_text, array_from, object_in, is_absent, is_filled_array, MayBeArray, ObjectAt, ObjectIn, of_role, wanted_within, lacks_none, member_within, Within, has_wanted_kind, entries_at, text_of, member_want, asked, Want, Member, Object, Reference, no_shape_fault, IsAccepted, Preference, is_selection_in, Content, no_content, owner, content_of, content_inside, In, In-all}
 use Rattle.erd_normal.proofs.canonical.ChosenEntries.{IsChosen, contest_named, entries_chosen, list_name}
 
 abbrev pub inner_name : List ℕ
@@ -42,7 +42,7 @@ pub record ContestNode (t : Data) (ms : Members) : Type 0 where
   pub meant : Data
   pub is : owner t family.Contest id ≡ Some meant
   pub list : MayBeArray (λ ds. Unit {0}) (get_member list_name ms)
-  pub chosen : (d : Data) → Has (entries_at list_name (object ms)) d → IsSelected meant d
+  pub chosen : (d : Data) → In d (entries_at list_name (object ms)) → IsSelected meant d
 
 -- a header on a ballot
 pub record HeaderNode (t : Data) (ms : Members) : Type 0 where
@@ -82,7 +82,7 @@ module _ (π : Preference) (t : Data) (accepted : IsAccepted π t) where
         is = c.2.2.1;
         list = array_within (Member kind.Ordered false) array_from (λ ds. Unit {0}) (get_member list_name ms) (λ v e. member_at class.OrderedContest ms a list_name refl v e) (λ ds e. tt);
         chosen = λ d h.
-            let k = all-Has (IsChosen π t accepted ms a.inside a.among) (entries_at list_name (object ms)) d (entries_chosen π t accepted ms a.inside a.among) h in
+            let k = In-all (IsChosen π t accepted ms a.inside a.among) d (entries_at list_name (object ms)) (entries_chosen π t accepted ms a.inside a.among) h in
             (k.0.0, k.0.1, ap (λ x. is_selection_in c.2.2.0 (text_of x)) (sym k.0.1) ∙ k.1);
       }
 

@@ -1,30 +1,17 @@
 -- Contents of ballots that mean the same say the same, headers inside headers included.
-use Rattle.erd_normal.proofs.Common.{◌≡◌, ℕ, zero, suc, ◌≤◌, max, Bool, true, false, cond, List, [], ◌∷◌, map, Some, None, codes, Option, IsPermutation, option_and_then, bytes_eq, sym, refl, ap, ◌∙◌, subst, arith, Data, string, array, object, Items, no_items, item, Members, depth, items_depth, members_depth, get_member, get_item, as_str, items_of, kind_of_member, is_required, Class, class, Family, family, role, MemberKind, kind, At, entries_in, text_exact, list_of_items-items_of, get_member-tree, get_member-depth, is_absent, is_filled_array, MayBeArray, here, later, Has, Within-step, of_role, member_within, Within, kind_of_unlisted_has, no_strange, no_unknown, IsTree, AreTrees, AreMembers, list_of_items, want_of_kind, member_want, want_of_name, entry_want, is_table_set, asked, Scope, scope, Want, ClassText, Member, Object, Reference, no_shape_fault, resolves, IsPermutation-reordered, IsAccepted, has_keys, Preference, key_of, JsonMap, Content, no_content, Node, a_contest, a_header, NameParts, if_carried, carried_members, contest_node, header_node, nodes_of, node_of, content_inside, key_named, name_named, Key, Sides, StandsFor, is_array_kind, an_empty_array, a_text, an_id, a_list, a_set, an_object, no_entry, one_entry, Same, SameEntries, SameMembers}
+use Rattle.erd_normal.proofs.Common.{◌≡◌, ℕ, zero, suc, ◌≤◌, max, Bool, true, false, cond, List, [], ◌∷◌, map, Some, None, codes, Option, option_and_then, bytes_eq, sym, refl, ap, ◌∙◌, subst, arith, Data, string, array, object, Items, no_items, item, Members, depth, items_depth, members_depth, get_member, get_item, as_str, kind_of_member, is_required, Class, class, Family, family, role, MemberKind, kind, At, entries_in, text_exact, get_member-tree, get_member-depth, is_absent, is_filled_array, MayBeArray, Within-step, of_role, member_within, Within, kind_of_unlisted_has, no_strange, no_unknown, IsTree, AreTrees, AreMembers, want_of_kind, member_want, want_of_name, entry_want, is_table_set, asked, Scope, scope, ClassText, Member, Object, Reference, no_shape_fault, resolves, IsAccepted, has_keys, Preference, key_of, JsonMap, Content, no_content, Node, a_contest, a_header, NameParts, if_carried, carried_members, contest_node, header_node, nodes_of, node_of, content_inside, key_named, name_named, Key, Sides, StandsFor, is_array_kind, an_empty_array, a_text, an_id, an_object, no_entry, one_entry, Same, SameEntries, SameMembers, In, inl, inr}
 use Rattle.erd_normal.proofs.lists.Matched.{Matched, matched_back, matched_on, Paired, none, more}
-use Rattle.erd_normal.proofs.lists.BuiltLists.{items_again}
-use Rattle.erd_normal.proofs.same.Back.{paired_entries, paired_flip, entries_paired}
-use Rattle.erd_normal.proofs.same.Lists.{follows}
-use Rattle.erd_normal.proofs.same.Lookups.{Aligned, both_there, not_both, lacks_none, lacks_one}
+use Rattle.erd_normal.proofs.same.Back.{entries_paired, set_says, list_says}
+use Rattle.erd_normal.proofs.same.Lookups.{Aligned, both_there, not_both, lacks_none, lacks_one, merged}
 use Rattle.erd_normal.proofs.canonical.ChosenEntries.{list_name}
-use Rattle.erd_normal.proofs.same.LabelsBack.{equal_aligned}
-use Rattle.erd_normal.proofs.same.Merged.{merged}
-use Rattle.erd_normal.proofs.same.Steady.{AllPlain, is_plain, is_plain_kind, plain_of_kind}
+use Rattle.erd_normal.proofs.same.Labels.{equal_aligned}
+use Rattle.erd_normal.proofs.same.Steady.{AllPlain, is_plain_kind, plain_of_kind}
 use Rattle.erd_normal.proofs.same.complete.ContentNodes.{ContestNode, HeaderNode, IsSelected, NodeAt, NodeView, content_at, content_inside-get, contest_view, header_view, inner_name, node_view}
 use Rattle.erd_normal.proofs.same.complete.Sets.{TextsTied}
 
 -- ---- arrays whose entries say the same say the same, and so do an absent one and an empty one
 
 module _ (m : Sides) where
-  pub set_says : (w : Want) (ds es : Items) → is_table_set w ≡ true → Matched (Same m (entry_want w)) (list_of_items ds) (list_of_items es) → Same m (Some w) (array ds) (array es)
-  set_says w ds es is h =
-      let f = follows h.reordered (paired_flip h.paired) in
-      a_set (items_of f.new) is (subst (IsPermutation (list_of_items ds)) (sym (list_of_items-items_of f.new)) (IsPermutation-reordered f.reordered))
-      (subst (SameEntries m (entry_want w) (items_of f.new)) (items_again es) (paired_entries m (entry_want w) (paired_flip f.paired)))
-
-  pub list_says : (w : Want) (ds es : Items) → is_table_set w ≡ false → Paired (Same m (entry_want w)) (list_of_items ds) (list_of_items es) → Same m (Some w) (array ds) (array es)
-  list_says w ds es is h =
-      a_list is (subst (λ x. SameEntries m (entry_want w) x es) (items_again ds) (subst (SameEntries m (entry_want w) (items_of (list_of_items ds))) (items_again es) (paired_entries m (entry_want w) h)))
-
   module _ (s : Scope) (n : List ℕ) (k : MemberKind) (r : Bool) (asks : want_of_name s n ≡ Some (Member k r)) (kind : is_array_kind k ≡ true) where
     -- an empty array may be absent
     pub left_empty : (o : Option Data) → o ≡ Some (array no_items) → Aligned m s n o None
@@ -41,10 +28,10 @@ module _ (m : Sides) where
         → MayBeArray P o → MayBeArray Q p → Matched (Same m (entry_want (Member k r))) (entries_in o) (entries_in p) → Aligned m s n o p
     sets_aligned P Q o p set is_absent is_absent h = not_both (lacks_none m.left s n) (lacks_none m.right s n)
     sets_aligned P Q o p set is_absent (is_filled_array {ds = no_items} q) h = right_empty _ refl
-    sets_aligned P Q o p set is_absent (is_filled_array {ds = item e es} q) h = elim (matched_back e h here).1 [ ]
+    sets_aligned P Q o p set is_absent (is_filled_array {ds = item e es} q) h = elim (matched_back e h (inl refl)).1 [ ]
     sets_aligned P Q o p set (is_filled_array {ds = no_items} q) is_absent h = left_empty _ refl
-    sets_aligned P Q o p set (is_filled_array {ds = item d ds} q) is_absent h = elim (matched_on d h here).1 [ ]
-    sets_aligned P Q o p set (is_filled_array {ds = ds} q) (is_filled_array {ds = es} q') h = there_both ds es (set_says (Member k r) ds es set h)
+    sets_aligned P Q o p set (is_filled_array {ds = item d ds} q) is_absent h = elim (matched_on d h (inl refl)).1 [ ]
+    sets_aligned P Q o p set (is_filled_array {ds = ds} q) (is_filled_array {ds = es} q') h = there_both ds es (set_says m (Member k r) ds es set h)
 
     -- and lists, with paired ones
     pub lists_aligned : (P Q : Items → Type 0) (o p : Option Data) → is_table_set (Member k r) ≡ false
@@ -54,7 +41,7 @@ module _ (m : Sides) where
     lists_aligned P Q o p list is_absent (is_filled_array {ds = item e es} q) h = elim h [ ]
     lists_aligned P Q o p list (is_filled_array {ds = no_items} q) is_absent h = left_empty _ refl
     lists_aligned P Q o p list (is_filled_array {ds = item d ds} q) is_absent h = elim h [ ]
-    lists_aligned P Q o p list (is_filled_array {ds = ds} q) (is_filled_array {ds = es} q') h = there_both ds es (list_says (Member k r) ds es list h)
+    lists_aligned P Q o p list (is_filled_array {ds = ds} q) (is_filled_array {ds = es} q') h = there_both ds es (list_says m (Member k r) ds es list h)
 
 -- ---- contents of ballots that mean the same say the same, headers inside headers included
 
@@ -99,14 +86,13 @@ header_rest : (k : List ℕ) → bytes_eq k (codes "@type") ≡ false → bytes_
 header_rest k e f g = rw (f, g) (kind_of_unlisted_has is_rest class.OrderedHeader k e refl refl refl)
 
 -- lists with the same values, entry by entry
-paired_by : {A B C : Type 0} (R : A → B → Type 0) (f : A → C) (g : B → C) (xs : List A) (ys : List B) → ((x : A) (y : B) → Has xs x → Has ys y → f x ≡ g y → R x y) → map f xs ≡ map g ys → Paired R xs ys
+paired_by : {A B C : Type 0} (R : A → B → Type 0) (f : A → C) (g : B → C) (xs : List A) (ys : List B) → ((x : A) (y : B) → In x xs → In y ys → f x ≡ g y → R x y) → map f xs ≡ map g ys → Paired R xs ys
 paired_by R f g [] [] each e = none
-paired_by R f g [] (y ∷ ys) each e = cc
-paired_by R f g (x ∷ xs) [] each e = cc
 paired_by R f g (x ∷ xs) (y ∷ ys) each e =
     let first : f x ≡ g y = cc in
     let rest : map f xs ≡ map g ys = cc in
-    more (each x y here here first) (paired_by R f g xs ys (λ a b i j. each a b (later i) (later j)) rest)
+    more (each x y (inl refl) (inl refl) first) (paired_by R f g xs ys (λ a b i j. each a b (inr i) (inr j)) rest)
+paired_by R f g xs ys each e = cc
 
 abbrev entry_name : Preference → Data → Data → Option NameParts
 entry_name π t d = option_and_then (name_named π t) (as_str d)
@@ -114,8 +100,6 @@ entry_name π t d = option_and_then (name_named π t) (as_str d)
 -- a kind that neither refers nor has content is plain
 rest_plain : (k : MemberKind) → is_rest k ≡ true → is_plain_kind k ≡ true
 rest_plain kind.Carried h = refl
-rest_plain kind.StrangeReference h = refl
-rest_plain kind.StrangeIdentity h = refl
 rest_plain k h = cc
 
 module _ (π : Preference) (t u : Data) (m : Sides) (accepted : IsAccepted π t) (accepted' : IsAccepted π u) (tied : TextsTied π t u m) where
@@ -153,10 +137,7 @@ module _ (π : Preference) (t u : Data) (m : Sides) (accepted : IsAccepted π t)
       asks = ap (λ b. cond b (Some (ClassText role.Content)) (Some (member_want c k))) other ∙ ap Some wants
 
       plain : AllPlain (want_of_name (in_class c) k)
-      plain v found =
-          let both : Some (want_of_kind (kind_of_member c k) (is_required c k)) ≡ Some v = sym asks ∙ found in
-          let one : want_of_kind (kind_of_member c k) (is_required c k) ≡ v = cc in
-          ap is_plain (sym one) ∙ plain_of_kind (kind_of_member c k) (is_required c k) (rest_plain (kind_of_member c k) rest)
+      plain = subst AllPlain (sym asks) (plain_of_kind (kind_of_member c k) (is_required c k) (rest_plain (kind_of_member c k) rest))
 
   -- ---- the list of a contest
 
@@ -249,12 +230,11 @@ module _ (π : Preference) (t u : Data) (m : Sides) (accepted : IsAccepted π t)
       → MayBeArray (IsContent t) o → MayBeArray (IsContent u) p → content_at π t o ≡ content_at π u p → Paired (Same m (Some (Object role.Content))) (entries_in o) (entries_in p)
   inside_paired n deeper o p small tree tree' is_absent is_absent same = none
   inside_paired n deeper o p small tree tree' is_absent (is_filled_array {ds = no_items} w) same = none
-  inside_paired n deeper o p small tree tree' is_absent (is_filled_array {ds = item d ds} w) same = cc
   inside_paired n deeper o p small tree tree' (is_filled_array {ds = no_items} w) is_absent same = none
-  inside_paired n deeper o p small tree tree' (is_filled_array {ds = item d ds} w) is_absent same = cc
   inside_paired n deeper o p small tree tree' (is_filled_array {ds = ds} w) (is_filled_array {ds = es} w') same =
       let low : suc (items_depth ds) ≤ suc n = small (array ds) refl in
       entries_paired m (deeper ds es (omega arith) (tree (array ds) refl) (tree' (array es) refl) (entries_within t false ds w) (entries_within u false es w') same)
+  inside_paired n deeper o p small tree tree' a b same = cc
 
   inside_aligned : (n : ℕ) → Nodes n → (ms ns : Members) → members_depth ms ≤ suc n → AreMembers ms → AreMembers ns → HeaderNode t ms → HeaderNode u ns → content_inside π t ms ≡ content_inside π u ns
       → Aligned m (in_class class.OrderedHeader) inner_name (get_member inner_name ms) (get_member inner_name ns)
@@ -285,14 +265,13 @@ module _ (π : Preference) (t u : Data) (m : Sides) (accepted : IsAccepted π t)
 
   nodes_say_at : (n : ℕ) → Nodes n → Nodes (suc (suc n))
   nodes_say_at n deeper no_items no_items small tree tree' each each' same = no_entry
-  nodes_say_at n deeper no_items (item e es) small tree tree' each each' same = cc
-  nodes_say_at n deeper (item d ds) no_items small tree tree' each each' same = cc
   nodes_say_at n deeper (item d ds) (item e es) small tree tree' each each' same =
       let first : node_of π t d ≡ node_of π u e = cc in
       let rest : nodes_of π t ds ≡ nodes_of π u es = cc in
       let low : max (depth d) (items_depth ds) ≤ suc (suc n) = small in
       one_entry (node_says n deeper d e (omega arith) tree.0 tree'.0 (node_view π t accepted d (each zero d refl)) (node_view π u accepted' e (each' zero e refl)) first)
       (nodes_say_at n deeper ds es (omega arith) tree.1 tree'.1 (λ i. each (suc i)) (λ i. each' (suc i)) rest)
+  nodes_say_at n deeper ds es small tree tree' each each' same = cc
 
   node_deep : (d : Data) → NodeView t d → depth d ≤ 0 → ⊥
   node_deep d (contest_view a) small = omega arith

@@ -1,5 +1,5 @@
 -- The objects of two accepted reports that mean the same are matched: elections by their keys, the objects of each family in each
-use Rattle.erd_normal.proofs.Common.{◌≡◌, ℕ, Bool, true, ◌⊎◌, List, [], ◌∷◌, map, Some, None, codes, Option, option_map, find, option_and_then, is_eq, sym, refl, ap, ◌∙◌, subst, inl, inr, tied_itself, same_Some, options_total, option_cmp, Data, null, boolean, number, string, array, object, no_items, item, get, Family, family, role, entries_in, object_in, ObjectIn, and_then-Some, has_mapped, Has-cases, Has, Within, entries_at, class_of_object, asked, Object, objects_distinct, elections_distinct, has-flat, held_key_in, no_shape_fault, no_identity_fault, find-Some, find-any, has_identifier, skeleton, values-placed_entries, election_stands, stands, flat-has, contest_selections, options_exact, equal_keys, equal_names, any-has, IsAccepted, has_keys, key_cmp, Preference, key_of, election_key_of, SelectionRecord, ObjectRecord, NameParts, Placed, placed_entries, report_of, elections, contests, selections_of_contest, objects, plain_member, selection_record, selection_map, member_value, member_of_class, object_record, record_in_election, placed_record, placed_with_key, records_of, name_of, name_cmp, key_cmp_total, name_cmp_total, Key}
+use Rattle.erd_normal.proofs.Common.{◌≡◌, ℕ, Bool, true, ◌⊎◌, List, [], ◌∷◌, map, Some, None, codes, Option, option_map, find, option_and_then, is_eq, sym, refl, ap, ◌∙◌, subst, inl, inr, tied_itself, same_Some, options_total, option_cmp, Data, array, no_items, get, Family, family, role, entries_in, object_in, ObjectIn, and_then-Some, Within, entries_at, class_of_object, asked, Object, objects_distinct, elections_distinct, held_key_in, no_shape_fault, no_identity_fault, find-Some, find-any, has_identifier, skeleton, values-placed_entries, election_stands, stands, contest_selections, options_exact, equal_keys, equal_names, IsAccepted, has_keys, key_cmp, Preference, key_of, election_key_of, SelectionRecord, ObjectRecord, NameParts, Placed, placed_entries, report_of, elections, contests, selections_of_contest, objects, plain_member, selection_record, selection_map, member_value, member_of_class, object_record, record_in_election, placed_record, placed_with_key, records_of, name_of, name_cmp, key_cmp_total, name_cmp_total, Key, Ordering, IsTotalOrder, In, In-flat_map, In-flat_map_from, In-map, any_at}
 use Rattle.erd_meaning.proofs.meanings.WholeRecords.{apart_from_election, no_election_id}
 use Rattle.erd_normal.proofs.lists.Matched.{Matched, matched_back, matched_on, matched_within}
 use Rattle.erd_normal.proofs.same.Lists.{ApartBy, matched_by_keys}
@@ -14,11 +14,11 @@ use Rattle.erd_normal.proofs.same.FamilyValues.{InElections}
 -- ---- lists that have the same record at each key are matched by their keys
 
 -- two entries with one key are one
-pub apart_one : {A K : Type 0} (key : A → K) (xs : List A) → ApartBy key xs → (x y : A) → Has xs x → Has xs y → key x ≡ key y → x ≡ y
+pub apart_one : {A K : Type 0} (key : A → K) (xs : List A) → ApartBy key xs → (x y : A) → In x xs → In y xs → key x ≡ key y → x ≡ y
 apart_one key [] apart x y i j e = elim i [ ]
-apart_one key (z ∷ zs) apart x y i j e = at (Has-cases z x zs i) (Has-cases z y zs j) (apart_one key zs apart.1 x y)
+apart_one key (z ∷ zs) apart x y i j e = at i j (apart_one key zs apart.1 x y)
   where
-    at : (z ≡ x) ⊎ Has zs x → (z ≡ y) ⊎ Has zs y → (Has zs x → Has zs y → key x ≡ key y → x ≡ y) → x ≡ y
+    at : (z ≡ x) ⊎ In x zs → (z ≡ y) ⊎ In y zs → (In x zs → In y zs → key x ≡ key y → x ≡ y) → x ≡ y
     at (inl a) (inl b) rest = sym a ∙ b
     at (inl a) (inr k) rest = absurd (apart.0 y k (ap key a ∙ e))
     at (inr h) (inl b) rest = absurd (apart.0 x h (ap key b ∙ sym e))
@@ -27,7 +27,7 @@ apart_one key (z ∷ zs) apart x y i j e = at (Has-cases z x zs i) (Has-cases z 
 -- entries are apart where their values are
 pub apart_map : {A B K : Type 0} (g : A → B) (key : B → K) (xs : List A) → ApartBy key (map g xs) → ApartBy (λ x. key (g x)) xs
 apart_map g key [] apart = tt
-apart_map g key (x ∷ xs) apart = (λ y i e. apart.0 (g y) (has_mapped g xs y i) e, apart_map g key xs apart.1)
+apart_map g key (x ∷ xs) apart = (λ y i e. apart.0 (g y) (In-map g y xs i) e, apart_map g key xs apart.1)
 
 -- the record of the first entry with this key
 abbrev pub record_for : {A K R : Type 0} → (K → K → Bool) → (A → K) → (A → Option R) → List A → K → Option R
@@ -35,13 +35,13 @@ record_for test key value xs k = option_and_then value (find (λ x. test (key x)
 
 module _ {K R : Type 0} (test : K → K → Bool) (exact : (k l : K) → test k l ≡ true → k ≡ l) (itself : (k : K) → test k k ≡ true) where
   -- at the key of an entry stands its record
-  record_itself : {A : Type 0} (key : A → K) (value : A → Option R) (xs : List A) → ApartBy key xs → (x : A) → Has xs x → record_for test key value xs (key x) ≡ value x
+  record_itself : {A : Type 0} (key : A → K) (value : A → Option R) (xs : List A) → ApartBy key xs → (x : A) → In x xs → record_for test key value xs (key x) ≡ value x
   record_itself key value xs apart x i =
-      let f = find-any (λ y. test (key y) (key x)) xs (any-has (λ y. test (key y) (key x)) xs x i (itself (key x))) in
+      let f = find-any (λ y. test (key y) (key x)) xs (any_at (λ y. test (key y) (key x)) x xs i (itself (key x))) in
       ap (option_and_then value) (f.1 ∙ ap Some (apart_one key xs apart f.0 x f.3 i (exact (key f.0) (key x) f.2)))
 
   -- where a record stands, an entry has the key
-  entry_for : {A : Type 0} (key : A → K) (value : A → Option R) (xs : List A) (k : K) (r : R) → record_for test key value xs k ≡ Some r → (x : A) × Has xs x × (key x ≡ k)
+  entry_for : {A : Type 0} (key : A → K) (value : A → Option R) (xs : List A) (k : K) (r : R) → record_for test key value xs k ≡ Some r → (x : A) × In x xs × (key x ≡ k)
   entry_for key value xs k r e =
       let s = and_then-Some value (find (λ x. test (key x) k) xs) r e in
       let f = find-Some (λ x. test (key x) k) xs s.0 s.1 in
@@ -49,13 +49,13 @@ module _ {K R : Type 0} (test : K → K → Bool) (exact : (k l : K) → test k 
 
   -- the one list has what the other has, where each entry has a record and the records at its key are equal
   abbrev Recorded : {A : Type 0} → (A → Option R) → List A → Type 0
-  Recorded {A} value xs = (x : A) → Has xs x → (r : R) × (value x ≡ Some r)
+  Recorded {A} value xs = (x : A) → In x xs → (r : R) × (value x ≡ Some r)
 
   module _ {A B : Type 0} (key : A → K) (key' : B → K) (value : A → Option R) (value' : B → Option R) (xs : List A) (ys : List B) where
     abbrev AgreeAt : K → Type 0
     AgreeAt k = record_for test key value xs k ≡ record_for test key' value' ys k
 
-    pub records_matched : ApartBy key xs → ApartBy key' ys → Recorded value xs → Recorded value' ys → ((x : A) → Has xs x → AgreeAt (key x)) → ((y : B) → Has ys y → AgreeAt (key' y))
+    pub records_matched : ApartBy key xs → ApartBy key' ys → Recorded value xs → Recorded value' ys → ((x : A) → In x xs → AgreeAt (key x)) → ((y : B) → In y ys → AgreeAt (key' y))
         → Matched (λ x y. (key x ≡ key' y) × (value x ≡ value' y)) xs ys
     records_matched apart apart' known known' there back =
         matched_within_both (λ x y. (key x ≡ key' y) × (value x ≡ value' y)) (λ x y i j e. (
@@ -72,7 +72,7 @@ abbrev pub record_at : Preference → Data → Family → Placed → Option Obje
 record_at π t f o = object_record π t (role.OfFamily f) o.value
 
 -- an object of a family has a record, without a member `ElectionId`
-pub has_record : (π : Preference) (t : Data) → IsAccepted π t → (f : Family) (o : Placed) → Has (objects f t) o → (r : ObjectRecord) × (record_at π t f o ≡ Some r) × (r.members (codes "ElectionId") ≡ None)
+pub has_record : (π : Preference) (t : Data) → IsAccepted π t → (f : Family) (o : Placed) → In o (objects f t) → (r : ObjectRecord) × (record_at π t f o ≡ Some r) × (r.members (codes "ElectionId") ≡ None)
 has_record π t accepted f o h =
     let c = class_within π t accepted (role.OfFamily f) o.value (record { place = o.place; is = stands π t accepted f o h }) in
     (record { class = c.0; members = member_of_class π t o.value c.0 }, record_with-Some (member_of_class π t o.value) (role.OfFamily f) o.value c.0 c.1, no_election_id π t o.value c.0)
@@ -85,7 +85,7 @@ records_of-keyed π t d k h = refl
 abbrev pub SameRecord : Preference → Data → Data → Family → Placed → Placed → Type 0
 SameRecord π t u f o p = (record_at π t f o ≡ record_at π u f p) × (election_key_of π t o ≡ election_key_of π u p)
 
-pub records_apart : (π : Preference) (t u : Data) → IsAccepted π t → IsAccepted π u → (f : Family) (o p : Placed) → Has (objects f t) o → Has (objects f u) p → placed_record π t f o ≡ placed_record π u f p → SameRecord π t u f o p
+pub records_apart : (π : Preference) (t u : Data) → IsAccepted π t → IsAccepted π u → (f : Family) (o p : Placed) → In o (objects f t) → In p (objects f u) → placed_record π t f o ≡ placed_record π u f p → SameRecord π t u f o p
 records_apart π t u accepted accepted' f o p h k e =
     let a = has_record π t accepted f o h in
     let b = has_record π u accepted' f p k in
@@ -112,11 +112,11 @@ pub record SelectionsAlike (π : Preference) (t u : Data) (o p : Placed) : Type 
   pub name : name_of π t o.value ≡ name_of π u p.value
   pub record_same : selection_record π t o.value ≡ selection_record π u p.value
 
-selection_within : (π : Preference) (t : Data) → IsAccepted π t → (c o : Placed) → Has (objects family.Contest t) c → Has (selections_of_contest c) o → Within t (asked (Object (role.OfFamily family.Selection)) o.value)
-selection_within π t accepted c o h k = record { place = o.place; is = stands π t accepted family.Selection o (flat-has selections_of_contest (contests t) c o h k) }
+selection_within : (π : Preference) (t : Data) → IsAccepted π t → (c o : Placed) → In c (objects family.Contest t) → In o (selections_of_contest c) → Within t (asked (Object (role.OfFamily family.Selection)) o.value)
+selection_within π t accepted c o h k = record { place = o.place; is = stands π t accepted family.Selection o (In-flat_map selections_of_contest o c (contests t) h k) }
 
 -- a selection of an accepted report has a name
-pub selection_name : (π : Preference) (t : Data) → IsAccepted π t → (c o : Placed) → Has (objects family.Contest t) c → Has (selections_of_contest c) o → (n : NameParts) × (name_of π t o.value ≡ Some n)
+pub selection_name : (π : Preference) (t : Data) → IsAccepted π t → (c o : Placed) → In c (objects family.Contest t) → In o (selections_of_contest c) → (n : NameParts) × (name_of π t o.value ≡ Some n)
 selection_name π t accepted c o h k = has_name π t accepted o.value (selection_within π t accepted c o h k)
 
 -- ---- keys and names
@@ -127,23 +127,14 @@ key_at π o = key_of π o.value
 abbrev is_same_key : Option Key → Option Key → Bool
 is_same_key k l = is_eq (option_cmp key_cmp k l)
 
-key_itself : (k : Option Key) → is_same_key k k ≡ true
-key_itself k = ap is_eq (tied_itself (options_total key_cmp_total) k)
-
-equal_key : (k l : Option Key) → k ≡ l → is_same_key k l ≡ true
-equal_key k l e = ap (λ x. is_same_key k x) (sym e) ∙ key_itself k
-
 abbrev pub name_at : Preference → Data → Placed → Option NameParts
 name_at π t o = name_of π t o.value
 
 abbrev is_same_name : Option NameParts → Option NameParts → Bool
 is_same_name m n = is_eq (option_cmp name_cmp m n)
 
-name_itself : (n : Option NameParts) → is_same_name n n ≡ true
-name_itself n = ap is_eq (tied_itself (options_total name_cmp_total) n)
-
-equal_name : (m n : Option NameParts) → m ≡ n → is_same_name m n ≡ true
-equal_name m n e = ap (λ x. is_same_name m x) (sym e) ∙ name_itself m
+tied : {K : Type 0} (cmp : K → K → Ordering) → IsTotalOrder cmp → (k l : Option K) → k ≡ l → is_eq (option_cmp cmp k l) ≡ true
+tied cmp total k l e = ap (λ x. is_eq (option_cmp cmp k x)) (sym e) ∙ ap is_eq (tied_itself (options_total total) k)
 
 -- ---- one report
 
@@ -156,14 +147,8 @@ and_then_map f g (Some x) = refl
 
 -- the map that the selections of a contest mean
 map_of_value : (π : Preference) (t : Data) (n : NameParts) (o : Option Data) → map_in (selections_value π t o) n ≡ selection_map π t (entries_in o) n
-map_of_value π t n None = refl
 map_of_value π t n (Some (array no_items)) = refl
-map_of_value π t n (Some (array (item d ds))) = refl
-map_of_value π t n (Some null) = refl
-map_of_value π t n (Some (boolean b)) = refl
-map_of_value π t n (Some (number x)) = refl
-map_of_value π t n (Some (string x)) = refl
-map_of_value π t n (Some (object ms)) = refl
+map_of_value π t n o = refl
 
 module _ (π : Preference) (t : Data) (accepted : IsAccepted π t) where
   -- no two elections have one key
@@ -171,10 +156,10 @@ module _ (π : Preference) (t : Data) (accepted : IsAccepted π t) where
   elections_apart =
       apart_map (λ e. e.value) (key_of π) (elections t)
       (subst (ApartBy (key_of π)) (sym (values-placed_entries (codes "Election") (report_of t)))
-      (apart_by (λ d e. is_same_key (key_of π d) (key_of π e)) (key_of π) (entries_at (codes "Election") t) (λ d e i j same. equal_key (key_of π d) (key_of π e) same)
+      (apart_by (λ d e. is_same_key (key_of π d) (key_of π e)) (key_of π) (entries_at (codes "Election") t) (λ d e i j same. tied key_cmp key_cmp_total (key_of π d) (key_of π e) same)
       (elections_distinct π t (no_identity_fault π t accepted))))
 
-  election_recorded : (e : Placed) → Has (elections t) e → (r : ObjectRecord) × (object_record π t role.Election e.value ≡ Some r)
+  election_recorded : (e : Placed) → In e (elections t) → (r : ObjectRecord) × (object_record π t role.Election e.value ≡ Some r)
   election_recorded e h =
       let c = class_within π t accepted role.Election e.value (record { place = e.place; is = election_stands t (skeleton π t accepted) e h }) in
       (_, record_with-Some (member_of_class π t e.value) role.Election e.value c.0 c.1)
@@ -185,36 +170,36 @@ module _ (π : Preference) (t : Data) (accepted : IsAccepted π t) where
 
     -- no two objects of a family have one key
     pub family_apart : ApartBy (key_at π) (objects f t)
-    family_apart = apart_by one_key (key_at π) (objects f t) (λ o p i j same. equal_key (key_at π o) (key_at π p) same) (objects_distinct π t (no_identity_fault π t accepted) f keyed)
+    family_apart = apart_by one_key (key_at π) (objects f t) (λ o p i j same. tied key_cmp key_cmp_total (key_at π o) (key_at π p) same) (objects_distinct π t (no_identity_fault π t accepted) f keyed)
 
     -- nor do two that one election holds
-    held_apart : (name : List ℕ) → InElections f name → (e : Placed) → Has (elections t) e → ApartBy (key_at π) (placed_entries name e)
+    held_apart : (name : List ℕ) → InElections f name → (e : Placed) → In e (elections t) → ApartBy (key_at π) (placed_entries name e)
     held_apart name home e h =
-        apart_by one_key (key_at π) (placed_entries name e) (λ o p i j same. equal_key (key_at π o) (key_at π p) same)
+        apart_by one_key (key_at π) (placed_entries name e) (λ o p i j same. tied key_cmp key_cmp_total (key_at π o) (key_at π p) same)
         (part_distinct one_key (placed_entries name e) (objects f t) (subst (IsPart (placed_entries name e)) (sym (home.are t)) (part_flat (placed_entries name) (elections t) e h))
         (objects_distinct π t (no_identity_fault π t accepted) f keyed))
 
-    held_stands : (name : List ℕ) → InElections f name → (e o : Placed) → Has (elections t) e → Has (placed_entries name e) o → Has (objects f t) o
-    held_stands name home e o h i = subst (λ os. Has os o) (sym (home.are t)) (flat-has (placed_entries name) (elections t) e o h i)
+    held_stands : (name : List ℕ) → InElections f name → (e o : Placed) → In e (elections t) → In o (placed_entries name e) → In o (objects f t)
+    held_stands name home e o h i = subst (λ os. In o os) (sym (home.are t)) (In-flat_map (placed_entries name) o e (elections t) h i)
 
     -- what stands in an election of this key is held by it
-    held_by : (name : List ℕ) → InElections f name → (e o : Placed) → Has (elections t) e → Has (objects f t) o → election_key_of π t o ≡ key_at π e → Has (placed_entries name e) o
+    held_by : (name : List ℕ) → InElections f name → (e o : Placed) → In e (elections t) → In o (objects f t) → election_key_of π t o ≡ key_at π e → In o (placed_entries name e)
     held_by name home e o h i same =
-        let x = has-flat (placed_entries name) (elections t) o (subst (λ os. Has os o) (home.are t) i) in
+        let x = In-flat_map_from (placed_entries name) (elections t) o (subst (λ os. In o os) (home.are t) i) in
         let one : x.0 ≡ e = apart_one (key_at π) (elections t) elections_apart x.0 e x.1 h (sym (held_key_in π t name x.0 o x.1 x.2) ∙ same) in
-        subst (λ z. Has (placed_entries name z) o) one x.2
+        subst (λ z. In o (placed_entries name z)) one x.2
 
-    object_recorded : (o : Placed) → Has (objects f t) o → (r : ObjectRecord) × (placed_record π t f o ≡ Some r)
+    object_recorded : (o : Placed) → In o (objects f t) → (r : ObjectRecord) × (placed_record π t f o ≡ Some r)
     object_recorded o h = let r = has_record π t accepted f o h in (_, ap (option_map (record_in_election (election_key_of π t o))) r.1)
 
-  module _ (contest : Placed) (c : Has (objects family.Contest t) contest) where
+  module _ (contest : Placed) (c : In contest (objects family.Contest t)) where
     -- no two selections of a contest have one name
     selections_apart : ApartBy (name_at π t) (selections_of_contest contest)
     selections_apart =
-        apart_by (λ o p. is_same_name (name_at π t o) (name_at π t p)) (name_at π t) (selections_of_contest contest) (λ o p i j same. equal_name (name_at π t o) (name_at π t p) same)
+        apart_by (λ o p. is_same_name (name_at π t o) (name_at π t p)) (name_at π t) (selections_of_contest contest) (λ o p i j same. tied name_cmp name_cmp_total (name_at π t o) (name_at π t p) same)
         (selections_distinct π t accepted contest c)
 
-    selection_recorded : (o : Placed) → Has (selections_of_contest contest) o → (r : SelectionRecord) × (selection_record π t o.value ≡ Some r)
+    selection_recorded : (o : Placed) → In o (selections_of_contest contest) → (r : SelectionRecord) × (selection_record π t o.value ≡ Some r)
     selection_recorded o h = has_selection_record π t accepted o.value (selection_within π t accepted contest o c h)
 
     -- the record of the first selection of this name stands in the map
@@ -239,7 +224,7 @@ module _ (π : Preference) (t u : Data) (both : MeanOne π t u) where
   pub elections_matched : Matched (ElectionsAlike π t u) (elections t) (elections u)
   elections_matched =
       matched_within (ElectionsAlike π t u) (λ d e i r. record { key = r.0; record_same = r.1 })
-      (records_matched is_same_key (options_exact key_cmp equal_keys) key_itself (key_at π) (key_at π) (λ e. object_record π t role.Election e.value) (λ e. object_record π u role.Election e.value) (elections t) (elections u)
+      (records_matched is_same_key (options_exact key_cmp equal_keys) (λ k. tied key_cmp key_cmp_total k k refl) (key_at π) (key_at π) (λ e. object_record π t role.Election e.value) (λ e. object_record π u role.Election e.value) (elections t) (elections u)
       (elections_apart π t both.left) (elections_apart π u both.right) (election_recorded π t both.left) (election_recorded π u both.right)
       (λ e i. ap (λ m. m.elections (key_at π e)) both.same) (λ e i. ap (λ m. m.elections (key_at π e)) both.same))
 
@@ -254,20 +239,20 @@ module _ (π : Preference) (t u : Data) (both : MeanOne π t u) where
   family_matched f keyed =
       matched_within_both (ObjectsAlike π t u f)
       (λ o p i j r. let parts = records_apart π t u both.left both.right f o p i j r.1 in record { key = r.0; record_same = parts.0; election = parts.1 })
-      (records_matched is_same_key (options_exact key_cmp equal_keys) key_itself (key_at π) (key_at π) (placed_record π t f) (placed_record π u f) (objects f t) (objects f u)
+      (records_matched is_same_key (options_exact key_cmp equal_keys) (λ k. tied key_cmp key_cmp_total k k refl) (key_at π) (key_at π) (placed_record π t f) (placed_record π u f) (objects f t) (objects f u)
       (family_apart π t both.left f keyed) (family_apart π u both.right f keyed) (object_recorded π t both.left f keyed) (object_recorded π u both.right f keyed)
       (λ o i. let k = has_identifier π t (no_identity_fault π t both.left) f o keyed i in recorded_alike f keyed (key_at π o) k.0 k.1)
       (λ o i. let k = has_identifier π u (no_identity_fault π u both.right) f o keyed i in recorded_alike f keyed (key_at π o) k.0 k.1))
 
   -- objects of a family with one key are alike
-  pub alike_by_key : (f : Family) → has_keys f ≡ true → (o p : Placed) → Has (objects f t) o → Has (objects f u) p → key_at π o ≡ key_at π p → ObjectsAlike π t u f o p
+  pub alike_by_key : (f : Family) → has_keys f ≡ true → (o p : Placed) → In o (objects f t) → In p (objects f u) → key_at π o ≡ key_at π p → ObjectsAlike π t u f o p
   alike_by_key f keyed o p i j same =
       let m = matched_on o (family_matched f keyed) i in
       let one : m.0 ≡ p = apart_one (key_at π) (objects f u) (family_apart π u both.right f keyed) m.0 p m.1 j (sym m.2.key ∙ same) in
       subst (ObjectsAlike π t u f o) one m.2
 
   -- what two elections hold in their arrays of one name
-  pub held_matched : (f : Family) (name : List ℕ) → has_keys f ≡ true → InElections f name → (d e : Placed) → Has (elections t) d → Has (elections u) e → ElectionsAlike π t u d e
+  pub held_matched : (f : Family) (name : List ℕ) → has_keys f ≡ true → InElections f name → (d e : Placed) → In d (elections t) → In e (elections u) → ElectionsAlike π t u d e
       → Matched (ObjectsAlike π t u f) (placed_entries name d) (placed_entries name e)
   held_matched f name keyed home d e i j alike =
       matched_within_both (ObjectsAlike π t u f)
@@ -281,11 +266,11 @@ module _ (π : Preference) (t u : Data) (both : MeanOne π t u) where
       (m.0, held_by π t both.left f keyed name home d m.0 i m.1 (m.2.election ∙ held_key_in π u name e p j k ∙ sym alike.key), m.2.key)))
 
   -- the selections of two contests
-  pub selections_matched : (o p : Placed) → Has (objects family.Contest t) o → Has (objects family.Contest u) p → ObjectsAlike π t u family.Contest o p
+  pub selections_matched : (o p : Placed) → In o (objects family.Contest t) → In p (objects family.Contest u) → ObjectsAlike π t u family.Contest o p
       → Matched (SelectionsAlike π t u) (selections_of_contest o) (selections_of_contest p)
   selections_matched o p i j alike =
       matched_within (SelectionsAlike π t u) (λ x y h r. record { name = r.0; record_same = r.1 })
-      (records_matched is_same_name (options_exact name_cmp equal_names) name_itself (name_at π t) (name_at π u) (λ x. selection_record π t x.value) (λ x. selection_record π u x.value) (selections_of_contest o) (selections_of_contest p)
+      (records_matched is_same_name (options_exact name_cmp equal_names) (λ n. tied name_cmp name_cmp_total n n refl) (name_at π t) (name_at π u) (λ x. selection_record π t x.value) (λ x. selection_record π u x.value) (selections_of_contest o) (selections_of_contest p)
       (selections_apart π t both.left o i) (selections_apart π u both.right p j) (selection_recorded π t both.left o i) (selection_recorded π u both.right p j)
       (λ x h. let n = selection_name π t both.left o x i h in mapped_alike (name_at π t x) n.0 n.1) (λ y h. let n = selection_name π u both.right p y j h in mapped_alike (name_at π u y) n.0 n.1))
     where

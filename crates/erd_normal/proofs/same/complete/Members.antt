@@ -1,11 +1,9 @@
 -- Objects of one class say the same if their `@id`s do, what their records leave out does, and the rest means the same.
-use Rattle.erd_normal.proofs.Common.{◌≡◌, ℕ, Bool, true, false, not, ◌&&◌, ◌||◌, ◌⊎◌, List, [], ◌∷◌, is_some, Some, None, codes, Option, option_map, option_and_then, bytes_eq, sym, refl, ap, ◌∙◌, subst, inl, inr, ⊎_elim, not-true, and_parts, list_all, list_any, Data, null, object, Members, get_member, role_of_class, family_of_role, family_of_class, rows_of_class, kind_of_member, is_required, Class, class, Family, family, Role, role, MemberKind, kind, text_exact, get_member-tree, ObjectAt, Has, member_within, Within, kind_of_name, want_unless_status, AreMembers, is_report_class, member_want, asked, scope, ClassText, Object, Status, no_shape_fault, has-any, IsAccepted, Preference, PlainValue, a_json, MemberValue, a_plain, plain_value, is_in_envelope, plain_member, member_value, Sides, an_object, Same, SameMembers}
-use Rattle.erd_normal.proofs.same.LabelsBack.{equal_aligned}
-use Rattle.erd_normal.proofs.same.Lookups.{Aligned}
-use Rattle.erd_normal.proofs.same.Merged.{merged}
+use Rattle.erd_normal.proofs.Common.{◌≡◌, ℕ, Bool, true, false, not, ◌&&◌, ◌||◌, ◌⊎◌, List, [], ◌∷◌, is_some, Some, None, codes, Option, option_map, option_and_then, bytes_eq, sym, refl, ap, ◌∙◌, subst, inl, inr, ⊎_elim, not-true, and_parts, list_all, list_any, Data, null, object, Members, get_member, role_of_class, family_of_role, family_of_class, rows_of_class, kind_of_member, is_required, Class, class, Family, family, Role, role, MemberKind, kind, text_exact, get_member-tree, ObjectAt, member_within, Within, kind_of_name, want_unless_status, AreMembers, is_report_class, member_want, asked, scope, ClassText, Object, Status, no_shape_fault, IsAccepted, Preference, PlainValue, a_json, MemberValue, a_plain, plain_value, is_in_envelope, plain_member, member_value, Sides, an_object, Same, SameMembers, In, In-any}
+use Rattle.erd_normal.proofs.same.Labels.{equal_aligned}
+use Rattle.erd_normal.proofs.same.Lookups.{Aligned, asked_of_name, merged}
 use Rattle.erd_normal.proofs.same.complete.Sets.{TextsTied}
 use Rattle.erd_normal.proofs.same.complete.Values.{all_plain, means_itself, plain_aligned}
-use Rattle.erd_normal.proofs.same.Types.{asked_of_name}
 use Rattle.erd_normal.proofs.built.AskedMembers.{status_kind}
 
 -- ---- what records leave out
@@ -15,9 +13,8 @@ abbrev pub is_apart : Class → List ℕ → Bool
 is_apart c name = is_in_envelope c name || not (means_itself (kind_of_member c name))
 
 pub not_apart : (a b : Bool) → a || not b ≡ false → (a ≡ false) × (b ≡ true)
-not_apart true b e = cc
 not_apart false true e = (refl, refl)
-not_apart false false e = cc
+not_apart a b e = cc
 
 pub meant_unless_apart : (c : Class) (k : List ℕ) → is_apart c k ≡ false → means_itself (kind_of_member c k) ≡ true
 meant_unless_apart c k e = (not_apart (is_in_envelope c k) (means_itself (kind_of_member c k)) e).1
@@ -30,13 +27,13 @@ or_false : (a b : Bool) → a || b ≡ true → a ≡ false → b ≡ true
 or_false a b e h = rw h at e
 
 pub apart_named : (names : List (List ℕ)) (c : Class) (k : List ℕ) → bytes_eq k (codes "@type") ≡ false → bytes_eq k (codes "@id") ≡ false → are_apart names c ≡ true
-    → means_itself (kind_of_member c k) ≡ false → Has names k
+    → means_itself (kind_of_member c k) ≡ false → In k names
 apart_named names c k e f all plain =
-    let r = has-any (bytes_eq k) names (or_false (means_itself (kind_of_member c k)) _
+    let r = In-any (bytes_eq k) names (or_false (means_itself (kind_of_member c k)) _
     (kind_of_name (λ m. means_itself m.kind || list_any (bytes_eq m.name) names) (λ x. means_itself x || list_any (bytes_eq k) names) c k e f all
     (λ m h g. subst (λ n. means_itself m.kind || list_any (bytes_eq n) names ≡ true) (sym (text_exact k m.name g)) h) refl refl)
     plain) in
-    subst (Has names) (sym (text_exact k r.0 r.2)) r.1
+    subst (λ z. In z names) (sym (text_exact k r.0 r.2)) r.1
 
 pub apart_cases : (c : Class) (k : List ℕ) → is_apart c k ≡ true → (is_in_envelope c k ≡ true) ⊎ (means_itself (kind_of_member c k) ≡ false)
 apart_cases c k e = at (is_in_envelope c k) (means_itself (kind_of_member c k)) e
@@ -61,20 +58,14 @@ left_of f = []
 
 class_leaves : (c : Class) → is_some (family_of_class c) ≡ true → leaves_out (left_of (family_of_class c)) c ≡ true
 class_leaves class.ElectionReport h = cc
-class_leaves class.Election h = cc
-class_leaves class.OrderedContest h = cc
-class_leaves class.OrderedHeader h = cc
-class_leaves class.ExternalIdentifier h = cc
-class_leaves class.InternationalizedText h = cc
-class_leaves class.LanguageString h = cc
-class_leaves c h = refl
+class_leaves c h = cc
 
 pub leaves : (f : Family) (c : Class) → role_of_class c ≡ role.OfFamily f → leaves_out (left_of (Some f)) c ≡ true
 leaves f c e =
     let g : family_of_class c ≡ Some f = ap family_of_role e in
     subst (λ o. leaves_out (left_of o) c ≡ true) g (class_leaves c (ap is_some g))
 
-pub left_out : (names : List (List ℕ)) (c : Class) (k : List ℕ) → leaves_out names c ≡ true → bytes_eq k (codes "@type") ≡ false → bytes_eq k (codes "@id") ≡ false → is_apart c k ≡ true → Has names k
+pub left_out : (names : List (List ℕ)) (c : Class) (k : List ℕ) → leaves_out names c ≡ true → bytes_eq k (codes "@type") ≡ false → bytes_eq k (codes "@id") ≡ false → is_apart c k ≡ true → In k names
 left_out names c k h e f g =
     let both = and_parts (not (is_report_class c)) (are_apart names c) h in
     ⊎_elim (λ i. let x : false ≡ true = sym (no_envelope c k (not-true (is_report_class c) both.0)) ∙ i in cc) (λ i. apart_named names c k e f both.1 i) (apart_cases c k g)
@@ -106,9 +97,8 @@ json_in o = null
 pub word_same : (π : Preference) (t u : Data) (o p : Option Data) → option_and_then (plain_value π t kind.Word) o ≡ option_and_then (plain_value π u kind.Word) p → o ≡ p
 unfolding json_in
 word_same π t u None None e = refl
-word_same π t u None (Some w) e = cc
-word_same π t u (Some v) None e = cc
 word_same π t u (Some v) (Some w) e = ap Some (ap json_in e)
+word_same π t u o p e = cc
 
 -- ---- objects
 

@@ -1,8 +1,8 @@
 -- Objects of families, elections and reports that mean the same say the same.
-use Rattle.erd_normal.proofs.Common.{◌≡◌, ℕ, Bool, true, false, List, [], ◌∷◌, map, is_some, if◌then◌else◌, Some, None, codes, Option, option_map, option_and_then, bytes_eq, sym, refl, ap, ◌∙◌, subst, ⊎_elim, Data, string, array, object, Members, get_member, as_str, role_of_class, family_of_class, kind_of_identity, kind_of_member, is_required, Class, class, Family, family, Role, role, kind, entries_in, string_from_text, object_in, is_filled_array, keyed_list, MayBeArray, ObjectAt, ObjectIn, Has-cases, Has, wanted_within, member_within, within-tree, Within, kind_of_id, is_word, want_by_kind, no_strange, entries_at, class_of_object, want_of_kind, want_of_name, asked, Scope, scope, Want, Member, Object, no_shape_fault, skeleton, values-placed_entries, election_stands, election_object, Skeleton, stands, flat-has, contest_selections, IsAccepted, has_keys, Preference, SelectionRecord, ObjectRecord, Placed, placed_entries, report_of, elections, contests, selections_of_contest, objects, id_of, is_in_envelope, plain_member, selection_record, member_of_class, object_record, selection_role, Sides, IsUnused, of_the_envelope, an_unused_id, an_id, Same}
+use Rattle.erd_normal.proofs.Common.{◌⊎◌, ◌≡◌, ℕ, Bool, true, false, List, [], ◌∷◌, map, is_some, if◌then◌else◌, Some, None, codes, Option, option_map, option_and_then, bytes_eq, sym, refl, ap, ◌∙◌, subst, ⊎_elim, Data, string, array, object, Members, get_member, as_str, role_of_class, family_of_class, kind_of_identity, kind_of_member, is_required, Class, class, Family, family, Role, role, kind, entries_in, string_from_text, object_in, is_filled_array, keyed_list, MayBeArray, ObjectAt, ObjectIn, wanted_within, member_within, within-tree, Within, kind_of_id, is_word, want_by_kind, no_strange, entries_at, class_of_object, want_of_kind, want_of_name, asked, Scope, scope, Want, Member, Object, no_shape_fault, skeleton, values-placed_entries, election_stands, election_object, Skeleton, stands, contest_selections, IsAccepted, has_keys, Preference, SelectionRecord, ObjectRecord, Placed, placed_entries, report_of, elections, contests, selections_of_contest, objects, id_of, is_in_envelope, plain_member, selection_record, member_of_class, object_record, selection_role, Sides, IsUnused, of_the_envelope, an_unused_id, an_id, Same, In, In-flat_map}
 use Rattle.erd_normal.proofs.built.NormalGets.{kind_of_family_id}
 use Rattle.erd_normal.proofs.lists.Matched.{Matched, matched_mapped}
-use Rattle.erd_normal.proofs.same.Lookups.{Aligned, both_there, lacks_none, lacks_one, not_both}
+use Rattle.erd_normal.proofs.same.Lookups.{Aligned, both_there, lacks_none, lacks_one, not_both, asked_of_name}
 use Rattle.erd_normal.proofs.same.Related.{matched_within_both}
 use Rattle.erd_normal.proofs.same.complete.Contents.{sets_aligned}
 use Rattle.erd_normal.proofs.same.complete.Counterparts.{ElectionsAlike, ObjectsAlike, elections_matched, family_matched, held_matched, selections_matched}
@@ -10,8 +10,7 @@ use Rattle.erd_normal.proofs.same.complete.Members.{apart_cases, apart_named, is
 use Rattle.erd_normal.proofs.same.complete.Texts.{Counterpart, by_key, by_name, ids_stand, sides, texts_tied}
 use Rattle.erd_normal.proofs.same.complete.Sets.{MeanOne}
 use Rattle.erd_normal.proofs.meaning.AlikeRecords.{class_of_record, members_in}
-use Rattle.erd_normal.proofs.same.FamilyValues.{InElections, InReport, candidates, contests_home, headers, offices, parties, persons, styles, units}
-use Rattle.erd_normal.proofs.same.Types.{asked_of_name}
+use Rattle.erd_normal.proofs.same.FamilyValues.{InElections, InReport}
 
 id_text : (π : Preference) (t : Data) → IsAccepted π t → (b : Bool) (r : Bool) (v : Data) → Within t (asked (want_of_kind (if b then kind.Identity else kind.StrangeIdentity) r) v) → Some v ≡ option_map string (as_str v)
 id_text π t accepted true r v w = let s = string_from_text v (wanted_within t (no_shape_fault π t accepted) (asked (Member kind.Identity r) v) w) in rw s.1
@@ -67,8 +66,8 @@ two_objects π t u accepted accepted' q d e w w' same =
 
 -- an `@id` of the one report is unused in l if its object's counterpart has none, and one of the other in r
 pub record AloneUnused (π : Preference) (t u l r : Data) : Type 0 where
-  pub left : (f : Family) (o p : Placed) (a : List ℕ) → Has (objects f t) o → Has (objects f u) p → Counterpart π t u f o p → id_of o.value ≡ Some a → id_of p.value ≡ None → IsUnused l a
-  pub right : (f : Family) (o p : Placed) (b : List ℕ) → Has (objects f t) o → Has (objects f u) p → Counterpart π t u f o p → id_of o.value ≡ None → id_of p.value ≡ Some b → IsUnused r b
+  pub left : (f : Family) (o p : Placed) (a : List ℕ) → In o (objects f t) → In p (objects f u) → Counterpart π t u f o p → id_of o.value ≡ Some a → id_of p.value ≡ None → IsUnused l a
+  pub right : (f : Family) (o p : Placed) (b : List ℕ) → In o (objects f t) → In p (objects f u) → Counterpart π t u f o p → id_of o.value ≡ None → id_of p.value ≡ Some b → IsUnused r b
 
 module _ (π : Preference) (t u : Data) (both : MeanOne π t u) (default : List ℕ) (l r : Data) (alone : AloneUnused π t u l r) where
   abbrev m : Sides
@@ -82,7 +81,7 @@ module _ (π : Preference) (t u : Data) (both : MeanOne π t u) (default : List 
   id_asked : (f : Family) (c : Class) → role_of_class c ≡ role.OfFamily f → want_of_name (scope.Members (role.OfFamily f) (Some c)) (codes "@id") ≡ Some (Member kind.Identity (is_required c (codes "@id")))
   id_asked f c role = ap Some (want_by_kind c (codes "@id") kind.Identity (kind_of_family_id c f role) refl)
 
-  ids_aligned : (f : Family) (c : Class) (o p : Placed) → role_of_class c ≡ role.OfFamily f → Has (objects f t) o → Has (objects f u) p → Counterpart π t u f o p
+  ids_aligned : (f : Family) (c : Class) (o p : Placed) → role_of_class c ≡ role.OfFamily f → In o (objects f t) → In p (objects f u) → Counterpart π t u f o p
       → Aligned m (scope.Members (role.OfFamily f) (Some c)) (codes "@id") (option_map string (id_of o.value)) (option_map string (id_of p.value))
   ids_aligned f c o p plays h k related = at (id_of o.value) (id_of p.value) refl refl
     where
@@ -97,15 +96,15 @@ module _ (π : Preference) (t u : Data) (both : MeanOne π t u) (default : List 
           not_both (lacks_none l s (codes "@id")) (lacks_one r s (codes "@id") (string b) (an_unused_id b (is_required c (codes "@id")) (id_asked f c plays) refl (alone.right f o p b h k related is is')))
       at None None is is' = not_both (lacks_none l s (codes "@id")) (lacks_none r s (codes "@id"))
 
-  pub within_t : (f : Family) (o : Placed) → Has (objects f t) o → Within t (asked (Object (role.OfFamily f)) o.value)
+  pub within_t : (f : Family) (o : Placed) → In o (objects f t) → Within t (asked (Object (role.OfFamily f)) o.value)
   within_t f o h = record { place = o.place; is = stands π t both.left f o h }
 
-  pub within_u : (f : Family) (o : Placed) → Has (objects f u) o → Within u (asked (Object (role.OfFamily f)) o.value)
+  pub within_u : (f : Family) (o : Placed) → In o (objects f u) → Within u (asked (Object (role.OfFamily f)) o.value)
   within_u f o h = record { place = o.place; is = stands π u both.right f o h }
 
   -- two objects of one class, whose records leave out these names
   pub two_say : (names : List (List ℕ)) (q : Role) (d e : Data) → Within t (asked (Object q) d) → Within u (asked (Object q) e) → class_of_object q d ≡ class_of_object q e → ((c : Class) → role_of_class c ≡ q → leaves_out names c ≡ true)
-      → ((two : Two t u q d e) → AlignedIn q two.class two.ms two.ns (codes "@id")) → ((two : Two t u q d e) (k : List ℕ) → Has names k → AlignedIn q two.class two.ms two.ns k)
+      → ((two : Two t u q d e) → AlignedIn q two.class two.ms two.ns (codes "@id")) → ((two : Two t u q d e) (k : List ℕ) → In k names → AlignedIn q two.class two.ms two.ns k)
       → ((two : Two t u q d e) (k : List ℕ) → is_apart two.class k ≡ false → plain_member π t (object two.ms) two.class k ≡ plain_member π u (object two.ns) two.class k) → Same m (Some (Object q)) d e
   two_say names q d e w w' classes plain ids given same =
       let two : Two t u q d e = two_objects π t u both.left both.right q d e w w' classes in
@@ -115,9 +114,9 @@ module _ (π : Preference) (t u : Data) (both : MeanOne π t u) (default : List 
       (λ n f g i. given two n (left_out names two.class n (plain two.class two.role) f g i)) (same two)))
 
   -- two objects of a family
-  family_says : (names : List (List ℕ)) (f : Family) (o p : Placed) → Has (objects f t) o → Has (objects f u) p → Counterpart π t u f o p → class_of_object (role.OfFamily f) o.value ≡ class_of_object (role.OfFamily f) p.value
+  family_says : (names : List (List ℕ)) (f : Family) (o p : Placed) → In o (objects f t) → In p (objects f u) → Counterpart π t u f o p → class_of_object (role.OfFamily f) o.value ≡ class_of_object (role.OfFamily f) p.value
       → ((c : Class) → role_of_class c ≡ role.OfFamily f → leaves_out names c ≡ true)
-      → ((two : Two t u (role.OfFamily f) o.value p.value) (k : List ℕ) → Has names k → AlignedIn (role.OfFamily f) two.class two.ms two.ns k)
+      → ((two : Two t u (role.OfFamily f) o.value p.value) (k : List ℕ) → In k names → AlignedIn (role.OfFamily f) two.class two.ms two.ns k)
       → ((two : Two t u (role.OfFamily f) o.value p.value) (k : List ℕ) → is_apart two.class k ≡ false → plain_member π t (object two.ms) two.class k ≡ plain_member π u (object two.ns) two.class k)
       → Same m (Some (Object (role.OfFamily f))) o.value p.value
   family_says names f o p h k related classes plain =
@@ -134,7 +133,7 @@ module _ (π : Preference) (t u : Data) (both : MeanOne π t u) (default : List 
 
   -- ---- selections and contests
 
-  selection_says : (o p : Placed) → Has (objects family.Selection t) o → Has (objects family.Selection u) p → Counterpart π t u family.Selection o p → selection_record π t o.value ≡ selection_record π u p.value
+  selection_says : (o p : Placed) → In o (objects family.Selection t) → In p (objects family.Selection u) → Counterpart π t u family.Selection o p → selection_record π t o.value ≡ selection_record π u p.value
       → Same m (Some (Object selection_role)) o.value p.value
   selection_says o p h k related alike =
       family_says [] family.Selection o p h k related
@@ -157,10 +156,10 @@ module _ (π : Preference) (t u : Data) (both : MeanOne π t u) (default : List 
       (subst (Matched (Same m (Some (Object (role.OfFamily f)))) (map (λ (o : Placed). o.value) (placed_entries name d))) (values-placed_entries name e ∙ ap (entries_at name) is')
       (matched_mapped (λ (o : Placed). o.value) (λ (o : Placed). o.value) (λ x y h. h) matched)))
 
-  contest_says : (o p : Placed) → Has (objects family.Contest t) o → Has (objects family.Contest u) p → ObjectsAlike π t u family.Contest o p → Same m (Some (Object (role.OfFamily family.Contest))) o.value p.value
+  contest_says : (o p : Placed) → In o (objects family.Contest t) → In p (objects family.Contest u) → ObjectsAlike π t u family.Contest o p → Same m (Some (Object (role.OfFamily family.Contest))) o.value p.value
   contest_says o p h k alike =
       family_says (codes "ContestSelection" ∷ []) family.Contest o p h k (by_key refl alike.key) (classes_same (role.OfFamily family.Contest) o.value p.value alike.record_same) (leaves family.Contest)
-      (λ two n i. ⊎_elim (λ e. subst (AlignedIn (role.OfFamily family.Contest) two.class two.ms two.ns) e (listed two)) (λ j. elim j [ ]) (Has-cases (codes "ContestSelection") n [] i))
+      (λ two n i. ⊎_elim (λ e. subst (AlignedIn (role.OfFamily family.Contest) two.class two.ms two.ns) e (listed two)) (λ j. elim j [ ]) i)
       (λ two k g. members_value (role.OfFamily family.Contest) two.class two.ms two.ns two.at two.at'
       (sym (ap (object_record π t (role.OfFamily family.Contest)) two.is) ∙ alike.record_same ∙ ap (object_record π u (role.OfFamily family.Contest)) two.is') k g)
     where
@@ -168,10 +167,10 @@ module _ (π : Preference) (t u : Data) (both : MeanOne π t u) (default : List 
       listed two =
           keyed_aligned (role.OfFamily family.Contest) two.class two.ms two.ns two.at two.at' family.Selection (codes "ContestSelection") refl (contest_selections two.class two.role) o p two.is two.is'
           (matched_within_both (λ x y. Same m (Some (Object selection_role)) x.value y.value)
-          (λ x y i j s. selection_says x y (flat-has selections_of_contest (contests t) o x h i) (flat-has selections_of_contest (contests u) p y k j) (by_name refl o p h k alike.key i j s.name) s.record_same)
+          (λ x y i j s. selection_says x y (In-flat_map selections_of_contest x o (contests t) h i) (In-flat_map selections_of_contest y p (contests u) k j) (by_name refl o p h k alike.key i j s.name) s.record_same)
           (selections_matched π t u both o p h k alike))
 
-  other_says : (f : Family) → has_keys f ≡ true → ((c : Class) → role_of_class c ≡ role.OfFamily f → leaves_out [] c ≡ true) → (o p : Placed) → Has (objects f t) o → Has (objects f u) p → ObjectsAlike π t u f o p
+  other_says : (f : Family) → has_keys f ≡ true → ((c : Class) → role_of_class c ≡ role.OfFamily f → leaves_out [] c ≡ true) → (o p : Placed) → In o (objects f t) → In p (objects f u) → ObjectsAlike π t u f o p
       → Same m (Some (Object (role.OfFamily f))) o.value p.value
   other_says f keyed plain o p h k alike =
       family_says [] f o p h k (by_key keyed alike.key) (classes_same (role.OfFamily f) o.value p.value alike.record_same) plain (λ two n i. elim i [ ])
@@ -187,15 +186,15 @@ module _ (π : Preference) (t u : Data) (both : MeanOne π t u) (default : List 
       subst (λ x. Aligned m s (codes "@id") x (get_member (codes "@id") ns)) (sym left) (subst (Aligned m s (codes "@id") None) (sym right) (not_both (lacks_none l s (codes "@id")) (lacks_none r s (codes "@id"))))
 
   -- what holds of each of these names holds of one of them
-  each_name : (P : List ℕ → Type 0) (n : List ℕ) (names : List (List ℕ)) (k : List ℕ) → P n → (Has names k → P k) → Has (n ∷ names) k → P k
-  each_name P n names k h rest i = ⊎_elim (λ e. subst P e h) rest (Has-cases n k names i)
+  each_name : {A : Type 0} (P : List ℕ → Type 0) (n k : List ℕ) → P n → (A → P k) → (n ≡ k) ⊎ A → P k
+  each_name P n k h rest i = ⊎_elim (λ e. subst P e h) rest i
 
   -- ---- elections
 
   abbrev election_names : List (List ℕ)
   election_names = codes "Candidate" ∷ codes "Contest" ∷ codes "BallotStyle" ∷ []
 
-  election_says : (d e : Placed) → Has (elections t) d → Has (elections u) e → ElectionsAlike π t u d e → Same m (Some (Object role.Election)) d.value e.value
+  election_says : (d e : Placed) → In d (elections t) → In e (elections u) → ElectionsAlike π t u d e → Same m (Some (Object role.Election)) d.value e.value
   election_says d e h k alike =
       let x = election_object t (no_shape_fault π t both.left) d.value (record { place = d.place; is = election_stands t (skeleton π t both.left) d h }) in
       let y = election_object u (no_shape_fault π u both.right) e.value (record { place = e.place; is = election_stands u (skeleton π u both.right) e k }) in
@@ -206,22 +205,22 @@ module _ (π : Preference) (t u : Data) (both : MeanOne π t u) (default : List 
       (λ n f g i. by_name_in x.0 y.0 x.1 y.1 x.2 y.2 n (left_out election_names class.Election n refl f g i))
       (members_value role.Election class.Election x.0 y.0 x.2 y.2 (sym (ap (object_record π t role.Election) x.1) ∙ alike.record_same ∙ ap (object_record π u role.Election) y.1))))
     where
-      held : (f : Family) (name : List ℕ) → has_keys f ≡ true → InElections f name → ((o p : Placed) → Has (objects f t) o → Has (objects f u) p → ObjectsAlike π t u f o p → Same m (Some (Object (role.OfFamily f))) o.value p.value)
+      held : (f : Family) (name : List ℕ) → has_keys f ≡ true → InElections f name → ((o p : Placed) → In o (objects f t) → In p (objects f u) → ObjectsAlike π t u f o p → Same m (Some (Object (role.OfFamily f))) o.value p.value)
           → (ms ns : Members) → d.value ≡ object ms → e.value ≡ object ns → ObjectAt t (Object role.Election) role.Election class.Election ms → ObjectAt u (Object role.Election) role.Election class.Election ns
           → AlignedIn role.Election class.Election ms ns name
       held f name keyed home says ms ns is is' a b =
           keyed_aligned role.Election class.Election ms ns a b f name home.other home.keyed d e is is'
           (matched_within_both (λ x y. Same m (Some (Object (role.OfFamily f))) x.value y.value)
-          (λ x y i j s. says x y (subst (λ os. Has os x) (sym (home.are t)) (flat-has (placed_entries name) (elections t) d x h i)) (subst (λ os. Has os y) (sym (home.are u)) (flat-has (placed_entries name) (elections u) e y k j)) s)
+          (λ x y i j s. says x y (subst (λ os. In x os) (sym (home.are t)) (In-flat_map (placed_entries name) x d (elections t) h i)) (subst (λ os. In y os) (sym (home.are u)) (In-flat_map (placed_entries name) y e (elections u) k j)) s)
           (held_matched π t u both f name keyed home d e h k alike))
 
       by_name_in : (ms ns : Members) → d.value ≡ object ms → e.value ≡ object ns → ObjectAt t (Object role.Election) role.Election class.Election ms → ObjectAt u (Object role.Election) role.Election class.Election ns
-          → (n : List ℕ) → Has election_names n → AlignedIn role.Election class.Election ms ns n
+          → (n : List ℕ) → In n election_names → AlignedIn role.Election class.Election ms ns n
       by_name_in ms ns is is' a b n =
-          each_name (AlignedIn role.Election class.Election ms ns) (codes "Candidate") _ n (held family.Candidate (codes "Candidate") refl candidates (other_says family.Candidate refl (leaves family.Candidate)) ms ns is is' a b)
-          (each_name (AlignedIn role.Election class.Election ms ns) (codes "Contest") _ n (held family.Contest (codes "Contest") refl contests_home contest_says ms ns is is' a b)
-          (each_name (AlignedIn role.Election class.Election ms ns) (codes "BallotStyle") _ n (held family.Style (codes "BallotStyle") refl styles (other_says family.Style refl (leaves family.Style)) ms ns is is' a b)
-          (λ i. elim i [ ])))
+          each_name (AlignedIn role.Election class.Election ms ns) (codes "Candidate") n (held family.Candidate (codes "Candidate") refl (record { other = refl; keyed = refl; are = λ t. refl }) (other_says family.Candidate refl (leaves family.Candidate)) ms ns is is' a b)
+          (each_name (AlignedIn role.Election class.Election ms ns) (codes "Contest") n (held family.Contest (codes "Contest") refl (record { other = refl; keyed = refl; are = λ t. refl }) contest_says ms ns is is' a b)
+          (each_name (AlignedIn role.Election class.Election ms ns) (codes "BallotStyle") n (held family.Style (codes "BallotStyle") refl (record { other = refl; keyed = refl; are = λ t. refl }) (other_says family.Style refl (leaves family.Style)) ms ns is is' a b)
+          (λ i. absurd i)))
 
   -- ---- the report
 
@@ -250,14 +249,14 @@ module _ (π : Preference) (t u : Data) (both : MeanOne π t u) (default : List 
         (matched_mapped (λ (o : Placed). o.value) (λ (o : Placed). o.value) (λ x y h. h)
         (matched_within_both (λ d e. Same m (Some (Object role.Election)) d.value e.value) election_says (elections_matched π t u both)))))
 
-    by_name_in_report : (n : List ℕ) → Has report_names n → InReportAligned n
+    by_name_in_report : (n : List ℕ) → In n report_names → InReportAligned n
     by_name_in_report n =
-        each_name InReportAligned (codes "GpUnit") _ n (listed_in_report family.Unit (codes "GpUnit") refl (leaves family.Unit) units)
-        (each_name InReportAligned (codes "Party") _ n (listed_in_report family.Party (codes "Party") refl (leaves family.Party) parties)
-        (each_name InReportAligned (codes "Person") _ n (listed_in_report family.Person (codes "Person") refl (leaves family.Person) persons)
-        (each_name InReportAligned (codes "Office") _ n (listed_in_report family.Office (codes "Office") refl (leaves family.Office) offices)
-        (each_name InReportAligned (codes "Header") _ n (listed_in_report family.Header (codes "Header") refl (leaves family.Header) headers)
-        (each_name InReportAligned (codes "Election") _ n elections_listed (λ i. elim i [ ]))))))
+        each_name InReportAligned (codes "GpUnit") n (listed_in_report family.Unit (codes "GpUnit") refl (leaves family.Unit) (record { other = refl; keyed = refl; are = λ t. refl }))
+        (each_name InReportAligned (codes "Party") n (listed_in_report family.Party (codes "Party") refl (leaves family.Party) (record { other = refl; keyed = refl; are = λ t. refl }))
+        (each_name InReportAligned (codes "Person") n (listed_in_report family.Person (codes "Person") refl (leaves family.Person) (record { other = refl; keyed = refl; are = λ t. refl }))
+        (each_name InReportAligned (codes "Office") n (listed_in_report family.Office (codes "Office") refl (leaves family.Office) (record { other = refl; keyed = refl; are = λ t. refl }))
+        (each_name InReportAligned (codes "Header") n (listed_in_report family.Header (codes "Header") refl (leaves family.Header) (record { other = refl; keyed = refl; are = λ t. refl }))
+        (each_name InReportAligned (codes "Election") n elections_listed (λ i. absurd i))))))
 
     -- a member of the envelope may be absent
     in_envelope : (n : List ℕ) (o p : Option Data) → is_in_envelope class.ElectionReport n ≡ true → Aligned m (scope.Members role.Report (Some class.ElectionReport)) n o p

@@ -1,5 +1,5 @@
 -- Sets that mean the same say the same: references that name one set of keys, and JSON values.
-use Rattle.erd_normal.proofs.Common.{◌≡◌, ℕ, Bool, true, false, ◌&&◌, ◌⊎◌, List, [], ◌∷◌, Some, None, Option, filter_map, option_and_then, is_eq, sym, refl, ap, ◌∙◌, subst, ap₂, inl, inr, true≢false, tied_itself, Equal-is, IsDistinct, cons_option, list_any, Data, string, array, Items, get_item, as_str, role_of_class, Class, Family, family, Role, MemberKind, kind, At, string_from_text, list_of_items-place, list_of_items-tree, text_itself, here, later, Has-cases, all-Has, Has, Within-step, wanted_within, unrepeated, Within, is_simple_class, entry_itself, IsTree, AreTrees, is_same_json, list_of_items, entry_want, is_compared_set, asked, is_repeated, Member, Object, Reference, no_shape_fault, unrepeated_reference, resolves, unrepeated_distinct, any-has, has-any, IsAccepted, has_keys, key_cmp, Preference, key_of, is_selection_in, owner, key_set, meaning, key_named, keys_named, name_named, key_cmp_total, key_cmp_exact, Key, Sides, StandsFor, an_id, Same}
+use Rattle.erd_normal.proofs.Common.{◌≡◌, ℕ, Bool, true, false, ◌&&◌, ◌⊎◌, List, [], ◌∷◌, Some, None, Option, filter_map, option_and_then, is_eq, sym, refl, ap, ◌∙◌, subst, ap₂, true≢false, tied_itself, Equal-is, IsDistinct, cons_option, list_any, Data, string, array, Items, get_item, as_str, role_of_class, Class, Family, family, Role, MemberKind, kind, At, string_from_text, list_of_items-place, list_of_items-tree, text_itself, Within-step, wanted_within, unrepeated, Within, is_simple_class, entry_itself, IsTree, AreTrees, is_same_json, list_of_items, entry_want, is_compared_set, asked, is_repeated, Member, Object, Reference, no_shape_fault, unrepeated_reference, resolves, unrepeated_distinct, IsAccepted, has_keys, key_cmp, Preference, key_of, is_selection_in, owner, key_set, meaning, key_named, keys_named, name_named, key_cmp_total, key_cmp_exact, Key, Sides, StandsFor, an_id, Same, ⊎_elim, In, In-all, In-any, any_at, inl, inr}
 use Rattle.erd_normal.proofs.canonical.DistinctSets.{first_reference, first_value, names_accepted}
 use Rattle.erd_normal.proofs.lists.Matched.{Matched, Paired, none, more}
 use Rattle.erd_normal.proofs.same.Lists.{ApartBy, matched_by_keys, AreSound, itself}
@@ -22,34 +22,29 @@ pub record TextsTied (π : Preference) (t u : Data) (m : Sides) : Type 0 where
 
 -- ---- sets that mean the same say the same: references that name one set of keys, and JSON values
 
--- ---- lists
-
 -- entries that a test tells apart are apart by a key, where entries with one key pass the test
-pub apart_by : {A K : Type 0} (test : A → A → Bool) (key : A → K) (xs : List A) → ((x y : A) → Has xs x → Has xs y → key x ≡ key y → test x y ≡ true) → IsDistinct test xs → ApartBy key xs
+pub apart_by : {A K : Type 0} (test : A → A → Bool) (key : A → K) (xs : List A) → ((x y : A) → In x xs → In y xs → key x ≡ key y → test x y ≡ true) → IsDistinct test xs → ApartBy key xs
 unfolding IsDistinct
 apart_by test key [] tells d = tt
 apart_by test key (x ∷ xs) tells d =
-    (λ y i e. true≢false (sym (tells x y here (later i) e) ∙ all-Has (λ z. test x z ≡ false) xs y d.0 i), apart_by test key xs (λ y z i j. tells y z (later i) (later j)) d.1)
+    (λ y i e. true≢false (sym (tells x y (inl refl) (inr i) e) ∙ In-all (λ z. test x z ≡ false) y xs d.0 i), apart_by test key xs (λ y z i j. tells y z (inr i) (inr j)) d.1)
 
-pub has_kept : {A K : Type 0} (key : A → Option K) (x : A) (k : K) (xs : List A) → Has xs x → key x ≡ Some k → Has (filter_map key xs) k
-has_kept key x k xs (here {xs = ys}) e = subst (λ o. Has (cons_option o (filter_map key ys)) k) (sym e) here
-has_kept {A} {K} key x k xs (later {y = y} {xs = ys} h) e = at (key y) (has_kept key x k ys h e)
+pub has_kept : {A K : Type 0} (key : A → Option K) (x : A) (k : K) (xs : List A) → In x xs → key x ≡ Some k → In k (filter_map key xs)
+has_kept key x k [] h e = absurd h
+has_kept key x k (y ∷ ys) (inl i) e = subst (λ o. In k (cons_option o (filter_map key ys))) (sym (ap key i ∙ e)) (inl refl)
+has_kept {A} {K} key x k (y ∷ ys) (inr h) e = at (key y) (has_kept key x k ys h e)
   where
-    at : (o : Option K) → Has (filter_map key ys) k → Has (cons_option o (filter_map key ys)) k
+    at : (o : Option K) → In k (filter_map key ys) → In k (cons_option o (filter_map key ys))
     at None i = i
-    at (Some l) i = later i
+    at (Some l) i = inr i
 
-pub kept_has : {A K : Type 0} (key : A → Option K) (k : K) (xs : List A) → Has (filter_map key xs) k → (x : A) × Has xs x × (key x ≡ Some k)
+pub kept_has : {A K : Type 0} (key : A → Option K) (k : K) (xs : List A) → In k (filter_map key xs) → (x : A) × In x xs × (key x ≡ Some k)
 kept_has key k [] h = elim h [ ]
 kept_has {A} {K} key k (y ∷ ys) h = at (key y) refl h (kept_has key k ys)
   where
-    at : (o : Option K) → key y ≡ o → Has (cons_option o (filter_map key ys)) k → (Has (filter_map key ys) k → (x : A) × Has ys x × (key x ≡ Some k)) → (x : A) × Has (y ∷ ys) x × (key x ≡ Some k)
-    at None is i rest = let r = rest i in (r.0, later r.1, r.2)
-    at (Some l) is i rest = on (Has-cases l k (filter_map key ys) i)
-      where
-        on : (l ≡ k) ⊎ Has (filter_map key ys) k → (x : A) × Has (y ∷ ys) x × (key x ≡ Some k)
-        on (inl e) = (y, here, is ∙ ap Some e)
-        on (inr j) = let r = rest j in (r.0, later r.1, r.2)
+    at : (o : Option K) → key y ≡ o → In k (cons_option o (filter_map key ys)) → (In k (filter_map key ys) → (x : A) × In x ys × (key x ≡ Some k)) → (x : A) × In x (y ∷ ys) × (key x ≡ Some k)
+    at None is i rest = let r = rest i in (r.0, inr r.1, r.2)
+    at (Some l) is i rest = ⊎_elim (λ e. (y, inl refl, is ∙ ap Some e)) (λ j. let r = rest j in (r.0, inr r.1, r.2)) i
 
 pub paired_self : {A : Type 0} {R : A → A → Type 0} (xs : List A) → ((x : A) → R x x) → Paired R xs xs
 paired_self [] each = none
@@ -81,7 +76,7 @@ module _ (π : Preference) (t : Data) (accepted : IsAccepted π t) (f : Family) 
     entry_at : (i : ℕ) (d : Data) → get_item i ds ≡ Some d → Within t (record { want = Reference f; value = d; repeated = is_repeated ds i d })
     entry_at i d e = Within-step t (asked (Member (kind.Many f) r) (array ds)) (record { want = Reference f; value = d; repeated = is_repeated ds i d }) (At i) w (rw e)
 
-    pub reference_named : (d : Data) → Has (list_of_items ds) d → NamedBy π t f d
+    pub reference_named : (d : Data) → In d (list_of_items ds) → NamedBy π t f d
     reference_named d h = let p = list_of_items-place ds d h in named_by d (unrepeated_reference π t accepted f d (is_repeated ds p.0 d) (entry_at p.0 d p.1))
 
     pub references_apart : ApartBy (entry_key π t f) (list_of_items ds)
@@ -97,12 +92,12 @@ module _ (π : Preference) (t : Data) (accepted : IsAccepted π t) (f : Family) 
             ap₂ is_same_json (b.is ∙ ap string one) a.is ∙ text_itself a.text
 
 -- each of the one set has its fellow in the other
-fellow : (π : Preference) (t u : Data) (f : Family) (ds es : List Data) → key_set (keys_named π t f ds) ≡ key_set (keys_named π u f es) → (x : Data) → Has ds x → NamedBy π t f x → (y : Data) × Has es y × (entry_key π t f x ≡ entry_key π u f y)
+fellow : (π : Preference) (t u : Data) (f : Family) (ds es : List Data) → key_set (keys_named π t f ds) ≡ key_set (keys_named π u f es) → (x : Data) → In x ds → NamedBy π t f x → (y : Data) × In y es × (entry_key π t f x ≡ entry_key π u f y)
 fellow π t u f ds es same x h n =
     let e : entry_key π t f x ≡ Some n.key = ap (entry_key π t f) n.is ∙ n.named in
     let there : list_any (λ l. is_eq (key_cmp l n.key)) (keys_named π u f es) ≡ true =
-    sym (ap (λ set. set n.key) same) ∙ any-has (λ l. is_eq (key_cmp l n.key)) (keys_named π t f ds) n.key (has_kept (entry_key π t f) x n.key ds h e) (ap is_eq (tied_itself key_cmp_total n.key)) in
-    let l = has-any (λ l. is_eq (key_cmp l n.key)) (keys_named π u f es) there in
+    sym (ap (λ set. set n.key) same) ∙ any_at (λ l. is_eq (key_cmp l n.key)) n.key (keys_named π t f ds) (has_kept (entry_key π t f) x n.key ds h e) (ap is_eq (tied_itself key_cmp_total n.key)) in
+    let l = In-any (λ l. is_eq (key_cmp l n.key)) (keys_named π u f es) there in
     let y = kept_has (entry_key π u f) l.0 es l.1 in
     (y.0, y.1, e ∙ ap Some (sym (key_cmp_exact l.0 n.key ((Equal-is (key_cmp l.0 n.key)).0 l.2))) ∙ sym y.2)
 

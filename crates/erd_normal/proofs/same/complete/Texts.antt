@@ -1,6 +1,6 @@
 -- The two functions of texts: an `@id` of the one report goes to that of the object with the same key, or of the selection with the
 -- same name of the contest with the same key.
-use Rattle.erd_normal.proofs.Common.{◌≡◌, ℕ, true, ◌⊎◌, List, [], ◌∷◌, map, Some, None, codes, Option, find, flat_map, option_and_then, bytes_eq, sym, refl, ap, ◌∙◌, subst, inl, inr, ⊎_elim, list_any, option_map_or, Data, families, Family, family, role, text_exact, text_itself, and_then-Some, here, later, Has-cases, Has, Asked, asked, Object, no_identity_fault, find-Some, find-any, Has-Contains, has_identifier, values-placed_entries, stands, flat-has, one_object, one_keyed, one_named, has_id-Some, owner_is, owned_by, any-has, has-any, IsAccepted, has_keys, Preference, key_of, is_selection_in, Placed, contests, selections_of_contest, objects, id_of, has_id, owner, name_of, name_named, Sides, StandsFor}
+use Rattle.erd_normal.proofs.Common.{◌≡◌, ℕ, true, List, [], ◌∷◌, map, Some, None, codes, Option, find, flat_map, option_and_then, sym, refl, ap, ◌∙◌, subst, list_any, option_map_or, Data, families, Family, family, role, and_then-Some, Asked, asked, Object, no_identity_fault, find-Some, find-any, has_identifier, values-placed_entries, stands, one_object, one_keyed, one_named, has_id-Some, owner_is, owned_by, IsAccepted, has_keys, Preference, key_of, is_selection_in, Placed, contests, selections_of_contest, objects, id_of, has_id, owner, name_of, name_named, Sides, StandsFor, Bool, ◌&&◌, is_some, unwrap_or, ap₂, and_parts, has_id-from, In, In-any, In-flat_map, In-from_contains, In-map_from, any_at, inl, inr}
 use Rattle.erd_normal.proofs.canonical.ContestSelections.{one_contest}
 use Rattle.erd_normal.proofs.lists.Lists.{is_family}
 use Rattle.erd_normal.proofs.lists.Matched.{Matched, matched_flat, Paired, none, more}
@@ -11,8 +11,8 @@ use Rattle.erd_normal.proofs.same.complete.Sets.{MeanOne, TextsTied}
 -- an object of each report, of one family, with one key; or two selections with one name, of contests with one key
 pub data Counterpart (π : Preference) (t u : Data) (f : Family) (o p : Placed) : Type 0 where
   by_key : has_keys f ≡ true → key_of π o.value ≡ key_of π p.value → Counterpart π t u f o p
-  by_name : f ≡ family.Selection → (c d : Placed) → Has (objects family.Contest t) c → Has (objects family.Contest u) d → key_of π c.value ≡ key_of π d.value
-      → Has (selections_of_contest c) o → Has (selections_of_contest d) p → name_of π t o.value ≡ name_of π u p.value → Counterpart π t u f o p
+  by_name : f ≡ family.Selection → (c d : Placed) → In c (objects family.Contest t) → In d (objects family.Contest u) → key_of π c.value ≡ key_of π d.value
+      → In o (selections_of_contest c) → In p (selections_of_contest d) → name_of π t o.value ≡ name_of π u p.value → Counterpart π t u f o p
 
 pub counterpart_back : (π : Preference) (t u : Data) (f : Family) (o p : Placed) → Counterpart π t u f o p → Counterpart π u t f p o
 counterpart_back π t u f o p (by_key keyed same) = by_key keyed (sym same)
@@ -22,7 +22,7 @@ pub no_keys : (f : Family) → has_keys f ≡ true → f ≡ family.Selection �
 no_keys f keyed is = let h : has_keys family.Selection ≡ true = ap has_keys (sym is) ∙ keyed in cc
 
 -- an object has one counterpart
-pub one_counterpart : (π : Preference) (t u : Data) → IsAccepted π t → IsAccepted π u → (f : Family) (o p q : Placed) → Has (objects f u) p → Has (objects f u) q → Counterpart π t u f o p → Counterpart π t u f o q → p ≡ q
+pub one_counterpart : (π : Preference) (t u : Data) → IsAccepted π t → IsAccepted π u → (f : Family) (o p q : Placed) → In p (objects f u) → In q (objects f u) → Counterpart π t u f o p → Counterpart π t u f o q → p ≡ q
 one_counterpart π t u accepted accepted' f o p q h k (by_key keyed a) (by_key keyed' b) =
     let i = has_identifier π u (no_identity_fault π u accepted') f p keyed h in one_keyed π u accepted' f p q i.0 keyed h k i.1 (sym b ∙ a ∙ i.1)
 one_counterpart π t u accepted accepted' f o p q h k (by_key keyed a) (by_name is c d i j keys l n names) = absurd (no_keys f keyed is)
@@ -32,10 +32,10 @@ one_counterpart π t u accepted accepted' f o p q h k (by_name is c d i j keys l
     let key = has_identifier π u (no_identity_fault π u accepted') family.Contest d refl j in
     let other : d ≡ d' = one_keyed π u accepted' family.Contest d d' key.0 refl j j' key.1 (sym keys' ∙ ap (λ (x : Placed). key_of π x.value) (sym contest) ∙ keys ∙ key.1) in
     let name = selection_name π u accepted' d p j n in
-    one_named π u accepted' d p q name.0 j n (subst (λ x. Has (selections_of_contest x) q) (sym other) n') name.1 (sym names' ∙ names ∙ name.1)
+    one_named π u accepted' d p q name.0 j n (subst (λ x. In q (selections_of_contest x)) (sym other) n') name.1 (sym names' ∙ names ∙ name.1)
 
 -- an object is of one family
-pub one_family : (π : Preference) (t : Data) → IsAccepted π t → (f g : Family) (o : Placed) → Has (objects f t) o → Has (objects g t) o → f ≡ g
+pub one_family : (π : Preference) (t : Data) → IsAccepted π t → (f g : Family) (o : Placed) → In o (objects f t) → In o (objects g t) → f ≡ g
 one_family π t accepted f g o h k =
     let both : Some (asked (Object (role.OfFamily f)) o.value) ≡ Some (asked (Object (role.OfFamily g)) o.value) = sym (stands π t accepted f o h) ∙ stands π t accepted g o k in
     let one : asked (Object (role.OfFamily f)) o.value ≡ asked (Object (role.OfFamily g)) o.value = cc in
@@ -43,25 +43,25 @@ one_family π t accepted f g o h k =
     cc
 
 -- the selection of a contest that a reference names
-pub selection_named : (π : Preference) (v : Data) → IsAccepted π v → (c : Placed) (r : List ℕ) → Has (objects family.Contest v) c → is_selection_in c.value r ≡ true
-    → (x : Placed) × Has (selections_of_contest c) x × (id_of x.value ≡ Some r) × (name_named π v r ≡ name_of π v x.value)
+pub selection_named : (π : Preference) (v : Data) → IsAccepted π v → (c : Placed) (r : List ℕ) → In c (objects family.Contest v) → is_selection_in c.value r ≡ true
+    → (x : Placed) × In x (selections_of_contest c) × (id_of x.value ≡ Some r) × (name_named π v r ≡ name_of π v x.value)
 selection_named π v accepted c r h e =
-    let d = has-any (has_id r) (map (λ (o : Placed). o.value) (selections_of_contest c)) (ap (list_any (has_id r)) (values-placed_entries (codes "ContestSelection") c) ∙ e) in
-    let x = placed_of (selections_of_contest c) d.0 d.1 in
+    let d = In-any (has_id r) (map (λ (o : Placed). o.value) (selections_of_contest c)) (ap (list_any (has_id r)) (values-placed_entries (codes "ContestSelection") c) ∙ e) in
+    let x = In-map_from (λ (o : Placed). o.value) (selections_of_contest c) d.0 d.1 in
     let id : id_of x.0.value ≡ Some r = ap id_of x.2 ∙ has_id-Some r d.0 d.2 in
-    (x.0, x.1, id, ap (option_and_then (name_of π v)) (owner_is π v accepted family.Selection x.0 r (flat-has selections_of_contest (contests v) c x.0 h x.1) id))
-  where
-    placed_of : (xs : List Placed) (d : Data) → Has (map (λ x. x.value) xs) d → (x : Placed) × Has xs x × (x.value ≡ d)
-    placed_of [] d h = elim h [ ]
-    placed_of (x ∷ xs) d h = ⊎_elim (λ e. (x, here, e)) (λ k. let r = placed_of xs d k in (r.0, later r.1, r.2)) (Has-cases x.value d (map (λ x. x.value) xs) h)
+    (x.0, x.1, id, ap (option_and_then (name_of π v)) (owner_is π v accepted family.Selection x.0 r (In-flat_map selections_of_contest x.0 c (contests v) h x.1) id))
+
+pub some_again : (o : Option (List ℕ)) → is_some o ≡ true → o ≡ Some (unwrap_or o [])
+some_again None h = cc
+some_again (Some s) h = refl
 
 -- two objects and their `@id`s
 pub record Couple (π : Preference) (t u : Data) : Type 0 where
   pub family : Family
   pub one : Placed
   pub other : Placed
-  pub one_stands : Has (objects family t) one
-  pub other_stands : Has (objects family u) other
+  pub one_stands : In one (objects family t)
+  pub other_stands : In other (objects family u)
   pub related : Counterpart π t u family one other
   pub text : List ℕ
   pub other_text : List ℕ
@@ -72,8 +72,8 @@ pub record Couple (π : Preference) (t u : Data) : Type 0 where
 couples_agree : (π : Preference) (t u : Data) → IsAccepted π t → IsAccepted π u → (c d : Couple π t u) → c.text ≡ d.text → c.other_text ≡ d.other_text
 couples_agree π t u accepted accepted' c d e =
     let one : c.one ≡ d.one = one_object π t accepted c.family d.family c.one d.one c.text c.one_stands d.one_stands c.is (d.is ∙ ap Some (sym e)) in
-    let family : d.family ≡ c.family = one_family π t accepted d.family c.family d.one d.one_stands (subst (Has (objects c.family t)) one c.one_stands) in
-    let other : c.other ≡ d.other = one_counterpart π t u accepted accepted' c.family c.one c.other d.other c.other_stands (subst (λ f. Has (objects f u) d.other) family d.other_stands) c.related
+    let family : d.family ≡ c.family = one_family π t accepted d.family c.family d.one d.one_stands (subst (λ z. In z (objects c.family t)) one c.one_stands) in
+    let other : c.other ≡ d.other = one_counterpart π t u accepted accepted' c.family c.one c.other d.other c.other_stands (subst (λ f. In d.other (objects f u)) family d.other_stands) c.related
     (subst (λ o. Counterpart π t u c.family o d.other) (sym one) (subst (λ f. Counterpart π t u f d.one d.other) family d.related)) in
     let texts : Some c.other_text ≡ Some d.other_text = sym c.other_is ∙ ap (λ (x : Placed). id_of x.value) other ∙ d.other_is in
     cc
@@ -96,16 +96,16 @@ module _ (π : Preference) (t u : Data) (both : MeanOne π t u) where
   -- ---- all couples
 
   pub record Fellows (f : Family) (o p : Placed) : Type 0 where
-    pub one_stands : Has (objects f t) o
-    pub other_stands : Has (objects f u) p
+    pub one_stands : In o (objects f t)
+    pub other_stands : In p (objects f u)
     pub related : Counterpart π t u f o p
 
   keyed_fellows : (f : Family) → has_keys f ≡ true → Matched (Fellows f) (objects f t) (objects f u)
   keyed_fellows f keyed = matched_within_both (Fellows f) (λ x y i j r. record { one_stands = i; other_stands = j; related = by_key keyed r.key }) (family_matched π t u both f keyed)
 
   record Contests (c d : Placed) : Type 0 where
-    one_stands : Has (objects family.Contest t) c
-    other_stands : Has (objects family.Contest u) d
+    one_stands : In c (objects family.Contest t)
+    other_stands : In d (objects family.Contest u)
     alike : ObjectsAlike π t u family.Contest c d
 
   chosen_fellows : Matched (Fellows family.Selection) (objects family.Selection t) (objects family.Selection u)
@@ -113,8 +113,8 @@ module _ (π : Preference) (t u : Data) (both : MeanOne π t u) where
       matched_flat selections_of_contest selections_of_contest
       (λ c d i r. matched_within_both (Fellows family.Selection)
       (λ x y j k s. record {
-        one_stands = flat-has selections_of_contest (contests t) c x r.one_stands j;
-        other_stands = flat-has selections_of_contest (contests u) d y r.other_stands k;
+        one_stands = In-flat_map selections_of_contest x c (contests t) r.one_stands j;
+        other_stands = In-flat_map selections_of_contest y d (contests u) r.other_stands k;
         related = by_name refl c d r.one_stands r.other_stands r.alike.key j k s.name;
       })
       (selections_matched π t u both c d r.one_stands r.other_stands r.alike))
@@ -124,127 +124,108 @@ module _ (π : Preference) (t u : Data) (both : MeanOne π t u) where
   fellows family.Selection = chosen_fellows
   fellows f = keyed_fellows f refl
 
-  couple_if : (f : Family) (o p : Placed) → Fellows f o p → (a b : Option (List ℕ)) → id_of o.value ≡ a → id_of p.value ≡ b → List (Couple π t u) → List (Couple π t u)
-  couple_if f o p r (Some a) (Some b) is is' rest = record {
-    family = f;
-    one = o;
-    other = p;
-    one_stands = r.one_stands;
-    other_stands = r.other_stands;
-    related = r.related;
+  record Pair : Type 0 where
+    family : Family
+    one : Placed
+    other : Placed
+    fellows : Fellows family one other
+
+  pairs_in : (f : Family) {xs ys : List Placed} → Paired (Fellows f) xs ys → List Pair
+  pairs_in f none = []
+  pairs_in f (more {x = x} {y = y} r rest) = record { family = f; one = x; other = y; fellows = r } ∷ pairs_in f rest
+
+  pairs : List Pair
+  pairs = flat_map (λ f. pairs_in f (fellows f).paired) families
+
+  pair_in : (f : Family) {xs ys : List Placed} (h : Paired (Fellows f) xs ys) (o : Placed) → In o xs → (p : Pair) × In p (pairs_in f h) × (p.one ≡ o) × (p.family ≡ f)
+  unfolding pairs_in
+  pair_in f none o h = elim h [ ]
+  pair_in f (more r rest) o (inl e) = (_, inl refl, e, refl)
+  pair_in f (more r rest) o (inr h) = let p = pair_in f rest o h in (p.0, inr p.1, p.2, p.3)
+
+  -- the pair of an object
+  pair_of : (f : Family) (o : Placed) → In o (objects f t) → (p : Pair) × In p pairs × (p.one ≡ o) × (p.family ≡ f)
+  unfolding pairs
+  pair_of f o h =
+      let p = pair_in f (fellows f).paired o h in
+      (p.0, In-flat_map (λ f. pairs_in f (fellows f).paired) p.0 f families (In-from_contains f families (is_family f)) p.1, p.2, p.3)
+
+  -- the couple that a pair with these `@id`s is
+  abbrev couple : (p : Pair) (a b : List ℕ) → id_of p.one.value ≡ Some a → id_of p.other.value ≡ Some b → Couple π t u
+  couple p a b is is' = record {
+    family = p.family;
+    one = p.one;
+    other = p.other;
+    one_stands = p.fellows.one_stands;
+    other_stands = p.fellows.other_stands;
+    related = p.fellows.related;
     text = a;
     other_text = b;
     is = is;
     other_is = is';
-  } ∷ rest
-  couple_if f o p r a b is is' rest = rest
-
-  couples_in : (f : Family) {xs ys : List Placed} → Paired (Fellows f) xs ys → List (Couple π t u)
-  couples_in f none = []
-  couples_in f (more {x = x} {y = y} r rest) = couple_if f x y r (id_of x.value) (id_of y.value) refl refl (couples_in f rest)
-
-  pub couples : List (Couple π t u)
-  couples = flat_map (λ f. couples_in f (fellows f).paired) families
-
-  -- a couple of these texts
-  pub record Found (cs : List (Couple π t u)) (a b : List ℕ) : Type 0 where
-    couple : Couple π t u
-    stands_in : Has cs couple
-    text : couple.text ≡ a
-    other_text : couple.other_text ≡ b
-
-  found_if : (f : Family) (o p : Placed) (r : Fellows f o p) (x y : Option (List ℕ)) (is : id_of o.value ≡ x) (is' : id_of p.value ≡ y) (rest : List (Couple π t u)) (a b : List ℕ) → x ≡ Some a → y ≡ Some b
-      → Found (couple_if f o p r x y is is' rest) a b
-  unfolding couple_if
-  found_if f o p r (Some x) (Some y) is is' rest a b e g = let same : x ≡ a = cc in let same' : y ≡ b = cc in record { couple = _; stands_in = here; text = same; other_text = same' }
-  found_if f o p r None y is is' rest a b e g = cc
-  found_if f o p r (Some x) None is is' rest a b e g = cc
-
-  later_if : (f : Family) (o p : Placed) (r : Fellows f o p) (x y : Option (List ℕ)) (is : id_of o.value ≡ x) (is' : id_of p.value ≡ y) (rest : List (Couple π t u)) (a b : List ℕ) → Found rest a b → Found (couple_if f o p r x y is is' rest) a b
-  unfolding couple_if
-  later_if f o p r (Some x) (Some y) is is' rest a b h = record { couple = h.couple; stands_in = later h.stands_in; text = h.text; other_text = h.other_text }
-  later_if f o p r None y is is' rest a b h = h
-  later_if f o p r (Some x) None is is' rest a b h = h
-
-  -- the fellow of an object, and the couple that they are
-  pub record Fellow (f : Family) (o : Placed) (cs : List (Couple π t u)) : Type 0 where
-    pub fellow : Placed
-    pub fellows : Fellows f o fellow
-    found : (a b : List ℕ) → id_of o.value ≡ Some a → id_of fellow.value ≡ Some b → Found cs a b
-
-  fellow_in : (f : Family) {xs ys : List Placed} (h : Paired (Fellows f) xs ys) (o : Placed) → Has xs o → Fellow f o (couples_in f h)
-  unfolding couples_in
-  fellow_in f none o h = elim h [ ]
-  fellow_in f (more {x = x} {y = y} {xs = xs} r rest) o h = at (Has-cases x o xs h) (fellow_in f rest o)
-    where
-      at : (x ≡ o) ⊎ Has xs o → (Has xs o → Fellow f o (couples_in f rest)) → Fellow f o (couple_if f x y r (id_of x.value) (id_of y.value) refl refl (couples_in f rest))
-      at (inl e) on = subst (λ z. Fellow f z (couple_if f x y r (id_of x.value) (id_of y.value) refl refl (couples_in f rest))) e
-          (record { fellow = y; fellows = r; found = λ a b is is'. found_if f x y r (id_of x.value) (id_of y.value) refl refl (couples_in f rest) a b is is' })
-      at (inr i) on = let g = on i in
-          record { fellow = g.fellow; fellows = g.fellows; found = λ a b is is'. later_if f x y r (id_of x.value) (id_of y.value) refl refl (couples_in f rest) a b (g.found a b is is') }
-
-  pub fellow_of : (f : Family) (o : Placed) → Has (objects f t) o → Fellow f o couples
-  unfolding couples
-  fellow_of f o h =
-      let g = fellow_in f (fellows f).paired o h in
-      record {
-        fellow = g.fellow;
-        fellows = g.fellows;
-        found = λ a b is is'. let x = g.found a b is is' in
-            record { couple = x.couple; stands_in = flat-has (λ f. couples_in f (fellows f).paired) families f x.couple (Has-Contains families f (is_family f)) x.stands_in; text = x.text; other_text = x.other_text };
-      }
+  }
 
   -- ---- the functions
 
   module _ (default : List ℕ) where
+    -- one side of a pair has the `@id`, and the other side has one
+    abbrev passes : (Pair → Placed) → (Pair → Placed) → List ℕ → Pair → Bool
+    passes key other s p = has_id s (key p).value && is_some (id_of (other p).value)
+
+    abbrev lookup : (Pair → Placed) → (Pair → Placed) → List ℕ → List ℕ
+    lookup key other s = option_map_or (λ p. unwrap_or (id_of (other p).value) []) (find (passes key other s) pairs) default
+
     pub there : List ℕ → List ℕ
-    there s = option_map_or (λ (c : Couple π t u). c.other_text) (find (λ (c : Couple π t u). bytes_eq s c.text) couples) default
+    there = lookup (λ p. p.one) (λ p. p.other)
 
     pub back : List ℕ → List ℕ
-    back s = option_map_or (λ (c : Couple π t u). c.text) (find (λ (c : Couple π t u). bytes_eq s c.other_text) couples) default
+    back = lookup (λ p. p.other) (λ p. p.one)
 
     abbrev pub sides : Data → Data → Sides
     sides l r = record { left = l; right = r; there = there; back = back }
 
-    there_is : (a b : List ℕ) → Found couples a b → b ≡ there a
-    unfolding there
-    there_is a b h =
-        let test = λ (c : Couple π t u). bytes_eq a c.text in
-        let x = find-any test couples (any-has test couples h.couple h.stands_in (ap (bytes_eq a) h.text ∙ text_itself a)) in
-        sym h.other_text ∙ couples_agree π t u both.left both.right h.couple x.0 (h.text ∙ text_exact a x.0.text x.2) ∙ sym (ap (λ o. option_map_or (λ (c : Couple π t u). c.other_text) o default) x.1)
+    looked_up : (key other : Pair → Placed) → ((p q : Pair) (s a b : List ℕ) → id_of (key p).value ≡ Some s → id_of (key q).value ≡ Some s → id_of (other p).value ≡ Some a → id_of (other q).value ≡ Some b → a ≡ b)
+        → (p : Pair) → In p pairs → (s a : List ℕ) → id_of (key p).value ≡ Some s → id_of (other p).value ≡ Some a → a ≡ lookup key other s
+    looked_up key other agree p h s a is is' =
+        let x = find-any (passes key other s) pairs (any_at (passes key other s) p pairs h (ap₂ ◌&&◌ (has_id-from s (key p).value is) (ap is_some is'))) in
+        let both = and_parts (has_id s (key x.0).value) (is_some (id_of (other x.0).value)) x.2 in
+        agree p x.0 s a (unwrap_or (id_of (other x.0).value) []) is (has_id-Some s (key x.0).value both.0) is' (some_again (id_of (other x.0).value) both.1)
+        ∙ sym (ap (λ o. option_map_or (λ q. unwrap_or (id_of (other q).value) []) o default) x.1)
 
-    back_is : (a b : List ℕ) → Found couples a b → a ≡ back b
-    unfolding back
-    back_is a b h =
-        let test = λ (c : Couple π t u). bytes_eq b c.other_text in
-        let x = find-any test couples (any-has test couples h.couple h.stands_in (ap (bytes_eq b) h.other_text ∙ text_itself b)) in
-        sym h.text ∙ couples_agree π u t both.right both.left (turned_couple π t u h.couple) (turned_couple π t u x.0) (h.other_text ∙ text_exact b x.0.other_text x.2) ∙ sym (ap (λ o. option_map_or (λ (c : Couple π t u). c.text) o default) x.1)
+    -- a text that is found is of a pair, if it is not the default
+    pair_found : (key other : Pair → Placed) (s s' : List ℕ) → s' ≡ lookup key other s → (s' ≡ default → ⊥) → (p : Pair) × (id_of (key p).value ≡ Some s) × (id_of (other p).value ≡ Some s')
+    pair_found key other s s' e apart = at (find (passes key other s) pairs) refl e
+      where
+        at : (o : Option Pair) → find (passes key other s) pairs ≡ o → s' ≡ option_map_or (λ p. unwrap_or (id_of (other p).value) []) o default
+            → (p : Pair) × (id_of (key p).value ≡ Some s) × (id_of (other p).value ≡ Some s')
+        at None is g = absurd (apart g)
+        at (Some p) is g =
+            let x = and_parts (has_id s (key p).value) (is_some (id_of (other p).value)) (find-Some (passes key other s) pairs p is).1 in
+            (p, has_id-Some s (key p).value x.0, some_again (id_of (other p).value) x.1 ∙ ap Some (sym g))
 
     -- the `@id`s of an object and its counterpart stand for one another
-    pub ids_stand : (l r : Data) (f : Family) (o p : Placed) (a b : List ℕ) → Has (objects f t) o → Has (objects f u) p → Counterpart π t u f o p → id_of o.value ≡ Some a → id_of p.value ≡ Some b → StandsFor (sides l r) a b
+    pub ids_stand : (l r : Data) (f : Family) (o p : Placed) (a b : List ℕ) → In o (objects f t) → In p (objects f u) → Counterpart π t u f o p → id_of o.value ≡ Some a → id_of p.value ≡ Some b → StandsFor (sides l r) a b
+    unfolding there back
     ids_stand l r f o p a b h k related is is' =
-        let g = fellow_of f o h in
-        let same : g.fellow ≡ p = one_counterpart π t u both.left both.right f o g.fellow p g.fellows.other_stands k g.fellows.related related in
-        let x = g.found a b is (ap (λ (z : Placed). id_of z.value) same ∙ is') in
-        (there_is a b x, back_is a b x)
+        let x = pair_of f o h in
+        let same : x.0.other ≡ p = one_counterpart π t u both.left both.right f o x.0.other p (subst (λ g. In x.0.other (objects g u)) x.3 x.0.fellows.other_stands) k
+        (subst (λ g. Counterpart π t u g o x.0.other) x.3 (subst (λ z. Counterpart π t u x.0.family z x.0.other) x.2 x.0.fellows.related)) related in
+        let left : id_of x.0.one.value ≡ Some a = ap (λ (z : Placed). id_of z.value) x.2 ∙ is in
+        let right : id_of x.0.other.value ≡ Some b = ap (λ (z : Placed). id_of z.value) same ∙ is' in (
+          looked_up (λ q. q.one) (λ q. q.other) (λ v w s c d e g i j. couples_agree π t u both.left both.right (couple v s c e i) (couple w s d g j) refl) x.0 x.1 a b left right,
+          looked_up (λ q. q.other) (λ q. q.one)
+              (λ v w s c d e g i j. couples_agree π u t both.right both.left (turned_couple π t u (couple v c s i e)) (turned_couple π t u (couple w d s j g)) refl) x.0 x.1 b a right left,
+        )
 
     -- a text that comes back is of a couple, if it is not the default
     pub couple_back : (s s' : List ℕ) → s ≡ back s' → (s ≡ default → ⊥) → (c : Couple π t u) × (c.text ≡ s) × (c.other_text ≡ s')
     unfolding back
-    couple_back s s' e other = at (find (λ (c : Couple π t u). bytes_eq s' c.other_text) couples) refl e
-      where
-        at : (o : Option (Couple π t u)) → find (λ (c : Couple π t u). bytes_eq s' c.other_text) couples ≡ o → s ≡ option_map_or (λ (c : Couple π t u). c.text) o default → (c : Couple π t u) × (c.text ≡ s) × (c.other_text ≡ s')
-        at None is g = absurd (other g)
-        at (Some c) is g = (c, sym g, sym (text_exact s' c.other_text (find-Some (λ (c : Couple π t u). bytes_eq s' c.other_text) couples c is).1))
+    couple_back s s' e apart = let p = pair_found (λ q. q.other) (λ q. q.one) s' s e apart in (couple p.0 s s' p.2 p.1, refl, refl)
 
     -- and one that goes there
     pub couple_there : (s s' : List ℕ) → s' ≡ there s → (s' ≡ default → ⊥) → (c : Couple π t u) × (c.text ≡ s) × (c.other_text ≡ s')
     unfolding there
-    couple_there s s' e other = at (find (λ (c : Couple π t u). bytes_eq s c.text) couples) refl e
-      where
-        at : (o : Option (Couple π t u)) → find (λ (c : Couple π t u). bytes_eq s c.text) couples ≡ o → s' ≡ option_map_or (λ (c : Couple π t u). c.other_text) o default → (c : Couple π t u) × (c.text ≡ s) × (c.other_text ≡ s')
-        at None is g = absurd (other g)
-        at (Some c) is g = (c, sym (text_exact s c.text (find-Some (λ (c : Couple π t u). bytes_eq s c.text) couples c is).1), sym g)
+    couple_there s s' e apart = let p = pair_found (λ q. q.one) (λ q. q.other) s s' e apart in (couple p.0 s s' p.1 p.2, refl, refl)
 
     -- ---- references
 
@@ -261,6 +242,6 @@ module _ (π : Preference) (t u : Data) (both : MeanOne π t u) where
           let p = owned_by u family.Contest d y g in
           let s = selection_named π t both.left o.0 a o.1 (ap (λ z. is_selection_in z a) o.2 ∙ h) in
           let s' = selection_named π u both.right p.0 b p.1 (ap (λ z. is_selection_in z b) p.2 ∙ l') in
-          ids_stand l r family.Selection s.0 s'.0 a b (flat-has selections_of_contest (contests t) o.0 s.0 o.1 s.1) (flat-has selections_of_contest (contests u) p.0 s'.0 p.1 s'.1)
+          ids_stand l r family.Selection s.0 s'.0 a b (In-flat_map selections_of_contest s.0 o.0 (contests t) o.1 s.1) (In-flat_map selections_of_contest s'.0 p.0 (contests u) p.1 s'.1)
           (by_name refl o.0 p.0 o.1 p.1 (ap (key_of π) o.2 ∙ i ∙ sym j ∙ sym (ap (key_of π) p.2)) s.1 s'.1 (sym s.3 ∙ names ∙ s'.3)) s.2 s'.2;
     }

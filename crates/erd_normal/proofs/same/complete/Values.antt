@@ -1,12 +1,12 @@
 -- Members that mean the same by themselves say the same.
-use Rattle.erd_normal.proofs.Common.{◌≡◌, ℕ, suc, Bool, true, false, not, ◌||◌, List, [], length, ◌==◌, Some, None, codes, Option, option_and_then, sym, refl, ap, ◌∙◌, subst, arith, Data, null, boolean, number, string, array, object, Items, no_items, item, Members, get_member, text_of_class, role_of_class, Class, class, Family, role, reason, MemberKind, kind, array_from, get_member-tree, of_label, faultless, wanted_within, lacks_none, classed, member_within, Classed, Within, is_simple_class, no_strange, no_unknown, is_text, is_array, is_object, is_empty_array, IsTree, AreTrees, AreMembers, list_of_items, class_of_object, want_of_kind, want_of_name, asked, Scope, scope, Want, Carried, Member, Object, Reference, no_shape_fault, Reordered, IsAccepted, has_keys, Preference, Label, untranslated, Content, no_content, PlainValue, a_json, a_label, a_json_set, a_key, a_key_set, a_content, label_of, unless_empty, plain_value, Key, Sides, is_array_kind, a_text, an_object, no_entry, Same, SameEntries, SameMembers}
+use Rattle.erd_normal.proofs.Common.{◌≡◌, ℕ, suc, Bool, true, false, not, ◌||◌, List, [], length, ◌==◌, Some, None, codes, Option, option_and_then, sym, refl, ap, ◌∙◌, subst, arith, Data, string, array, object, Items, no_items, item, Members, get_member, text_of_class, role_of_class, Class, class, Family, role, reason, MemberKind, kind, array_from, get_member-tree, of_label, faultless, wanted_within, lacks_none, classed, member_within, Classed, Within, is_simple_class, no_strange, no_unknown, is_text, is_array, is_object, is_empty_array, IsTree, AreTrees, AreMembers, list_of_items, class_of_object, want_of_kind, want_of_name, asked, Scope, scope, Want, Carried, Member, Object, Reference, no_shape_fault, IsAccepted, has_keys, Preference, Label, untranslated, Content, no_content, PlainValue, a_label, a_json_set, a_key, a_key_set, a_content, label_of, unless_empty, plain_value, Key, Sides, is_array_kind, a_text, an_object, no_entry, Same, SameEntries, SameMembers, IsPermutation}
 use Rattle.erd_normal.proofs.lists.Matched.{Matched, matched_none}
-use Rattle.erd_normal.proofs.same.Back.{entries_paired}
-use Rattle.erd_normal.proofs.same.LabelsBack.{Translations, labels_say, plain_self}
+use Rattle.erd_normal.proofs.same.Back.{entries_paired, set_says, list_says}
+use Rattle.erd_normal.proofs.same.Labels.{Translations, labels_say, plain_self}
 use Rattle.erd_normal.proofs.same.Lookups.{Aligned, both_there, not_both, lacks_none as lacks_nothing}
 use Rattle.erd_normal.proofs.same.Lists.{json_sets_reordered}
 use Rattle.erd_normal.proofs.same.Steady.{AllPlain, is_plain}
-use Rattle.erd_normal.proofs.same.complete.Contents.{left_empty, list_says, right_empty, set_says, content_says}
+use Rattle.erd_normal.proofs.same.complete.Contents.{left_empty, right_empty, content_says}
 use Rattle.erd_normal.proofs.same.complete.Sets.{entry_key, named_by, paired_self, reference_says, references_matched, values_apart, values_sound, TextsTied}
 use Rattle.erd_normal.proofs.built.AskedMembers.{label_class}
 
@@ -107,18 +107,12 @@ content_in o = no_content
 -- what holds of two arrays with one meaning, if it holds of empty ones and of those that mean something
 of_arrays : (P : Items → Items → Type 0) (x y : PlainValue) (ds es : Items) → unless_empty x (array ds) ≡ unless_empty y (array es) → P no_items no_items → (Some x ≡ Some y → P ds es) → P ds es
 of_arrays P x y no_items no_items same empty full = empty
-of_arrays P x y no_items (item e es) same empty full = cc
-of_arrays P x y (item d ds) no_items same empty full = cc
 of_arrays P x y (item d ds) (item e es) same empty full = full same
+of_arrays P x y ds es same empty full = cc
 
 unless_none : (x : PlainValue) (v : Data) → unless_empty x v ≡ None → v ≡ array no_items
 unless_none x (array no_items) e = refl
-unless_none x (array (item d ds)) e = cc
-unless_none x null e = cc
-unless_none x (boolean b) e = cc
-unless_none x (number n) e = cc
-unless_none x (string s) e = cc
-unless_none x (object ms) e = cc
+unless_none x v e = cc
 
 empty_array : (v : Data) → not (is_empty_array v) ≡ false → v ≡ array no_items
 empty_array (array no_items) e = refl
@@ -128,11 +122,8 @@ empty_array (array (item d ds)) e =
     cc
 empty_array d e = let h : true ≡ false = e in cc
 
-json_same : (v w : Data) → Some (a_json v) ≡ Some (a_json w) → v ≡ w
-json_same v w e = cc
-
 pub all_plain : (o : Option Want) (w : Want) → o ≡ Some w → is_plain w ≡ true → AllPlain o
-all_plain o w e h v g = let one : Some w ≡ Some v = sym e ∙ g in let same : w ≡ v = cc in subst (λ x. is_plain x ≡ true) same h
+all_plain o w e h = subst AllPlain (sym e) h
 
 -- a member that means nothing is an empty array
 record Nothing (k : MemberKind) (r : Bool) (v : Data) : Type 0 where
@@ -141,11 +132,6 @@ record Nothing (k : MemberKind) (r : Bool) (v : Data) : Type 0 where
   wanted : want_of_kind k r ≡ Member k r
 
 means_nothing : (π : Preference) (t : Data) → IsAccepted π t → (k : MemberKind) (r : Bool) (v : Data) → means_itself k ≡ true → Within t (asked (want_of_kind k r) v) → plain_value π t k v ≡ None → Nothing k r v
-means_nothing π t accepted kind.Word r v h w e = cc
-means_nothing π t accepted kind.Label r v h w e = cc
-means_nothing π t accepted kind.Flag r v h w e = cc
-means_nothing π t accepted kind.Whole r v h w e = cc
-means_nothing π t accepted (kind.One f) r v h w e = cc
 means_nothing π t accepted (kind.Many f) r v h w e = record { array_kind = refl; empty = unless_none _ v e; wanted = refl }
 means_nothing π t accepted kind.Identifiers r v h w e = record { array_kind = refl; empty = unless_none _ v e; wanted = refl }
 means_nothing π t accepted kind.Content r v h w e = record { array_kind = refl; empty = unless_none _ v e; wanted = refl }
@@ -153,32 +139,26 @@ means_nothing π t accepted kind.Outside r v h w e =
     record { array_kind = refl; empty = empty_array v (faultless t (no_shape_fault π t accepted) (asked (Member kind.Outside r) v) reason.OutsideProfile w); wanted = refl }
 means_nothing π t accepted kind.StrangeReference r v h w e = absurd (no_unknown t (no_shape_fault π t accepted) v r w)
 means_nothing π t accepted kind.StrangeIdentity r v h w e = absurd (no_strange t (no_shape_fault π t accepted) v r w)
-means_nothing π t accepted kind.Carried r v h w e = cc
-means_nothing π t accepted _ r v h w e = cc
+means_nothing π t accepted k r v h w e = cc
 
 module _ (π : Preference) (t u : Data) (m : Sides) (accepted : IsAccepted π t) (accepted' : IsAccepted π u) (tied : TextsTied π t u m) where
   same_label : (r r' : Bool) (v w : Data) → LabelView v → LabelView w → IsTree v → IsTree w → Within t (asked (Member kind.Label r) v) → Within u (asked (Member kind.Label r') w)
       → label_of v ≡ label_of w → Same m (Some (Member kind.Label r)) v w
   same_label r r' v w (text_view {s = a}) (text_view {s = b}) tree tree' inside inside' same =
       let h : untranslated a ≡ untranslated b = same in let e : a ≡ b = cc in subst (λ x. Same m (Some (Member kind.Label r)) (string a) (string x)) e (a_text refl)
-  same_label r r' v w text_view object_view tree tree' inside inside' same = cc
-  same_label r r' v w object_view text_view tree tree' inside inside' same = cc
   same_label r r' v w (object_view {ms = ms}) (object_view {ms = ns}) tree tree' inside inside' same =
       let a = label_parts π t accepted r ms tree inside in
       let b = label_parts π u accepted' r' ns tree' inside' in
       an_object (subst (λ o. SameMembers m (scope.Members role.Label o) ms ns) (sym a.among) (labels_say m ms ns tree tree' a.translations b.translations (a.typed ∙ sym b.typed) same))
+  same_label r r' v w a b tree tree' inside inside' same = cc
 
   -- arrays of a kind
   same_array : (k : MemberKind) (r : Bool) (v w : Data) → is_array v ≡ true → is_array w ≡ true → IsTree v → IsTree w → Within t (asked (Member k r) v) → Within u (asked (Member k r) w)
       → ((ds es : Items) → AreTrees ds → AreTrees es → Within t (asked (Member k r) (array ds)) → Within u (asked (Member k r) (array es)) → plain_value π t k (array ds) ≡ plain_value π u k (array es)
       → Same m (Some (Member k r)) (array ds) (array es))
       → plain_value π t k v ≡ plain_value π u k w → Same m (Some (Member k r)) v w
-  same_array k r v w h h' tree tree' inside inside' arrays same =
-      let ds = array_from v h in
-      let es = array_from w h' in
-      subst (λ x. Same m (Some (Member k r)) x w) (sym ds.1) (subst (Same m (Some (Member k r)) (array ds.0)) (sym es.1)
-      (arrays ds.0 es.0 (subst IsTree ds.1 tree) (subst IsTree es.1 tree') (subst (λ x. Within t (asked (Member k r) x)) ds.1 inside) (subst (λ x. Within u (asked (Member k r) x)) es.1 inside')
-      (sym (ap (plain_value π t k) ds.1) ∙ same ∙ ap (plain_value π u k) es.1)))
+  same_array k r (array ds) (array es) h h' tree tree' inside inside' arrays same = arrays ds es tree tree' inside inside' same
+  same_array k r v w h h' tree tree' inside inside' arrays same = cc
 
   same_references : (f : Family) (r : Bool) (ds es : Items) → has_keys f ≡ true → Within t (asked (Member (kind.Many f) r) (array ds)) → Within u (asked (Member (kind.Many f) r) (array es))
       → plain_value π t (kind.Many f) (array ds) ≡ plain_value π u (kind.Many f) (array es) → Same m (Some (Member (kind.Many f) r)) (array ds) (array es)
@@ -197,7 +177,7 @@ module _ (π : Preference) (t u : Data) (m : Sides) (accepted : IsAccepted π t)
       (values_apart π t accepted kind.Identifiers r role.Identifier ds w refl refl identifier_simple trees) (values_apart π u accepted' kind.Identifiers r role.Identifier es w' refl refl identifier_simple trees')
       (ap json_in e))))
     where
-      in_some_order : {xs ys : List Data} → Reordered xs ys → Matched (Same m (Some (Object role.Identifier))) xs ys
+      in_some_order : {xs ys : List Data} → IsPermutation xs ys → Matched (Same m (Some (Object role.Identifier))) xs ys
       in_some_order {xs} h = record { middle = xs; paired = paired_self xs (λ x. plain_self m (Some (Object role.Identifier)) x (all_plain _ (Object role.Identifier) refl refl)); reordered = h }
 
   same_content : (r : Bool) (ds es : Items) → AreTrees ds → AreTrees es → Within t (asked (Member kind.Content r) (array ds)) → Within u (asked (Member kind.Content r) (array es))
@@ -209,10 +189,6 @@ module _ (π : Preference) (t u : Data) (m : Sides) (accepted : IsAccepted π t)
 
   same_value : (k : MemberKind) (r : Bool) (v w : Data) → means_itself k ≡ true → IsTree v → IsTree w → Within t (asked (want_of_kind k r) v) → Within u (asked (want_of_kind k r) w)
       → plain_value π t k v ≡ plain_value π u k w → Same m (Some (want_of_kind k r)) v w
-  same_value kind.Word r v w h tree tree' inside inside' same = subst (Same m (Some (Member kind.Word r)) v) (json_same v w same) (plain_self m _ v (all_plain _ (Member kind.Word r) refl refl))
-  same_value kind.Flag r v w h tree tree' inside inside' same = subst (Same m (Some (Member kind.Flag r)) v) (json_same v w same) (plain_self m _ v (all_plain _ (Member kind.Flag r) refl refl))
-  same_value kind.Whole r v w h tree tree' inside inside' same = subst (Same m (Some (Member kind.Whole r)) v) (json_same v w same) (plain_self m _ v (all_plain _ (Member kind.Whole r) refl refl))
-  same_value kind.Carried r v w h tree tree' inside inside' same = subst (Same m (Some Carried) v) (json_same v w same) (plain_self m _ v (all_plain _ Carried refl refl))
   same_value kind.Label r v w h tree tree' inside inside' same =
       same_label r r v w (label_view v (wanted_within t (no_shape_fault π t accepted) (asked (Member kind.Label r) v) inside)) (label_view w (wanted_within u (no_shape_fault π u accepted') (asked (Member kind.Label r) w) inside'))
       tree tree' inside inside' (ap label_in same)
@@ -236,7 +212,7 @@ module _ (π : Preference) (t u : Data) (m : Sides) (accepted : IsAccepted π t)
       subst (Same m (Some (Member kind.Outside r)) v) (a.empty ∙ sym b.empty) (plain_self m _ v (all_plain _ (Member kind.Outside r) refl refl))
   same_value kind.StrangeReference r v w h tree tree' inside inside' same = absurd (no_unknown t (no_shape_fault π t accepted) v r inside)
   same_value kind.StrangeIdentity r v w h tree tree' inside inside' same = absurd (no_strange t (no_shape_fault π t accepted) v r inside)
-  same_value _ r v w h tree tree' inside inside' same = cc
+  same_value k r v w h tree tree' inside inside' same = let one : v ≡ w = cc in subst (Same m (Some (want_of_kind k r)) v) one (plain_self m (Some (want_of_kind k r)) v cc)
 
   -- members that mean the same by themselves
   pub plain_aligned : (s : Scope) (n : List ℕ) (k : MemberKind) (r : Bool) (o p : Option Data) → want_of_name s n ≡ Some (want_of_kind k r) → means_itself k ≡ true

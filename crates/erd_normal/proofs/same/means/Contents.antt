@@ -1,11 +1,11 @@
 -- The order of a ballot means the same in two reports that say the same, headers inside headers included.
-use Rattle.erd_normal.proofs.Common.{◌≡◌, ℕ, Bool, true, false, cond, ◌⊎◌, List, [], map, Some, None, codes, Option, option_and_then, bytes_eq, nat_cmp, is_eq, Ordering, Equal, unwrap_or, sym, refl, ap, ◌∙◌, subst, ap₂, inl, inr, is_eq-slice_cmp, slice_cmp, list_any, option_map_or, match_ordering, Data, null, boolean, number, string, array, object, Items, no_items, Members, member, get_member, get, as_str, kind_of_member, required_names, Class, class, Family, family, MemberKind, kind, text_exact, get_member-before, here, later, Has, of_role, wanted_within, lacks_none, text_from_equal, want_by_kind, is_object, names_wanted, AreMembers, list_of_items, entries_of, entries_at, text_at, scope_inside, member_want, want_of_name, entry_want, is_table_set, Scope, scope, Want, Carried, Member, Object, Reference, no_shape_fault, kind_of_type, Preference, Content, no_content, first_node, a_contest, a_header, if_carried, carried_members, class_of_node, is_header_class, contest_node, header_node, content_of, nodes_of, node_of, content_inside, is_in_envelope, key_named, name_named, Sides, not_asked, a_null, a_flag, a_number, a_text, an_id, a_list, a_set, an_object, no_entry, one_entry, no_member, in_both, left_only, right_only, MayBeAbsent, Same, SameEntries, SameMembers, fun_ext}
+use Rattle.erd_normal.proofs.Common.{◌≡◌, ℕ, Bool, true, false, cond, ◌⊎◌, List, [], map, Some, None, codes, Option, option_and_then, bytes_eq, nat_cmp, is_eq, Ordering, Equal, unwrap_or, sym, refl, ap, ◌∙◌, subst, ap₂, inl, inr, is_eq-slice_cmp, slice_cmp, list_any, option_map_or, match_ordering, Data, array, object, Items, Members, member, get_member, get, as_str, kind_of_member, required_names, Class, class, Family, family, MemberKind, kind, text_exact, get_member-before, of_role, wanted_within, lacks_none, text_from_equal, want_by_kind, is_object, names_wanted, AreMembers, list_of_items, entries_of, entries_at, text_at, scope_inside, member_want, want_of_name, entry_want, is_table_set, Scope, scope, Want, Carried, Member, Object, Reference, no_shape_fault, kind_of_type, Preference, Content, no_content, first_node, a_contest, a_header, if_carried, carried_members, class_of_node, is_header_class, contest_node, header_node, content_of, nodes_of, node_of, content_inside, is_in_envelope, key_named, name_named, Sides, a_list, a_set, an_object, no_entry, one_entry, no_member, in_both, left_only, right_only, MayBeAbsent, Same, SameEntries, SameMembers, fun_ext, not_asked, In}
 use Rattle.erd_normal.proofs.canonical.ChosenEntries.{list_name}
 use Rattle.erd_normal.proofs.same.complete.ContentNodes.{content_at, content_class, content_inside-get, inner_name}
 use Rattle.erd_normal.proofs.same.FromAlike.{Stands, entry_stands, stands_tree}
 use Rattle.erd_normal.proofs.same.Related.{Related}
 use Rattle.erd_normal.proofs.same.Steady.{is_steady_kind, is_plain}
-use Rattle.erd_normal.proofs.same.means.Members.{BothObjects, HaveMembers, MeansNothing, is_absent, is_empty, is_identity, is_outside, TwoReports, Told, both_told, none_told, absent_nothing, both_objects, member_there, nothing_empty, steady_nothing, told_plain}
+use Rattle.erd_normal.proofs.same.means.Members.{BothObjects, HaveMembers, TwoReports, Told, both_told, absent_nothing, both_objects, member_there, nothing_empty, steady_nothing, told_plain, nothing_cases, none_told}
 use Rattle.erd_normal.proofs.same.means.Names.{name_named_alike}
 use Rattle.erd_normal.proofs.same.means.References.{key_alike_text, said_in_turn}
 use Rattle.erd_tables.specs.declared.class.Role.TheVariants as role
@@ -37,13 +37,8 @@ none_inside π t ms e = content_inside-get π t ms ∙ ap (content_at π t) e
 
 absent_content : (π : Preference) (t : Data) (s : Scope) (k : List ℕ) (d : Data) → s ≡ scope.Members role.Content (Some class.OrderedHeader) → inner_name ≡ k → MayBeAbsent t s k d → content_of π t d ≡ no_content
 absent_content π t s k d is named h =
-    at (absent_nothing t role.Content class.OrderedHeader inner_name d refl (subst (λ z. MayBeAbsent t z inner_name d) is (subst (λ n. MayBeAbsent t s n d) (sym named) h)))
-  where
-    at : MeansNothing class.OrderedHeader inner_name (Some d) → content_of π t d ≡ no_content
-    at (is_absent e) = cc
-    at (is_empty listed e) = let one : d ≡ array no_items = cc in ap (content_of π t) one
-    at (is_identity e) = cc
-    at (is_outside e) = cc
+    nothing_cases (λ o. content_at π t o ≡ no_content) class.OrderedHeader inner_name (Some d) refl
+    (absent_nothing t role.Content class.OrderedHeader inner_name d refl (subst (λ z. MayBeAbsent t z inner_name d) is (subst (λ n. MayBeAbsent t s n d) (sym named) h))) (λ e. cc) refl (λ k. refl)
 
 -- what is asked of it
 inner_asked : (s : Scope) (k : List ℕ) → s ≡ scope.Members role.Content (Some class.OrderedHeader) → inner_name ≡ k → want_of_name s k ≡ Some (Member kind.Content false)
@@ -83,17 +78,12 @@ module _ (m : Sides) (π : Preference) (g : TwoReports m π) where
 
   chosen_in_turn : {d e : Data} → Same m (Some (Member kind.Ordered false)) d e → Stands m.left (Member kind.Ordered false) d → Stands m.right (Member kind.Ordered false) e
       → map (λ r. option_and_then (name_named π m.left) (as_str r)) (entries_of d) ≡ map (λ r. option_and_then (name_named π m.right) (as_str r)) (entries_of e)
-  chosen_in_turn a_null l r = refl
-  chosen_in_turn a_flag l r = refl
-  chosen_in_turn a_number l r = refl
-  chosen_in_turn (a_text is) l r = refl
-  chosen_in_turn (an_id is h) l r = refl
   chosen_in_turn (a_list {ds = ds} {es = es} is h) l r =
       said_in_turn m family.Selection (name_named π m.left) (name_named π m.right) (name_named_alike m π g) refl h
       (λ x i. entry_stands m.left (Member kind.Ordered false) (Reference family.Selection) (array ds) refl l x i)
       (λ x i. entry_stands m.right (Member kind.Ordered false) (Reference family.Selection) (array es) refl r x i)
   chosen_in_turn (a_set fs is p h) l r = cc
-  chosen_in_turn (an_object h) l r = refl
+  chosen_in_turn h l r = refl
 
   names_found : (o p : Option Data) → Told m class.OrderedContest list_name o p
       → map (λ r. option_and_then (name_named π m.left) (as_str r)) (option_map_or entries_of o []) ≡ map (λ r. option_and_then (name_named π m.right) (as_str r)) (option_map_or entries_of p [])
@@ -141,25 +131,21 @@ module _ (m : Sides) (π : Preference) (g : TwoReports m π) where
         o : BothObjects m role.Content (object ms) (object ns)
         o = both_objects m g.left_tree g.right_tree (no_shape_fault π m.left g.accepted) role.Content (object ms) (object ns) r
 
-        by_left : (c : Class) → class_of_node (object ms) ≡ Some c
-            → node_of π m.left (object ms) ≡ cond (is_header_class (Some c)) (header_node π m.left (object ms) (content_inside π m.left ms)) (contest_node π m.left (object ms))
-        by_left c among = ap (λ x. cond (is_header_class x) (header_node π m.left (object ms) (content_inside π m.left ms)) (contest_node π m.left (object ms))) among
-
-        by_right : (c : Class) → class_of_node (object ns) ≡ Some c
-            → node_of π m.right (object ns) ≡ cond (is_header_class (Some c)) (header_node π m.right (object ns) (content_inside π m.right ns)) (contest_node π m.right (object ns))
-        by_right c among = ap (λ x. cond (is_header_class x) (header_node π m.right (object ns) (content_inside π m.right ns)) (contest_node π m.right (object ns))) among
+        by_class : (t : Data) (ms : Members) (c : Class) → class_of_node (object ms) ≡ Some c
+            → node_of π t (object ms) ≡ cond (is_header_class (Some c)) (header_node π t (object ms) (content_inside π t ms)) (contest_node π t (object ms))
+        by_class t ms c among = ap (λ x. cond (is_header_class x) (header_node π t (object ms) (content_inside π t ms)) (contest_node π t (object ms))) among
 
         at : (o.class ≡ class.OrderedContest) ⊎ (o.class ≡ class.OrderedHeader) → node_of π m.left (object ms) ≡ node_of π m.right (object ns)
         at (inl is) =
             let left : class_of_node (object ms) ≡ Some class.OrderedContest = o.left ∙ ap Some is in
             let right : class_of_node (object ns) ≡ Some class.OrderedContest = o.right ∙ ap Some is in
-            by_left class.OrderedContest left ∙ contest_alike (subst (λ c. HaveMembers m c (object ms) (object ns)) is o.members) left right ∙ sym (by_right class.OrderedContest right)
+            by_class m.left ms class.OrderedContest left ∙ contest_alike (subst (λ c. HaveMembers m c (object ms) (object ns)) is o.members) left right ∙ sym (by_class m.right ns class.OrderedContest right)
         at (inr is) =
             let left : class_of_node (object ms) ≡ Some class.OrderedHeader = o.left ∙ ap Some is in
             let right : class_of_node (object ns) ≡ Some class.OrderedHeader = o.right ∙ ap Some is in
-            by_left class.OrderedHeader left
+            by_class m.left ms class.OrderedHeader left
             ∙ header_alike (content_inside π m.left ms) (content_inside π m.right ns) (subst (λ c. HaveMembers m c (object ms) (object ns)) is o.members) left right (inside left right)
-            ∙ sym (by_right class.OrderedHeader right)
+            ∙ sym (by_class m.right ns class.OrderedHeader right)
 
   -- ---- contents at every depth
 
@@ -169,35 +155,22 @@ module _ (m : Sides) (π : Preference) (g : TwoReports m π) where
   mutual
     content_same : (required : Bool) {o : Option Want} {d e : Data} → o ≡ Some (Member kind.Content required) → Same m o d e → Stands m.left (Member kind.Content required) d → Stands m.right (Member kind.Content required) e
         → content_of π m.left d ≡ content_of π m.right e
-    content_same required asks not_asked l r = cc
-    content_same required asks a_null l r = refl
-    content_same required asks a_flag l r = refl
-    content_same required asks a_number l r = refl
-    content_same required asks (a_text is) l r = refl
-    content_same required asks (an_id is h) l r = refl
     content_same required asks (a_list {w = w} {ds = ds} {es = es} is h) l r =
         let want : w ≡ Member kind.Content required = cc in
         nodes_same (ap entry_want want) h (λ x i. entry_stands m.left (Member kind.Content required) (Object role.Content) (array ds) refl l x i)
         (λ x i. entry_stands m.right (Member kind.Content required) (Object role.Content) (array es) refl r x i)
     content_same required asks (a_set {w = w} fs is p h) l r =
         let want : w ≡ Member kind.Content required = cc in let no : true ≡ false = sym is ∙ ap is_table_set want in cc
-    content_same required asks (an_object h) l r = refl
+    content_same required asks not_asked l r = cc
+    content_same required asks h l r = refl
 
-    nodes_same : {o : Option Want} {ds es : Items} → o ≡ Some (Object role.Content) → SameEntries m o ds es → ((x : Data) → Has (list_of_items ds) x → Stands m.left (Object role.Content) x)
-        → ((x : Data) → Has (list_of_items es) x → Stands m.right (Object role.Content) x) → nodes_of π m.left ds ≡ nodes_of π m.right es
+    nodes_same : {o : Option Want} {ds es : Items} → o ≡ Some (Object role.Content) → SameEntries m o ds es → ((x : Data) → In x (list_of_items ds) → Stands m.left (Object role.Content) x)
+        → ((x : Data) → In x (list_of_items es) → Stands m.right (Object role.Content) x) → nodes_of π m.left ds ≡ nodes_of π m.right es
     nodes_same asks no_entry l r = refl
     nodes_same asks (one_entry {d = d} {e = e} h rest) l r =
-        ap₂ first_node (node_same asks h (l d here) (r e here)) (nodes_same asks rest (λ x i. l x (later i)) (λ x i. r x (later i)))
+        ap₂ first_node (node_same asks h (l d (inl refl)) (r e (inl refl))) (nodes_same asks rest (λ x i. l x (inr i)) (λ x i. r x (inr i)))
 
     node_same : {o : Option Want} {d e : Data} → o ≡ Some (Object role.Content) → Same m o d e → Stands m.left (Object role.Content) d → Stands m.right (Object role.Content) e → node_of π m.left d ≡ node_of π m.right e
-    node_same asks not_asked l r = cc
-    node_same asks a_null l r = let x = no_node null l in cc
-    node_same asks (a_flag {b = b}) l r = let x = no_node (boolean b) l in cc
-    node_same asks (a_number {n = n}) l r = let x = no_node (number n) l in cc
-    node_same asks (a_text {s = s} is) l r = let x = no_node (string s) l in cc
-    node_same asks (an_id {s = s} is h) l r = let x = no_node (string s) l in cc
-    node_same asks (a_list {ds = ds} is h) l r = let x = no_node (array ds) l in cc
-    node_same asks (a_set {ds = ds} fs is p h) l r = let x = no_node (array ds) l in cc
     node_same asks (an_object {w = w} {ms = ms} {ns = ns} h) l r =
         let want : w ≡ Object role.Content = cc in
         node_by_class ms ns (record { left = l; right = r; same = subst (λ o. Same m o (object ms) (object ns)) asks (an_object h) })
@@ -206,6 +179,8 @@ module _ (m : Sides) (π : Preference) (g : TwoReports m π) where
         (stands_tree m.left (Object role.Content) (object ms) g.left_tree l) (stands_tree m.right (Object role.Content) (object ns) g.right_tree r)
         (λ d found. member_there m m.left (Object role.Content) role.Content class.OrderedHeader ms inner_name d of_role left refl l found)
         (λ d found. member_there m m.right (Object role.Content) role.Content class.OrderedHeader ns inner_name d of_role right refl r found))
+    node_same asks not_asked l r = cc
+    node_same {d = d} asks h l r = let x = no_node d l in cc
 
     inside_same : {s : Scope} {ms ns : Members} → SameMembers m s ms ns → s ≡ scope.Members role.Content (Some class.OrderedHeader) → AreMembers ms → AreMembers ns
         → InnerStands m.left (get_member inner_name ms) → InnerStands m.right (get_member inner_name ns) → content_inside π m.left ms ≡ content_inside π m.right ns

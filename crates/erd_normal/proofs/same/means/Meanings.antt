@@ -1,25 +1,68 @@
 -- A report that says the same as an accepted one means the same.
-use Rattle.erd_normal.proofs.Common.{◌≡◌, ℕ, Bool, true, false, List, Some, None, codes, Option, find, option_and_then, bytes_eq, is_eq, sym, refl, ap, ◌∙◌, subst, option_cmp, eq_by_cmp, Data, get, role_of_class, kind_of_member, is_required, Class, class, Family, family, Role, role, kind, entries_in, report_class, election_class, map_has, Has, Within-root, want_by_kind, ShapeFault, NoneOf, IsTree, entries_of, entries_at, Member, Object, no_shape_fault, is_selections, selections_kind, selections_name, selections_family, IsAccepted, has_keys, Preference, a_selection_map, NameParts, objects, meaning, unless_empty, is_in_envelope, plain_member, selection_record, selection_map, member_value, member_of_class, object_record, name_cmp, Sides, is_array_kind, SaysTheSame, by_name, fun_ext}
+use Rattle.erd_normal.proofs.Common.{◌≡◌, ℕ, Bool, true, false, List, Some, None, codes, Option, find, option_and_then, is_eq, sym, refl, ap, ◌∙◌, subst, option_cmp, eq_by_cmp, Data, get, role_of_class, kind_of_member, Class, class, Family, family, Role, role, kind, entries_in, report_class, election_class, Within-root, ShapeFault, NoneOf, IsTree, entries_of, entries_at, Object, no_shape_fault, is_selections, selections_kind, selections_name, selections_family, IsAccepted, has_keys, Preference, a_selection_map, NameParts, objects, meaning, unless_empty, is_in_envelope, plain_member, selection_record, selection_map, member_value, member_of_class, object_record, name_cmp, Sides, SaysTheSame, by_name, fun_ext, ap₂, tied_itself, on_total, options_total, IsDistinct, reason, Step, values-placed_entries, distinct_one, SelectionFault, RepeatsName, contests, selections_of_contest, name_of, name_cmp_total, In, In-from_contains, In-map_from}
 use Rattle.erd_meaning.proofs.meanings.HeldValues.{Held, held_of, held_values}
 use Rattle.erd_normal.specs.MeansTheSame.{SayingTheSameMeansTheSame}
-use Rattle.erd_normal.proofs.lists.Matched.{AtMostOne, Matched, apart_distinct, matched_find, matched_within, one_if_apart, said_same}
+use Rattle.erd_normal.proofs.lists.Matched.{AtMostOne, Matched, apart_distinct, matched_find, matched_within, one_if_apart, said_same, distinct_matched, even_order, matched_back}
 use Rattle.erd_normal.proofs.meaning.MatchedMeanings.{HeldAlike, MeanOne, held_matched, matched_meaning}
-use Rattle.erd_normal.proofs.meaning.MeantKinds.{flat_no_selections, is_flat_class, kind_is_flat}
-use Rattle.erd_normal.proofs.meaning.AlikeRecords.{is_named, named_tied, plain_members, record_alike}
-use Rattle.erd_normal.proofs.same.FamilyValues.{family_values, placed_value}
-use Rattle.erd_normal.proofs.same.Related.{Related, elections_matched, no_report, related_election_key, related_key}
-use Rattle.erd_normal.proofs.same.means.Members.{BothObjects, MeansNothing, is_absent, is_empty, is_identity, is_outside, TwoReports, Told, both_told, none_told, both_objects, envelope_is, told_entries, unless_empty_same}
+use Rattle.erd_normal.proofs.meaning.AlikeRecords.{is_named, named_tied, plain_members, record_alike, flat_no_selections, is_flat_class, kind_is_flat}
+use Rattle.erd_normal.proofs.same.FamilyValues.{family_values, placed_value, outside, in_report, in_election, not_before_itself, value_placed}
+use Rattle.erd_normal.proofs.same.Related.{Related}
+use Rattle.erd_normal.proofs.same.Families.{elections_matched, related_election_key, related_key, keyed_array, family_matched, selections_matched}
+use Rattle.erd_normal.proofs.same.means.Members.{BothObjects, MeansNothing, TwoReports, Told, both_told, both_objects, unless_empty_same, nothing_cases, none_told}
 use Rattle.erd_normal.proofs.same.means.Names.{name_alike}
 use Rattle.erd_normal.proofs.same.means.Records.{plain_alike, selection_alike}
-use Rattle.erd_normal.proofs.same.means.Selections.{Kin, chosen, chosen_matched, left_distinct}
+use Rattle.erd_normal.proofs.canonical.RisingReports.{selection_values_distinct}
+
+module _ (m : Sides) (π : Preference) (g : TwoReports m π) where
+  -- an object of the family, and one that is related to it
+  pub record Kin (f : Family) (d e : Data) : Type 0 where
+    pub stands : In d (family_values f m.left)
+    pub related : Related m (Object (role.OfFamily f)) d e
+
+  kin_matched : (f : Family) → Matched (Kin f) (family_values f m.left) (family_values f m.right)
+  kin_matched f = matched_within (Kin f) (λ x y h r. record { stands = h; related = r }) (family_matched m g.left_tree g.right_tree (no_shape_fault π m.left g.accepted) g.root f)
+
+  abbrev pub chosen : Data → List Data
+  chosen d = entries_at (codes "ContestSelection") d
+
+  pub chosen_matched : (d e : Data) → Kin family.Contest d e → Matched (Related m (Object (role.OfFamily family.Selection))) (chosen d) (chosen e)
+  chosen_matched d e k = selections_matched m g.left_tree g.right_tree (no_shape_fault π m.left g.accepted) d e k.related
+
+  -- the names of the selections of a contest are all different
+  pub left_distinct : (d e : Data) → Kin family.Contest d e → IsDistinct (eq_by_cmp (by_name π m.left)) (chosen d)
+  left_distinct d e k =
+      let o = value_placed family.Contest m.left d k.stands in
+      subst (λ z. IsDistinct (eq_by_cmp (by_name π m.left)) (chosen z)) o.2 (selection_values_distinct π m.left g.accepted o.0 o.1)
+
+  names_distinct : (d e : Data) → Kin family.Contest d e → IsDistinct (eq_by_cmp (by_name π m.right)) (chosen e)
+  names_distinct d e k =
+      distinct_matched (eq_by_cmp (by_name π m.left)) (eq_by_cmp (by_name π m.right)) (even_order (by_name π m.right) (on_total (name_of π m.right) (options_total name_cmp_total)))
+      (λ x x' y y' i j r r' h. ap₂ (λ a b. is_eq (option_cmp name_cmp a b)) (name_alike m π g x y r) (name_alike m π g x' y' r') ∙ h)
+      (chosen_matched d e k) (left_distinct d e k)
+
+  same_name : (n : NameParts) (d e : Data) → name_of π m.right d ≡ Some n → name_of π m.right e ≡ Some n → eq_by_cmp (by_name π m.right) d e ≡ true
+  same_name n d e a b = ap₂ (λ k l. is_eq (option_cmp name_cmp k l)) a b ∙ ap is_eq (tied_itself name_cmp_total n)
+
+  no_twin_name : (p : List Step) → RepeatsName π m.right p → ⊥
+  no_twin_name p r =
+      let b = matched_back r.contest.value (kin_matched family.Contest) (placed_value family.Contest m.right r.contest (In-from_contains r.contest (contests m.right) r.contest_stands)) in
+      let os = selections_of_contest r.contest in
+      let one : r.earlier ≡ r.later =
+      distinct_one (λ o. o.value) (eq_by_cmp (by_name π m.right)) os
+      (subst (IsDistinct (eq_by_cmp (by_name π m.right))) (sym (values-placed_entries (codes "ContestSelection") r.contest)) (names_distinct b.0 r.contest.value b.2)) r.earlier r.later
+      (In-from_contains r.earlier os r.earlier_stands) (In-from_contains r.later os r.later_stands)
+      (same_name r.name r.earlier.value r.later.value r.earlier_name r.later_name) (same_name r.name r.later.value r.earlier.value r.later_name r.earlier_name) in
+      not_before_itself r.earlier r.later one r.before
+
+  pub no_selection_fault : NoneOf (SelectionFault π m.right)
+  no_selection_fault p reason.TwinSelection h = no_twin_name p h
+  no_selection_fault p r h = h
+
+-- ---- a report that says the same as an accepted one means the same
 
 module _ (m : Sides) (π : Preference) (g : TwoReports m π) where
   clean : NoneOf (ShapeFault m.left)
   clean = no_shape_fault π m.left g.accepted
-
-  -- an object that is not the report has no envelope
-  no_envelope : (r : Role) (c : Class) (name : List ℕ) → role_of_class c ≡ r → (r ≡ role.Report → ⊥) → is_in_envelope c name ≡ false
-  no_envelope r c name is other = sym (envelope_is r c name) ∙ no_report m g.left_tree g.right_tree clean r c name is other
 
   -- ---- the selections of a contest
 
@@ -38,10 +81,9 @@ module _ (m : Sides) (π : Preference) (g : TwoReports m π) where
 
     nothing_chosen : (t : Data) (c : Class) (name : List ℕ) (o : Option Data) → kind_of_member c name ≡ kind.Keyed family.Selection → is_in_envelope c name ≡ false → MeansNothing c name o
         → option_and_then (λ v. unless_empty (a_selection_map (selection_map π t (entries_of v))) v) o ≡ None
-    nothing_chosen t c name o is inside (is_absent h) = ap (option_and_then (λ v. unless_empty (a_selection_map (selection_map π t (entries_of v))) v)) h
-    nothing_chosen t c name o is inside (is_empty listed h) = ap (option_and_then (λ v. unless_empty (a_selection_map (selection_map π t (entries_of v))) v)) h
-    nothing_chosen t c name o is inside (is_identity h) = cc
-    nothing_chosen t c name o is inside (is_outside h) = let no : true ≡ false = sym h ∙ inside in cc
+    nothing_chosen t c name o is inside h =
+        nothing_cases (λ x. option_and_then (λ v. unless_empty (a_selection_map (selection_map π t (entries_of v))) v) x ≡ None) c name o inside h (λ e. let no : kind.Keyed family.Selection ≡ kind.Identity = sym is ∙ e in cc) refl
+        (λ k. refl)
 
     selections_same : (c : Class) (o p : Option Data) → kind_of_member c (codes "ContestSelection") ≡ kind.Keyed family.Selection → is_in_envelope c (codes "ContestSelection") ≡ false
         → get (codes "ContestSelection") d ≡ o → get (codes "ContestSelection") e ≡ p → Told m c (codes "ContestSelection") o p
@@ -73,7 +115,7 @@ module _ (m : Sides) (π : Preference) (g : TwoReports m π) where
           subst (λ n. member_of_class π m.left d o.class n ≡ member_of_class π m.right e o.class n) (sym same)
           (ap (λ x. member_value π m.left x (get its_name d) (plain_member π m.left d o.class its_name)) its
           ∙ selections_same d e (subst (λ h. Kin m π g h d e) contest k) o.class (get its_name d) (get its_name e) its
-          (no_envelope (role.OfFamily f) o.class its_name o.role (λ h. cc)) refl refl (o.members its_name refl)
+          (outside (role.OfFamily f) o.class its_name o.role (λ h. cc)) refl refl (o.members its_name refl)
           ∙ sym (ap (λ x. member_value π m.right x (get its_name e) (plain_member π m.right e o.class its_name)) its))
 
   object_alike : (f : Family) (d e : Data) → Kin m π g f d e → object_record π m.left (role.OfFamily f) d ≡ object_record π m.right (role.OfFamily f) e
@@ -90,22 +132,13 @@ module _ (m : Sides) (π : Preference) (g : TwoReports m π) where
 
   -- ---- families
 
-  -- the objects of an array in two objects of a class
-  keyed_entries : (r : Role) (c : Class) → ((a : Class) → role_of_class a ≡ r → a ≡ c) → (f : Family) (name : List ℕ) → bytes_eq name (codes "@type") ≡ false → kind_of_member c name ≡ kind.Keyed f
-      → is_in_envelope c name ≡ false → (d e : Data) → Related m (Object r) d e → Matched (Related m (Object (role.OfFamily f))) (entries_at name d) (entries_at name e)
-  keyed_entries r c only f name other keyed inside d e k =
-      let o : BothObjects m r d e = both_objects m g.left_tree g.right_tree clean r d e k in
-      let one : o.class ≡ c = only o.class o.role in
-      told_entries m c name (Member (kind.Keyed f) (is_required c name)) (Object (role.OfFamily f)) (get name d) (get name e) (want_by_kind c name (kind.Keyed f) keyed refl) refl
-      (ap is_array_kind keyed) inside (subst (λ x. Told m x name (get name d) (get name e)) one (o.members name other))
-
   abbrev Means : Family → Held → Held → Type 0
   Means f = HeldAlike (MeanOne π m.left m.right (role.OfFamily f))
 
-  held_alike : (f : Family) (a b : Held) → Has (held_values π f m.left) a → HeldAlike (Related m (Object (role.OfFamily f))) a b → Means f a b
+  held_alike : (f : Family) (a b : Held) → In a (held_values π f m.left) → HeldAlike (Related m (Object (role.OfFamily f))) a b → Means f a b
   held_alike f a b h same =
-      let o = map_has (held_of π m.left) (objects f m.left) a h in
-      let k : Kin m π g f a.1 b.1 = record { stands = subst (Has (family_values f m.left)) (ap (λ (x : Held). x.1) o.2) (placed_value f m.left o.0 o.1); related = same.1 } in
+      let o = In-map_from (held_of π m.left) (objects f m.left) a h in
+      let k : Kin m π g f a.1 b.1 = record { stands = subst (λ z. In z (family_values f m.left)) (ap (λ (x : Held). x.1) o.2) (placed_value f m.left o.0 o.1); related = same.1 } in
       (same.0, record { keys = related_key m g.left_tree g.right_tree clean π f a.1 b.1 same.1; records = object_alike f a.1 b.1 k })
 
   -- related objects stand in related elections
@@ -114,8 +147,8 @@ module _ (m : Sides) (π : Preference) (g : TwoReports m π) where
       matched_within (Means f) (held_alike f)
       (held_matched π m.left m.right (Related m (Object role.Election)) (λ h. Related m (Object (role.OfFamily h))) (elections_matched m g.left_tree g.right_tree clean g.root)
       (λ d e h r. related_election_key m g.left_tree g.right_tree clean π d e r)
-      (λ h name other outside listed. keyed_entries role.Report class.ElectionReport report_class h name other listed outside m.left m.right g.root)
-      (λ h name other listed d e i r. keyed_entries role.Election class.Election election_class h name other listed refl d e r)
+      (in_report m.left m.right (λ r. Related m (Object r)) (keyed_array m g.left_tree g.right_tree clean) g.root)
+      (λ h name other listed d e i r. in_election m.left m.right (λ r. Related m (Object r)) (keyed_array m g.left_tree g.right_tree clean) d e r h name other listed)
       f keyed)
 
   -- ---- the whole

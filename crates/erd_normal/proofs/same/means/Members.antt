@@ -1,11 +1,11 @@
 -- What stands under a name in two related objects: values that are related, or nothing that means anything.
-use Rattle.erd_normal.proofs.Common.{◌≡◌, ℕ, Bool, true, false, ◌&&◌, List, [], length, Some, None, codes, Option, bytes_eq, sym, refl, ap, ◌∙◌, subst, arith, option_map_or, Data, array, object, Items, no_items, item, Members, get_member, get, role_of_class, kind_of_member, is_required, Class, class, Role, role, MemberKind, kind, Name, object_in, ObjectIn, Within-step, AsksObject, of_role, of_label, asked_inside_object, unrepeated, want_unless_status, ShapeFault, NoneOf, IsTree, list_of_items, entries_of, class_of_object, scope_inside, want_of_kind, is_report_class, member_want, want_of_name, entry_want, asked, scope, Want, Member, Object, Status, IsAccepted, Preference, unless_empty, is_in_envelope, Sides, is_array_kind, is_envelope, an_empty_array, of_the_envelope, an_unused_id, a_null, a_flag, a_number, a_text, an_id, a_list, a_set, an_object, MayBeAbsent, Same, SameMembers}
+use Rattle.erd_normal.proofs.Common.{◌≡◌, ℕ, true, false, List, [], length, Some, None, codes, Option, bytes_eq, sym, refl, ap, ◌∙◌, subst, arith, option_map_or, Data, array, object, Items, no_items, item, Members, get_member, get, role_of_class, kind_of_member, Class, class, Role, role, kind, Name, object_in, ObjectIn, Within-step, AsksObject, of_role, of_label, asked_inside_object, unrepeated, ShapeFault, NoneOf, IsTree, list_of_items, entries_of, class_of_object, scope_inside, member_want, entry_want, asked, scope, Want, Object, IsAccepted, Preference, unless_empty, is_in_envelope, Sides, is_array_kind, is_envelope, an_empty_array, of_the_envelope, an_unused_id, a_list, a_set, MayBeAbsent, Same, SameMembers, true≢false}
 use Rattle.erd_normal.proofs.lists.Matched.{Matched, matched_length, matched_none}
 use Rattle.erd_normal.proofs.same.FromAlike.{Stands, entry_stands, stands_tree}
-use Rattle.erd_normal.proofs.same.Lookups.{Aligned, both_there, not_both, MayLack, lookups, of_object}
+use Rattle.erd_normal.proofs.same.Lookups.{Aligned, both_there, not_both, MayLack, lookups, of_object, class_same, asked_of_name}
 use Rattle.erd_normal.proofs.same.Related.{Related, entries_matched, matched_within_both}
 use Rattle.erd_normal.proofs.same.Steady.{is_steady_kind, steady_same, is_plain, steady_no_array}
-use Rattle.erd_normal.proofs.same.Types.{class_same, asked_of_name}
+use Rattle.erd_normal.proofs.same.accepted.RequiredMembers.{member_of}
 
 -- two trees that say the same, the left one an accepted report
 pub record TwoReports (m : Sides) (π : Preference) : Type 0 where
@@ -23,23 +23,6 @@ pub data MeansNothing (c : Class) (name : List ℕ) (o : Option Data) : Type 0 w
   is_identity : kind_of_member c name ≡ kind.Identity → MeansNothing c name o
   is_outside : is_in_envelope c name ≡ true → MeansNothing c name o
 
-kind_of_want : (k l : MemberKind) (q required : Bool) → want_of_kind k q ≡ Member l required → k ≡ l
-kind_of_want (kind.One f) l q required e = cc
-kind_of_want kind.Carried l q required e = cc
-kind_of_want k l q required e = cc
-
-kind_from_want : (c : Class) (name : List ℕ) (k : MemberKind) (required : Bool) → member_want c name ≡ Member k required → kind_of_member c name ≡ k
-kind_from_want c name k required e = at (is_report_class c && bytes_eq name (codes "Status")) refl
-  where
-    at : (b : Bool) → (is_report_class c && bytes_eq name (codes "Status")) ≡ b → kind_of_member c name ≡ k
-    at true is = let g : Status ≡ Member k required = rw is at e in cc
-    at false is = kind_of_want (kind_of_member c name) k (is_required c name) required (sym (want_unless_status c name is) ∙ e)
-
-kind_asked : (r : Role) (c : Class) (name : List ℕ) (k : MemberKind) (required : Bool) → bytes_eq name (codes "@type") ≡ false
-    → want_of_name (scope.Members r (Some c)) name ≡ Some (Member k required) → kind_of_member c name ≡ k
-kind_asked r c name k required other asks =
-    kind_from_want c name k required (let g : Some (member_want c name) ≡ Some (Member k required) = sym (asked_of_name r c name other) ∙ asks in cc)
-
 pub envelope_is : (r : Role) (c : Class) (name : List ℕ) → is_envelope (scope.Members r (Some c)) name ≡ is_in_envelope c name
 envelope_is r class.ElectionReport name = refl
 envelope_is r c name = refl
@@ -47,35 +30,37 @@ envelope_is r c name = refl
 -- what may be absent means nothing
 pub absent_nothing : (t : Data) (r : Role) (c : Class) (name : List ℕ) (d : Data) → bytes_eq name (codes "@type") ≡ false → MayBeAbsent t (scope.Members r (Some c)) name d → MeansNothing c name (Some d)
 absent_nothing t r c name d other (an_empty_array k required asks is empty) =
-    is_empty (ap is_array_kind (kind_asked r c name k required other asks) ∙ is) (ap Some empty)
+    is_empty (ap is_array_kind (member_of r c name k required asks).kind_is ∙ is) (ap Some empty)
 absent_nothing t r c name d other (of_the_envelope h) = is_outside (sym (envelope_is r c name) ∙ h)
-absent_nothing t r c name d other (an_unused_id id required asks is unused) = is_identity (kind_asked r c name kind.Identity required other asks)
+absent_nothing t r c name d other (an_unused_id id required asks is unused) = is_identity (member_of r c name kind.Identity required asks).kind_is
 
 lacking_nothing : (t : Data) (r : Role) (c : Class) (name : List ℕ) (o : Option Data) → bytes_eq name (codes "@type") ≡ false → MayLack t (scope.Members r (Some c)) name o → MeansNothing c name o
 lacking_nothing t r c name None other h = is_absent refl
 lacking_nothing t r c name (Some d) other h = absent_nothing t r c name d other (h.each d refl)
 
+-- outside the envelope, and where it is no `@id`, it is absent or an empty array
+pub nothing_cases : (Q : Option Data → Type 0) (c : Class) (name : List ℕ) (o : Option Data) → is_in_envelope c name ≡ false → MeansNothing c name o → (kind_of_member c name ≡ kind.Identity → Q o) → Q None
+    → (is_array_kind (kind_of_member c name) ≡ true → Q (Some (array no_items))) → Q o
+nothing_cases Q c name o inside (is_absent e) identity absent empty = subst Q (sym e) absent
+nothing_cases Q c name o inside (is_empty k e) identity absent empty = subst Q (sym e) (empty k)
+nothing_cases Q c name o inside (is_identity e) identity absent empty = identity e
+nothing_cases Q c name o inside (is_outside e) identity absent empty = absurd (true≢false (sym e ∙ inside))
+
 -- a steady member means something, if it stands there
 pub steady_nothing : (c : Class) (name : List ℕ) (o : Option Data) → is_steady_kind (kind_of_member c name) ≡ true → is_in_envelope c name ≡ false → MeansNothing c name o → o ≡ None
-steady_nothing c name o steady inside (is_absent e) = e
-steady_nothing c name o steady inside (is_empty k e) = absurd (steady_no_array (kind_of_member c name) steady k)
-steady_nothing c name o steady inside (is_identity e) = let g : false ≡ true = sym (ap is_steady_kind e) ∙ steady in cc
-steady_nothing c name o steady inside (is_outside e) = let g : true ≡ false = sym e ∙ inside in cc
+steady_nothing c name o steady inside h =
+    nothing_cases (λ x. x ≡ None) c name o inside h (λ e. absurd (true≢false (sym steady ∙ ap is_steady_kind e))) refl (λ k. absurd (steady_no_array (kind_of_member c name) steady k))
 
 -- what means nothing has no entries
 pub nothing_empty : (c : Class) (name : List ℕ) (o : Option Data) → is_array_kind (kind_of_member c name) ≡ true → is_in_envelope c name ≡ false → MeansNothing c name o → option_map_or entries_of o [] ≡ []
-nothing_empty c name o listed inside (is_absent e) = ap (λ x. option_map_or entries_of x []) e
-nothing_empty c name o listed inside (is_empty k e) = ap (λ x. option_map_or entries_of x []) e
-nothing_empty c name o listed inside (is_identity e) = let g : true ≡ false = sym listed ∙ ap is_array_kind e in cc
-nothing_empty c name o listed inside (is_outside e) = let g : true ≡ false = sym e ∙ inside in cc
+nothing_empty c name o listed inside h = nothing_cases (λ x. option_map_or entries_of x [] ≡ []) c name o inside h (λ e. absurd (true≢false (sym listed ∙ ap is_array_kind e))) refl (λ k. refl)
 
 -- ---- entries of values
 
 empty_by_length : {V : Type 0} (v : V) (ds es : Items) → length (list_of_items ds) ≡ length (list_of_items es) → unless_empty v (array ds) ≡ unless_empty v (array es)
 empty_by_length v no_items no_items e = refl
-empty_by_length v no_items (item d es) e = absurd (omega arith)
-empty_by_length v (item d ds) no_items e = absurd (omega arith)
 empty_by_length v (item d ds) (item f es) e = refl
+empty_by_length v ds es e = absurd (omega arith)
 
 module _ (m : Sides) where
   -- the entries of related values are related
@@ -90,14 +75,9 @@ module _ (m : Sides) where
       (entries_matched m w r.same)
 
   empty_alike : {V : Type 0} (v : V) (w : Want) {d e : Data} → Same m (Some w) d e → unless_empty v d ≡ unless_empty v e
-  empty_alike v w a_null = refl
-  empty_alike v w a_flag = refl
-  empty_alike v w a_number = refl
-  empty_alike v w (a_text is) = refl
-  empty_alike v w (an_id is h) = refl
   empty_alike v w (a_list {ds = ds} {es = es} is h) = empty_by_length v ds es (matched_length (entries_matched m w (a_list is h)))
   empty_alike v w (a_set {ds = ds} {es = es} fs is p h) = empty_by_length v ds es (matched_length (entries_matched m w (a_set fs is p h)))
-  empty_alike v w (an_object h) = refl
+  empty_alike v w h = refl
 
   -- a meaning that both have, or neither
   pub unless_empty_same : {V : Type 0} (w : Want) (v x : V) (d e : Data) → Same m (Some w) d e → v ≡ x → unless_empty v d ≡ unless_empty x e
@@ -145,6 +125,7 @@ module _ (m : Sides) where
     pub role : role_of_class class ≡ r
     pub left : class_of_object r d ≡ Some class
     pub right : class_of_object r e ≡ Some class
+    pub aligned : (name : List ℕ) → Aligned m (scope.Members r (Some class)) name (get name d) (get name e)
     pub members : HaveMembers class d e
 
   module _ (left_tree : IsTree m.left) (right_tree : IsTree m.right) where
@@ -166,6 +147,9 @@ module _ (m : Sides) where
           role = o.role;
           left = ap (class_of_object r) o.is_object ∙ o.at.among;
           right = ap (class_of_object r) p.is_object ∙ sym (class_same m r o.ms p.members same) ∙ o.at.among;
+          aligned = λ name. subst (λ x. Aligned m (scope.Members r (Some o.class)) name (get name x) (get name e)) (sym o.is_object)
+              (subst (λ x. Aligned m (scope.Members r (Some o.class)) name (get_member name o.ms) (get name x)) (sym p.is_object)
+              (lookups m name same (stands_tree m.left (Object r) (object o.ms) left_tree rel.left) (stands_tree m.right (Object r) (object p.members) right_tree (subst (Stands m.right (Object r)) p.is_object rel.right))));
           members = subst (λ x. HaveMembers o.class x e) (sym o.is_object)
               (subst (HaveMembers o.class (object o.ms)) (sym p.is_object)
               (both_members (Object r) r o.class o.ms p.members of_role o.at.among p.same rel.left (subst (Stands m.right (Object r)) p.is_object rel.right)));
@@ -177,7 +161,7 @@ module _ (m : Sides) where
   pub told_plain : (c : Class) (name : List ℕ) (o p : Option Data) → is_plain (member_want c name) ≡ true → is_steady_kind (kind_of_member c name) ≡ true → is_in_envelope c name ≡ false
       → Told c name o p → o ≡ p
   told_plain c name (Some d) (Some e) plain steady inside (both_told r) =
-      ap Some (steady_same m (λ v asks. let g : member_want c name ≡ v = cc in ap is_plain (sym g) ∙ plain) r.same)
+      ap Some (steady_same m r.same plain)
   told_plain c name o p plain steady inside (none_told k l) = steady_nothing c name o steady inside k ∙ sym (steady_nothing c name p steady inside l)
 
   -- the entries of an array are related

@@ -2,11 +2,11 @@
 use Rattle.erd_normal.proofs.Common.{◌≡◌, ℕ, true, false, List, Some, codes, Option, option_map, option_and_then, unwrap_or, sym, refl, ap, ◌∙◌, Data, get, as_bool, as_number, as_integer, compact_text, kind_of_member, Class, class, family, role, kind, entries_at, member_want, Member, Object, Reference, no_shape_fault, key_cmp, Preference, owner, is_in_envelope, rising_list, keys_of_selection, is_write_in, order_of_selection, with_rising_text, label_of_selection, name_in_class, selection_role, name_of, name_named, IsUsed, Sides, StandsFor}
 use Rattle.erd_normal.proofs.lists.Matched.{said_same}
 use Rattle.erd_normal.proofs.same.Owners.{owners_related}
-use Rattle.erd_normal.proofs.same.Related.{Related, related_key}
+use Rattle.erd_normal.proofs.same.Related.{Related}
+use Rattle.erd_normal.proofs.same.Families.{related_key}
 use Rattle.erd_normal.proofs.same.Steady.{is_steady_kind, is_plain}
-use Rattle.erd_normal.proofs.same.means.Labels.{label_text_alike}
-use Rattle.erd_normal.proofs.same.means.Members.{BothObjects, HaveMembers, TwoReports, Told, both_told, none_told, both_objects, steady_nothing, told_entries, told_plain}
-use Rattle.erd_normal.proofs.same.means.References.{keys_list_alike}
+use Rattle.erd_normal.proofs.same.means.Members.{BothObjects, HaveMembers, TwoReports, Told, both_told, both_objects, steady_nothing, told_entries, told_plain, none_told}
+use Rattle.erd_normal.proofs.same.means.References.{keys_list_alike, label_text_alike}
 
 module _ (m : Sides) (π : Preference) (g : TwoReports m π) where
   -- ---- the six parts

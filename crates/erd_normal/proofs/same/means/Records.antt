@@ -1,48 +1,33 @@
 -- Objects that say the same have one record.
-use Rattle.erd_normal.proofs.Common.{◌≡◌, ℕ, Bool, true, false, cond, ◌&&◌, List, Some, None, codes, Option, option_and_then, bytes_eq, sym, refl, ap, ◌∙◌, subst, Data, array, no_items, get, kind_of_member, is_required, Class, family, role, MemberKind, kind, text_exact, want_unless_status, entries_of, want_of_kind, is_report_class, member_want, Want, Carried, Member, Object, Reference, Status, no_shape_fault, kind_of_type, Preference, a_json, a_label, a_json_set, a_key, a_key_set, a_content, plain_value, is_in_envelope, plain_member, selection_record, selection_role, Sides, is_array_kind, Same}
+use Rattle.erd_normal.proofs.Common.{◌≡◌, ℕ, Bool, true, false, cond, ◌&&◌, List, Some, None, codes, Option, option_and_then, bytes_eq, sym, refl, ap, ◌∙◌, subst, Data, array, no_items, get, kind_of_member, is_required, Class, family, role, MemberKind, kind, text_exact, want_unless_status, entries_of, want_of_kind, is_report_class, member_want, Want, Carried, Member, Object, Reference, Status, no_shape_fault, kind_of_type, Preference, a_json, a_label, a_json_set, a_key, a_key_set, a_content, plain_value, is_in_envelope, plain_member, selection_record, selection_role, Sides, is_array_kind}
 use Rattle.erd_normal.proofs.lists.Matched.{matched_equal}
-use Rattle.erd_normal.proofs.meaning.AlikeRecords.{nothing_of, record_alike}
-use Rattle.erd_normal.proofs.meaning.RisingMeanings.{json_set-reordered}
+use Rattle.erd_normal.proofs.meaning.AlikeRecords.{nothing_of, record_alike, json_set-reordered}
 use Rattle.erd_normal.proofs.same.Related.{Related}
 use Rattle.erd_normal.proofs.same.Steady.{steady_same, is_plain}
 use Rattle.erd_normal.proofs.same.means.Contents.{content_alike}
-use Rattle.erd_normal.proofs.same.means.Labels.{label_alike}
-use Rattle.erd_normal.proofs.same.means.Members.{BothObjects, HaveMembers, MeansNothing, is_absent, is_empty, is_identity, is_outside, TwoReports, Told, both_told, none_told, both_objects, related_entries_of, unless_empty_same}
-use Rattle.erd_normal.proofs.same.means.References.{key_alike, keys_set_alike}
+use Rattle.erd_normal.proofs.same.means.Members.{BothObjects, HaveMembers, MeansNothing, TwoReports, Told, both_told, both_objects, related_entries_of, unless_empty_same, nothing_cases, none_told}
+use Rattle.erd_normal.proofs.same.means.References.{key_alike, keys_set_alike, label_alike}
 use Rattle.erd_normal.proofs.built.AskedMembers.{status_kind}
 
 -- ---- what means nothing
 
 empty_means_nothing : (π : Preference) (t : Data) (k : MemberKind) → is_array_kind k ≡ true → plain_value π t k (array no_items) ≡ None
-empty_means_nothing π t (kind.Many f) is = refl
-empty_means_nothing π t (kind.Keyed f) is = refl
-empty_means_nothing π t kind.Identifiers is = refl
-empty_means_nothing π t kind.Languages is = refl
-empty_means_nothing π t kind.Elections is = refl
 empty_means_nothing π t kind.Content is = refl
-empty_means_nothing π t kind.Ordered is = refl
-empty_means_nothing π t kind.Outside is = refl
 empty_means_nothing π t k is = cc
 
 nothing_meant : (π : Preference) (t : Data) (c : Class) (name : List ℕ) (o : Option Data) → is_in_envelope c name ≡ false → MeansNothing c name o → option_and_then (plain_value π t (kind_of_member c name)) o ≡ None
-nothing_meant π t c name o inside (is_absent e) = ap (option_and_then (plain_value π t (kind_of_member c name))) e
-nothing_meant π t c name o inside (is_empty listed e) =
-    ap (option_and_then (plain_value π t (kind_of_member c name))) e ∙ empty_means_nothing π t (kind_of_member c name) listed
-nothing_meant π t c name o inside (is_identity e) = ap (λ k. option_and_then (plain_value π t k) o) e ∙ nothing_of (plain_value π t kind.Identity) o (λ x. refl)
-nothing_meant π t c name o inside (is_outside e) = let g : true ≡ false = sym e ∙ inside in cc
-
--- a value of which nothing is asked that may be absent or written in another way
-plain_same : (m : Sides) (w : Want) (d e : Data) → is_plain w ≡ true → Same m (Some w) d e → d ≡ e
-plain_same m w d e plain h = steady_same m (λ v asks. let g : w ≡ v = cc in ap is_plain (sym g) ∙ plain) h
+nothing_meant π t c name o inside h =
+    nothing_cases (λ x. option_and_then (plain_value π t (kind_of_member c name)) x ≡ None) c name o inside h
+    (λ e. ap (λ k. option_and_then (plain_value π t k) o) e ∙ nothing_of (plain_value π t kind.Identity) o (λ x. refl)) refl (λ k. empty_means_nothing π t (kind_of_member c name) k)
 
 module _ (m : Sides) (π : Preference) (g : TwoReports m π) where
   -- ---- values
 
   value_same : (k : MemberKind) (required : Bool) (d e : Data) → Related m (want_of_kind k required) d e → plain_value π m.left k d ≡ plain_value π m.right k e
-  value_same kind.Word required d e r = ap (λ x. Some (a_json x)) (plain_same m (Member kind.Word required) d e refl r.same)
-  value_same kind.Flag required d e r = ap (λ x. Some (a_json x)) (plain_same m (Member kind.Flag required) d e refl r.same)
-  value_same kind.Whole required d e r = ap (λ x. Some (a_json x)) (plain_same m (Member kind.Whole required) d e refl r.same)
-  value_same kind.Carried required d e r = ap (λ x. Some (a_json x)) (plain_same m Carried d e refl r.same)
+  value_same kind.Word required d e r = ap (λ x. Some (a_json x)) (steady_same m r.same refl)
+  value_same kind.Flag required d e r = ap (λ x. Some (a_json x)) (steady_same m r.same refl)
+  value_same kind.Whole required d e r = ap (λ x. Some (a_json x)) (steady_same m r.same refl)
+  value_same kind.Carried required d e r = ap (λ x. Some (a_json x)) (steady_same m r.same refl)
   value_same kind.Label required d e r = ap (λ x. Some (a_label x)) (label_alike m π g required d e r)
   value_same (kind.One f) required d e r = ap (λ x. Some (a_key x)) (key_alike m π g f d e r)
   value_same (kind.Many f) required d e r =
@@ -51,11 +36,11 @@ module _ (m : Sides) (π : Preference) (g : TwoReports m π) where
   value_same kind.Identifiers required d e r =
       let w : Want = Member kind.Identifiers required in
       unless_empty_same m w _ _ d e r.same
-      (ap a_json_set (json_set-reordered (matched_equal (λ x y h. plain_same m (Object role.Identifier) x y refl h.same) (related_entries_of m w (Object role.Identifier) d e refl r))))
+      (ap a_json_set (json_set-reordered (matched_equal (λ x y h. steady_same m h.same refl) (related_entries_of m w (Object role.Identifier) d e refl r))))
   value_same kind.Languages required d e r =
       let w : Want = Member kind.Languages required in
       unless_empty_same m w _ _ d e r.same
-      (ap a_json_set (json_set-reordered (matched_equal (λ x y h. plain_same m (Object role.Language) x y refl h.same) (related_entries_of m w (Object role.Language) d e refl r))))
+      (ap a_json_set (json_set-reordered (matched_equal (λ x y h. steady_same m h.same refl) (related_entries_of m w (Object role.Language) d e refl r))))
   value_same kind.Content required d e r = unless_empty_same m (Member kind.Content required) _ _ d e r.same (ap a_content (content_alike m π g required d e r))
   value_same k required d e r = refl
 
@@ -69,7 +54,7 @@ module _ (m : Sides) (π : Preference) (g : TwoReports m π) where
     both_same true status d e r =
         let asks : member_want c name ≡ Status = rw status refl in
         let word : k ≡ kind.Word = status_kind c name status in
-        ap (λ x. plain_value π m.left x d) word ∙ ap (λ x. Some (a_json x)) (plain_same m (member_want c name) d e (ap is_plain asks) r.same) ∙ sym (ap (λ x. plain_value π m.right x e) word)
+        ap (λ x. plain_value π m.left x d) word ∙ ap (λ x. Some (a_json x)) (steady_same m r.same (ap is_plain asks)) ∙ sym (ap (λ x. plain_value π m.right x e) word)
     both_same false status d e r = value_same k (is_required c name) d e (subst (λ w. Related m w d e) (want_unless_status c name status) r)
 
     found_same : (o p : Option Data) → is_in_envelope c name ≡ false → Told m c name o p → option_and_then (plain_value π m.left k) o ≡ option_and_then (plain_value π m.right k) p

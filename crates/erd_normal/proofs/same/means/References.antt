@@ -1,47 +1,41 @@
--- References of two reports that say the same name objects with one key.
-use Rattle.erd_normal.proofs.Common.{◌≡◌, ℕ, List, [], ◌∷◌, map, Some, Option, option_and_then, unwrap_or, refl, ap, ◌∙◌, subst, ap₂, Data, null, boolean, number, string, array, object, Items, as_str, Family, here, later, Has, wanted_within, list_of_items, Want, Reference, no_shape_fault, key_cmp, Preference, key_set, rising_list, key_named, keys_named, IsUsed, Sides, StandsFor, a_null, a_flag, a_number, a_text, an_id, a_list, a_set, an_object, no_entry, one_entry, Same, SameEntries}
-use Rattle.erd_normal.proofs.lists.Matched.{Matched, paired_kept}
+-- References and labels of two reports that say the same mean the same.
+use Rattle.erd_normal.proofs.Common.{◌≡◌, ℕ, List, [], ◌∷◌, map, Some, Option, option_and_then, unwrap_or, refl, ap, ◌∙◌, subst, ap₂, Data, string, Items, as_str, Family, wanted_within, list_of_items, Want, Reference, no_shape_fault, key_cmp, Preference, key_set, rising_list, key_named, keys_named, IsUsed, Sides, StandsFor, an_id, no_entry, one_entry, Same, SameEntries, string_from_text, sym, a_text, a_set, Bool, true, false, cond, ◌||◌, None, codes, bytes_eq, array, object, Members, get, compact_text, kind_of_member, is_required, class, role, kind, of_label, unrepeated, classed, Classed, entries_at, class_of_object, scope_inside, Member, Object, translated, label_of, with_rising_text, a_list, an_object, SameMembers, fun_ext, IsPermutation, In, inl, inr}
+use Rattle.erd_normal.proofs.lists.Matched.{Matched, paired_kept, matched_equal}
 use Rattle.erd_normal.proofs.lists.NumbersInOrder.{rising_keys_named-reordered}
-use Rattle.erd_normal.proofs.meaning.RisingMeanings.{keys_named-reordered}
-use Rattle.erd_normal.proofs.same.FromAlike.{Stands}
+use Rattle.erd_normal.proofs.meaning.AlikeRecords.{keys_named-reordered, json_set-reordered}
+use Rattle.erd_normal.proofs.same.FromAlike.{Stands, stands_tree}
 use Rattle.erd_normal.proofs.same.Owners.{keys_named_same}
 use Rattle.erd_normal.proofs.same.Related.{Related}
-use Rattle.erd_normal.proofs.same.means.Members.{TwoReports}
+use Rattle.erd_normal.proofs.same.means.Members.{TwoReports, HaveMembers, both_members, told_entries, told_plain}
+use Rattle.erd_normal.proofs.same.InTurn.{id_text}
+use Rattle.erd_normal.proofs.same.Labels.{label_text, plain_beside, steady_beside}
+use Rattle.erd_normal.proofs.same.Steady.{steady_same, plain_of_kind}
+use Rattle.erd_normal.proofs.built.AskedMembers.{label_class}
 
 -- a reference is in use
-used : (t : Data) (f : Family) (s : List ℕ) → Stands t (Reference f) (string s) → IsUsed t s
-used t f s st = record {
-  place = st.inside.place;
-  asked = record { want = Reference f; value = string s; repeated = st.repeated };
-  stands = st.inside.is;
-  reference = refl;
-  text = refl;
-}
+pub used : (t : Data) (f : Family) (d : Data) (s : List ℕ) → Stands t (Reference f) d → d ≡ string s → IsUsed t s
+used t f d s st text = record { place = st.inside.place; asked = record { want = Reference f; value = d; repeated = st.repeated }; stands = st.inside.is; reference = refl; text = text }
 
 module _ (m : Sides) (f : Family) {A : Type 0} (left right : List ℕ → Option A)
     (alike : (s s' : List ℕ) → StandsFor m s s' → IsUsed m.left s → IsUsed m.right s' → left s ≡ right s') where
   texts_alike : {d e : Data} → Same m (Some (Reference f)) d e → Stands m.left (Reference f) d → Stands m.right (Reference f) e → option_and_then left (as_str d) ≡ option_and_then right (as_str e)
-  texts_alike a_null l r = refl
-  texts_alike a_flag l r = refl
-  texts_alike a_number l r = refl
+  texts_alike (an_id {s = s} {s' = s'} is pair) l r = alike s s' pair (used m.left f (string s) s l refl) (used m.right f (string s') s' r refl)
   texts_alike (a_text is) l r = cc
-  texts_alike (an_id {s = s} {s' = s'} is pair) l r = alike s s' pair (used m.left f s l) (used m.right f s' r)
-  texts_alike (a_list is h) l r = refl
-  texts_alike (a_set fs is p h) l r = refl
-  texts_alike (an_object h) l r = refl
+  texts_alike (a_set fs is p h) l r = cc
+  texts_alike h l r = refl
 
   -- what is said alike of texts that stand for one another is said alike of references
   pub said_alike : (d e : Data) → Related m (Reference f) d e → option_and_then left (as_str d) ≡ option_and_then right (as_str e)
   said_alike d e r = texts_alike r.same r.left r.right
 
   -- and of those in a list, one by one
-  pub said_in_turn : {o : Option Want} {ds es : Items} → o ≡ Some (Reference f) → SameEntries m o ds es → ((x : Data) → Has (list_of_items ds) x → Stands m.left (Reference f) x)
-      → ((x : Data) → Has (list_of_items es) x → Stands m.right (Reference f) x)
+  pub said_in_turn : {o : Option Want} {ds es : Items} → o ≡ Some (Reference f) → SameEntries m o ds es → ((x : Data) → In x (list_of_items ds) → Stands m.left (Reference f) x)
+      → ((x : Data) → In x (list_of_items es) → Stands m.right (Reference f) x)
       → map (λ r. option_and_then left (as_str r)) (list_of_items ds) ≡ map (λ r. option_and_then right (as_str r)) (list_of_items es)
   said_in_turn asks no_entry l r = refl
   said_in_turn asks (one_entry {d = d} {e = e} h rest) l r =
-      ap₂ ◌∷◌ (said_alike d e (record { left = l d here; right = r e here; same = subst (λ o. Same m o d e) asks h }))
-      (said_in_turn asks rest (λ x i. l x (later i)) (λ x i. r x (later i)))
+      ap₂ ◌∷◌ (said_alike d e (record { left = l d (inl refl); right = r e (inl refl); same = subst (λ o. Same m o d e) asks h }))
+      (said_in_turn asks rest (λ x i. l x (inr i)) (λ x i. r x (inr i)))
 
 module _ (m : Sides) (π : Preference) (g : TwoReports m π) where
   named_alike : (f : Family) (s s' : List ℕ) → StandsFor m s s' → IsUsed m.left s → IsUsed m.right s' → key_named π m.left f s ≡ key_named π m.right f s'
@@ -62,16 +56,66 @@ module _ (m : Sides) (π : Preference) (g : TwoReports m π) where
       ∙ rising_keys_named-reordered π m.right f h.reordered
 
   -- a reference is a text
-  key_of_text : (f : Family) {d e : Data} → Same m (Some (Reference f)) d e → Stands m.left (Reference f) d → Stands m.right (Reference f) e
-      → key_named π m.left f (unwrap_or (as_str d) []) ≡ key_named π m.right f (unwrap_or (as_str e) [])
-  key_of_text f a_null l r = let x = wanted_within m.left (no_shape_fault π m.left g.accepted) (record { want = Reference f; value = null; repeated = l.repeated }) l.inside in cc
-  key_of_text f (a_flag {b = b}) l r = let x = wanted_within m.left (no_shape_fault π m.left g.accepted) (record { want = Reference f; value = boolean b; repeated = l.repeated }) l.inside in cc
-  key_of_text f (a_number {n = n}) l r = let x = wanted_within m.left (no_shape_fault π m.left g.accepted) (record { want = Reference f; value = number n; repeated = l.repeated }) l.inside in cc
-  key_of_text f (a_text is) l r = cc
-  key_of_text f (an_id {s = s} {s' = s'} is pair) l r = named_alike f s s' pair (used m.left f s l) (used m.right f s' r)
-  key_of_text f (a_list {ds = ds} is h) l r = let x = wanted_within m.left (no_shape_fault π m.left g.accepted) (record { want = Reference f; value = array ds; repeated = l.repeated }) l.inside in cc
-  key_of_text f (a_set fs is p h) l r = cc
-  key_of_text f (an_object {ms = ms} h) l r = let x = wanted_within m.left (no_shape_fault π m.left g.accepted) (record { want = Reference f; value = object ms; repeated = l.repeated }) l.inside in cc
-
   pub key_alike_text : (f : Family) (d e : Data) → Related m (Reference f) d e → key_named π m.left f (unwrap_or (as_str d) []) ≡ key_named π m.right f (unwrap_or (as_str e) [])
-  key_alike_text f d e r = key_of_text f r.same r.left r.right
+  key_alike_text f d e r =
+      let s = string_from_text d (wanted_within m.left (no_shape_fault π m.left g.accepted) (record { want = Reference f; value = d; repeated = r.left.repeated }) r.left.inside) in
+      let o = id_text m s.0 r.same refl s.1 in
+      ap (λ x. key_named π m.left f (unwrap_or (as_str x) [])) s.1 ∙ named_alike f s.0 o.other o.pair (used m.left f d s.0 r.left s.1) (used m.right f e o.other r.right o.is)
+      ∙ sym (ap (λ x. key_named π m.right f (unwrap_or (as_str x) [])) o.is)
+
+-- ---- labels that say the same mean the same, and have one text with their translations in rising order
+
+module _ (m : Sides) where
+  -- labels of the class
+  same_beside : (d e : Data) → HaveMembers m class.InternationalizedText d e → (k : List ℕ) → bytes_eq k (codes "@type") ≡ false → bytes_eq k (codes "Text") ≡ false → get k d ≡ get k e
+  same_beside d e h k typed text =
+      let c = class.InternationalizedText in
+      told_plain m c k (get k d) (get k e) (plain_of_kind (kind_of_member c k) (is_required c k) (plain_beside k typed text)) (steady_beside k typed text) refl (h k typed)
+
+  same_translations : (d e : Data) → HaveMembers m class.InternationalizedText d e → IsPermutation (entries_at (codes "Text") d) (entries_at (codes "Text") e)
+  same_translations d e h =
+      matched_equal (λ x y r. steady_same m r.same refl)
+      (told_entries m class.InternationalizedText (codes "Text") (Member kind.Languages true) (Object role.Language) (get (codes "Text") d) (get (codes "Text") e) refl refl refl refl (h (codes "Text") refl))
+
+  meaning_of_members : (ms ns : Members) → HaveMembers m class.InternationalizedText (object ms) (object ns) → label_of (object ms) ≡ label_of (object ns)
+  meaning_of_members ms ns h =
+      ap₂ translated (fun_ext (λ k. at k (bytes_eq k (codes "@type")) refl (bytes_eq k (codes "Text")) refl)) (json_set-reordered (same_translations (object ms) (object ns) h))
+    where
+      at : (k : List ℕ) (a : Bool) → bytes_eq k (codes "@type") ≡ a → (b : Bool) → bytes_eq k (codes "Text") ≡ b → cond (a || b) None (get k (object ms)) ≡ cond (a || b) None (get k (object ns))
+      at k true typed b text = refl
+      at k false typed true text = refl
+      at k false typed false text = same_beside (object ms) (object ns) h k typed text
+
+module _ (m : Sides) (π : Preference) (g : TwoReports m π) where
+  among : (required : Bool) (ms : Members) → Stands m.left (Member kind.Label required) (object ms) → class_of_object role.Label (object ms) ≡ Some class.InternationalizedText
+  among required ms l =
+      let w : Want = Member kind.Label required in
+      let c : Classed role.Label (object ms) = classed m.left (no_shape_fault π m.left g.accepted) w role.Label (object ms) of_label refl (unrepeated m.left (no_shape_fault π m.left g.accepted) w (object ms) l.repeated refl l.inside) in
+      c.among ∙ ap Some (label_class c.class c.role)
+
+  members_of : (required : Bool) (ms ns : Members) → SameMembers m (scope_inside (Member kind.Label required) (object ms)) ms ns → Stands m.left (Member kind.Label required) (object ms)
+      → Stands m.right (Member kind.Label required) (object ns) → HaveMembers m class.InternationalizedText (object ms) (object ns)
+  members_of required ms ns h l r =
+      both_members m g.left_tree g.right_tree (Member kind.Label required) role.Label class.InternationalizedText ms ns of_label (among required ms l) h l r
+
+  label_at : (required : Bool) {d e : Data} → Same m (Some (Member kind.Label required)) d e → Stands m.left (Member kind.Label required) d → Stands m.right (Member kind.Label required) e → label_of d ≡ label_of e
+  label_at required (an_object {ms = ms} {ns = ns} h) l r = meaning_of_members m ms ns (members_of required ms ns h l r)
+  label_at required (an_id is h) l r = cc
+  label_at required (a_set fs is p h) l r = cc
+  label_at required h l r = refl
+
+  pub label_alike : (required : Bool) (d e : Data) → Related m (Member kind.Label required) d e → label_of d ≡ label_of e
+  label_alike required d e r = label_at required r.same r.left r.right
+
+  text_at : (required : Bool) {d e : Data} → Same m (Some (Member kind.Label required)) d e → Stands m.left (Member kind.Label required) d → Stands m.right (Member kind.Label required) e
+      → compact_text (with_rising_text d) ≡ compact_text (with_rising_text e)
+  text_at required (a_list {ds = ds} is h) l r = let x = wanted_within m.left (no_shape_fault π m.left g.accepted) (record { want = Member kind.Label required; value = array ds; repeated = l.repeated }) l.inside in cc
+  text_at required (an_object {ms = ms} {ns = ns} h) l r =
+      label_text m required ms (object ns) (among required ms l) (stands_tree m.left (Member kind.Label required) (object ms) g.left_tree l)
+      (stands_tree m.right (Member kind.Label required) (object ns) g.right_tree r) (an_object h)
+  text_at required (an_id is h) l r = cc
+  text_at required (a_set fs is p h) l r = cc
+  text_at required h l r = refl
+
+  pub label_text_alike : (required : Bool) (d e : Data) → Related m (Member kind.Label required) d e → compact_text (with_rising_text d) ≡ compact_text (with_rising_text e)
+  label_text_alike required d e r = text_at required r.same r.left r.right

@@ -1,28 +1,34 @@
 -- The canonical `@id` of each object of a report. It tells objects apart, and two functions lead from the `@id` texts of the report
 -- to the canonical ones and back.
-use Rattle.erd_normal.proofs.Common.{◌≡◌, ℕ, ◌+◌, ◌^◌, ◌<◌, true, List, [], ◌∷◌, ◌++◌, map, length, is_some, Some, None, decimal, Option, option_map, find, flat_map, bytes_eq, is_eq, Equal, unwrap_or, sym, refl, ap, ◌∙◌, subst, ⊎_elim, arith, tied_back, length-map, same_Some, options_total, IsDistinct, option_map_or, eq_by_cmp, Data, Family, family, text_exact, text_itself, has_mapped, map_has, here, later, all-Has, Has, values_distinct, has-append, has-flat, no_identity_fault, find-any, append-has, has-append_left, flat-has, one_object, has_id-Some, has_id-from, distinct_one, any-has, IsAccepted, has_keys, Preference, key_of, rank_of, Placed, contests, selections_of_contest, objects, id_of, has_id, IsBounded, name_of, key_cmp_total, name_cmp_total, id_prefix, canonical_id, Sides, StandsFor, id_of_key, rank_of_name, id_of_selection, by_key, by_name, normal_tree}
-use Rattle.erd_normal.proofs.canonical.Bounds.{few_selections}
-use Rattle.erd_normal.proofs.canonical.CanonicalIds.{canonical_id_exact, selection_id_apart}
+use Rattle.erd_normal.proofs.Common.{◌≡◌, ℕ, ◌+◌, ◌^◌, ◌<◌, true, List, [], ◌∷◌, ◌++◌, map, length, is_some, Some, None, decimal, Option, option_map, find, flat_map, bytes_eq, is_eq, Equal, unwrap_or, sym, refl, ap, ◌∙◌, subst, ⊎_elim, arith, tied_back, length-map, same_Some, options_total, IsDistinct, option_map_or, eq_by_cmp, Data, Family, family, text_exact, text_itself, values_distinct, no_identity_fault, find-any, one_object, has_id-Some, has_id-from, distinct_one, IsAccepted, has_keys, Preference, key_of, rank_of, Placed, contests, selections_of_contest, objects, id_of, has_id, IsBounded, name_of, key_cmp_total, name_cmp_total, id_prefix, canonical_id, Sides, StandsFor, id_of_key, rank_of_name, id_of_selection, by_key, by_name, normal_tree, Bool, false, ◌&&◌, codes, option_and_then, AllByRecursion, list_all, string, array, object, rows_of_class, kind_of_identity, kind_of_member, is_required, Class, class, role, MemberKind, kind, Step, array_from, wanted_within, Within, kind_of_class, want_unless_status, is_reference, IsTree, list_of_items, text_of, scope_inside, want_of_kind, is_report_class, member_want, want_of_name, entry_want, Asked, asked, asked_from, Scope, scope, Want, Carried, Member, Object, Reference, no_shape_fault, owned, unrepeated_reference, owned_by, all_rising, owner, rising_list, key_named, IsUnused, normal_id, normal_reference, reference_cmp, normal_selection_reference, In, In-all, In-append, In-append_left, In-append_right, In-flat_map, In-flat_map_from, In-map, In-map_from, any_at, inl, inr}
+use Rattle.erd_normal.proofs.canonical.CanonicalIds.{canonical_id_exact, selection_id_apart, few_selections, canonical_selection_id_exact}
 use Rattle.erd_normal.proofs.canonical.ContestSelections.{one_contest}
 use Rattle.erd_normal.proofs.canonical.RisingReports.{selection_values_distinct, by_key_total, by_name_total}
-use Rattle.erd_normal.proofs.canonical.SelectionIds.{listed, selection_values}
-use Rattle.erd_normal.proofs.canonical.SelectionTexts.{canonical_selection_id_exact}
+use Rattle.erd_normal.proofs.canonical.SelectionIds.{listed, selection_values, text_built}
 use Rattle.erd_normal.proofs.lists.KeyedRanks.{rank_exact, rank_low}
-use Rattle.erd_normal.proofs.throughout.ThroughoutMembers.{is_prefixed}
-use Rattle.erd_normal.proofs.same.complete.Texts.{no_keys, one_family}
+use Rattle.erd_normal.proofs.throughout.ThroughoutMembers.{is_prefixed, HoldsOfMembers, built_references}
+use Rattle.erd_normal.proofs.same.complete.Texts.{no_keys, one_family, some_again}
+use Rattle.erd_normal.proofs.same.IdsOfObjects.{Refers, reference_refers, references_refer}
+use Rattle.erd_normal.proofs.lists.BuiltLists.{all_map, entry_holds}
+use Rattle.erd_normal.proofs.lists.FoundInParts.{FoundSelection, owner_found}
+use Rattle.erd_normal.proofs.throughout.ThroughoutObjects.{HoldsOfObjects}
+use Rattle.erd_normal.proofs.throughout.ThroughoutReports.{HoldsOfBuilt, holds_of_built}
+use Rattle.erd_normal.proofs.throughout.ThroughoutValues.{is_apart}
+use Rattle.erd_normal.proofs.throughout.InsideValues.{all_inside, carried_passes, name_passes}
+use Rattle.erd_tables.specs.declared.class.Family.TheVariants as family
 
 -- ---- the canonical `@id` of an object
 
 -- the object of the family has this `@id` in the report that is built
 pub data NewId (π : Preference) (t : Data) (f : Family) (o : Placed) (id : List ℕ) : Type 0 where
-  of_family : has_keys f ≡ true → Has (objects f t) o → id_of_key π t f (key_of π o.value) ≡ Some id → NewId π t f o id
-  of_contest : (contest : Placed) → f ≡ family.Selection → Has (objects family.Contest t) contest → Has (selections_of_contest contest) o
+  of_family : has_keys f ≡ true → In o (objects f t) → id_of_key π t f (key_of π o.value) ≡ Some id → NewId π t f o id
+  of_contest : (contest : Placed) → f ≡ family.Selection → In contest (objects family.Contest t) → In o (selections_of_contest contest)
       → id ≡ id_of_selection π t contest.value o.value → NewId π t f o id
 
 module _ (π : Preference) (t : Data) (accepted : IsAccepted π t) where
-  pub stands_new : (f : Family) (o : Placed) (id : List ℕ) → NewId π t f o id → Has (objects f t) o
+  pub stands_new : (f : Family) (o : Placed) (id : List ℕ) → NewId π t f o id → In o (objects f t)
   stands_new f o id (of_family keyed h is) = h
-  stands_new f o id (of_contest contest is h k its) = subst (λ g. Has (objects g t) o) (sym is) (flat-has selections_of_contest (contests t) contest o h k)
+  stands_new f o id (of_contest contest is h k its) = subst (λ g. In o (objects g t)) (sym is) (In-flat_map selections_of_contest o contest (contests t) h k)
 
   -- an object has one canonical `@id`
   pub new_once : (f g : Family) (o : Placed) (id id' : List ℕ) → NewId π t f o id → NewId π t g o id' → id ≡ id'
@@ -37,16 +43,16 @@ module _ (π : Preference) (t : Data) (accepted : IsAccepted π t) where
 
   -- ---- it tells objects apart
 
-  one_ranked : (f : Family) → has_keys f ≡ true → (o p : Placed) → Has (objects f t) o → Has (objects f t) p → rank_of π t f (key_of π o.value) ≡ rank_of π t f (key_of π p.value) → o ≡ p
+  one_ranked : (f : Family) → has_keys f ≡ true → (o p : Placed) → In o (objects f t) → In p (objects f t) → rank_of π t f (key_of π o.value) ≡ rank_of π t f (key_of π p.value) → o ≡ p
   one_ranked f keyed o p in_o in_p same =
       let tied : by_key π o.value p.value ≡ Equal = rank_exact (λ (x : Placed). key_of π x.value) (options_total key_cmp_total) (objects f t) o p in_o in_p same in
       distinct_one (λ (x : Placed). x.value) (eq_by_cmp (by_key π)) (objects f t) (values_distinct π t (no_identity_fault π t accepted) f keyed) o p in_o in_p (ap is_eq tied)
       (ap is_eq (tied_back (by_key_total π) o.value p.value tied))
 
-  in_values : (c o : Placed) → Has (selections_of_contest c) o → Has (selection_values c) o.value
-  in_values c o h = subst (λ xs. Has xs o.value) (listed c) (has_mapped (λ (x : Placed). x.value) (selections_of_contest c) o h)
+  in_values : (c o : Placed) → In o (selections_of_contest c) → In o.value (selection_values c)
+  in_values c o h = subst (λ xs. In o.value xs) (listed c) (In-map (λ (x : Placed). x.value) o (selections_of_contest c) h)
 
-  one_named_rank : (c o p : Placed) → Has (objects family.Contest t) c → Has (selections_of_contest c) o → Has (selections_of_contest c) p
+  one_named_rank : (c o p : Placed) → In c (objects family.Contest t) → In o (selections_of_contest c) → In p (selections_of_contest c)
       → rank_of_name π t (selection_values c) (name_of π t o.value) ≡ rank_of_name π t (selection_values c) (name_of π t p.value) → o ≡ p
   one_named_rank c o p in_c of_o of_p same =
       let tied : by_name π t o.value p.value ≡ Equal =
@@ -55,13 +61,13 @@ module _ (π : Preference) (t : Data) (accepted : IsAccepted π t) where
       (ap is_eq (tied_back (by_name_total π t) o.value p.value tied))
 
   module _ (bounded : IsBounded t) where
-    low_rank : (f : Family) (o : Placed) → Has (objects f t) o → rank_of π t f (key_of π o.value) + 1 < 2 ^ 64
+    low_rank : (f : Family) (o : Placed) → In o (objects f t) → rank_of π t f (key_of π o.value) + 1 < 2 ^ 64
     low_rank f o h =
         let low : rank_of π t f (key_of π o.value) < length (objects f t) = rank_low (λ (x : Placed). key_of π x.value) (options_total key_cmp_total) (objects f t) o h in
         let few : length (objects f t) < 2 ^ 64 = bounded.few f in
         omega (arith, low, few)
 
-    low_name : (c o : Placed) → Has (objects family.Contest t) c → Has (selections_of_contest c) o → rank_of_name π t (selection_values c) (name_of π t o.value) + 1 < 2 ^ 64
+    low_name : (c o : Placed) → In c (objects family.Contest t) → In o (selections_of_contest c) → rank_of_name π t (selection_values c) (name_of π t o.value) + 1 < 2 ^ 64
     low_name c o in_c of_c =
         let low : rank_of_name π t (selection_values c) (name_of π t o.value) < length (selection_values c) = rank_low (name_of π t) (options_total name_cmp_total) (selection_values c) o.value (in_values c o of_c) in
         let few : length (selections_of_contest c) < 2 ^ 64 = few_selections t bounded c in_c in
@@ -71,13 +77,13 @@ module _ (π : Preference) (t : Data) (accepted : IsAccepted π t) where
     pub new_exact : (f g : Family) (o p : Placed) (id : List ℕ) → NewId π t f o id → NewId π t g p id → o ≡ p
     new_exact f g o p id (of_family keyed h is) (of_family keyed' k its) =
         let n = canonical_id_exact f g _ _ id (low_rank f o h) (low_rank g p k) is its in
-        one_ranked f keyed o p h (subst (λ x. Has (objects x t) p) (sym n.0) k) (n.1 ∙ ap (λ x. rank_of π t x (key_of π p.value)) (sym n.0))
+        one_ranked f keyed o p h (subst (λ x. In p (objects x t)) (sym n.0) k) (n.1 ∙ ap (λ x. rank_of π t x (key_of π p.value)) (sym n.0))
     new_exact f g o p id (of_family keyed h is) (of_contest c sel in_c of_c its) = absurd (selection_id_apart f _ _ _ (is ∙ ap Some its))
     new_exact f g o p id (of_contest c sel in_c of_c its) (of_family keyed h is) = absurd (selection_id_apart g _ _ _ (is ∙ ap Some its))
     new_exact f g o p id (of_contest c sel in_c of_c its) (of_contest d sel' in_d of_d its') =
         let n = canonical_selection_id_exact _ _ _ _ (low_rank family.Contest c in_c) (low_name c o in_c of_c) (low_rank family.Contest d in_d) (low_name d p in_d of_d) (sym its ∙ its') in
         let one : c ≡ d = one_ranked family.Contest refl c d in_c in_d n.0 in
-        one_named_rank c o p in_c of_c (subst (λ x. Has (selections_of_contest x) p) (sym one) of_d) (n.1 ∙ ap (λ x. rank_of_name π t (selection_values x) (name_of π t p.value)) (sym one))
+        one_named_rank c o p in_c of_c (subst (λ x. In p (selections_of_contest x)) (sym one) of_d) (n.1 ∙ ap (λ x. rank_of_name π t (selection_values x) (name_of π t p.value)) (sym one))
 
 -- ---- the objects with their canonical `@id`s
 
@@ -90,14 +96,14 @@ prefixed_keys f h = refl
 abbrev prefixed_families : List Family
 prefixed_families = family.Unit ∷ family.Party ∷ family.Person ∷ family.Office ∷ family.Header ∷ family.Candidate ∷ family.Contest ∷ []
 
-prefixed_listed : (f : Family) → is_prefixed f ≡ true → Has prefixed_families f
-prefixed_listed family.Unit h = here
-prefixed_listed family.Party h = later here
-prefixed_listed family.Person h = later (later here)
-prefixed_listed family.Office h = later (later (later here))
-prefixed_listed family.Header h = later (later (later (later here)))
-prefixed_listed family.Candidate h = later (later (later (later (later here))))
-prefixed_listed family.Contest h = later (later (later (later (later (later here)))))
+prefixed_listed : (f : Family) → is_prefixed f ≡ true → In f prefixed_families
+prefixed_listed family.Unit h = inl refl
+prefixed_listed family.Party h = inr (inl refl)
+prefixed_listed family.Person h = inr (inr (inl refl))
+prefixed_listed family.Office h = inr (inr (inr (inl refl)))
+prefixed_listed family.Header h = inr (inr (inr (inr (inl refl))))
+prefixed_listed family.Candidate h = inr (inr (inr (inr (inr (inl refl)))))
+prefixed_listed family.Contest h = inr (inr (inr (inr (inr (inr (inl refl))))))
 prefixed_listed f h = cc
 
 abbrev family_objects : Preference → Data → Family → List (Placed × List ℕ)
@@ -126,10 +132,6 @@ has_letters f i id = at (id_prefix f)
     at None e = cc
     at (Some letters) e = refl
 
-pub some_again : (o : Option (List ℕ)) → is_some o ≡ true → o ≡ Some (unwrap_or o [])
-some_again None h = cc
-some_again (Some s) h = refl
-
 pub has_canonical : (f : Family) (i : ℕ) → is_prefixed f ≡ true → is_some (canonical_id f i) ≡ true
 has_canonical f i = at (id_prefix f)
   where
@@ -138,37 +140,37 @@ has_canonical f i = at (id_prefix f)
     at (Some letters) h = refl
 
 module _ (π : Preference) (t : Data) where
-  in_list : (f : Family) (o : Placed) (id : List ℕ) → NewId π t f o id → Has (named_objects π t) (o, id)
+  in_list : (f : Family) (o : Placed) (id : List ℕ) → NewId π t f o id → In (o, id) (named_objects π t)
   in_list f o id (of_family keyed h is) =
-      has-append_left (flat_map (family_objects π t) prefixed_families) (flat_map (contest_objects π t) (contests t)) (o, id)
-      (flat-has (family_objects π t) prefixed_families f (o, id) (prefixed_listed f (has_letters f _ id is))
-      (subst (λ x. Has (family_objects π t f) (o, x)) (ap (λ x. unwrap_or x []) is) (has_mapped (λ (x : Placed). (x, unwrap_or (id_of_key π t f (key_of π x.value)) [])) (objects f t) o h)))
+      In-append_left (o, id) (flat_map (family_objects π t) prefixed_families) (flat_map (contest_objects π t) (contests t))
+      (In-flat_map (family_objects π t) (o, id) f prefixed_families (prefixed_listed f (has_letters f _ id is))
+      (subst (λ x. In (o, x) (family_objects π t f)) (ap (λ x. unwrap_or x []) is) (In-map (λ (x : Placed). (x, unwrap_or (id_of_key π t f (key_of π x.value)) [])) o (objects f t) h)))
   in_list f o id (of_contest c sel in_c of_c its) =
-      append-has (flat_map (family_objects π t) prefixed_families) (flat_map (contest_objects π t) (contests t)) (o, id)
-      (flat-has (contest_objects π t) (contests t) c (o, id) in_c
-      (subst (λ x. Has (contest_objects π t c) (o, x)) (sym its) (has_mapped (λ (x : Placed). (x, id_of_selection π t c.value x.value)) (selections_of_contest c) o of_c)))
+      In-append_right (o, id) (flat_map (family_objects π t) prefixed_families) (flat_map (contest_objects π t) (contests t))
+      (In-flat_map (contest_objects π t) (o, id) c (contests t) in_c
+      (subst (λ x. In (o, x) (contest_objects π t c)) (sym its) (In-map (λ (x : Placed). (x, id_of_selection π t c.value x.value)) o (selections_of_contest c) of_c)))
 
-  from_family : (x : Placed × List ℕ) → Has (flat_map (family_objects π t) prefixed_families) x → (f : Family) × NewId π t f x.0 x.1
+  from_family : (x : Placed × List ℕ) → In x (flat_map (family_objects π t) prefixed_families) → (f : Family) × NewId π t f x.0 x.1
   from_family x h =
-      let f = has-flat (family_objects π t) prefixed_families x h in
-      let o = map_has (λ (y : Placed). (y, unwrap_or (id_of_key π t f.0 (key_of π y.value)) [])) (objects f.0 t) x f.2 in
-      let named : is_prefixed f.0 ≡ true = all-Has (λ g. is_prefixed g ≡ true) prefixed_families f.0 (refl, (refl, (refl, (refl, (refl, (refl, (refl, tt))))))) f.1 in
+      let f = In-flat_map_from (family_objects π t) prefixed_families x h in
+      let o = In-map_from (λ (y : Placed). (y, unwrap_or (id_of_key π t f.0 (key_of π y.value)) [])) (objects f.0 t) x f.2 in
+      let named : is_prefixed f.0 ≡ true = In-all (λ g. is_prefixed g ≡ true) f.0 prefixed_families (refl, (refl, (refl, (refl, (refl, (refl, (refl, tt))))))) f.1 in
       (f.0, subst (λ (z : Placed × List ℕ). NewId π t f.0 z.0 z.1) o.2 (of_family (prefixed_keys f.0 named) o.1 (some_again (id_of_key π t f.0 (key_of π o.0.value)) (has_canonical f.0 _ named))))
 
-  from_contest : (x : Placed × List ℕ) → Has (flat_map (contest_objects π t) (contests t)) x → (f : Family) × NewId π t f x.0 x.1
+  from_contest : (x : Placed × List ℕ) → In x (flat_map (contest_objects π t) (contests t)) → (f : Family) × NewId π t f x.0 x.1
   from_contest x h =
-      let c = has-flat (contest_objects π t) (contests t) x h in
-      let o = map_has (λ (y : Placed). (y, id_of_selection π t c.0.value y.value)) (selections_of_contest c.0) x c.2 in
+      let c = In-flat_map_from (contest_objects π t) (contests t) x h in
+      let o = In-map_from (λ (y : Placed). (y, id_of_selection π t c.0.value y.value)) (selections_of_contest c.0) x c.2 in
       (family.Selection, subst (λ (z : Placed × List ℕ). NewId π t family.Selection z.0 z.1) o.2 (of_contest c.0 refl c.1 o.1 refl))
 
-  from_list : (x : Placed × List ℕ) → Has (named_objects π t) x → (f : Family) × NewId π t f x.0 x.1
-  from_list x h = ⊎_elim (from_family x) (from_contest x) (has-append (flat_map (family_objects π t) prefixed_families) (flat_map (contest_objects π t) (contests t)) x h)
+  from_list : (x : Placed × List ℕ) → In x (named_objects π t) → (f : Family) × NewId π t f x.0 x.1
+  from_list x h = ⊎_elim (from_family x) (from_contest x) (In-append x (flat_map (family_objects π t) prefixed_families) (flat_map (contest_objects π t) (contests t)) h)
 
   module _ (accepted : IsAccepted π t) (bounded : IsBounded t) where
     text_there : (f : Family) (o : Placed) (s id : List ℕ) → NewId π t f o id → id_of o.value ≡ Some s → new_text π t s ≡ id
     text_there f o s id new e =
         let xs = named_objects π t in
-        let x = find-any (λ (y : Placed × List ℕ). has_id s y.0.value) xs (any-has (λ (y : Placed × List ℕ). has_id s y.0.value) xs (o, id) (in_list f o id new) (has_id-from s o.value e)) in
+        let x = find-any (λ (y : Placed × List ℕ). has_id s y.0.value) xs (any_at (λ (y : Placed × List ℕ). has_id s y.0.value) (o, id) xs (in_list f o id new) (has_id-from s o.value e)) in
         let y = from_list x.0 x.3 in
         let one : x.0.0 ≡ o = one_object π t accepted y.0 f x.0.0 o s (stands_new π t accepted y.0 x.0.0 x.0.1 y.1) (stands_new π t accepted f o id new) (has_id-Some s x.0.0.value x.2) e in
         ap (λ z. option_map_or (λ (y : Placed × List ℕ). y.1) z []) x.1 ∙ new_once π t accepted y.0 f o x.0.1 id (subst (λ z. NewId π t y.0 z x.0.1) one y.1) new
@@ -176,7 +178,7 @@ module _ (π : Preference) (t : Data) where
     text_back : (f : Family) (o : Placed) (s id : List ℕ) → NewId π t f o id → id_of o.value ≡ Some s → old_text π t id ≡ s
     text_back f o s id new e =
         let xs = named_objects π t in
-        let x = find-any (λ (y : Placed × List ℕ). bytes_eq y.1 id) xs (any-has (λ (y : Placed × List ℕ). bytes_eq y.1 id) xs (o, id) (in_list f o id new) (text_itself id)) in
+        let x = find-any (λ (y : Placed × List ℕ). bytes_eq y.1 id) xs (any_at (λ (y : Placed × List ℕ). bytes_eq y.1 id) (o, id) xs (in_list f o id new) (text_itself id)) in
         let y = from_list x.0 x.3 in
         let same : x.0.1 ≡ id = text_exact x.0.1 id x.2 in
         let one : x.0.0 ≡ o = new_exact π t accepted bounded y.0 f x.0.0 o id (subst (NewId π t y.0 x.0.0) same y.1) new in
@@ -185,3 +187,176 @@ module _ (π : Preference) (t : Data) where
     -- the `@id` of an object stands for its canonical one
     pub stands_for : (f : Family) (o : Placed) (s id : List ℕ) → NewId π t f o id → id_of o.value ≡ Some s → StandsFor (sides π t) s id
     stands_for f o s id new e = (sym (text_there f o s id new e), sym (text_back f o s id new e))
+
+-- ---- references of the report that is built: none is to an object without `@id`, and none of the report is to a style
+
+-- an object with an `@id`, and its canonical `@id`
+pub record Renamed (π : Preference) (t : Data) (s id : List ℕ) : Type 0 where
+  pub its_family : Family
+  pub object : Placed
+  pub new : NewId π t its_family object id
+  pub own : id_of object.value ≡ Some s
+
+module _ (π : Preference) (t : Data) (accepted : IsAccepted π t) (tree : IsTree t) (bounded : IsBounded t) where
+  pub renamed_reference : (f : Family) → is_prefixed f ≡ true → (d : Data) → (r : Refers t f d) → Renamed π t r.0 (normal_id π t f (text_of d))
+  renamed_reference f named d r =
+      let o = owned_by t f r.0 r.2.0 r.2.1 in
+      let key : key_named π t f (text_of d) ≡ key_of π o.0.value = ap (λ x. key_named π t f (text_of x)) r.1 ∙ ap (option_and_then (key_of π)) (r.2.1 ∙ ap Some (sym o.2)) in
+      let its : id_of_key π t f (key_of π o.0.value) ≡ Some (unwrap_or (id_of_key π t f (key_of π o.0.value)) []) = some_again (id_of_key π t f (key_of π o.0.value)) (has_canonical f _ named) in
+      record {
+        its_family = f;
+        object = o.0;
+        new = of_family (prefixed_keys f named) o.1 (its ∙ ap (λ k. Some (unwrap_or (id_of_key π t f k) [])) (sym key));
+        own = ap id_of o.2 ∙ o.3;
+      }
+
+  pub renamed_selection : (d : Data) → (r : Refers t family.Selection d) → Renamed π t r.0 (text_of (normal_selection_reference π t d))
+  renamed_selection d r =
+      let owns : owner t family.Selection (text_of d) ≡ Some r.2.0 = ap (λ x. owner t family.Selection (text_of x)) r.1 ∙ r.2.1 in
+      let s : FoundSelection t (text_of d) r.2.0 = owner_found t (text_of d) r.2.0 owns in
+      record {
+        its_family = family.Selection;
+        object = s.selection;
+        new = of_contest s.contest refl s.of_report s.of_contest (text_built π t accepted tree bounded d r.2.0 owns);
+        own = ap id_of s.value ∙ (owned_by t family.Selection r.0 r.2.0 r.2.1).3;
+      }
+
+  pub pair_of : (s id : List ℕ) → Renamed π t s id → StandsFor (sides π t) s id
+  pair_of s id r = stands_for π t accepted bounded r.its_family r.object s id r.new r.own
+
+  -- ---- references of the report that is built
+
+  -- if it is a reference, it has the canonical `@id` of an object with an `@id`
+  pub record IsRenamed (a : Asked) : Type 0 where
+    pub each : is_reference a.want ≡ true → (s : List ℕ) × (id : List ℕ) × Renamed π t s id × (a.value ≡ string id)
+
+  no_reference : (w : Want) (d : Data) (b : Bool) → is_reference w ≡ false → IsRenamed (record { want = w; value = d; repeated = b })
+  no_reference w d b other = record { each = λ is. let x : true ≡ false = sym is ∙ other in cc }
+
+  apart_refers : (w : Want) → is_apart w ≡ true → is_reference w ≡ false
+  apart_refers (Reference f) h = cc
+  apart_refers w h = refl
+
+  renamed_entry : (f : Family) → is_prefixed f ≡ true → (required : Bool) (d : Data) → Within t (asked (Member (kind.Many f) required) d)
+      → AllByRecursion (λ e. (s : List ℕ) × (id : List ℕ) × Renamed π t s id × (e ≡ string id)) (built_references π t f d)
+  renamed_entry f named required d w =
+      let ds = array_from d (wanted_within t (no_shape_fault π t accepted) (asked (Member (kind.Many f) required) d) w) in
+      let inside : Within t (asked (Member (kind.Many f) required) (array ds.0)) = subst (λ x. Within t (asked (Member (kind.Many f) required) x)) ds.1 w in
+      subst (λ x. AllByRecursion (λ e. (s : List ℕ) × (id : List ℕ) × Renamed π t s id × (e ≡ string id)) (built_references π t f x)) (sym ds.1)
+      (all_map (Refers t f) (λ e. (s : List ℕ) × (id : List ℕ) × Renamed π t s id × (e ≡ string id)) (normal_reference π t f) (rising_list (reference_cmp π t f) (list_of_items ds.0))
+      (λ x r. (r.0, normal_id π t f (text_of x), renamed_reference f named x r, refl))
+      (all_rising (Refers t f) (reference_cmp π t f) (list_of_items ds.0) (references_refer π t accepted f required ds.0 inside)))
+
+  renamed_members : HoldsOfMembers π t IsRenamed
+  renamed_members = record {
+    kept = λ a w apart. no_reference a.want a.value a.repeated (apart_refers a.want apart);
+    class_text = λ r c text named. no_reference _ _ false refl;
+    label = λ required d w. no_reference _ _ false refl;
+    one = λ f named d w. record { each = λ is. let r = reference_refers π t accepted f d w in (r.0, normal_id π t f (text_of d), renamed_reference f named d r, refl) };
+    many = λ f named required d w full. no_reference _ _ false refl;
+    many_entry = λ f named required d w i e found. record {
+      each = λ is. entry_holds (λ e. (s : List ℕ) × (id : List ℕ) × Renamed π t s id × (e ≡ string id)) (built_references π t f d) i e (renamed_entry f named required d w) found;
+    };
+    identifiers = λ required d w full. no_reference _ _ false refl;
+    languages = λ required d w full. no_reference _ _ false refl;
+    ordered = λ required d w full. no_reference _ _ false refl;
+    ordered_entry = λ e w. record { each = λ is. let r = reference_refers π t accepted family.Selection e w in (r.0, text_of (normal_selection_reference π t e), renamed_selection e r, refl) };
+  }
+
+  renamed_objects : HoldsOfObjects π t IsRenamed
+  renamed_objects = record {
+    members = renamed_members;
+    identity = λ required id. no_reference _ _ false refl;
+    content = λ required d w full. no_reference _ _ false refl;
+    node = λ d w. no_reference _ _ false refl;
+    selections = λ contest required d of_report stands w full. no_reference _ _ false refl;
+    selection = λ contest d w. no_reference _ _ false refl;
+    object = λ f d w. no_reference _ _ false refl;
+  }
+
+  renamed_built : HoldsOfBuilt π t IsRenamed
+  renamed_built = record {
+    parts = renamed_objects;
+    word = λ required text. no_reference _ _ false refl;
+    whole = λ required n. no_reference _ _ false refl;
+    keyed = λ f keyed required d w all full. no_reference _ _ false refl;
+    elections = λ required d w is. no_reference _ _ false refl;
+    election = λ d w. no_reference _ _ false refl;
+    report = no_reference _ _ false refl;
+  }
+
+  -- nothing in the report that is built refers to an object without `@id`
+  pub new_unused : (f : Family) (o : Placed) (id : List ℕ) → NewId π t f o id → id_of o.value ≡ None → IsUnused (normal_tree π t) id
+  new_unused f o id new none p a stands refers value =
+      let r = (holds_of_built π t (no_shape_fault π t accepted) tree IsRenamed renamed_built p a stands).each refers in
+      let texts : string r.1 ≡ string id = sym r.3 ∙ value in
+      let same : r.1 ≡ id = cc in
+      let one : r.2.object ≡ o = new_exact π t accepted bounded r.2.its_family f r.2.object o id (subst (NewId π t r.2.its_family r.2.object) same r.2.new) new in
+      let owns : Some r.0 ≡ None = sym r.2.own ∙ ap (λ (x : Placed). id_of x.value) one ∙ none in
+      cc
+
+-- ---- no reference is to a style
+
+-- no reference to a style is asked for by a member of this kind
+abbrev is_free_kind : MemberKind → Bool
+is_free_kind (kind.One family.Style) = false
+is_free_kind (kind.Many family.Style) = false
+is_free_kind k = true
+
+abbrev is_free : Want → Bool
+is_free (Reference family.Style) = false
+is_free (Member (kind.Many family.Style) required) = false
+is_free w = true
+
+free_of_kind : (k : MemberKind) (required : Bool) → is_free_kind k ≡ true → is_free (want_of_kind k required) ≡ true
+free_of_kind (kind.One family.Style) required h = cc
+free_of_kind (kind.Many family.Style) required h = cc
+free_of_kind k required h = refl
+
+free_rows : (c : Class) → (list_all (λ m. is_free_kind m.kind) (rows_of_class c) ≡ true) × (is_free_kind (kind_of_identity c) ≡ true)
+free_rows class.ElectionReport = (refl, refl)
+free_rows c = (refl, refl)
+
+free_member : (c : Class) (name : List ℕ) → bytes_eq name (codes "@type") ≡ false → is_free (member_want c name) ≡ true
+free_member c name other = at (is_report_class c && bytes_eq name (codes "Status")) refl
+  where
+    at : (b : Bool) → (is_report_class c && bytes_eq name (codes "Status")) ≡ b → is_free (member_want c name) ≡ true
+    at true is = rw is refl
+    at false is =
+        ap is_free (want_unless_status c name is)
+        ∙ free_of_kind (kind_of_member c name) (is_required c name) (kind_of_class is_free_kind c name other (free_rows c).0 (free_rows c).1 refl refl)
+
+free_name : (s : Scope) (name : List ℕ) → option_map_or is_free (want_of_name s name) true ≡ true
+free_name scope.Nothing name = refl
+free_name scope.Carried name = carried_passes is_free refl refl name
+free_name (scope.Members r o) name = name_passes is_free r o name refl (λ c is other. free_member c name other)
+
+free_entry : (w : Want) → is_free w ≡ true → option_map_or is_free (entry_want w) true ≡ true
+free_entry (Member (kind.Many family.Style) required) h = cc
+free_entry w h = refl
+
+free_from : (a : Asked) (p : List Step) (b : Asked) → is_free a.want ≡ true → asked_from a p ≡ Some b → is_free b.want ≡ true
+free_from =
+    all_inside (λ w d. is_free w ≡ true) (λ w ms n v x h asks found. subst (λ o. option_map_or is_free o true ≡ true) asks (free_name (scope_inside w (object ms)) n))
+    (λ w ds i v x h asks found. subst (λ o. option_map_or is_free o true ≡ true) asks (free_entry w h))
+
+module _ (π : Preference) (t : Data) (accepted : IsAccepted π t) where
+  one_reference : (g : Family) (s : List ℕ) (a : Asked) → a.want ≡ Reference g → a.value ≡ string s → Within t a → Within t (asked (Reference g) (string s))
+  one_reference g s a asks value w =
+      unrepeated_reference π t accepted g (string s) a.repeated (subst (λ x. Within t (record { want = x; value = string s; repeated = a.repeated })) asks (subst (λ x. Within t (record { want = a.want; value = x; repeated = a.repeated })) value w))
+
+  -- nothing refers to a style
+  pub style_unused : (o : Placed) (s : List ℕ) → In o (objects family.Style t) → id_of o.value ≡ Some s → IsUnused t s
+  style_unused o s h own p a stands refers value = at a.want refl refers
+    where
+      at : (w : Want) → a.want ≡ w → is_reference w ≡ true → ⊥
+      at (Reference g) asks is =
+          let w : Within t (asked (Reference g) (string s)) = one_reference g s a asks value (record { place = p; is = stands }) in
+          let x = owned π t accepted g s w in
+          let q = owned_by t g s x.0 x.1 in
+          let one : q.0 ≡ o = one_object π t accepted g family.Style q.0 o s q.1 h (ap id_of q.2 ∙ q.3) own in
+          let style : g ≡ family.Style = one_family π t accepted g family.Style o (subst (λ z. In z (objects g t)) one q.1) h in
+          let free : is_free (Reference g) ≡ true = ap is_free (sym asks) ∙ free_from (asked (Object role.Report) t) p a refl stands in
+          let x : false ≡ true = ap (λ f. is_free (Reference f)) (sym style) ∙ free in
+          cc
+      at w asks is = cc

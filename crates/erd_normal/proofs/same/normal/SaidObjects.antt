@@ -1,19 +1,16 @@
 -- What is built of the order of a ballot, a selection and an object of a family says what they say.
-use Rattle.erd_normal.proofs.Common.{◌≡◌, ℕ, zero, suc, Bool, true, false, List, map, Some, None, codes, Option, option_map, option_and_then, bytes_eq, sym, refl, ap, ◌∙◌, subst, list_all, Data, string, array, object, Items, no_items, item, Members, no_members, member, get_member, get_item, get, as_str, text_of_class, role_of_class, rows_of_class, kind_of_member, is_required, Class, class, Family, family, Role, role, MemberKind, kind, entries_in, object_from, string_from_text, array_from, text_exact, found_cases, object_in, ObjectAt, ObjectIn, map_has, Has, of_role, wanted_within, member_within, within-tree, Within, kind_of_class, kind_of_name, want_by_kind, is_array, ShapeFault, NoneOf, IsTree, list_of_items, entries_of, class_of_object, want_of_kind, member_want, want_of_name, asked, Scope, scope, Member, Object, no_shape_fault, stands, flat-has, kind_of_type, IsAccepted, has_keys, Preference, key_of, Placed, contests, selections_of_contest, objects, id_of, IsBounded, rising_list, selection_role, canonical_id, Sides, an_unused_id, a_text, an_id, a_list, an_object, no_entry, one_entry, Same, SameEntries, SameMembers, id_of_key, id_of_selection, array_of, normal_node_value, normal_content, normal_nodes, normal_node, normal_selection, by_key, by_name, normal_object_value, normal_object, normal_objects, normal_tree}
+use Rattle.erd_normal.proofs.Common.{◌≡◌, ℕ, zero, suc, Bool, true, false, List, map, Some, None, codes, Option, option_map, option_and_then, bytes_eq, sym, refl, ap, ◌∙◌, subst, Data, string, array, object, Items, no_items, item, Members, no_members, member, get_member, get_item, get, as_str, text_of_class, role_of_class, kind_of_member, is_required, Class, class, Family, family, Role, role, MemberKind, kind, entries_in, object_from, string_from_text, array_from, text_exact, found_cases, object_in, ObjectAt, ObjectIn, of_role, wanted_within, member_within, within-tree, Within, kind_of_class, kind_of_name, want_by_kind, is_array, ShapeFault, NoneOf, IsTree, list_of_items, entries_of, class_of_object, want_of_kind, member_want, want_of_name, asked, Scope, scope, Member, Object, no_shape_fault, stands, kind_of_type, IsAccepted, has_keys, Preference, key_of, Placed, contests, selections_of_contest, objects, id_of, IsBounded, rising_list, selection_role, canonical_id, Sides, an_unused_id, a_text, an_id, a_list, an_object, no_entry, one_entry, Same, SameEntries, SameMembers, id_of_key, id_of_selection, array_of, normal_node_value, normal_content, normal_nodes, normal_node, normal_selection, by_key, by_name, normal_object_value, normal_object, normal_objects, normal_tree, In, In-flat_map, In-map_from}
 use Rattle.erd_normal.proofs.built.AskedMembers.{entry_asked}
 use Rattle.erd_normal.proofs.built.BuiltFrom.{Builder, BuiltObject}
 use Rattle.erd_normal.proofs.built.BuiltObjects.{built_node, built_object, built_selection, is_id, no_name, node_builder, object_builder, plain_builder}
-use Rattle.erd_normal.proofs.built.FamilyNames.{contest_of_selections, family_name, keyed_name}
 use Rattle.erd_normal.proofs.built.NormalGets.{class_of_object-object, get_object-id, get_selection-id, kind_of_family_id}
 use Rattle.erd_normal.proofs.built.NormalTrees.{normal_node-tree, normal_object-tree, normal_selection-tree}
 use Rattle.erd_normal.proofs.canonical.SelectionIds.{listed}
 use Rattle.erd_normal.proofs.lists.Lists.{IsPart, part_has}
-use Rattle.erd_normal.proofs.same.Built.{set_built}
-use Rattle.erd_normal.proofs.same.Lookups.{Aligned, both_there, not_both, lacks_none, lacks_one}
-use Rattle.erd_normal.proofs.same.Merged.{merged}
-use Rattle.erd_normal.proofs.same.normal.NewIds.{NewId, of_contest, of_family, sides, stands_for}
-use Rattle.erd_normal.proofs.same.normal.NewReferences.{new_unused, style_unused}
-use Rattle.erd_normal.proofs.same.normal.SaidValues.{Said, aligned_said, is_simple_kind, said_member, said_unless, said_value}
+use Rattle.erd_normal.proofs.same.Lookups.{Aligned, both_there, not_both, lacks_none, lacks_one, merged}
+use Rattle.erd_normal.proofs.same.normal.NewIds.{NewId, of_contest, of_family, sides, stands_for, new_unused, style_unused}
+use Rattle.erd_normal.proofs.same.normal.SaidValues.{Said, aligned_said, is_simple_kind, said_member, said_unless, said_value, set_built}
+use Rattle.erd_normal.proofs.throughout.ThroughoutObjects.{IsOfContest, is_of_contest}
 
 -- ---- objects of a class
 
@@ -29,12 +26,8 @@ type_aligned : (m : Sides) (r : Role) (c : Class) (s : List ℕ) (o p : Option D
 type_aligned m r c s o p is its =
     subst (λ x. Aligned m (in_class r c) (codes "@type") x p) (sym is) (subst (Aligned m (in_class r c) (codes "@type") (Some (string s))) (sym its) (both_there (a_text refl)))
 
--- what gives the values of members keeps `@type`
-pub record KeepsType (value_of : Builder) (special : List ℕ → Bool) : Type 0 where
-  pub plain : special (codes "@type") ≡ false
-  pub stays : (v : Data) → value_of (codes "@type") kind.ClassText v ≡ Some v
-
-module _ (m : Sides) (t : Data) (clean : NoneOf (ShapeFault t)) (value_of : Builder) (special : List ℕ → Bool) (keeps : KeepsType value_of special) (r : Role) (c : Class) (ms : Members) (d : Data) (o : BuiltObject t value_of special r c ms d) where
+module _ (m : Sides) (t : Data) (clean : NoneOf (ShapeFault t)) (value_of : Builder) (special : List ℕ → Bool) (plain : special (codes "@type") ≡ false)
+    (stays : (v : Data) → value_of (codes "@type") kind.ClassText v ≡ Some v) (r : Role) (c : Class) (ms : Members) (d : Data) (o : BuiltObject t value_of special r c ms d) where
   abbrev AlignedAt : List ℕ → Type 0
   AlignedAt name = Aligned m (in_class r c) name (get_member name ms) (get name d)
 
@@ -42,8 +35,8 @@ module _ (m : Sides) (t : Data) (clean : NoneOf (ShapeFault t)) (value_of : Buil
   at_type =
       let typed = o.at.typed in
       type_aligned m r c (text_of_class c) (get_member (codes "@type") ms) (get (codes "@type") d) typed
-      (o.gets (codes "@type") keeps.plain ∙ ap (λ k. option_and_then (value_of (codes "@type") k) (get_member (codes "@type") ms)) (kind_of_type c)
-      ∙ ap (option_and_then (value_of (codes "@type") kind.ClassText)) typed ∙ keeps.stays (string (text_of_class c)))
+      (o.gets (codes "@type") plain ∙ ap (λ k. option_and_then (value_of (codes "@type") k) (get_member (codes "@type") ms)) (kind_of_type c)
+      ∙ ap (option_and_then (value_of (codes "@type") kind.ClassText)) typed ∙ stays (string (text_of_class c)))
 
   at_other : (name : List ℕ) → bytes_eq name (codes "@type") ≡ false → (found : Option Data) → get_member name ms ≡ found
       → ((from : Data) → get_member name ms ≡ Some from → Within t (asked (member_want c name) from) → Said m (member_want c name) from (value_of name (kind_of_member c name) from))
@@ -78,7 +71,6 @@ module _ (m : Sides) (t : Data) (clean : NoneOf (ShapeFault t)) (value_of : Buil
 -- of the families with keys, styles alone have no canonical `@id`
 style_alone : (f : Family) (i : ℕ) → has_keys f ≡ true → canonical_id f i ≡ None → f ≡ family.Style
 style_alone family.Style i keyed e = refl
-style_alone family.Selection i keyed e = cc
 style_alone f i keyed e = cc
 
 -- ---- kinds of members
@@ -96,22 +88,15 @@ is_object_kind k = is_simple_kind k
 
 selection_kind : (c : Class) (name : List ℕ) → bytes_eq name (codes "@type") ≡ false → is_id name ≡ false → role_of_class c ≡ selection_role → is_simple_kind (kind_of_member c name) ≡ true
 selection_kind class.CandidateSelection name other no_id r = kind_of_name (λ m. is_simple_kind m.kind) is_simple_kind class.CandidateSelection name other no_id refl (λ m h e. h) refl refl
-selection_kind class.BallotMeasureSelection name other no_id r = kind_of_name (λ m. is_simple_kind m.kind) is_simple_kind class.BallotMeasureSelection name other no_id refl (λ m h e. h) refl refl
-selection_kind class.PartySelection name other no_id r = kind_of_name (λ m. is_simple_kind m.kind) is_simple_kind class.PartySelection name other no_id refl (λ m h e. h) refl refl
-selection_kind c name other no_id r = cc
+selection_kind c name other no_id r = kind_of_name (λ m. is_simple_kind m.kind) is_simple_kind c name other no_id (cc) (λ m h e. h) refl refl
 
 node_kind : (c : Class) (name : List ℕ) → bytes_eq name (codes "@type") ≡ false → role_of_class c ≡ role.Content → is_node_kind (kind_of_member c name) ≡ true
 node_kind class.OrderedContest name other r = kind_of_class is_node_kind class.OrderedContest name other refl refl refl refl
-node_kind class.OrderedHeader name other r = kind_of_class is_node_kind class.OrderedHeader name other refl refl refl refl
-node_kind c name other r = cc
-
-object_rows : (c : Class) (f : Family) → role_of_class c ≡ role.OfFamily f → list_all (λ m. is_object_kind m.kind) (rows_of_class c) ≡ true
-object_rows class.ElectionReport f r = cc
-object_rows class.Election f r = cc
-object_rows c f r = refl
+node_kind c name other r = kind_of_class is_node_kind c name other (cc) (cc) refl refl
 
 object_kind : (c : Class) (f : Family) (name : List ℕ) → bytes_eq name (codes "@type") ≡ false → is_id name ≡ false → role_of_class c ≡ role.OfFamily f → is_object_kind (kind_of_member c name) ≡ true
-object_kind c f name other no_id r = kind_of_name (λ m. is_object_kind m.kind) is_object_kind c name other no_id (object_rows c f r) (λ m h e. h) refl refl
+object_kind class.Election f name other no_id r = cc
+object_kind c f name other no_id r = kind_of_name (λ m. is_object_kind m.kind) is_object_kind c name other no_id (cc) (λ m h e. h) refl refl
 
 module _ (π : Preference) (t : Data) (accepted : IsAccepted π t) (tree : IsTree t) (bounded : IsBounded t) where
   abbrev m : Sides
@@ -146,38 +131,35 @@ module _ (π : Preference) (t : Data) (accepted : IsAccepted π t) (tree : IsTre
         (both_there (subst (λ w. Same m w (string s.0) (string id)) (sym wants_id) (an_id refl (stands_for π t accepted bounded f o s.0 id new own'))))
 
     -- a style loses its `@id`
-    id_lost : (o : Placed) (found : Option Data) → f ≡ family.Style → Has (objects f t) o → id_of o.value ≡ option_and_then as_str found → ((v : Data) → found ≡ Some v → (s : List ℕ) × (v ≡ string s))
+    id_lost : (o : Placed) (found : Option Data) → f ≡ family.Style → In o (objects f t) → id_of o.value ≡ option_and_then as_str found → ((v : Data) → found ≡ Some v → (s : List ℕ) × (v ≡ string s))
         → Aligned m (in_class r c) (codes "@id") found None
     id_lost o None style h own texts = not_both (lacks_none t (in_class r c) (codes "@id")) (lacks_none (normal_tree π t) (in_class r c) (codes "@id"))
     id_lost o (Some v) style h own texts =
         let s = texts v refl in
         let own' : id_of o.value ≡ Some s.0 = own ∙ ap as_str s.1 in
         not_both
-        (lacks_one t (in_class r c) (codes "@id") v (an_unused_id s.0 (is_required c (codes "@id")) wants_id s.1 (style_unused π t accepted o s.0 (subst (λ g. Has (objects g t) o) style h) own')))
+        (lacks_one t (in_class r c) (codes "@id") v (an_unused_id s.0 (is_required c (codes "@id")) wants_id s.1 (style_unused π t accepted o s.0 (subst (λ g. In o (objects g t)) style h) own')))
         (lacks_none (normal_tree π t) (in_class r c) (codes "@id"))
 
-    id_aligned : (o : Placed) (k : Option (List ℕ)) (found given : Option Data) → has_keys f ≡ true → Has (objects f t) o → id_of_key π t f (key_of π o.value) ≡ k → given ≡ option_map string k
+    id_aligned : (o : Placed) (k : Option (List ℕ)) (found given : Option Data) → has_keys f ≡ true → In o (objects f t) → id_of_key π t f (key_of π o.value) ≡ k → given ≡ option_map string k
         → id_of o.value ≡ option_and_then as_str found → ((v : Data) → found ≡ Some v → (s : List ℕ) × (v ≡ string s)) → Aligned m (in_class r c) (codes "@id") found given
     id_aligned o None found given keyed h is its own texts = subst (Aligned m (in_class r c) (codes "@id") found) (sym its) (id_lost o found (style_alone f _ keyed is) h own texts)
     id_aligned o (Some id) found given keyed h is its own texts = subst (Aligned m (in_class r c) (codes "@id") found) (sym its) (id_given o id found (of_family keyed h is) own texts)
 
   -- ---- selections
 
-  plain_type : KeepsType (plain_builder π t) is_id
-  plain_type = record { plain = refl; stays = λ v. refl }
-
-  pub selection_said : (contest o : Placed) → Has (objects family.Contest t) contest → Has (selections_of_contest contest) o
+  pub selection_said : (contest o : Placed) → In contest (objects family.Contest t) → In o (selections_of_contest contest)
       → Same m (Some (Object selection_role)) o.value (normal_selection π t contest.value o.value)
   selection_said contest o of_report of_c =
       subst (λ x. Same m (Some (Object selection_role)) x (normal_selection π t contest.value o.value)) (sym i.is_object)
-      (said_object m t clean (plain_builder π t) is_id plain_type selection_role i.class i.ms (normal_selection π t contest.value o.value) (built_selection π t clean tree contest.value o.value i)
+      (said_object m t clean (plain_builder π t) is_id refl (λ v. refl) selection_role i.class i.ms (normal_selection π t contest.value o.value) (built_selection π t clean tree contest.value o.value i)
       (subst IsTree i.is_object whole) (normal_selection-tree π t contest.value o.value whole)
       (λ name is. subst (λ n. Aligned m (in_class selection_role i.class) n (get_member n i.ms) (get n (normal_selection π t contest.value o.value))) (sym (text_exact name (codes "@id") is)) at_id)
       (λ name from other no_id found inside. said_member m t (plain_builder π t) i.class name from inside
       (λ required within. said_value π t accepted tree bounded (kind_of_member i.class name) required from (selection_kind i.class name other no_id i.role) within) refl))
     where
       w : Within t (asked (Object selection_role) o.value)
-      w = record { place = o.place; is = stands π t accepted family.Selection o (flat-has selections_of_contest (contests t) contest o of_report of_c) }
+      w = record { place = o.place; is = stands π t accepted family.Selection o (In-flat_map selections_of_contest o contest (contests t) of_report of_c) }
 
       i : ObjectIn t selection_role o.value
       i = object_in t clean selection_role o.value w
@@ -194,9 +176,6 @@ module _ (π : Preference) (t : Data) (accepted : IsAccepted π t) (tree : IsTre
 
   -- ---- the order of a ballot
 
-  node_type : KeepsType (node_builder π t) no_name
-  node_type = record { plain = refl; stays = λ v. refl }
-
   -- what is built of a value as a list of contests and headers says the same
   abbrev IsContentSaid : Data → Type 0
   IsContentSaid d = (required : Bool) → Within t (asked (Member kind.Content required) d) → Same m (Some (Member kind.Content required)) d (normal_content π t d)
@@ -209,7 +188,7 @@ module _ (π : Preference) (t : Data) (accepted : IsAccepted π t) (tree : IsTre
   node_with : (ms : Members) → Within t (asked (Object role.Content) (object ms)) → ((name : List ℕ) (d : Data) → get_member name ms ≡ Some d → IsContentSaid d)
       → Same m (Some (Object role.Content)) (object ms) (normal_node π t (object ms))
   node_with ms w contents =
-      said_object m t clean (node_builder π t) no_name node_type role.Content o.class ms (normal_node π t (object ms)) (built_node π t clean tree o.class ms here) whole (normal_node-tree π t (object ms) whole) (λ name is. cc)
+      said_object m t clean (node_builder π t) no_name refl (λ v. refl) role.Content o.class ms (normal_node π t (object ms)) (built_node π t clean tree o.class ms here) whole (normal_node-tree π t (object ms) whole) (λ name is. cc)
       (λ name from other no found inside. said_member m t (node_builder π t) o.class name from inside
       (λ required within. node_member (kind_of_member o.class name) required from (node_kind o.class name other o.role) (contents name from found) within) refl)
     where
@@ -241,46 +220,31 @@ module _ (π : Preference) (t : Data) (accepted : IsAccepted π t) (tree : IsTre
 
   -- ---- objects of families
 
-  -- that the object is a contest of the report, and the value its selections
-  abbrev HoldsSelections : Placed → Data → Type 0
-  HoldsSelections contest d = Has (objects family.Contest t) contest × (get (codes "ContestSelection") contest.value ≡ Some d)
-
-  selections_said : (contest : Placed) (required : Bool) (d : Data) → HoldsSelections contest d → Within t (asked (Member (kind.Keyed family.Selection) required) d)
+  selections_said : (contest : Placed) (required : Bool) (d : Data) → IsOfContest t contest d → Within t (asked (Member (kind.Keyed family.Selection) required) d)
       → Same m (Some (Member (kind.Keyed family.Selection) required)) d (array_of (map (normal_selection π t contest.value) (rising_list (by_name π t) (entries_of d))))
   selections_said contest required d holds w =
       let ds = array_from d (wanted_within t clean (asked (Member (kind.Keyed family.Selection) required) d) w) in
       let values : map (λ (o : Placed). o.value) (selections_of_contest contest) ≡ list_of_items ds.0 = listed contest ∙ ap entries_in (holds.1 ∙ ap Some ds.1) in
       subst (λ x. Same m (Some (Member (kind.Keyed family.Selection) required)) x (array_of (map (normal_selection π t contest.value) (rising_list (by_name π t) (entries_of x))))) (sym ds.1)
       (set_built m (Member (kind.Keyed family.Selection) required) (normal_selection π t contest.value) (by_name π t) ds.0 refl (λ x h.
-      let o = map_has (λ (o : Placed). o.value) (selections_of_contest contest) x (subst (λ xs. Has xs x) (sym values) h) in
+      let o = In-map_from (λ (o : Placed). o.value) (selections_of_contest contest) x (subst (λ xs. In x xs) (sym values) h) in
       subst (λ y. Same m (Some (Object selection_role)) y (normal_selection π t contest.value y)) o.2 (selection_said contest o.0 holds.0 o.1)))
 
-  object_member : (o : Placed) (k : MemberKind) (required : Bool) (d : Data) → is_object_kind k ≡ true → (k ≡ kind.Keyed family.Selection → HoldsSelections o d) → Within t (asked (want_of_kind k required) d)
+  object_member : (o : Placed) (k : MemberKind) (required : Bool) (d : Data) → is_object_kind k ≡ true → (k ≡ kind.Keyed family.Selection → IsOfContest t o d) → Within t (asked (want_of_kind k required) d)
       → Said m (want_of_kind k required) d (normal_object_value π t o.value k d)
   object_member o (kind.Keyed family.Selection) required d is contest w = said_unless m (kind.Keyed family.Selection) required d _ refl (selections_said o required d (contest refl) w)
   object_member o kind.Content required d is contest w = said_unless m kind.Content required d (normal_content π t d) refl (content_said d required w)
   object_member o (kind.Keyed f) required d is contest w = cc
   object_member o k required d is contest w = said_value π t accepted tree bounded k required d is w
 
-  -- an object with a member of selections is a contest
-  holds_selections : (f : Family) (d : Placed) (o : ObjectIn t (role.OfFamily f) d.value) (name : List ℕ) (from : Data) → Has (objects f t) d → get_member name o.ms ≡ Some from
-      → kind_of_member o.class name ≡ kind.Keyed family.Selection → HoldsSelections d from
-  holds_selections f d o name from h stands is =
-      let named : name ≡ family_name family.Selection = keyed_name o.class name family.Selection is in
-      let contest : f ≡ family.Contest = contest_of_selections o.class f o.role (ap (kind_of_member o.class) (sym named) ∙ is) in
-      (subst (λ g. Has (objects g t) d) contest h, ap (get (codes "ContestSelection")) o.is_object ∙ ap (λ n. get_member n o.ms) (sym named) ∙ stands)
-
-  object_type : (d : Data) → KeepsType (object_builder π t d) is_id
-  object_type d = record { plain = refl; stays = λ v. refl }
-
-  object_said : (f : Family) → has_keys f ≡ true → (o : Placed) → Has (objects f t) o → Same m (Some (Object (role.OfFamily f))) o.value (normal_object π t f o.value)
+  object_said : (f : Family) → has_keys f ≡ true → (o : Placed) → In o (objects f t) → Same m (Some (Object (role.OfFamily f))) o.value (normal_object π t f o.value)
   object_said f keyed o h =
       subst (λ x. Same m (Some (Object (role.OfFamily f))) x (normal_object π t f o.value)) (sym i.is_object)
-      (said_object m t clean (object_builder π t o.value) is_id (object_type o.value) (role.OfFamily f) i.class i.ms (normal_object π t f o.value) (built_object π t clean tree f o.value i)
+      (said_object m t clean (object_builder π t o.value) is_id refl (λ v. refl) (role.OfFamily f) i.class i.ms (normal_object π t f o.value) (built_object π t clean tree f o.value i)
       (subst IsTree i.is_object whole) (normal_object-tree π t f o.value whole)
       (λ name is. subst (λ n. Aligned m (in_class (role.OfFamily f) i.class) n (get_member n i.ms) (get n (normal_object π t f o.value))) (sym (text_exact name (codes "@id") is)) at_id)
       (λ name from other no_id found inside. said_member m t (object_builder π t o.value) i.class name from inside
-      (λ required within. object_member o (kind_of_member i.class name) required from (object_kind i.class f name other no_id i.role) (holds_selections f o i name from h found) within) refl))
+      (λ required within. object_member o (kind_of_member i.class name) required from (object_kind i.class f name other no_id i.role) (is_of_contest t f o i name from h found) within) refl))
     where
       w : Within t (asked (Object (role.OfFamily f)) o.value)
       w = record { place = o.place; is = stands π t accepted f o h }
@@ -305,5 +269,5 @@ module _ (π : Preference) (t : Data) (accepted : IsAccepted π t) (tree : IsTre
       let inside : IsPart (list_of_items ds.0) (map (λ (o : Placed). o.value) (objects f t)) = subst (λ x. IsPart (entries_of x) (map (λ (o : Placed). o.value) (objects f t))) ds.1 part in
       subst (λ x. Same m (Some (Member (kind.Keyed f) required)) x (normal_objects π t f (entries_of x))) (sym ds.1)
       (set_built m (Member (kind.Keyed f) required) (normal_object π t f) (by_key π) ds.0 refl (λ x h.
-      let o = map_has (λ (o : Placed). o.value) (objects f t) x (part_has (list_of_items ds.0) (map (λ (o : Placed). o.value) (objects f t)) inside x h) in
+      let o = In-map_from (λ (o : Placed). o.value) (objects f t) x (part_has (list_of_items ds.0) (map (λ (o : Placed). o.value) (objects f t)) inside x h) in
       subst (λ y. Same m (Some (Object (role.OfFamily f))) y (normal_object π t f y)) o.2 (object_said f keyed o.0 o.1)))

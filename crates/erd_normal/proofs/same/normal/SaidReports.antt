@@ -1,14 +1,13 @@
 -- The canonical tree says what the report says.
-use Rattle.erd_normal.proofs.Common.{◌≡◌, ℕ, Bool, true, false, List, map, if◌then◌else◌, Some, None, Option, sym, refl, ap, ◌∙◌, subst, Data, array, object, Members, get_member, get, is_envelope_name, kind_of_member, class, Family, role, MemberKind, kind, ObjectAt, Has, within-tree, Within, kind_of_class, ShapeFault, NoneOf, IsTree, list_of_items, entries_of, want_of_kind, asked, Member, Object, no_shape_fault, skeleton_of_shape, election_within, election_object, Skeleton, IsAccepted, has_keys, Preference, objects, IsBounded, rising_list, Sides, of_the_envelope, Same, SaysTheSame, array_of, normal_value, by_key, normal_election_value, normal_election, normal_report_value, normal_tree}
+use Rattle.erd_normal.proofs.Common.{◌≡◌, ℕ, Bool, true, false, List, map, if◌then◌else◌, Some, None, Option, sym, refl, subst, Data, array, object, Members, get_member, get, is_envelope_name, kind_of_member, class, Family, role, MemberKind, kind, ObjectAt, within-tree, Within, kind_of_class, ShapeFault, NoneOf, IsTree, list_of_items, entries_of, want_of_kind, asked, Member, Object, no_shape_fault, skeleton_of_shape, election_within, election_object, Skeleton, IsAccepted, has_keys, Preference, objects, IsBounded, rising_list, Sides, of_the_envelope, Same, SaysTheSame, array_of, normal_value, by_key, normal_election_value, normal_election, normal_report_value, normal_tree, In}
 use Rattle.erd_normal.proofs.built.BuiltObjects.{built_election, built_report, election_builder, no_name}
-use Rattle.erd_normal.proofs.built.FamilyNames.{election_part, elections_name, family_name, keyed_name, report_part}
 use Rattle.erd_normal.proofs.built.NormalTrees.{normal_election-tree, normal_tree-tree}
 use Rattle.erd_normal.proofs.lists.Lists.{IsPart}
-use Rattle.erd_normal.proofs.same.Built.{set_built}
 use Rattle.erd_normal.proofs.same.Lookups.{MayLack, not_both}
 use Rattle.erd_normal.proofs.same.normal.NewIds.{new_text, old_text, sides}
-use Rattle.erd_normal.proofs.same.normal.SaidObjects.{KeepsType, in_class, objects_said, said_object}
-use Rattle.erd_normal.proofs.same.normal.SaidValues.{Said, is_simple_kind, kept, said_member, said_unless, said_value}
+use Rattle.erd_normal.proofs.same.normal.SaidObjects.{in_class, objects_said, said_object}
+use Rattle.erd_normal.proofs.same.normal.SaidValues.{Said, is_simple_kind, kept, said_member, said_unless, said_value, set_built}
+use Rattle.erd_normal.proofs.throughout.ThroughoutReports.{election_family, report_family, report_listed}
 
 -- a member of the election
 abbrev is_election_kind : MemberKind → Bool
@@ -37,30 +36,22 @@ module _ (π : Preference) (t : Data) (accepted : IsAccepted π t) (tree : IsTre
 
   -- ---- the elections
 
-  election_type : KeepsType (election_builder π t) no_name
-  election_type = record { plain = refl; stays = λ v. refl }
-
   election_member : (k : MemberKind) (required : Bool) (d : Data) → is_election_kind k ≡ true → ((f : Family) → k ≡ kind.Keyed f → IsPart (entries_of d) (map (λ o. o.value) (objects f t)))
       → Within t (asked (want_of_kind k required) d) → Said m (want_of_kind k required) d (normal_election_value π t k d)
   election_member (kind.Keyed f) required d is held w = said_unless m (kind.Keyed f) required d _ refl (objects_said π t accepted tree bounded f is required d (held f refl) w)
   election_member k required d is held w = said_value π t accepted tree bounded k required d is w
 
-  election_with : (d : Data) → Has (list_of_items s.es) d → (this : (ms : Members) × (d ≡ object ms) × ObjectAt t (Object role.Election) role.Election class.Election ms)
+  election_with : (d : Data) → In d (list_of_items s.es) → (this : (ms : Members) × (d ≡ object ms) × ObjectAt t (Object role.Election) role.Election class.Election ms)
       → Same m (Some (Object role.Election)) d (normal_election π t d)
   election_with d h this =
       subst (λ x. Same m (Some (Object role.Election)) x (normal_election π t d)) (sym this.1)
-      (said_object m t clean (election_builder π t) no_name election_type role.Election class.Election this.0 (normal_election π t d) (built_election π t clean tree this.0 d this.1 this.2)
+      (said_object m t clean (election_builder π t) no_name refl (λ v. refl) role.Election class.Election this.0 (normal_election π t d) (built_election π t clean tree this.0 d this.1 this.2)
       (subst IsTree this.1 whole) (normal_election-tree π t d whole) (λ name is. cc)
       (λ name from other no found inside. said_member m t (election_builder π t) class.Election name from inside
-      (λ required within. election_member (kind_of_member class.Election name) required from (kind_of_class is_election_kind class.Election name other refl refl refl refl) (family name from found) within) refl))
+      (λ required within. election_member (kind_of_member class.Election name) required from (kind_of_class is_election_kind class.Election name other refl refl refl refl) (election_family t s d h this.0 this.1 name from found) within) refl))
     where
       whole : IsTree d
       whole = within-tree t (asked (Object role.Election) d) tree (election_within t s d h)
-
-      family : (name : List ℕ) (from : Data) → get_member name this.0 ≡ Some from → (f : Family) → kind_of_member class.Election name ≡ kind.Keyed f → IsPart (entries_of from) (map (λ o. o.value) (objects f t))
-      family name from stands f is =
-          let named : name ≡ family_name f = keyed_name class.Election name f is in
-          election_part t s d this.0 h this.1 f from (ap (kind_of_member class.Election) (sym named) ∙ is) (ap (λ n. get_member n this.0) (sym named) ∙ stands)
 
   elections_said : (required : Bool) (d : Data) → d ≡ array s.es → Same m (Some (Member kind.Elections required)) d (array_of (map (normal_election π t) (rising_list (by_key π) (entries_of d))))
   elections_said required d is =
@@ -68,9 +59,6 @@ module _ (π : Preference) (t : Data) (accepted : IsAccepted π t) (tree : IsTre
       (set_built m (Member kind.Elections required) (normal_election π t) (by_key π) s.es refl (λ x h. election_with x h (election_object t clean x (election_within t s x h))))
 
   -- ---- the report
-
-  report_type : KeepsType (normal_report_value π t) is_envelope_name
-  report_type = record { plain = refl; stays = λ v. refl }
 
   outside : (name : List ℕ) (k : MemberKind) (required : Bool) (d : Data) → is_simple_kind k ≡ true → (b : Bool) → b ≡ false → Within t (asked (want_of_kind k required) d)
       → Said m (want_of_kind k required) d (if b then None else normal_value π t k d)
@@ -90,23 +78,13 @@ module _ (π : Preference) (t : Data) (accepted : IsAccepted π t) (tree : IsTre
   pub report_said : Same m (Some (Object role.Report)) t (normal_tree π t)
   report_said =
       subst (λ x. Same m (Some (Object role.Report)) x (normal_tree π t)) (sym s.is_object)
-      (said_object m t clean (normal_report_value π t) is_envelope_name report_type role.Report class.ElectionReport s.ms (normal_tree π t) (built_report π t clean tree s)
+      (said_object m t clean (normal_report_value π t) is_envelope_name refl (λ v. refl) role.Report class.ElectionReport s.ms (normal_tree π t) (built_report π t clean tree s)
       (subst IsTree s.is_object tree) (normal_tree-tree π t tree)
       (λ name is. not_both (envelope_lacks t name (get_member name s.ms) is) (envelope_lacks (normal_tree π t) name (get name (normal_tree π t)) is))
       (λ name from other inside_envelope found inside. said_member m t (normal_report_value π t) class.ElectionReport name from inside
-      (λ required within. report_member name (kind_of_member class.ElectionReport name) required from (kind_of_class is_report_kind class.ElectionReport name other refl refl refl refl) inside_envelope (family name from found)
-      (listed name from found) within)
+      (λ required within. report_member name (kind_of_member class.ElectionReport name) required from (kind_of_class is_report_kind class.ElectionReport name other refl refl refl refl) inside_envelope (report_family t s name from found)
+      (report_listed t s name from found) within)
       (word_stays name from inside_envelope)))
-    where
-      family : (name : List ℕ) (from : Data) → get_member name s.ms ≡ Some from → (f : Family) → kind_of_member class.ElectionReport name ≡ kind.Keyed f → IsPart (entries_of from) (map (λ o. o.value) (objects f t))
-      family name from stands f is =
-          let named : name ≡ family_name f = keyed_name class.ElectionReport name f is in
-          report_part t s f from (ap (kind_of_member class.ElectionReport) (sym named) ∙ is) (ap (λ n. get_member n s.ms) (sym named) ∙ stands)
-
-      listed : (name : List ℕ) (from : Data) → get_member name s.ms ≡ Some from → kind_of_member class.ElectionReport name ≡ kind.Elections → from ≡ array s.es
-      listed name from stands is =
-          let x : Some from ≡ Some (array s.es) = sym stands ∙ ap (λ n. get_member n s.ms) (elections_name class.ElectionReport name is) ∙ s.listed in
-          let same : from ≡ array s.es = cc in same
 
   -- the canonical tree says what the report says
   pub normal_tree_says : SaysTheSame t (normal_tree π t)

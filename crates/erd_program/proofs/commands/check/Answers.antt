@@ -11,12 +11,5 @@ pub returns-in-Err-clause-done : goal.returns-in-Err-clause-done
 returns-in-Err-clause-done g c = (
   Err c.in-Err.fault,
   c.in-Err.ensures.opened,
-  (
-    c.in-Err.ensures.closed,
-    record {
-      status_is = c.refused.ensures.status;
-      said = c.refused.ensures.said (codes "cannot open") refl;
-      quiet = refl;
-    },
-  ),
+  (c.in-Err.ensures.closed, record { status_is = c.refused.ensures.status; said = c.refused.ensures.said (codes "cannot open") refl; quiet = refl }),
 )

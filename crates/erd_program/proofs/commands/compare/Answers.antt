@@ -18,14 +18,7 @@ returns-in-Ok-Err-clause-done g c = (
   Err c.in-Ok-Err.fault,
   c.close.ensures.opened ∙ both_opened _ _ c.args.left.now c.args.right.now _ _ _ _ c.open_both-left_file.ensures.opened c.in-Ok-Err.is-0 c.in-Ok-Err.is-1,
   c.close.ensures.beside ∙ one_beside _ _ c.args.right.now _ _ c.open_both-left_file.ensures.beside c.in-Ok-Err.is-0,
-  (
-    c.close.ensures.closed ∙ ap (λ l. l ++ (c.args.left.now, c.in-Ok-Err.left_file) ∷ []) c.open_both-left_file.ensures.closed,
-    record {
-      status_is = c.refused.ensures.status;
-      said = c.refused.ensures.said (codes "cannot open") refl;
-      quiet = refl;
-    },
-  ),
+  (c.close.ensures.closed ∙ ap (λ l. l ++ (c.args.left.now, c.in-Ok-Err.left_file) ∷ []) c.open_both-left_file.ensures.closed, record { status_is = c.refused.ensures.status; said = c.refused.ensures.said (codes "cannot open") refl; quiet = refl }),
 )
 
 pub returns-in-Err-Ok-clause-done : goal.returns-in-Err-Ok-clause-done
@@ -34,14 +27,7 @@ returns-in-Err-Ok-clause-done g c = (
   Ok c.in-Err-Ok.right_file,
   c.close-in-Err-Ok.ensures.opened ∙ both_opened _ _ c.args.left.now c.args.right.now _ _ _ _ c.open_both-left_file.ensures.opened c.in-Err-Ok.is-0 c.in-Err-Ok.is-1,
   c.close-in-Err-Ok.ensures.beside ∙ one_beside _ _ c.args.right.now _ _ c.open_both-left_file.ensures.beside c.in-Err-Ok.is-0,
-  (
-    c.close-in-Err-Ok.ensures.closed ∙ ap (λ l. l ++ (c.args.right.now, c.in-Err-Ok.right_file) ∷ []) c.open_both-left_file.ensures.closed,
-    record {
-      status_is = c.refused-in-Err-Ok.ensures.status;
-      said = c.refused-in-Err-Ok.ensures.said (codes "cannot open") refl;
-      quiet = refl;
-    },
-  ),
+  (c.close-in-Err-Ok.ensures.closed ∙ ap (λ l. l ++ (c.args.right.now, c.in-Err-Ok.right_file) ∷ []) c.open_both-left_file.ensures.closed, record { status_is = c.refused-in-Err-Ok.ensures.status; said = c.refused-in-Err-Ok.ensures.said (codes "cannot open") refl; quiet = refl }),
 )
 
 pub returns-in-Err-Err-clause-done : goal.returns-in-Err-Err-clause-done
@@ -50,12 +36,5 @@ returns-in-Err-Err-clause-done g c = (
   Err c.in-Err-Err.field-0-1,
   both_opened _ _ c.args.left.now c.args.right.now _ _ _ _ c.open_both-left_file.ensures.opened c.in-Err-Err.is-0 c.in-Err-Err.is-1,
   one_beside _ _ c.args.right.now _ _ c.open_both-left_file.ensures.beside c.in-Err-Err.is-0,
-  (
-    c.open_both-left_file.ensures.closed,
-    record {
-      status_is = c.refused-in-Err-Err.ensures.status;
-      said = c.refused-in-Err-Err.ensures.said (codes "cannot open") refl;
-      quiet = refl;
-    },
-  ),
+  (c.open_both-left_file.ensures.closed, record { status_is = c.refused-in-Err-Err.ensures.status; said = c.refused-in-Err-Err.ensures.said (codes "cannot open") refl; quiet = refl }),
 )

@@ -1,7 +1,6 @@
 use Rattle.erd_canon.proofs.Common.{option_copied, ap, subst, err_from_is_err_and, view, Preference}
 use Rattle.erd_normal.specs.CanonicalText.{IsCanonicalText}
-use Rattle.erd_canon.proofs.forms.CanonicalTexts.{canonical_text}
-use Rattle.erd_canon.proofs.forms.FormLaws.{headline}
+use Rattle.erd_canon.proofs.forms.FormLaws.{canonical_text, headline}
 use Rattle.erd_canon.proofs.forms.Refusing.{refused_tree}
 use Rattle.erd_canon.proofs.bytes.canonical.canonical_of_input.Goals as goal
 

@@ -1,4 +1,4 @@
-use Rattle.erd_canon.proofs.Common.{string_bytes, ap, ◌∙◌, IsUtf8-string_bytes}
+use Rattle.erd_canon.proofs.Common.{string_bytes, IsUtf8-string_bytes}
 use Rattle.erd_canon.proofs.data_values.DataTexts.{side_answer}
 use Rattle.erd_canon.proofs.data.compare.refused_side.Goals as goal
 

@@ -2,18 +2,12 @@ use Rattle.erd_canon.proofs.runs.Moving.{IsFrontMoved-behind, IsFrontMoved-throu
 use Rattle.erd_canon.proofs.engines.buffered.write_through.Goals as goal
 
 pub returns-in_err-write_buffer-clause-part : goal.returns-in_err-write_buffer-clause-part
-returns-in_err-write_buffer-clause-part g c =
-    on_err c.from_residual.result (IsFrontMoved-behind (g.O.Sink.contents c.args.out.now) (g.O.Sink.contents c.write_buffer.new.out)
-    c.args.buffer.now.items c.args.bytes.now c.in_err-write_buffer.ensures.part)
+returns-in_err-write_buffer-clause-part g c = on_err c.from_residual.result (IsFrontMoved-behind c.args.bytes.now c.in_err-write_buffer.ensures.part)
 
 pub returns-in_err-write_out-clause-part : goal.returns-in_err-write_out-clause-part
 returns-in_err-write_out-clause-part g c =
-    on_err c.from_residual-in_err-write_out.result (IsFrontMoved-through (g.O.Sink.contents c.args.out.now) (g.O.Sink.contents c.write_buffer.new.out)
-    (g.O.Sink.contents c.write_out.new.sink) c.args.buffer.now.items c.write_buffer.new.buffer.items c.args.bytes.now
-    c.in_ok-write_buffer.ensures.moved c.in_ok-write_buffer.ensures.emptied c.write_out.ensures.part)
+    on_err c.from_residual-in_err-write_out.result (IsFrontMoved-through c.in_ok-write_buffer.ensures.moved c.in_ok-write_buffer.ensures.emptied c.write_out.ensures.part)
 
 pub returns-clause-moved : goal.returns-clause-moved
 returns-clause-moved g c =
-    IsMoved-through (g.O.Sink.contents c.args.out.now) (g.O.Sink.contents c.write_buffer.new.out)
-    (g.O.Sink.contents c.write_out.new.sink) c.args.buffer.now.items c.write_buffer.new.buffer.items c.args.bytes.now
-    c.in_ok-write_buffer.ensures.moved c.in_ok-write_buffer.ensures.emptied c.in_ok-write_out.ensures.written
+    IsMoved-through (g.O.Sink.contents c.write_out.new.sink) c.args.bytes.now c.in_ok-write_buffer.ensures.moved c.in_ok-write_buffer.ensures.emptied c.in_ok-write_out.ensures.written

@@ -1,4 +1,4 @@
-use Rattle.erd_canon.proofs.Common.{◌++◌, OnOk, OnErr, sym, subst, IsFrontMoved, IsMoved}
+use Rattle.erd_canon.proofs.Common.{◌++◌, OnOk, sym, subst, OnErr, IsFrontMoved, IsMoved}
 use Rattle.std.proofs.lemmas.Fmt.{decimal_digit}
 use Rattle.erd_canon.proofs.engines.lines.write_digit.Goals as goal
 

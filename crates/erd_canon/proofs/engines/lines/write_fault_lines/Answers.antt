@@ -1,13 +1,12 @@
-use Rattle.erd_canon.proofs.Common.{map, OnOk, subst, Appends, fault_line, text_of_lines, IsPartWritten}
-use Rattle.erd_canon.proofs.runs.FaultText.{no_side}
+use Rattle.erd_canon.proofs.Common.{map, OnOk, subst, map-id, Appends, fault_line, text_of_lines, IsPartWritten}
 use Rattle.erd_canon.proofs.engines.lines.write_fault_lines.Goals as goal
 
 pub returns-clause-written : goal.returns-clause-written
 returns-clause-written g c =
     subst (λ lines. OnOk c.write_lines.result (Appends (g.O.Sink.contents c.args.out.now) (g.O.Sink.contents c.write_lines.new.out) (text_of_lines lines)))
-    (no_side (map fault_line c.args.faults.now)) c.write_lines.ensures.written
+    (map-id (map fault_line c.args.faults.now)) c.write_lines.ensures.written
 
 pub returns-clause-part : goal.returns-clause-part
 returns-clause-part g c =
     subst (λ lines. IsPartWritten (g.O.Sink.contents c.args.out.now) (g.O.Sink.contents c.write_lines.new.out) (text_of_lines lines))
-    (no_side (map fault_line c.args.faults.now)) c.write_lines.ensures.part
+    (map-id (map fault_line c.args.faults.now)) c.write_lines.ensures.part

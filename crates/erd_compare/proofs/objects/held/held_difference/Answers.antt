@@ -1,6 +1,6 @@
 -- With one key the objects differ as they do by themselves. With two they differ at `ElectionId`, unless a difference comes
 -- before.
-use Rattle.erd_compare.proofs.Common.{Some, sym, ◌∙◌, subst, true≢false, TellsHeld}
+use Rattle.erd_compare.proofs.Common.{Some, sym, ◌∙◌, subst, true≢false, TellsHeld, false, true}
 use Rattle.erd_compare.proofs.least_difference.HeldRecords.{told_at_election, told_before, told_of_one}
 use Rattle.erd_compare.proofs.objects.held.held_difference.Goals.{then-is_same_holder-via-then-is_same_holder, then-is_same_holder-via-else-is_same_holder+then-is_before_election}
 use Rattle.erd_compare.proofs.objects.held.held_difference.Goals as goal

@@ -1,17 +1,12 @@
-use Rattle.erd_compare.proofs.Common.{◌≡◌, ℕ, Bool, true, false, not, List, is_some, Some, None, Option, option_map, refl, ap, subst, Bor, rules, Data, get, view, Value, absent_plain, PlainValue, a_plain, plain_member, Decides, plain_found}
-use Rattle.erd_compare.proofs.least_difference.NameWalks.{found-Decides}
-use Rattle.erd_compare.proofs.same_selections.MemberValues.{plain-Decides, plain_maps-Decide}
+use Rattle.erd_compare.proofs.Common.{◌≡◌, ℕ, Bool, true, false, not, List, is_some, Some, None, Option, option_map, refl, ap, subst, Bor, rules, view, PlainValue, a_plain, plain_member, absent_plain, Decides, plain_found}
+use Rattle.erd_compare.proofs.same_values.EqualOptions.{decides_as}
+use Rattle.erd_compare.proofs.same_selections.MemberValues.{plain-Decides, plain_maps-Decide, seen}
 use Rattle.erd_compare.proofs.objects.selections.is_same_by_members.Goals as goal
-
--- a value that was found, as its data
-abbrev seen : Option (Bor Value) → Option Data
-seen found = option_map (λ v. view v.now) found
 
 none_told : (found : Option (Bor (List ℕ))) (none : Bool) → is_some found ≡ not none → not (is_some (option_map (λ (s : Bor (List ℕ)). s.now) found)) ≡ none
 none_told None true e = refl
-none_told None false e = cc
-none_told (Some s) true e = cc
 none_told (Some s) false e = refl
+none_told found none e = cc
 
 pub returns : goal.returns
 returns c =
@@ -27,6 +22,6 @@ returns c =
     (λ pair answer is h.
     let name = pair.name.now in
     let its : Decides answer (plain_found π t c.args.class name (seen pair.one)) (plain_found ρ u c.args.class name (seen pair.other)) = search rules in
-    plain-Decides answer (m name) (n name) (found-Decides (plain_found π t c.args.class name) (plain_found ρ u c.args.class name) answer (seen pair.one) (seen pair.other) (get name d) (get name e) is.one is.other its))
+    plain-Decides answer (m name) (n name) (decides_as refl (ap (plain_found π t c.args.class name) is.one) (ap (plain_found ρ u c.args.class name) is.other) its))
     in
     subst (λ answer. Decides answer m n) (none_told c.in_ok-found.found c.is_none.result c.is_none.ensures) (plain_maps-Decide m n (option_map (λ s. s.now) c.in_ok-found.found) told)

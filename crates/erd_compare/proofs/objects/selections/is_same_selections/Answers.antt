@@ -1,13 +1,9 @@
 -- The maps of the entries are the same.
-use Rattle.erd_compare.proofs.Common.{Option, option_map, sym, ap, ◌∙◌, Bor, Data, view, Value}
-use Rattle.erd_compare.proofs.same_selections.MemberValues.{filled-there, selections-Decide, whole_filled}
+use Rattle.erd_compare.proofs.Common.{sym, ap, ◌∙◌, view}
+use Rattle.erd_compare.proofs.same_selections.MemberValues.{filled-there, selections-Decide, seen, whole_filled}
 use Rattle.erd_compare.proofs.same_selections.PlacedSelections.{selections_in}
 use Rattle.erd_compare.proofs.whole_trees.WholeTrees.{whole_values-entries_of}
 use Rattle.erd_compare.proofs.objects.selections.is_same_selections.Goals as goal
-
--- a value that was found, as its data
-abbrev seen : Option (Bor Value) → Option Data
-seen found = option_map (λ v. view v.now) found
 
 pub is_same_selection_map-requires-clause-ones : goal.is_same_selection_map-requires-clause-ones
 is_same_selection_map-requires-clause-ones c =

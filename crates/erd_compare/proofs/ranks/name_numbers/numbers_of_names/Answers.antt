@@ -1,5 +1,5 @@
-use Rattle.erd_compare.proofs.Common.{◌<◌, ◌≤◌, map, length, Some, Option, option_map, option_and_then, sym, ap, ◌∙◌, subst, view, family, at_low, NumberedParts, numbered_name_cmp, Placed, objects, with_ranks, numbered_name_cmp_total, numbered_name_cmp_exact, name_told, name_eq}
-use Rattle.erd_compare.proofs.same_ranks.InsertedKeys.{inserted_seen, next_none, next_one, none_left, place_seen}
+use Rattle.erd_compare.proofs.Common.{◌<◌, ◌≤◌, map, length, Some, None, Option, option_map, option_and_then, sym, ap, ◌∙◌, subst, view, family, NumberedParts, numbered_name_cmp, Placed, objects, at_low, with_ranks, numbered_name_cmp_total, numbered_name_cmp_exact, name_told, name_eq, false, true}
+use Rattle.erd_compare.proofs.same_ranks.InsertedKeys.{inserted_seen, next, none_left, place_seen}
 use Rattle.erd_compare.proofs.ranks.name_numbers.numbers_of_names.Goals.{in-Some+in_ok-insert_full-in-Some, in-None}
 use Rattle.erd_compare.proofs.ranks.name_numbers.numbers_of_names.Goals as goal
 
@@ -16,12 +16,12 @@ loop-position-preserved c =
     let total = numbered_name_cmp_total in
     let exact = numbered_name_cmp_exact in
     elim c.match-branch-3.branch [
-      | in-Some+in_ok-insert_full-in-Some w ↦ next_one numbered_name_cmp total exact told _ ks (map with_ranks c.match-branch-3.names) os i o.0 c.match-branch-3.number ns _ o.1 c.loop-position.invariant c.in_ok-push.ensures.items
-          (with_ranks w.in-Some.name) (sym name ∙ ap (option_map with_ranks) w.in-Some.is)
+      | in-Some+in_ok-insert_full-in-Some w ↦ next numbered_name_cmp total exact told _ ks (map with_ranks c.match-branch-3.names) os i o.0 c.match-branch-3.number ns _ o.1 c.loop-position.invariant c.in_ok-push.ensures.items
+          (Some (with_ranks w.in-Some.name)) (sym name ∙ ap (option_map with_ranks) w.in-Some.is)
           (ap (map with_ranks) (w.names-is ∙ w.in_ok-insert_full-in-Some.ensures.keys) ∙ inserted_seen with_ranks name_eq w.in-Some.name c.loop-position.names)
           (w.number-is ∙ ap Some (w.in_ok-insert_full-in-Some.ensures.index ∙ place_seen with_ranks name_eq w.in-Some.name c.loop-position.names))
-      | in-None w ↦ next_none numbered_name_cmp total exact told _ ks (map with_ranks c.match-branch-3.names) os i o.0 c.match-branch-3.number ns _ o.1 c.loop-position.invariant c.in_ok-push.ensures.items
-          (sym name ∙ ap (option_map with_ranks) w.in-None.is) (ap (map with_ranks) w.names-is) w.number-is
+      | in-None w ↦ next numbered_name_cmp total exact told _ ks (map with_ranks c.match-branch-3.names) os i o.0 c.match-branch-3.number ns _ o.1 c.loop-position.invariant c.in_ok-push.ensures.items
+          None (sym name ∙ ap (option_map with_ranks) w.in-None.is) (ap (map with_ranks) w.names-is) w.number-is
     ]
 
 pub returns-clause-numbers : goal.returns-clause-numbers

@@ -1,9 +1,9 @@
-use Rattle.erd_compare.proofs.Common.{◌≡◌, ℕ, suc, ◌+◌, ◌*◌, ◌<◌, ◌≤◌, List, [], ◌∷◌, map, length, get_or, codes, sym, refl, ap, ◌∙◌, subst, true≢false, arith, rules, AllByRecursion, iter_rest, depth, items_depth, view, items_view, Value, the_lemmas, family, entries_of, text_at, carried_members, class_of_node, is_header_class, node_of, key_named, IsWholeTree}
+use Rattle.erd_compare.proofs.Common.{◌≡◌, ℕ, suc, ◌+◌, ◌<◌, ◌≤◌, true, List, [], ◌∷◌, map, length, get_or, codes, sym, refl, ap, ◌∙◌, subst, true≢false, arith, rules, AllByRecursion, view, items_view, Value, family, entries_of, text_at, carried_members, key_named, depth, ◌*◌, iter_rest, items_depth, the_lemmas, class_of_node, is_header_class, node_of, IsWholeTree, false}
 use Rattle.serde_json.proofs.Views.{view-Array}
 use Rattle.erd_compare.specs.code.ContentParts.{content_within}
 use Rattle.erd_check.proofs.Lists.{list_of_items-items_of}
 use Rattle.erd_compare.proofs.same_values.EqualOptions.{decides_as}
-use Rattle.erd_compare.proofs.same_content.NodeParts.{decides_swap, entry_depth, get_depth, node_contest, node_header, within_none, within_some}
+use Rattle.erd_compare.proofs.same_content.NodeParts.{decides_swap, entry_depth, get_depth, node_contest, node_header, within_decides}
 use Rattle.erd_compare.proofs.same_content.SameContents.{content-Decides, content_of-none, contest-header, header-contest, header-Decides}
 use Rattle.erd_compare.proofs.same_content.StepByStep.{differ_here, one_further}
 use Rattle.erd_compare.proofs.whole_trees.WholeTrees.{whole_tree-get, whole_value-index, whole_values-entries_of}
@@ -114,30 +114,19 @@ is_same_within-is_same_content-requires t c =
 
 pub is_same_within-returns-in-Some-Some : goal.is_same_within-returns-in-Some-Some
 is_same_within-returns-in-Some-Some t c =
-    decides_as refl
-    (sym (within_some c.args.comparer.now.left.prefer (view c.args.comparer.now.left.tree) (view c.args.one.now) (view c.in-Some-Some.one.now) (sym c.in-Some-Some.ensures)))
-    (sym (within_some c.args.comparer.now.right.prefer (view c.args.comparer.now.right.tree) (view c.args.other.now) (view c.in-Some-Some.other.now) (sym c.in-Some-Some.ensures')))
-    c.is_same_content.ensures
+    within_decides c.args.comparer.now.left c.args.comparer.now.right (view c.args.one.now) (view c.args.other.now) c.is_same_content.result (sym c.in-Some-Some.ensures) (sym c.in-Some-Some.ensures') c.is_same_content.ensures
 
 pub is_same_within-returns-in-Some-None : goal.is_same_within-returns-in-Some-None
 is_same_within-returns-in-Some-None t c =
-    decides_as refl
-    (sym (within_some c.args.comparer.now.left.prefer (view c.args.comparer.now.left.tree) (view c.args.one.now) (view c.in-Some-None.one.now) (sym c.in-Some-None.ensures)))
-    (sym (within_none c.args.comparer.now.right.prefer (view c.args.comparer.now.right.tree) (view c.args.other.now) (sym c.in-Some-None.ensures')))
-    (decides_swap (c.has_no_content.ensures c.args.comparer.now.left.prefer (view c.args.comparer.now.left.tree)))
+    within_decides c.args.comparer.now.left c.args.comparer.now.right (view c.args.one.now) (view c.args.other.now) c.has_no_content.result (sym c.in-Some-None.ensures) (sym c.in-Some-None.ensures') (decides_swap (c.has_no_content.ensures c.args.comparer.now.left.prefer (view c.args.comparer.now.left.tree)))
 
 pub is_same_within-returns-in-None-Some : goal.is_same_within-returns-in-None-Some
 is_same_within-returns-in-None-Some t c =
-    decides_as refl
-    (sym (within_none c.args.comparer.now.left.prefer (view c.args.comparer.now.left.tree) (view c.args.one.now) (sym c.in-None-Some.ensures)))
-    (sym (within_some c.args.comparer.now.right.prefer (view c.args.comparer.now.right.tree) (view c.args.other.now) (view c.in-None-Some.other.now) (sym c.in-None-Some.ensures')))
-    (c.has_no_content-in-None-Some.ensures c.args.comparer.now.right.prefer (view c.args.comparer.now.right.tree))
+    within_decides c.args.comparer.now.left c.args.comparer.now.right (view c.args.one.now) (view c.args.other.now) c.has_no_content-in-None-Some.result (sym c.in-None-Some.ensures) (sym c.in-None-Some.ensures') (c.has_no_content-in-None-Some.ensures c.args.comparer.now.right.prefer (view c.args.comparer.now.right.tree))
 
 pub is_same_within-returns-in-None-None : goal.is_same_within-returns-in-None-None
-is_same_within-returns-in-None-None t c = (
-  λ h. within_none c.args.comparer.now.left.prefer (view c.args.comparer.now.left.tree) (view c.args.one.now) (sym c.in-None-None.ensures) ∙ sym (within_none c.args.comparer.now.right.prefer (view c.args.comparer.now.right.tree) (view c.args.other.now) (sym c.in-None-None.ensures')),
-  λ h. refl,
-)
+is_same_within-returns-in-None-None t c =
+    within_decides c.args.comparer.now.left c.args.comparer.now.right (view c.args.one.now) (view c.args.other.now) true (sym c.in-None-None.ensures) (sym c.in-None-None.ensures') (λ h. refl, λ h. refl)
 
 pub is_same_header-returns-then-is_same_carried : goal.is_same_header-returns-then-is_same_carried
 is_same_header-returns-then-is_same_carried t c =

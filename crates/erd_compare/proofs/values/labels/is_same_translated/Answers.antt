@@ -1,10 +1,27 @@
 -- The members beside the translations, then the translations.
-use Rattle.erd_compare.proofs.Common.{Bool, map, IfOk, codes, refl, ◌∙◌, subst, IfOk-weaker, Data, view, are_same_members, entries_at, json_set, label_beside_text, chosen_in, translated_label, Decides, IsWholeTree, BesideText}
+use Rattle.erd_compare.proofs.Common.{◌≡◌, ℕ, Bool, true, false, cond, not, ◌&&◌, ◌||◌, List, map, IfOk, None, codes, Option, bytes_eq, refl, ◌∙◌, subst, ap₂, and_parts, and_from, IfOk-weaker, Data, get, view, entries_at, json_set, label_beside_text, are_same_members, translated, takes_name, chosen_in, translated_label, Decides, IsWholeTree, BesideText}
 use Rattle.erd_compare.proofs.same_values.ChosenMembers.{chosen-Decides}
 use Rattle.erd_compare.proofs.same_values.JsonSets.{first_answer, json_set-Decides, second_answer}
-use Rattle.erd_compare.proofs.same_values.Labels.{chosen_beside, translated-Decides}
 use Rattle.erd_compare.proofs.whole_trees.WholeTrees.{whole_trees-entries_at, whole_values-entries_at}
 use Rattle.erd_compare.proofs.values.labels.is_same_translated.Goals as goal
+
+-- the members beside the translations are the chosen ones
+chosen_beside : (d : Data) (name : List ℕ) → cond (takes_name BesideText name) (get name d) None ≡ label_beside_text d name
+chosen_beside d name = turned (bytes_eq name (codes "@type") || bytes_eq name (codes "Text")) (get name d)
+  where
+    turned : (b : Bool) (o : Option Data) → cond (not b) o None ≡ cond b None o
+    turned true o = refl
+    turned false o = refl
+
+-- the same members beside the same translations
+translated-Decides : (a b : Bool) (d e : Data) → Decides a (label_beside_text d) (label_beside_text e) → Decides b (json_set (entries_at (codes "Text") d)) (json_set (entries_at (codes "Text") e))
+    → Decides (a && b) (translated_label d) (translated_label e)
+translated-Decides a b d e beside texts = (
+  λ h. let both = and_parts a b h in ap₂ translated (beside.0 both.0) (texts.0 both.1),
+  λ same.
+      let others : label_beside_text d ≡ label_beside_text e = cc in
+      let sets : json_set (entries_at (codes "Text") d) ≡ json_set (entries_at (codes "Text") e) = cc in and_from a b (beside.1 others) (texts.1 sets),
+)
 
 pub is_same_set-requires-clause-ones : goal.is_same_set-requires-clause-ones
 is_same_set-requires-clause-ones c = whole_values-entries_at (codes "Text") (view c.args.one.now) c.entries_at.result.now c.requires.one c.entries_at.ensures

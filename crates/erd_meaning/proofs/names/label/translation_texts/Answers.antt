@@ -1,5 +1,5 @@
-use Rattle.erd_meaning.proofs.Common.{◌≡◌, ℕ, ◌+◌, ◌<◌, List, [], ◌∷◌, ◌++◌, map, length, get_or, take, codes, sym, ap, ◌∙◌, ap₂, map-append, take_more, view, compact_text, Value}
-use Rattle.erd_meaning.proofs.selections.WholeParts.{whole_entry}
+use Rattle.erd_meaning.proofs.Common.{◌≡◌, ℕ, ◌+◌, ◌<◌, List, [], ◌∷◌, ◌++◌, map, length, get_or, take, codes, sym, ap, ◌∙◌, ap₂, map-append, take_more, view, compact_text, Value, true}
+use Rattle.erd_meaning.proofs.selections.MetSelections.{whole_entry}
 use Rattle.erd_meaning.proofs.names.label.translation_texts.Goals as goal
 
 -- the compact texts of values

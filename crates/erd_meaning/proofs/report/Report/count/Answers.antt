@@ -1,5 +1,5 @@
 use Rattle.erd_meaning.proofs.Common.{◌∙◌}
-use Rattle.erd_meaning.proofs.finding.Lookups.{counted}
+use Rattle.erd_meaning.proofs.finding.OneObject.{counted}
 use Rattle.erd_meaning.proofs.report.Report.count.Goals as goal
 
 pub returns : goal.returns

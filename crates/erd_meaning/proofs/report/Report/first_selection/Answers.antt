@@ -1,6 +1,5 @@
 use Rattle.erd_meaning.proofs.Common.{ap, ◌∙◌, subst, view, contests_before, IsStart}
-use Rattle.erd_meaning.proofs.selections.ContestSelections.{start_counted}
-use Rattle.erd_meaning.proofs.selections.NumberedObjects.{contests_counted_in}
+use Rattle.erd_meaning.proofs.selections.ContestSelections.{start_counted, contests_counted_in}
 use Rattle.erd_meaning.proofs.report.Report.first_selection.Goals as goal
 
 pub returns : goal.returns

@@ -1,5 +1,5 @@
 use Rattle.erd_meaning.proofs.Common.{◌∙◌}
-use Rattle.erd_meaning.proofs.finding.Lookups.{part_at}
+use Rattle.erd_meaning.proofs.finding.OneObject.{part_at}
 use Rattle.erd_meaning.proofs.report.Report.key_at.Goals as goal
 
 pub returns : goal.returns

@@ -1,5 +1,5 @@
 use Rattle.erd_meaning.proofs.Common.{option_map, ap, ◌∙◌, Kept}
-use Rattle.erd_meaning.proofs.finding.Lookups.{value_at}
+use Rattle.erd_meaning.proofs.finding.OneObject.{value_at}
 use Rattle.erd_meaning.proofs.report.Report.object.Goals as goal
 
 pub returns-in-Some : goal.returns-in-Some

@@ -1,6 +1,6 @@
 use Rattle.erd_meaning.proofs.Common.{◌^◌, ◌<◌, length, sym, subst, arith, view, IsAccepted, Judged, IsBounded}
-use Rattle.erd_meaning.proofs.accepted.Phases.{accepted_by_phases}
-use Rattle.erd_meaning.proofs.finding.Lookups.{few_objects}
+use Rattle.erd_meaning.proofs.accepted.Standing.{accepted_by_phases}
+use Rattle.erd_meaning.proofs.finding.OneObject.{few_objects}
 use Rattle.erd_meaning.proofs.report.Report.tree.Goals as goal
 
 pub returns-clause-accepted : goal.returns-clause-accepted

@@ -1,27 +1,23 @@
-use Rattle.erd_meaning.proofs.Common.{◌≡◌, ◌≢◌, [], map, length, sym, ap, ◌∙◌, view, shown}
+use Rattle.erd_meaning.proofs.Common.{◌≡◌, ◌≢◌, map, length, sym, ap, ◌∙◌, view, shown, rules, [], false, true}
 use Rattle.erd_meaning.specs.declared.names.selection_walk.SelectionWalk.{SelectionWalk}
 use Rattle.erd_meaning.proofs.selections.WalkedNames.{NamesWalked, names_left, no_twin_left, twins_left}
 use Rattle.erd_meaning.proofs.report.resolving.names_told_apart.Goals as goal
 
-pub returns-then-len-eq0-clause-told_apart : goal.returns-then-len-eq0-clause-told_apart
-returns-then-len-eq0-clause-told_apart c =
+pub returns-then-len-eq0 : goal.returns-then-len-eq0
+returns-then-len-eq0 c =
     let before : SelectionWalk = record { names = c.new.result; faults = c.new-2.result } in
     let after = c.meet_selections.new.walk in
     let kept = map shown c.args.objects.now in
     let tree = view c.args.tree.now in
     let walked : NamesWalked c.args.keys.now before after kept tree =
     record { no_name = c.new.ensures; no_fault = c.new-2.ensures.items; kept = c.requires.kept; identified = c.requires.identified; met = c.in_ok-meet_selections.ensures.met } in
-    no_twin_left c.args.keys.now before after kept tree walked c.of-twins.result c.of-twins.ensures (sym c.len.ensures ∙ c.if-len-eq0.true)
-
-pub returns-then-len-eq0-clause-named : goal.returns-then-len-eq0-clause-named
-returns-then-len-eq0-clause-named c =
-    let before : SelectionWalk = record { names = c.new.result; faults = c.new-2.result } in
-    let after = c.meet_selections.new.walk in
-    let kept = map shown c.args.objects.now in
-    let tree = view c.args.tree.now in
-    let walked : NamesWalked c.args.keys.now before after kept tree =
-    record { no_name = c.new.ensures; no_fault = c.new-2.ensures.items; kept = c.requires.kept; identified = c.requires.identified; met = c.in_ok-meet_selections.ensures.met } in
-    names_left c.args.keys.now before after kept tree walked c.requires.faultless c.of-twins.result c.of-twins.ensures (sym c.len.ensures ∙ c.if-len-eq0.true)
+    let none = sym c.len.ensures ∙ c.if-len-eq0.true in
+    record {
+      told_apart = no_twin_left c.args.keys.now before after kept tree walked c.of-twins.result c.of-twins.ensures none;
+      named = names_left c.args.keys.now before after kept tree walked c.requires.faultless c.of-twins.result c.of-twins.ensures none;
+      ranked = search rules;
+      refused = tt;
+    }
 
 pub returns-else-len-eq0-clause-refused : goal.returns-else-len-eq0-clause-refused
 returns-else-len-eq0-clause-refused c =

@@ -1,5 +1,5 @@
 use Rattle.erd_meaning.proofs.Common.{◌≡◌, map, option_copied, subst, err_from_is_err_and, view, Value, RefusedFor, IsFaultless, IsFault, kept_objects, election_keys, IsIdentified, IsReferred, shown}
-use Rattle.erd_meaning.proofs.accepted.Phases.{accepted_by_phases}
+use Rattle.erd_meaning.proofs.accepted.Standing.{accepted_by_phases}
 use Rattle.erd_meaning.proofs.refused.Refused.{refused_for_identity, refused_for_references, refused_for_selections}
 use Rattle.erd_meaning.proofs.report.resolving.resolve_with.Goals as goal
 

@@ -1,5 +1,5 @@
 use Rattle.erd_normal.proofs.Common.{on_ok_weaker}
-use Rattle.erd_normal.proofs.texts.DueTokens.{rest_at, whole_at}
+use Rattle.erd_normal.proofs.texts.DueTokens.{apart_at, first_of_all, rise_from, whole_at}
 use Rattle.erd_normal.proofs.text.due_members.+write_rest.Goals as goal
 
 pub returns : goal.returns
@@ -9,7 +9,7 @@ returns t c =
     let first = c.in-Some.first.now in
     let low = c.in-Some.ensures.lookup.3.0 in
     let is = c.in-Some.ensures.lookup.1 in
-    rest_at c.args.due.now c.args.at first low is rise c.args.out.now c.write_due.new.out c.write_rest.new.out
-    (c.in_ok-write_due.ensures (whole_at c.args.due.now c.args.at first low is rise whole))
+    first_of_all (apart_at c.args.due.now c.args.at first low is) (rise_from c.args.at c.args.due.now rise) c.args.out.now c.write_due.new.out c.write_rest.new.out
+    (c.in_ok-write_due.ensures (whole_at c.args.due.now c.args.at first low is whole))
     (rest rise whole))
     c.write_rest.ensures

@@ -1,5 +1,5 @@
 use Rattle.erd_normal.proofs.Common.{Entry}
-use Rattle.erd_normal.proofs.built.BuiltMembers.{whole_first, whole_rest}
+use Rattle.erd_normal.proofs.texts.WholeObjects.{whole_first, whole_rest}
 use Rattle.erd_normal.proofs.texts.DueTokens.{member_written}
 use Rattle.erd_normal.proofs.text.value.+copy.Goals as goal
 

@@ -1,6 +1,6 @@
-use Rattle.erd_normal.proofs.Common.{map, ap, ◌∙◌, view, beside, beside_compact_text}
+use Rattle.erd_normal.proofs.Common.{map, ap, ◌∙◌, view, beside, beside_compact_text, true}
 use Rattle.erd_normal.proofs.built.NormalEntries.{one_more}
-use Rattle.erd_normal.proofs.built.ContentParts.{whole_item}
+use Rattle.erd_normal.proofs.texts.WholeObjects.{whole_item}
 use Rattle.erd_normal.proofs.values.rising_values.with_texts.Goals as goal
 
 pub loop-value-preserved : goal.loop-value-preserved

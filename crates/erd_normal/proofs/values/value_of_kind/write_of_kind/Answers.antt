@@ -1,7 +1,7 @@
-use Rattle.erd_normal.proofs.Common.{◌≡◌, List, ◌++◌, map, sym, ap, ◌∙◌, inl, inr, on_ok_weaker, Data, view, entries_of, rising_list, compact_cmp, normal_selection_reference, unless_no_entry, array_of, normal_value, value_tokens}
+use Rattle.erd_normal.proofs.Common.{◌≡◌, List, ◌++◌, map, sym, ap, ◌∙◌, inl, inr, Data, view, entries_of, rising_list, compact_cmp, on_ok_weaker, normal_selection_reference, unless_no_entry, array_of, normal_value, value_tokens}
 use Rattle.erd_normal.proofs.lists.StableRising.{map_after}
 use Rattle.erd_normal.proofs.texts.WholeObjects.{whole_list}
-use Rattle.erd_normal.proofs.texts.DueTokens.{kept_value}
+use Rattle.erd_normal.proofs.lists.BuiltLists.{given_unless}
 use Rattle.erd_normal.proofs.values.value_of_kind.write_of_kind.Goals as goal
 
 pub returns-in-Identifiers : goal.returns-in-Identifiers
@@ -11,15 +11,11 @@ returns-in-Identifiers c =
     let d = view c.args.value.now in
     let entries = c.entries_of-in-Identifiers.ensures in
     let built : Data = array_of (rising_list compact_cmp (entries_of d)) in
-    let value : normal_value π t c.args.kind d ≡ unless_no_entry d built =
-    elim c.in-Identifiers.is [
-      | inl e ↦ ap (λ k. normal_value π t k d) e
-      | inr e ↦ ap (λ k. normal_value π t k d) e
-    ] in
+    let value : normal_value π t c.args.kind d ≡ unless_no_entry d built = elim c.in-Identifiers.is [ inl e ↦ ap (λ k. normal_value π t k d) e | inr e ↦ ap (λ k. normal_value π t k d) e ] in
     on_ok_weaker c.write_rising_values.result
     (λ written whole v given.
     written (whole_list d c.entries_of-in-Identifiers.result.now whole entries)
-    ∙ ap (λ d. c.args.out.now ++ value_tokens d) (ap (λ (ds : List Data). array_of (rising_list compact_cmp ds)) entries ∙ kept_value d built v (sym value ∙ given)))
+    ∙ ap (λ d. c.args.out.now ++ value_tokens d) (ap (λ (ds : List Data). array_of (rising_list compact_cmp ds)) entries ∙ (given_unless d built v (sym value ∙ given)).1))
     c.write_rising_values.ensures
 
 pub returns-in-Ordered : goal.returns-in-Ordered
@@ -35,5 +31,5 @@ returns-in-Ordered c =
     written
     ∙ ap (λ d. c.args.out.now ++ value_tokens d)
     (ap array_of (map_after view (normal_selection_reference π t) c.entries_of-in-Ordered.result.now ∙ ap (map (normal_selection_reference π t)) entries)
-    ∙ kept_value d built v (sym value ∙ given)))
+    ∙ (given_unless d built v (sym value ∙ given)).1))
     c.write_selection_references.ensures

@@ -1,7 +1,8 @@
-use Rattle.erd_normal.proofs.Common.{◌≡◌, ℕ, ◌<◌, ◌≤◌, [], ◌∷◌, ◌++◌, map, length, get_or, take, ◌==◌, filter, sym, ap, ◌∙◌, subst, inl, inr, arith, take-length, cases_lt, view, Placed, elections, objects, in_order_of_keys, part_at, part_seen}
+use Rattle.erd_normal.proofs.Common.{◌≡◌, ℕ, ◌<◌, ◌≤◌, [], ◌∷◌, ◌++◌, map, length, get_or, take, ◌==◌, filter, sym, ap, ◌∙◌, subst, inl, inr, arith, view, Placed, elections, objects, take-length, cases_lt, in_order_of_keys, part_at, part_seen, true}
+use Rattle.std.proofs.lemmas.List.{get_or_default}
 use Rattle.erd_normal.proofs.lists.NumberedKept.{kept_map}
 use Rattle.erd_normal.proofs.ranks.PartObjects.{in_order, lent_positions, no_part}
-use Rattle.erd_normal.proofs.ranks.PartsFilled.{get_or_here, one_put, part_missing}
+use Rattle.erd_normal.proofs.ranks.PartsFilled.{one_put, part_missing}
 use Rattle.erd_normal.proofs.writer.election_parts.parts_of_keyed.Goals as goal
 
 pub loop-position-init : goal.loop-position-init
@@ -19,7 +20,7 @@ loop-position-preserved c =
     let part : c.part_of-part.result ≡ at e = c.part_of-part.ensures in
     record {
       count = c.in_ok-put_in_part.ensures.count ∙ c.loop-position.invariant.count;
-      filled = λ i. one_put at c.rising-position-items.result.now many k e c.loop-position-test.true (get_or_here c.rising-position-items.result.now k c.loop-position-test.true) i old new (c.loop-position.invariant.filled i)
+      filled = λ i. one_put at c.rising-position-items.result.now many k e c.loop-position-test.true (get_or_default c.rising-position-items.result.now k 0 _ c.loop-position-test.true) i old new (c.loop-position.invariant.filled i)
           (λ low. subst (λ n. new n ≡ old n ++ e ∷ []) part (c.in_ok-put_in_part.ensures.here (subst (λ n. n < length c.loop-position.parts.items) (sym part) (subst (λ n. at e < n) (sym c.loop-position.invariant.count) low))))
           (λ j other. c.in_ok-put_in_part.ensures.elsewhere j (λ same. other (same ∙ part)));
     }

@@ -1,10 +1,9 @@
-use Rattle.erd_normal.proofs.Common.{◌≡◌, ℕ, ◌+◌, ◌<◌, List, [], ◌++◌, map, length, take, replicate, slice_get, Some, option_map, flat_map, sym, ap, ◌∙◌, subst, ap₂, arith, take-length, length-map, slice_get-map, AllByRecursion, option_cmp, option_map_or, Data, view, has_at, at_low, Placed, contests, IsBounded, name_of, name_cmp, positions_by, rising_selections}
+use Rattle.erd_normal.proofs.Common.{◌≡◌, ℕ, ◌+◌, ◌<◌, List, [], ◌++◌, map, length, take, replicate, slice_get, Some, option_map, flat_map, sym, ap, ◌∙◌, subst, ap₂, arith, length-map, slice_get-map, AllByRecursion, option_cmp, option_map_or, Data, view, Placed, contests, IsBounded, name_of, name_cmp, positions_by, take-length, at_low, rising_selections, in_at, true}
 use Rattle.erd_meaning.specs.Places.{places_put}
 use Rattle.erd_normal.proofs.built.NormalEntries.{one_more}
 use Rattle.erd_normal.proofs.lists.StableRising.{map_after}
-use Rattle.erd_normal.proofs.ranks.NamesInTurn.{flat_more, starts_after}
+use Rattle.erd_normal.proofs.ranks.SelectionsInTurn.{flat_more, starts_after, contest_values, few_in_turn, named_in_turn, selections_of, value_there}
 use Rattle.erd_normal.proofs.ranks.SelectionRanks.{low_in_contest, places_are_ranks, ranks_in, selections_ranked}
-use Rattle.erd_normal.proofs.ranks.SelectionsInTurn.{contest_values, few_in_turn, named_in_turn, selections_of, value_there}
 use Rattle.erd_normal.proofs.writer.selection_orders.selection_orders.Goals as goal
 
 -- the contest at a position, and its selections
@@ -59,7 +58,7 @@ loop-index-preserved c =
     let places : c.in_ok-places.places.items ≡ ranks_in π t d =
     c.in_ok-places.ensures
     ∙ (ap (λ (ps : List ℕ). places_put 0 ps (replicate (length ps) 0)) (c.deref.ensures.value ∙ is)
-    ∙ places_are_ranks π t c.requires.accepted x.contest (has_at (contests t) i x.contest x.at)) in
+    ∙ places_are_ranks π t c.requires.accepted x.contest (in_at (contests t) i x.contest x.at)) in
     record {
       rising = ap (map (λ positions. positions.items)) c.in_ok-push.ensures.items
           ∙ one_more (λ positions. positions.items) (rising_selections π t) c.loop-index.rising.items ds i d _ x.low here is c.loop-index.invariant.rising;

@@ -1,30 +1,9 @@
 -- The log with one more pair is picked. The function reads no parameter, and makes a struct whose only field owns nothing.
-use Rattle.erd_canon.proofs.Common.{List, [], ◌∷◌, ◌++◌, refl, RattleType, owns, owned, nothing, vptr, Val, Ura, ‵, raw, ◌⊛◌, prop, !, ◌$◌, move, keep, split, fsplit, fjoin, feq_l, regoal, suffices, done, qed, ◌∵◌, Logic}
-use mir.Syntax.{Fn, Args, a_type}
-use mir.MapTy.{inst_fn}
-use base.Logic.{SProp, ent}
-use prog.Memory.{Memory}
-use prog.Routine.{Routine}
-use prog.Wp.{Calls, Loops, WpFn, Tables}
-use contract.Monad.{Fun}
+use Rattle.erd_canon.proofs.Common.{List, [], ◌∷◌, ◌++◌, refl, RattleType, owns, owned, nothing, vptr, Val, Ura, ‵, raw, ◌⊛◌, prop, !, ◌$◌, move, keep, split, fsplit, fjoin, feq_l, regoal, suffices, done, qed, ◌∵◌, Logic, Fn, Args, a_type, inst_fn, SProp, ent, Memory, Routine, Calls, Loops, WpFn, Tables, Fun, WpFn-mono, agg, enter, returns, and_then, no_more, alloc_all, pass_all, free_all, look_at, get, sets, Is, param, layouts, plain, types_at, makes, Tuple, Clauses, Ended, closing, alive, Meets, triple_of, entered, says, Stays, stay_dropped, walk_of, ends_at, walk_Meets, Goes-dropped}
 use contract.Running.{tables, tables_of}
-use sound.WpLaws.{WpFn-mono}
 use types.Kit.{drop}
-use types.Part.{agg}
-use types.Run.{enter, returns, and_then, no_more}
-use types.ByLocal.{alloc_all, pass_all, free_all, look_at, get, sets}
 use denote.Exit.{yes}
 use denote.Builtin.{RefOf}
-use denote.Laws.{Is}
-use denote.Param.{param, layouts}
-use denote.Signature.{plain, types_at}
-use denote.Struct.Laws.{makes}
-use denote.Struct.Tuple.{Tuple}
-use denote.Triple.Clauses.{Clauses, Ended, closing}
-use denote.Triple.Entry.{alive}
-use denote.Triple.Spec.{Meets, triple_of}
-use denote.Triple.Table.{entered}
-use denote.Triple.Walked.{says, Stays, stay_dropped, walk_of, ends_at, walk_Meets, Goes-dropped}
 use Rattle.erd_canon.proofs.logs.Made.{none, one, one_made}
 use Rattle.erd_canon.specs.contracts.devices.log.Log.and.Key.{name as #self}
 use Rattle.std.specs.contracts.marker.PhantomData as Mark

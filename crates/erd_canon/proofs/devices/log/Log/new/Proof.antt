@@ -1,27 +1,6 @@
 -- A log with no pairs is picked. The function makes a struct whose only field owns nothing, and picks its ghost field.
-use Rattle.erd_canon.proofs.Common.{[], ◌∷◌, refl, RattleType, owns, owned, nothing, Val, Ura, ‵, raw, ◌⊛◌, !, ◌$◌, move, keep, split, fjoin, suffices, done, qed, ◌∵◌, Logic}
-use mir.Syntax.{Fn, Args, a_type}
-use mir.MapTy.{inst_fn}
-use base.Logic.{SProp, ent}
-use prog.Memory.{Memory}
-use prog.Routine.{Routine}
-use prog.Wp.{Calls, Loops, WpFn, Tables}
-use contract.Monad.{Fun}
+use Rattle.erd_canon.proofs.Common.{[], ◌∷◌, refl, RattleType, owns, owned, nothing, Val, Ura, ‵, raw, ◌⊛◌, !, ◌$◌, move, keep, split, fjoin, suffices, done, qed, ◌∵◌, Logic, Fn, Args, a_type, inst_fn, SProp, ent, Memory, Routine, Calls, Loops, WpFn, Tables, Fun, WpFn-mono, agg, enter, returns, and_then, no_more, alloc_all, pass_all, free_all, look_at, get, sets, Is, param, layouts, types_at, makes, Tuple, Clauses, Ended, closing, alive, Meets, triple_of, entered, says, Stays, walk_of, ends_at, walk_Meets}
 use contract.Running.{tables, tables_of}
-use sound.WpLaws.{WpFn-mono}
-use types.Part.{agg}
-use types.Run.{enter, returns, and_then, no_more}
-use types.ByLocal.{alloc_all, pass_all, free_all, look_at, get, sets}
-use denote.Laws.{Is}
-use denote.Param.{param, layouts}
-use denote.Signature.{types_at}
-use denote.Struct.Laws.{makes}
-use denote.Struct.Tuple.{Tuple}
-use denote.Triple.Clauses.{Clauses, Ended, closing}
-use denote.Triple.Entry.{alive}
-use denote.Triple.Spec.{Meets, triple_of}
-use denote.Triple.Table.{entered}
-use denote.Triple.Walked.{says, Stays, walk_of, ends_at, walk_Meets}
 use Rattle.erd_canon.proofs.logs.Made.{none, one, one_made}
 use Rattle.erd_canon.specs.contracts.devices.log.Log.new.Key.{name as #self}
 use Rattle.std.specs.contracts.marker.PhantomData as Mark

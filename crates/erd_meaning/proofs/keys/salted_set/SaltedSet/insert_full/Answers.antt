@@ -1,6 +1,5 @@
 use Rattle.erd_meaning.proofs.Common.{not, ap, ◌∙◌, list_any, position_or_len, insert_key, keys_in}
-use Rattle.erd_meaning.proofs.finding.KeptOnErrors.{on_error}
-use Rattle.erd_meaning.proofs.finding.NumberedKeys.{inserted_any, inserted_index, inserted_keys}
+use Rattle.erd_meaning.proofs.finding.Pushed.{on_error, inserted_any, inserted_index, inserted_keys}
 use Rattle.erd_meaning.proofs.keys.salted_set.SaltedSet.insert_full.Goals as goal
 
 pub returns-clause-index : goal.returns-clause-index

@@ -1,5 +1,5 @@
 use Rattle.erd_meaning.proofs.Common.{position, ap, ◌∙◌}
-use Rattle.erd_meaning.proofs.finding.NumberedKeys.{position_numbered}
+use Rattle.erd_meaning.proofs.finding.Pushed.{position_numbered}
 use Rattle.erd_meaning.proofs.keys.salted_set.SaltedSet.position.Goals as goal
 
 pub returns : goal.returns

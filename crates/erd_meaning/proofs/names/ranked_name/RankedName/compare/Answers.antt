@@ -1,5 +1,5 @@
 use Rattle.erd_meaning.proofs.Common.{◌≡◌, ◌∙◌, rules, ranked_name_cmp}
-use Rattle.erd_meaning.proofs.selections.RanksInTurn.{names_in_order}
+use Rattle.erd_meaning.proofs.selections.RankedReports.{names_in_order}
 use Rattle.erd_meaning.proofs.names.ranked_name.RankedName.compare.Goals as goal
 
 pub returns-clause-names : goal.returns-clause-names

@@ -1,5 +1,5 @@
 use Rattle.erd_meaning.proofs.Common.{List, [], ◌∷◌, ◌++◌, Option, sym, ap, ◌∙◌, subst, ap₂, list_any, AreSeen, same_key, Key}
-use Rattle.erd_meaning.proofs.identity.SeenKeys.{seen_is, seen_more}
+use Rattle.erd_meaning.proofs.identity.MetLists.{seen_is, seen_more}
 use Rattle.erd_meaning.proofs.objects.election_table.ElectionTable.push.Goals as goal
 
 pub invariant_of-self-2 : goal.invariant_of-self-2

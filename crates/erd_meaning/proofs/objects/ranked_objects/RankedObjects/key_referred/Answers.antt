@@ -1,5 +1,5 @@
 use Rattle.erd_meaning.proofs.Common.{◌≡◌, ℕ, List, map, slice_get, Some, None, Option, option_map, option_and_then, sym, ap, ◌∙◌, Family, family_chosen, key_among, number_among, those_of, Kept, ranked_key, shown, Object}
-use Rattle.erd_meaning.proofs.finding.FoundWithId.{object_numbered}
+use Rattle.erd_meaning.proofs.finding.Found.{object_numbered}
 use Rattle.erd_meaning.proofs.objects.ranked_objects.RankedObjects.key_referred.Goals as goal
 
 -- the key of the object at a position that is found by an `@id`

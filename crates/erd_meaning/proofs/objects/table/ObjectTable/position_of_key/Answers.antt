@@ -1,5 +1,5 @@
 use Rattle.erd_meaning.proofs.Common.{Bool, List, map, ap, ◌∙◌, get_by, Family, is_salted_owned, number_of_key, shown, Key, Salted, Object}
-use Rattle.erd_meaning.proofs.finding.OwnedKeys.{owned_asked}
+use Rattle.erd_meaning.proofs.finding.Pushed.{owned_asked}
 use Rattle.erd_meaning.proofs.objects.table.ObjectTable.position_of_key.Goals as goal
 
 pub returns : goal.returns

@@ -1,7 +1,6 @@
-use Rattle.erd_meaning.proofs.Common.{ℕ, List, map, Option, option_map, sym, ap, ◌∙◌, Bor, view, shown}
-use Rattle.erd_meaning.proofs.finding.FoundWithId.{not_false}
-use Rattle.erd_meaning.proofs.finding.OwnedKeys.{families_same}
-use Rattle.erd_meaning.proofs.references.ReasonsFound.{among_family, clear_of_family, text_read}
+use Rattle.erd_meaning.proofs.Common.{ℕ, List, map, option_map, sym, ap, ◌∙◌, Bor, view, shown, not-false, false}
+use Rattle.erd_meaning.proofs.finding.Pushed.{families_same}
+use Rattle.erd_meaning.proofs.references.SilentWalks.{among_family, clear_of_family, text_read}
 use Rattle.erd_meaning.proofs.report.reference_judge.ReferenceJudge.clear_position.Goals as goal
 
 pub returns : goal.returns
@@ -11,7 +10,7 @@ returns c =
     let own = c.in_ok-own.own in
     let position = c.in_ok-own.position in
     let found = sym (c.position_in_row.ensures c.args.self.now.told_apart) ∙ c.in_ok-own.was in
-    let same = sym (families_same own c.args.family) ∙ not_false _ c.if-ne.ensures in
+    let same = sym (families_same own c.args.family) ∙ not-false _ (sym c.if-ne.ensures) in
     record {
       text = id;
       is = text_read (view c.args.item.now) id (sym c.as_str.ensures ∙ ap (option_map (λ (s : Bor (List ℕ)). s.now)) c.in_ok-id.was);

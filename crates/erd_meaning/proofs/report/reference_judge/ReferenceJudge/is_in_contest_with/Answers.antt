@@ -1,5 +1,5 @@
-use Rattle.erd_meaning.proofs.Common.{map, sym, ◌∙◌, family, shown}
-use Rattle.erd_meaning.proofs.references.ReasonsFound.{in_own_contest}
+use Rattle.erd_meaning.proofs.Common.{map, shown}
+use Rattle.erd_meaning.proofs.references.SilentWalks.{in_own_contest}
 use Rattle.erd_meaning.proofs.report.reference_judge.ReferenceJudge.is_in_contest_with.Goals as goal
 
 pub returns-in-Some : goal.returns-in-Some

@@ -1,6 +1,5 @@
 use Rattle.erd_meaning.proofs.Common.{map, sym, ◌∙◌, ⊤, reference_reasons_told, shown}
-use Rattle.erd_meaning.proofs.references.SilentWalks.{is_known_of_all, is_silent}
-use Rattle.erd_meaning.proofs.references.ReasonsFound.{of_references}
+use Rattle.erd_meaning.proofs.references.SilentWalks.{is_known_of_all, is_silent, of_references}
 use Rattle.erd_meaning.proofs.report.reference_judge.ReferenceJudgeVisitor.enters.Goals as goal
 
 pub returns-clause-silent : goal.returns-clause-silent
