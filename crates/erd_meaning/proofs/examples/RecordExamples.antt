@@ -1,5 +1,5 @@
 -- What objects of the small ballot mean, in it and in its canonical form, by computation.
-use Rattle.erd_meaning.proofs.Common.{◌≡◌, ℕ, Bool, true, false, not, ◌||◌, List, [], ◌∷◌, map, Some, None, codes, filter, Option, option_map, option_and_then, bytes_eq, is_eq, unwrap_or, refl, ap, fun_ext, serde_json_on_literals, Data, null, boolean, string, families, unit_rows, party_rows, person_rows, office_rows, header_rows, candidate_rows, rows_of_class, class, Family, family, kind, Step, At, Name, tree_of, small_ballot, small_ballot_canonical, with_report_member, with_unit_member, entries_of, asked_at, key_cmp, Label, untranslated, Content, no_content, first_node, Node, a_contest, a_header, a_json, a_label, a_key, a_key_set, MemberValue, a_plain, json_set, carried_members, label_beside_text, label_of, content_of, meaning, plain_value, plain_member, selection_record, member_of_class, records_of, name_named, Key}
+use Rattle.erd_meaning.proofs.Common.{◌≡◌, ℕ, Bool, true, false, not, List, [], ◌∷◌, map, Some, None, codes, filter, Option, option_map, option_and_then, bytes_eq, is_eq, unwrap_or, refl, ap, fun_ext, serde_json_on_literals, Data, null, boolean, string, families, unit_rows, party_rows, person_rows, office_rows, header_rows, candidate_rows, rows_of_class, class, Family, family, kind, Step, At, Name, tree_of, small_ballot, small_ballot_canonical, with_report_member, with_unit_member, entries_of, asked_at, key_cmp, Label, untranslated, Content, no_content, first_node, Node, a_contest, a_header, a_json, a_label, a_key, a_key_set, MemberValue, a_plain, json_set, carried_members, label_beside_text, label_of, content_of, meaning, plain_value, plain_member, selection_record, member_of_class, records_of, name_named, Key}
 use Rattle.erd_check.proofs.ValueSets.{or_exchanged}
 use Rattle.erd_meaning.proofs.meanings.WholeMeanings.{record_of_members, value_with_key}
 use Rattle.erd_meaning.proofs.meanings.WholeRecords.{names_in, absent_plain, absent_member, same_at_every_name}

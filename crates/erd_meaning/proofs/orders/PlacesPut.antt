@@ -1,5 +1,5 @@
 -- The places of positions, each put at its position: the list of places is the inverse of the list of positions.
-use Rattle.erd_meaning.proofs.Common.{◌≡◌, ℕ, zero, suc, ◌+◌, ◌<◌, List, [], ◌∷◌, length, slice_get, slice_set, Some, sym, refl, ap, ◌∙◌, subst, ap₂, inl, inr, arith, length-set, AllByRecursion, all_from_In, places_put}
+use Rattle.erd_meaning.proofs.Common.{◌≡◌, ℕ, zero, suc, ◌+◌, ◌<◌, List, [], ◌∷◌, length, slice_get, slice_set, Some, sym, refl, ap, ◌∙◌, subst, ap₂, arith, length-set, AllByRecursion, all_from_In, places_put}
 use Rattle.erd_meaning.proofs.orders.DistinctEntries.{place_of}
 
 -- one entry set

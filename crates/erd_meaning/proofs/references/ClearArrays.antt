@@ -1,5 +1,5 @@
 -- Arrays of references in which no reason is told: each names an object of the family, and no two entries of a set name one.
-use Rattle.erd_meaning.proofs.Common.{◌≡◌, ℕ, ◌+◌, ◌<◌, ◌≤◌, Bool, true, false, ◌&&◌, ◌||◌, List, [], ◌∷◌, ◌++◌, map, length, get_or, drop, ◌==◌, Some, None, Option, bytes_eq, sym, refl, ap, ◌∙◌, subst, ap₂, append_assoc, arith, ne_eqb, eqb-false, false_from_ne_true, drop_more, at_drop_all, bytes_decides, AllByRecursion, IsDistinct, list_any, option_map_or, ⊤, Data, string, as_str, items_of, view, Value, Family, Reason, Repeated, Step, At, is_same_json, faults_of, told_at, told_of_items, Reference, number_among, Kept, reason_if, id_reasons, reference_reasons_told, AreClear, IsClear, IsRisingFrom}
+use Rattle.erd_meaning.proofs.Common.{◌≡◌, ℕ, ◌+◌, ◌<◌, ◌≤◌, Bool, true, false, ◌&&◌, ◌||◌, List, [], ◌∷◌, ◌++◌, map, length, get_or, drop, ◌==◌, Some, sym, refl, ap, ◌∙◌, subst, ap₂, append_assoc, arith, ne_eqb, eqb-false, false_from_ne_true, drop_more, at_drop_all, bytes_decides, AllByRecursion, IsDistinct, list_any, ⊤, Data, items_of, view, Value, Family, Repeated, Step, At, is_same_json, faults_of, told_at, told_of_items, Reference, number_among, Kept, reason_if, id_reasons, reference_reasons_told, AreClear, IsClear, IsRisingFrom}
 
 -- ---- numbers that differ
 

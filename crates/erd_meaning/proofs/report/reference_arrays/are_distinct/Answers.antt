@@ -1,4 +1,4 @@
-use Rattle.erd_meaning.proofs.Common.{◌≡◌, ℕ, List, ◌==◌, sym, subst, IsPermutation-sym, nat_eq_equiv, IsRisingFrom}
+use Rattle.erd_meaning.proofs.Common.{subst, IsPermutation-sym, nat_eq_equiv, IsRisingFrom}
 use Rattle.indexmap.proofs.MapLemmas.{distinct_permutation}
 use Rattle.erd_meaning.proofs.references.ClearArrays.{rising_differ}
 use Rattle.erd_meaning.proofs.report.reference_arrays.are_distinct.Goals as goal

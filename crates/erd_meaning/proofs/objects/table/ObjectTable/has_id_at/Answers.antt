@@ -1,4 +1,4 @@
-use Rattle.erd_meaning.proofs.Common.{ℕ, List, map, Some, Option, option_map, option_and_then, sym, ap, ◌∙◌, Bor, bytes_decides, Kept, shown, Object}
+use Rattle.erd_meaning.proofs.Common.{ℕ, List, Some, option_map, option_and_then, sym, ap, ◌∙◌, Bor, bytes_decides, Kept, shown, Object}
 use Rattle.erd_meaning.proofs.objects.table.ObjectTable.has_id_at.Goals as goal
 
 pub returns-in-Some-id : goal.returns-in-Some-id
