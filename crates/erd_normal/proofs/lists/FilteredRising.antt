@@ -30,7 +30,7 @@ module _ {A : Type 0} {cmp : A → A → Ordering} (order : IsTotalOrder cmp) wh
       at : (low : Bool) → is_lt (cmp y x) ≡ low → filter q (with_inserted cmp x ys) ≡ cond (q x) (with_inserted cmp x (filter q ys)) (filter q ys)
           → filter q (cond low (y ∷ with_inserted cmp x ys) (x ∷ (y ∷ ys))) ≡ cond (q x) (with_inserted cmp x (filter q (y ∷ ys))) (filter q (y ∷ ys))
       at true is more = lower (q x) (q y) (filter q (with_inserted cmp x ys)) (filter q ys) is more
-      at false is more = ap (λ zs. cond (q x) zs (filter q (y ∷ ys))) (sym (stands_first x (filter q (y ∷ ys)) (all_from_In (λ z. is_lt (cmp z x) ≡ false) (filter q (y ∷ ys)) (λ z h. In-all (λ z. is_lt (cmp z x) ≡ false) z (y ∷ ys) (is, none_below x y ys is rise.0) ((In-filter q z (y ∷ ys) h).0)))))
+      at false is more = ap (λ zs. cond (q x) zs (filter q (y ∷ ys))) (sym (stands_first x (filter q (y ∷ ys)) (all_from_In (λ z. is_lt (cmp z x) ≡ false) (filter q (y ∷ ys)) (λ z h. In-all (λ z. is_lt (cmp z x) ≡ false) z (y ∷ ys) (is, none_below x y ys is rise.0) (In-filter q z (y ∷ ys) h).0))))
 
   pub filter_rising : (q : A → Bool) (xs : List A) → filter q (rising_list cmp xs) ≡ rising_list cmp (filter q xs)
   filter_rising q [] = refl

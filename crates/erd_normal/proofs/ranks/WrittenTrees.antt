@@ -77,7 +77,7 @@ module _ (π : Preference) (t : Data) (accepted : IsAccepted π t) (tree : IsTre
   objects_agree f keyed i ds is =
       maps_agree (λ (o : ℕ × Placed). written_object π t f o.0 o.1.value) (λ o. normal_object π t f o.1.value) (objects_in_part π t f i) (λ o h.
       let there = stands (option_cmp key_cmp) (λ (o : Placed). key_of π o.value) (objects f t) o
-      (subst (In o) (in_order π t f keyed) (((In-filter _ o (rising_objects π t f) h).0))) in
+      (subst (In o) (in_order π t f keyed) (In-filter _ o (rising_objects π t f) h).0) in
       object_agrees f o.0 o.1 (in_at (objects f t) o.0 o.1 there) there keyed)
       ∙ (map_after (λ (o : ℕ × Placed). o.1.value) (normal_object π t f) (objects_in_part π t f i)
       ∙ ap (map (normal_object π t f)) (values_of_part π t f keyed i ∙ ap (rising_list (by_key π)) is))
