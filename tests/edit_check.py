@@ -68,9 +68,9 @@ def at_line(sources, path, number):
     return edit_files.function_at(path, text, start + len(line))
 
 
-def check(folder, texts, functions, words, kept):
-    """Checks these functions in a copy of the crate with these texts in place of its own, over the work in `kept`. Returns what it
-    said and the processor seconds that it took."""
+def check(folder, texts, spared, functions, words, kept):
+    """Checks these functions in a copy of the crate with these texts in place of its own, and without the proofs of those that are
+    spared, over the work in `kept`. Returns what it said and the processor seconds that it took."""
     with tempfile.TemporaryDirectory(prefix="erd-edits-") as room:
         for part in READS:
             if os.path.isdir(f"{folder}/{part}"):
@@ -78,6 +78,8 @@ def check(folder, texts, functions, words, kept):
         for path, text in texts.items():
             with open(f"{room}/{path}", "w", encoding="utf-8") as file:
                 file.write(text)
+        for function in spared:
+            shutil.rmtree(f"{room}/proofs/{function.replace('::', '/')}", ignore_errors=True)
         only = [word for it in functions for word in ("--only", it)]
         before = seconds()
         ran = subprocess.run(

@@ -8,6 +8,8 @@ import re
 
 IMPL = re.compile(r"impl(<[^>]*>)? (?:(\w[\w:]*)(<[^>]*>)? for )?&?(\w+)(<.*>)? \{")
 FUNCTION = re.compile(r'(    )?(?:pub(?:\(\w+\))? )?(?:unsafe )?(?:extern "C" )?fn (\w+)')
+# Where a function's body begins, or else its declaration ends.
+BODY = re.compile(r"^(?: *\{|(?: {4})?\S.* \{|.*;)$", re.M)
 
 
 class BadEdit(Exception):
@@ -15,8 +17,8 @@ class BadEdit(Exception):
 
 
 def applied(text, read):
-    """Returns the files that the edit changes, as path to text, and the functions that it changes. `read` gives the text of a
-    path."""
+    """Returns the files that the edit changes, as path to text, the functions whose contracts have to refuse it, and those that it
+    changes. `read` gives the text of a path."""
     path, old, texts, functions, named = None, None, {}, [], []
     for line in text.splitlines():
         key, _, value = line.partition(":")
@@ -34,7 +36,8 @@ def applied(text, read):
             texts[path] = whole.replace(old, value)
     if not texts:
         raise BadEdit("it has no pair of lines 'old:' and 'new:'")
-    return texts, list(dict.fromkeys(named or [it for it in functions if it]))
+    changed = list(dict.fromkeys(it for it in functions if it))
+    return texts, list(dict.fromkeys(named)) or changed, changed
 
 
 def place_of(old, path, whole):
@@ -68,6 +71,25 @@ def function_at(path, text, at):
         elif found:
             function = (owner if found[1] else "") + found[2]
     return function and module_of(path) + function
+
+
+def spared(path, text, kept):
+    """Returns the text with each function that may be out of memory doing nothing else, and these functions. Those of `kept` and
+    those that call themselves keep their bodies. A contract allows a function to be out of memory at any time, so such a body is
+    proved at once, without those that it called."""
+    found, parts, done = [], [], 0
+    for head in re.finditer(f"^{FUNCTION.pattern}", text, re.M):
+        body = BODY.search(text, head.start())
+        if head.start() < done or not body or body[0].endswith(";"):
+            continue
+        name = function_at(path, text, body.end())
+        end = text.index(f"\n{head[1] or ''}}}\n", body.end())
+        recurs = re.search(rf"\b{head[2]}\(", text[body.end():end]) or "+" in cycle_of(text, module_of(path), name)
+        if re.search(r"-> Result<.*AllocError>", text[head.end():body.end()], re.S) and name not in kept and not recurs:
+            found.append(name)
+            parts += [text[done:body.end()], f"\n{head[1] or ''}    Err(AllocError)"]
+            done = end
+    return "".join(parts) + text[done:], found
 
 
 def letters(words, own):

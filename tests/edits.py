@@ -4,9 +4,10 @@
 Usage: edits.py [--gate] [CRATE | CRATE/EDIT ..]
 
 With --gate these are the edits that tests/edits/gate.txt lists, and else all of tests/edits and of crates/*/must-fail. Several
-edits are tried in one check, at most one in a function. An edit counts as refused if the check leaves a goal open in a function
-that it changes. It fails where the function is proved, and where a proof file only misses a name. What was not seen refused in
-company is tried again alone. The libraries below are used as `rt ci` has left them, or proved as far as they have changed.
+edits are tried in one check, at most one in a function. Other functions that may be out of memory do nothing else there, so that
+little is proved for their sake. An edit counts as refused if the check leaves a goal open in a function that it changes. It fails
+where the function is proved, and where a proof file only misses a name. What was not seen refused in company is tried again
+alone. The libraries below are used as `rt ci` has left them, or proved as far as they have changed.
 RT_JOBS is the number of crates that are tried beside each other.
 """
 import collections
@@ -29,7 +30,7 @@ EDITS = f"{TOP}/tests/edits"
 UNPROVED = ("erd",)
 
 Edit = collections.namedtuple("Edit", "name text")
-Group = collections.namedtuple("Group", "edits texts functions")
+Group = collections.namedtuple("Group", "edits texts functions changed")
 
 
 def text_of(path):
@@ -117,21 +118,21 @@ class Crate:
         made = []
         for edit in edits:
             try:
-                _, functions = edit_files.applied(edit.text, self.read)
+                _, functions, _ = edit_files.applied(edit.text, self.read)
                 if not functions:
                     raise edit_files.BadEdit("it changes no function, and has no line 'fn:'")
             except (edit_files.BadEdit, OSError) as error:
                 self.say(edit.name, False, f"BAD EDIT: {error}")
                 continue
             if not any(self.put(edit, it) for it in made):
-                made.append(Group([], {}, {}))
+                made.append(Group([], {}, {}, set()))
                 self.put(edit, made[-1])
         return made
 
     def put(self, edit, group):
         """Adds the edit to the group, and returns whether it fits there."""
         try:
-            texts, functions = edit_files.applied(edit.text, lambda path: self.read(path, group.texts))
+            texts, functions, changed = edit_files.applied(edit.text, lambda path: self.read(path, group.texts))
         except edit_files.BadEdit:
             return False
         taken = {self.cycle(it) for it in group.functions}
@@ -140,14 +141,16 @@ class Crate:
         group.edits.append((edit, functions))
         group.texts.update(texts)
         group.functions.update(dict.fromkeys(functions))
+        group.changed.update(functions + changed)
         return True
 
     def check(self, group):
         """Checks the group, says what was refused and what was let through, and returns the edits that were not seen refused."""
-        said, spent = edit_check.check(self.folder, group.texts, group.functions, self.words, self.kept)
+        texts, spared = self.spared(group)
+        said, spent = edit_check.check(self.folder, texts, spared, group.functions, self.words, self.kept)
         self.spent += spent
         self.keep_log(group, said)
-        found = edit_check.Checked(said, lambda path: self.read(path, group.texts))
+        found = edit_check.Checked(said, lambda path: self.read(path, texts))
         if not found.is_read:
             return self.check_readable(group, found)
         left = []
@@ -161,6 +164,16 @@ class Crate:
                 left.append(edit)
         print(f"{self.name}: {len(group.edits)} edits in one check, {spent:.0f} processor seconds", flush=True)
         return left
+
+    def spared(self, group):
+        """Returns the texts of the group, with those functions spared that it doesn't change, and these functions."""
+        texts, functions = dict(group.texts), []
+        for path, _ in self.sources():
+            text, found = edit_files.spared(path, self.read(path, texts), group.changed)
+            if found:
+                texts[path] = text
+                functions += found
+        return texts, functions
 
     def check_readable(self, group, found):
         """Says which edits the compiler can't read, by the files of its errors, and checks the others of the group."""

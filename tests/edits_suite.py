@@ -41,6 +41,22 @@ impl Outer {
         2
     }
 }
+
+fn copied(alloc: Global, text: &str) -> Result<String, AllocError> {
+    String::from_str(alloc, text)
+}
+
+fn pushed(
+    out: &mut String,
+    times: usize,
+) -> Result<(), AllocError>
+    ensures { OnOk result (out.new ≡ out.old) }
+{
+    if times > 0 {
+        pushed(out, times - 1)?;
+    }
+    Ok(())
+}
 """
 LINE = "fn some::a::b::counts: no proof: expected answers in ./proofs/a/b/counts/Answers.antt; `search` did not prove `returns`"
 CALLS = "fn some::a::b::counts: no proof: it calls `some::a::b::other`, which is not proved"
@@ -70,6 +86,10 @@ def applied(edit):
         return "bad"
 
 
+def spared(*kept):
+    return edit_files.spared("src/a/b.rt", SOURCE, kept)
+
+
 CASES = [
     ("a function", lambda: function_with("    text.len()"), "a::b::counts"),
     ("a line after a block", lambda: function_with("return 0;"), "a::b::counts"),
@@ -85,6 +105,9 @@ CASES = [
     ("a text that stands twice", lambda: applied("file: src/a/b.rt\nold: text\nnew: word"), "bad"),
     ("a text that stands nowhere", lambda: applied("file: src/a/b.rt\nold: nothing\nnew: word"), "bad"),
     ("no pair", lambda: applied("file: src/a/b.rt"), "bad"),
+    ("a spared function", lambda: spared()[1], ["a::b::copied"]),
+    ("its body", lambda: spared()[0], SOURCE.replace("String::from_str(alloc, text)", "Err(AllocError)")),
+    ("a changed function is not spared", lambda: spared("a::b::copied"), (SOURCE, [])),
     ("an open goal", lambda: judged(LINE, GOAL), "yes"),
     ("an answer of another type", lambda: judged(LINE, TYPE), "yes"),
     ("an open goal beside another call", lambda: judged(CALLS, GOAL), "yes"),
