@@ -4,7 +4,7 @@ use Rattle.std.proofs.lemmas.List.Folds.{list_any-append, position_or_len_push}
 use Rattle.std.proofs.Common.{append_assoc}
 use Rattle.std.proofs.lemmas.Bool.Decides.{nat_tests}
 use Rattle.indexmap.specs.IndexSet.{insert_all, insert_key}
-use Rattle.erd_compare.proofs.least_difference.KeyWalks.{heads}
+use Rattle.erd_check.proofs.Positions.{left_there}
 
 -- ---- the first that passes a test
 
@@ -140,7 +140,7 @@ module _ {K : Type 0} (cmp : K → K → Ordering) (total : IsTotalOrder cmp) (e
         all_keys = insert_all eq old (filter_map told all)
 
         step : IsAdding old all (o ∷ left) ks ns
-        step = subst (λ xs. IsAdding old all xs ks ns) (heads all i o here) h
+        step = subst (λ xs. IsAdding old all xs ks ns) (left_there all i o here) h
 
         in_turn : (y : Option K) (ls : List K) → insert_all eq (insert_all eq ks (cons_option y [])) ls ≡ insert_all eq ks (cons_option y ls)
         in_turn None ls = refl
