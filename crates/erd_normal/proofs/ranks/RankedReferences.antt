@@ -11,11 +11,6 @@ none_lesser π (o ∷ os) =
     let rest : List Placed = filter (λ o. is_lt (option_cmp key_cmp (key_of π o.value) None)) os in
     elim (key_of π o.value) as (λ k. length (cond (is_lt (option_cmp key_cmp k None)) (o ∷ rest) rest) ≡ 0) [ None ↦ none_lesser π os | Some k ↦ none_lesser π os ]
 
--- a family that is not that of selections has keys
-pub keyed_unless : (f : Family) → (f ≡ family.Selection → ⊥) → has_keys f ≡ true
-keyed_unless family.Selection other = absurd (other refl)
-keyed_unless f other = refl
-
 -- ---- the object at a position
 
 module _ (π : Preference) (t : Data) (f : Family) where
