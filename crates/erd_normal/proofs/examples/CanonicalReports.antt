@@ -3,17 +3,7 @@ use Rattle.erd_normal.proofs.Common.{◌≡◌, ℕ, ◌^◌, ◌<◌, false, Li
 use Rattle.erd_check.proofs.WholeExamples.{IsFaultless, one_unit_is_faultless, small_ballot_is_faultless}
 use Rattle.erd_normal.proofs.canonical.NormalForms.{form_built}
 use Rattle.erd_normal.proofs.examples.NormalTreeExamples.{one_unit_built, one_unit_canonical, small_ballot_built}
-use Rattle.erd_meaning.proofs.refused.Refused.{accepted_by_lists}
-
--- ---- both are accepted
-
-pub one_unit_is_accepted : IsAccepted None (tree_of one_unit)
-unfolding serde_json_on_literals
-one_unit_is_accepted = accepted_by_lists None (tree_of one_unit) one_unit_is_faultless.tree one_unit_is_faultless.none refl refl refl
-
-pub small_ballot_is_accepted : IsAccepted None (tree_of small_ballot)
-unfolding serde_json_on_literals
-small_ballot_is_accepted = accepted_by_lists None (tree_of small_ballot) small_ballot_is_faultless.tree small_ballot_is_faultless.none refl refl refl
+use Rattle.erd_meaning.proofs.examples.RefusedExamples.{one_unit_is_accepted, small_ballot_is_accepted}
 
 -- ---- the tree that is built for a report is its canonical form
 
