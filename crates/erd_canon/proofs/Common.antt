@@ -28,9 +28,9 @@ pub use Rattle.erd_canon.specs.Limits.{most_bytes}
 pub use Rattle.erd_canon.specs.ReadLines.{subcommand_request, request_in, IsLineRead, IsFaultFor}
 pub use Rattle.erd_canon.specs.Reading.{Exceeds, IsReadWhole}
 pub use Rattle.erd_canon.specs.Refused.{IsSomeReport, RefusedAs, refusal_for, RefusedSide}
-pub use Rattle.erd_canon.specs.Run.{IsToldNotJson, IsChecked, IsAnswered, IsSideRefused, IsCompared, IsAnswerWritten, IsCheckWritten, IsCompareWritten, IsToldCheck, IsToldCompare, IsToldRun, IsWholeCheck, IsWholeRun}
+pub use Rattle.erd_canon.specs.Run.{IsChecked, IsAnswered, IsSideRefused, IsCompared, IsAnswerWritten, IsCheckWritten, IsCompareWritten, IsToldCheck, IsToldCompare, IsToldRun}
 pub use Rattle.erd_canon.specs.Subcommands.{program}
-pub use Rattle.erd_canon.specs.Writing.{IsAnswerPartWritten, IsPartWritten}
+pub use Rattle.erd_canon.specs.Writing.{IsPartWritten}
 pub use Rattle.erd_canon.specs.code.Pending.{IsFrontMoved, IsMoved}
 pub use Rattle.erd_canon.specs.code.RefusalData.{TellsRefusalAs, AppendsRefusal, IsRefusalAnswer, IsSideAnswer}
 pub use Rattle.erd_canon.specs.declared.bytes.refusal.Refusal.{Refusal, Refusal as refusal}
