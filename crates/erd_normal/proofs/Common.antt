@@ -52,7 +52,6 @@ pub use Rattle.erd_check.proofs.Positions.{in_at}
 pub use Rattle.erd_meaning.proofs.finding.OneObject.{at_low, with_part, one_id}
 pub use Rattle.erd_meaning.proofs.meanings.SelectionKinds.{kind_of_type, is_selections, selections_kind, selections_name, selections_family, class_role}
 pub use Rattle.erd_meaning.proofs.meanings.WholeMeanings.{same_meaning}
-pub use Rattle.erd_meaning.proofs.orders.DistinctEntries.{place_of, distinct_from_one_place, distinct_map, distinct_one, unrepeated_distinct, unrepeated_by_cmp}
 pub use Rattle.erd_meaning.proofs.orders.DistinctEntries.{options_exact}
 pub use Rattle.erd_meaning.proofs.orders.DistinctEntries.{equal_keys}
 pub use Rattle.erd_meaning.proofs.orders.DistinctEntries.{equal_names}
@@ -63,7 +62,7 @@ pub use Rattle.erd_meaning.proofs.orders.RisingOrders.{whole-reordered}
 pub use Rattle.erd_meaning.proofs.orders.RisingOrders.{count-reordered}
 pub use Rattle.erd_meaning.proofs.orders.RisingOrders.{all-reordered}
 pub use Rattle.erd_meaning.proofs.meanings.WholeMeanings.{same_meaning}
-pub use Rattle.erd_meaning.proofs.orders.DistinctEntries.{place_of, distinct_from_one_place, distinct_map, distinct_one, unrepeated_distinct, unrepeated_by_cmp, options_exact, equal_keys, equal_names}
+pub use Rattle.erd_meaning.proofs.orders.DistinctEntries.{distinct_from_one_place, distinct_map, distinct_one, unrepeated_distinct, unrepeated_by_cmp, options_exact, equal_keys, equal_names}
 pub use Rattle.erd_meaning.proofs.orders.RisingOrders.{two_exchanged, along_permutation, reordered_flat, reordered_kept, reordered_rising, whole-reordered, count-reordered, all-reordered, greater_turned, inserted_exchange, all_rising, NeverFalls, rising_strictly, rising_never_falls, rank_map, rank_by_at, length-rising, In-inserted, In-rising}
 pub use Rattle.erd_meaning.proofs.orders.RisingLists.{by_first, rising_from_sort, rising_list_map}
 pub use Rattle.erd_meaning.specs.LaterFaults.{is_unresolved, is_of_other_family}

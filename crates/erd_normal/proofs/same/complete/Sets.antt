@@ -1,5 +1,6 @@
 -- Sets that mean the same say the same: references that name one set of keys, and JSON values.
 use Rattle.erd_normal.proofs.Common.{◌≡◌, ℕ, Bool, true, false, ◌&&◌, ◌⊎◌, List, [], ◌∷◌, Some, None, Option, filter_map, option_and_then, is_eq, sym, refl, ap, ◌∙◌, subst, ap₂, true≢false, tied_itself, Equal-is, IsDistinct, cons_option, list_any, Data, string, array, Items, get_item, as_str, role_of_class, Class, Family, family, Role, MemberKind, kind, At, string_from_text, list_of_items-place, list_of_items-tree, text_itself, Within-step, wanted_within, unrepeated, Within, is_simple_class, entry_itself, IsTree, AreTrees, is_same_json, list_of_items, entry_want, is_compared_set, asked, is_repeated, Member, Object, Reference, no_shape_fault, unrepeated_reference, resolves, unrepeated_distinct, IsAccepted, has_keys, key_cmp, Preference, key_of, is_selection_in, owner, key_set, meaning, key_named, keys_named, name_named, key_cmp_total, key_cmp_exact, Key, Sides, StandsFor, an_id, Same, ⊎_elim, In, In-all, In-any, any_at, inl, inr}
+use Rattle.erd_check.proofs.Order.{In-filter_map}
 use Rattle.erd_normal.proofs.canonical.DistinctSets.{first_reference, first_value, names_accepted}
 use Rattle.erd_normal.proofs.lists.Matched.{Matched, Paired, none, more}
 use Rattle.erd_normal.proofs.same.Lists.{ApartBy, matched_by_keys, AreSound, itself}
@@ -28,15 +29,6 @@ unfolding IsDistinct
 apart_by test key [] tells d = tt
 apart_by test key (x ∷ xs) tells d =
     (λ y i e. true≢false (sym (tells x y (inl refl) (inr i) e) ∙ In-all (λ z. test x z ≡ false) y xs d.0 i), apart_by test key xs (λ y z i j. tells y z (inr i) (inr j)) d.1)
-
-pub has_kept : {A K : Type 0} (key : A → Option K) (x : A) (k : K) (xs : List A) → In x xs → key x ≡ Some k → In k (filter_map key xs)
-has_kept key x k [] h e = absurd h
-has_kept key x k (y ∷ ys) (inl i) e = subst (λ o. In k (cons_option o (filter_map key ys))) (sym (ap key i ∙ e)) (inl refl)
-has_kept {A} {K} key x k (y ∷ ys) (inr h) e = at (key y) (has_kept key x k ys h e)
-  where
-    at : (o : Option K) → In k (filter_map key ys) → In k (cons_option o (filter_map key ys))
-    at None i = i
-    at (Some l) i = inr i
 
 pub kept_has : {A K : Type 0} (key : A → Option K) (k : K) (xs : List A) → In k (filter_map key xs) → (x : A) × In x xs × (key x ≡ Some k)
 kept_has key k [] h = elim h [ ]
@@ -96,7 +88,7 @@ fellow : (π : Preference) (t u : Data) (f : Family) (ds es : List Data) → key
 fellow π t u f ds es same x h n =
     let e : entry_key π t f x ≡ Some n.key = ap (entry_key π t f) n.is ∙ n.named in
     let there : list_any (λ l. is_eq (key_cmp l n.key)) (keys_named π u f es) ≡ true =
-    sym (ap (λ set. set n.key) same) ∙ any_at (λ l. is_eq (key_cmp l n.key)) n.key (keys_named π t f ds) (has_kept (entry_key π t f) x n.key ds h e) (ap is_eq (tied_itself key_cmp_total n.key)) in
+    sym (ap (λ set. set n.key) same) ∙ any_at (λ l. is_eq (key_cmp l n.key)) n.key (keys_named π t f ds) (In-filter_map (entry_key π t f) x n.key ds h e) (ap is_eq (tied_itself key_cmp_total n.key)) in
     let l = In-any (λ l. is_eq (key_cmp l n.key)) (keys_named π u f es) there in
     let y = kept_has (entry_key π u f) l.0 es l.1 in
     (y.0, y.1, e ∙ ap Some (sym (key_cmp_exact l.0 n.key ((Equal-is (key_cmp l.0 n.key)).0 l.2))) ∙ sym y.2)
