@@ -2,6 +2,7 @@
 pub use Rattle.erd_normal.proofs.Common.{◌≡◌, ℕ, zero, suc, ◌+◌, ◌-◌, ◌/◌, ◌%◌, ◌^◌, ◌<◌, ◌≤◌, Bool, true, false, ◌&&◌, ◌⊎◌, ◌↔◌, List, [], ◌∷◌, ◌++◌, map, length, get_or, take, drop, pos, negsuc, is_some, OnOk, nat_lt, ◌==◌, slice_get, Some, None, string_bytes, codes, IsUtf8, decimal, Contains, Option, option_map, option_copied, bytes_eq, unwrap_or, sym, refl, ap, ◌∙◌, subst, ap₂, inl, inr, append_assoc, append-nil, map-id, arith, lit<, length-append, Bor, rules, lt-ltb, ne_eqb, IfOk-weaker, on_ok_weaker, Num, unsigned, negative, float, Data, null, number, string, array, object, Items, no_items, item, Members, no_members, member, depth, items_depth, read, max_depth, items_of, view, number_text, outline, items_outline, members_outline, has_float, items_have_float, comma_if, compact_text, items_text, Reason, reason, IsFittingNumber, HasFittingNumbers, ItemsHaveFittingNumbers, MembersHaveFittingNumbers, IsTree, AreTrees, IsShallow, IsNoDeeper, IsAccepted, Preference, meaning}
 pub use Rattle.erd_compare.proofs.Common.{◌≢◌, IfOk, Ok, Err, Result, iter_rest, record_at, Differ, IsDifference}
 pub use Rattle.erd_meaning.proofs.Common.{OnErr, fold, take-append-drop, err_from_is_err_and, fault_cmp, Fault, IsFault}
+pub use Rattle.erd_meaning.proofs.finding.Pushed.{on_error}
 unfoldable pub use Rattle.erd_normal.proofs.Common.{digits, serde_json_on_literals}
 pub use Rattle.std.proofs.Common.{IsErrAnd, vec_len, MatchResult, take-add}
 pub use Rattle.std.proofs.lemmas.Result.{on_err_weaker}
@@ -27,9 +28,9 @@ pub use Rattle.erd_canon.specs.Limits.{most_bytes}
 pub use Rattle.erd_canon.specs.ReadLines.{subcommand_request, request_in, IsLineRead, IsFaultFor}
 pub use Rattle.erd_canon.specs.Reading.{Exceeds, IsReadWhole}
 pub use Rattle.erd_canon.specs.Refused.{IsSomeReport, RefusedAs, refusal_for, RefusedSide}
-pub use Rattle.erd_canon.specs.Run.{IsToldNotJson, IsChecked, IsAnswered, IsSideRefused, IsCompared, IsAnswerWritten, IsCheckWritten, IsCompareWritten, IsToldCheck, IsToldCompare, IsToldRun, IsWholeCheck, IsWholeRun}
+pub use Rattle.erd_canon.specs.Run.{IsChecked, IsAnswered, IsSideRefused, IsCompared, IsAnswerWritten, IsCheckWritten, IsCompareWritten, IsToldCheck, IsToldCompare, IsToldRun}
 pub use Rattle.erd_canon.specs.Subcommands.{program}
-pub use Rattle.erd_canon.specs.Writing.{IsAnswerPartWritten, IsPartWritten}
+pub use Rattle.erd_canon.specs.Writing.{IsPartWritten}
 pub use Rattle.erd_canon.specs.code.Pending.{IsFrontMoved, IsMoved}
 pub use Rattle.erd_canon.specs.code.RefusalData.{TellsRefusalAs, AppendsRefusal, IsRefusalAnswer, IsSideAnswer}
 pub use Rattle.erd_canon.specs.declared.bytes.refusal.Refusal.{Refusal, Refusal as refusal}

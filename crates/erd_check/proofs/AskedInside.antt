@@ -1,7 +1,7 @@
 -- All that is asked in a tree, with its places, as a list: the places rise, and what holds of the list holds at each place.
-use Rattle.erd_check.proofs.Common.{◌≡◌, ℕ, zero, suc, ◌+◌, Bool, true, false, ◌&&◌, List, [], ◌∷◌, ◌++◌, length, take, Some, None, Option, option_map, option_and_then, nat_cmp, Ordering, Equal, sym, refl, ap, subst, inl, inr, append_assoc, append-nil, add-zero, zero-add, and_parts, slice_cmp, list_all, list_any, option_map_or, match_ordering, Data, array, object, Items, no_items, item, Members, no_members, member, get_member, get_item, Report, Step, At, Name, is_same_json, list_of_items, scope_inside, want_of_name, entry_want, is_compared_set, Asked, asked_of_member, asked_of_entry, asked_from, asked_at, asked_with, Scope, Want, Object, ◌<◌, IfSome, Less, Greater, ◌∙◌, arith, nat_list_cmp_total, AllByRecursion, IsStrictlySortedBy, ordering_reverse, steps_less, start_less, names, IsInOrder, AreItemsInOrder, AreMembersInOrder, tied_itself}
+use Rattle.erd_check.proofs.Common.{◌≡◌, ℕ, zero, suc, ◌+◌, Bool, true, false, ◌&&◌, List, [], ◌∷◌, ◌++◌, length, take, Some, None, Option, option_map, option_and_then, nat_cmp, Ordering, Equal, sym, refl, ap, subst, inl, inr, append_assoc, append-nil, add-zero, zero-add, slice_cmp, list_all, list_any, option_map_or, match_ordering, Data, array, object, Items, no_items, item, Members, no_members, member, get_member, get_item, Report, Step, At, Name, is_same_json, list_of_items, scope_inside, want_of_name, entry_want, is_compared_set, Asked, asked_of_member, asked_of_entry, asked_from, asked_at, asked_with, Scope, Want, Object, ◌<◌, IfSome, Less, Greater, ◌∙◌, arith, nat_list_cmp_total, AllByRecursion, IsStrictlySortedBy, ordering_reverse, steps_less, start_less, names, IsInOrder, AreItemsInOrder, AreMembersInOrder, tied_itself}
 use Rattle.erd_check.proofs.Steps.{text_from_equal, next_index, found_all, at_less}
-use Rattle.erd_check.proofs.Order.{In, In-append_left, In-append_right, In-append, all_from_In, sorted_append}
+use Rattle.erd_check.proofs.Order.{In, In-append_left, In-append_right, In-append, all_from_In, each_holds, sorted_append}
 use Rattle.erd_tables.specs.Places.{place_cmp}
 
 -- a place and what is asked there
@@ -122,14 +122,9 @@ all_asked_complete t p a h = listed_from [] (Object Report) false t p a h
 
 -- ---- tests
 
-pub list_all_at : {A : Type 0} (test : A → Bool) (x : A) (xs : List A) → list_all test xs ≡ true → In x xs → test x ≡ true
-list_all_at test x [] h i = absurd i
-list_all_at test x (y ∷ ys) h (inl e) = subst (λ z. test z ≡ true) e (and_parts (test y) (list_all test ys) h).0
-list_all_at test x (y ∷ ys) h (inr t) = list_all_at test x ys (and_parts (test y) (list_all test ys) h).1 t
-
 -- what holds of all that is listed holds at each place
 pub tested_at : (test : AskedPlace → Bool) (t : Data) → list_all test (all_asked t) ≡ true → (p : List Step) (a : Asked) → asked_at t p ≡ Some a → test (p, a) ≡ true
-tested_at test t h p a there = list_all_at test (p, a) (all_asked t) h (all_asked_complete t p a there)
+tested_at test t h p a there = each_holds test (all_asked t) (p, a) h (all_asked_complete t p a there)
 
 -- ---- all that is asked in a tree, as a list: each of the list is asked at its place, and the places rise
 

@@ -1,6 +1,8 @@
 -- Where the entries of a list stand, and what stands where one option gives another.
-use Rattle.erd_check.proofs.Common.{◌≡◌, ℕ, zero, suc, List, [], ◌∷◌, slice_get, Some, ap, subst, ⊎_elim, AllByRecursion, true, None, Option, option_map, option_and_then, refl, inl, inr}
+use Rattle.erd_check.proofs.Common.{◌≡◌, ℕ, zero, suc, ◌+◌, List, [], ◌∷◌, drop, slice_get, Some, ap, ◌∙◌, subst, ⊎_elim, AllByRecursion, true, None, Option, option_map, option_and_then, refl, inl, inr}
 use Rattle.std.proofs.Common.{is_some}
+use Rattle.std.proofs.lemmas.List.{drop_more}
+use Rattle.std.proofs.lemmas.Option.{get_or_from_slice_get, slice_get_within}
 use Rattle.erd_check.proofs.Order.{In}
 
 -- an entry of a list stands at a position
@@ -13,6 +15,10 @@ pub in_at : {A : Type 0} (xs : List A) (i : ℕ) (x : A) → slice_get xs i ≡ 
 in_at [] i x is = absurd (cc is)
 in_at (y ∷ ys) zero x is = let same : y ≡ x = cc in subst (λ z. In z (y ∷ ys)) same (inl refl)
 in_at (y ∷ ys) (suc i) x is = inr (in_at ys i x is)
+
+-- what is left of a list from a position on begins with the entry there
+pub left_there : {A : Type 0} (xs : List A) (i : ℕ) (x : A) → slice_get xs i ≡ Some x → drop i xs ≡ x ∷ drop (i + 1) xs
+left_there xs i x is = drop_more xs i x (slice_get_within xs i x is) ∙ ap (λ y. y ∷ drop (i + 1) xs) (get_or_from_slice_get xs i x x is)
 
 -- what holds of all entries holds at each position
 pub all_at : {A : Type 0} (P : A → Type 0) (xs : List A) (i : ℕ) (x : A) → AllByRecursion P xs → slice_get xs i ≡ Some x → P x

@@ -4,4 +4,4 @@ mod NameExamples
 pub mod RecordExamples
 mod ElectionExamples
 mod LaterFaultExamples
-mod RefusedExamples
+pub mod RefusedExamples

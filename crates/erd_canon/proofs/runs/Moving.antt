@@ -3,11 +3,6 @@ use Rattle.erd_canon.proofs.Common.{◌≡◌, ℕ, List, [], ◌++◌, length, 
 use Rattle.std.proofs.KnownBytes.{Appends-trans}
 use lib.Seq.{take-append_seam}
 
--- where an error holds it, it holds
-pub on_err : {T E P : Type 0} (r : Result T E) → P → OnErr r P
-on_err (Ok x) p = tt
-on_err (Err e) p = p
-
 pub IsMoved-trans : {a b c : Option (List ℕ)} {p q r : List ℕ} → IsMoved a b p q → IsMoved b c q r → IsMoved a c p r
 IsMoved-trans {a} {b} {c} {r = r} m n = record {
   written = m.written ++ n.written;

@@ -11,9 +11,10 @@ difference p k h = record { part = p; key = k; how = h }
 
 lines : map difference_line (difference part.Style (Some (local_key (codes "S1"))) (Member (codes "OrderedContent")) ∷ difference part.Candidate (Some (local_key (codes "K3"))) OnlyLeft
     ∷ difference part.Unit (Some (local_key (codes "a\"b"))) OnlyRight ∷ difference part.Report None (Member (codes "IsTest")) ∷ difference part.Party (Some (local_key (codes "P1"))) OtherClass
-    ∷ difference part.Election None OnlyRight ∷ [])
+    ∷ difference part.Election None OnlyRight ∷ difference part.Election (Some (local_key (codes "E1"))) OnlyLeft ∷ [])
     ≡ (codes "style [\"local-level\",\"\",\"S1\"]: member \"OrderedContent\"") ∷ (codes "candidate [\"local-level\",\"\",\"K3\"]: only left")
-    ∷ (codes "unit [\"local-level\",\"\",\"a\\\"b\"]: only right") ∷ (codes "report: member \"IsTest\"") ∷ (codes "party [\"local-level\",\"\",\"P1\"]: other class") ∷ (codes "election: only right") ∷ []
+    ∷ (codes "unit [\"local-level\",\"\",\"a\\\"b\"]: only right") ∷ (codes "report: member \"IsTest\"") ∷ (codes "party [\"local-level\",\"\",\"P1\"]: other class") ∷ (codes "election: only right")
+    ∷ (codes "election [\"local-level\",\"\",\"E1\"]: only left") ∷ []
 unfolding serde_json_on_literals
 lines = refl
 

@@ -1,13 +1,10 @@
 -- The rising keys of two reports in a part, walked in step: the first entries that differ tell the least key.
-use Rattle.erd_compare.proofs.Common.{◌≡◌, ℕ, zero, suc, ◌+◌, true, List, [], ◌∷◌, map, drop, slice_get, Some, None, Option, option_map, is_eq, Ordering, Less, Equal, Greater, sym, refl, ap, ◌∙◌, subst, drop_more, slice_get_within, get_or_from_slice_get, AllByRecursion, Data, key_cmp, Preference, meaning, options_exact, equal_keys, greater_turned, KeyPosition, Key, record_at, Differ, RecordMap, DifferAtKey, role_of_part, is_ranked, rising_in_role, TellsAtPositions, TellsLeast, IsOnly, IsOnlyLesser, TellsNext, HasKeyAt, IsComparable, How, OnlyLeft, OnlyRight, Part, part}
+use Rattle.erd_compare.proofs.Common.{◌≡◌, ℕ, zero, suc, ◌+◌, true, List, [], ◌∷◌, map, drop, slice_get, Some, None, Option, option_map, is_eq, Ordering, Less, Equal, Greater, sym, refl, ap, subst, AllByRecursion, Data, key_cmp, Preference, meaning, options_exact, equal_keys, greater_turned, KeyPosition, Key, record_at, Differ, RecordMap, DifferAtKey, role_of_part, is_ranked, rising_in_role, TellsAtPositions, TellsLeast, IsOnly, IsOnlyLesser, TellsNext, HasKeyAt, IsComparable, How, OnlyLeft, OnlyRight, Part, part}
+use Rattle.erd_check.proofs.Positions.{left_there}
 use Rattle.erd_compare.specs.declared.first.tables.KeyedDifference.{KeyedDifference}
 use Rattle.erd_compare.proofs.least_difference.KeyedRecords.{none_beside, some_record, tells_as}
 use Rattle.erd_compare.proofs.least_difference.RisingKeys.{all_rise, all_stand, by_key, by_key_total, entries, entry_keys, keys_rise}
 use Rattle.erd_compare.proofs.least_difference.StepWalks.{IsBelow, IsInStep, IsPast, NoneLess, all_left, below_head, equal_all, equal_below, lacks_left, lacks_right, none_less-below, none_less-head, pass, past_head}
-
--- what is left from an entry on
-pub heads : {A : Type 0} (xs : List A) (i : ℕ) (x : A) → slice_get xs i ≡ Some x → drop i xs ≡ x ∷ drop (i + 1) xs
-heads xs i x here = drop_more xs i x (slice_get_within xs i x here) ∙ ap (λ y. y ∷ drop (i + 1) xs) (get_or_from_slice_get xs i x x here)
 
 -- a key with the position of its object
 abbrev pub Entry : Type 0
@@ -93,7 +90,7 @@ module _ (π ρ : Preference) (t u : Data) (p : Part) (c : IsComparable π t) (d
 
   -- both have an entry there
   pub both_heads : (es gs : List Entry) (i : ℕ) (e g : Entry) → slice_get es i ≡ Some e → slice_get gs i ≡ Some g → AreLeft π ρ t u p (drop i es) (drop i gs) → AreLeft π ρ t u p (e ∷ drop (i + 1) es) (g ∷ drop (i + 1) gs)
-  both_heads es gs i e g here there h = subst (AreLeft π ρ t u p (e ∷ drop (i + 1) es)) (heads gs i g there) (subst (λ xs. AreLeft π ρ t u p xs (drop i gs)) (heads es i e here) h)
+  both_heads es gs i e g here there h = subst (AreLeft π ρ t u p (e ∷ drop (i + 1) es)) (left_there gs i g there) (subst (λ xs. AreLeft π ρ t u p xs (drop i gs)) (left_there es i e here) h)
 
   ended : (es : List Entry) (i : ℕ) → slice_get es i ≡ None → drop i es ≡ []
   ended [] zero none = refl
@@ -123,6 +120,6 @@ module _ (π ρ : Preference) (t u : Data) (p : Part) (c : IsComparable π t) (d
       at : (x : Option Entry) → slice_get es i ≡ x → (y : Option Entry) → slice_get gs i ≡ y → TellsNext (option_map (λ e. e.0) x) (option_map (λ e. e.0) y) d → TellsLeast (map_of π t p) (map_of ρ u p) d
       at None here None there told =
           subst (TellsLeast (map_of π t p) (map_of ρ u p)) (sym told) (equal_all by_key_total (map_of π t p) (map_of ρ u p) (left_at [] [] (ended es i here) (ended gs i there)).step)
-      at (Some e) here None there told = only e.0 OnlyLeft d told (left_first e (drop (i + 1) es) [] (left_at (e ∷ drop (i + 1) es) [] (heads es i e here) (ended gs i there)) tt)
-      at None here (Some g) there told = only g.0 OnlyRight d told (right_first g [] (drop (i + 1) gs) (left_at [] (g ∷ drop (i + 1) gs) (ended es i here) (heads gs i g there)) tt)
+      at (Some e) here None there told = only e.0 OnlyLeft d told (left_first e (drop (i + 1) es) [] (left_at (e ∷ drop (i + 1) es) [] (left_there es i e here) (ended gs i there)) tt)
+      at None here (Some g) there told = only g.0 OnlyRight d told (right_first g [] (drop (i + 1) gs) (left_at [] (g ∷ drop (i + 1) gs) (ended es i here) (left_there gs i g there)) tt)
       at (Some e) here (Some g) there told = by e g (both_heads es gs i e g here there h) (apart e g here there) (by_key e.0 g.0) refl told

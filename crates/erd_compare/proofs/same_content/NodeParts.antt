@@ -1,28 +1,14 @@
 -- What a node of a ballot's order is, by its class, and what stands inside it.
-use Rattle.erd_compare.proofs.Common.{◌≡◌, ℕ, zero, suc, ◌<◌, ◌≤◌, Bool, true, false, List, [], ◌∷◌, length, get_or, Some, None, codes, Option, is_eq, Ordering, Equal, sym, refl, ap, ◌∙◌, arith, Data, object, Members, no_members, member, get_member, get, view, items_view, Value, text_cmp, Judged, Preference, Content, no_content, content_of, depth, members_depth, is_eq-slice_cmp, items_depth, get_member-depth, class_of_node, is_header_class, node_of, content_inside, Decides}
+use Rattle.erd_compare.proofs.Common.{◌≡◌, ℕ, zero, suc, ◌<◌, ◌≤◌, Bool, true, false, List, [], ◌∷◌, length, get_or, Some, codes, Option, sym, refl, ap, ◌∙◌, arith, Data, object, get, view, items_view, Value, Judged, Preference, depth, members_depth, items_depth, get_member-depth, class_of_node, is_header_class, node_of, Decides}
 use Rattle.erd_compare.proofs.same_values.EqualOptions.{decides_as}
+use Rattle.erd_meaning.proofs.meanings.InnerContent.{content_at, content_inside-get}
 use Rattle.erd_meaning.specs.Records.{contest_node, header_node}
 use Rattle.erd_compare.specs.code.ContentParts.{content_within}
 
 -- ---- what stands inside
 
--- the content of a member that may be absent
-abbrev pub content_at : Preference → Data → Option Data → Content
-content_at π t None = no_content
-content_at π t (Some v) = content_of π t v
-
--- what stands inside is that of the member
-inside_get : (π : Preference) (t : Data) (ms : Members) → content_inside π t ms ≡ content_at π t (get_member (codes "OrderedContent") ms)
-inside_get π t no_members = refl
-inside_get π t (member k d ms) = at (text_cmp (codes "OrderedContent") k) refl (inside_get π t ms)
-  where
-    at : (o : Ordering) → text_cmp (codes "OrderedContent") k ≡ o → content_inside π t ms ≡ content_at π t (get_member (codes "OrderedContent") ms)
-        → content_inside π t (member k d ms) ≡ content_at π t (get_member (codes "OrderedContent") (member k d ms))
-    at Equal is h = rw (is, sym (is_eq-slice_cmp (codes "OrderedContent") k) ∙ ap is_eq is)
-    at e is h = rw (is, sym (is_eq-slice_cmp (codes "OrderedContent") k) ∙ ap is_eq is) h
-
 within_get : (π : Preference) (t d : Data) {o : Option Data} → get (codes "OrderedContent") d ≡ o → content_at π t o ≡ content_within π t d
-within_get π t (object ms) e = sym (inside_get π t ms ∙ ap (content_at π t) e)
+within_get π t (object ms) e = sym (content_inside-get π t ms ∙ ap (content_at π t) e)
 within_get π t d e = ap (content_at π t) (sym e)
 
 -- what stands inside two values is the same exactly if their members are

@@ -4,7 +4,7 @@ use Rattle.std.proofs.lemmas.List.Folds.{list_any-append, position_or_len_push}
 use Rattle.std.proofs.Common.{append_assoc}
 use Rattle.std.proofs.lemmas.Bool.Decides.{nat_tests}
 use Rattle.indexmap.specs.IndexSet.{insert_all, insert_key}
-use Rattle.erd_compare.proofs.least_difference.KeyWalks.{heads}
+use Rattle.erd_check.proofs.Positions.{left_there}
 
 -- ---- the first that passes a test
 
@@ -101,15 +101,6 @@ module _ {K : Type 0} (cmp : K → K → Ordering) (total : IsTotalOrder cmp) (e
     abbrev pub position_in : List K → O → Option ℕ
     position_in ks o = option_map (λ k. position_or_len (eq k) ks) (told o)
 
-    behind_any : (k : K) (y : Option K) (ks : List K) → In k ks → In k (cons_option y ks)
-    behind_any k None ks h = h
-    behind_any k (Some l) ks h = inr h
-
-    pub in_told : (o : O) (k : K) (os : List O) → In o os → told o ≡ Some k → In k (filter_map told os)
-    in_told o k [] h e = absurd h
-    in_told o k (x ∷ xs) (inl here) e = subst (λ y. In k (cons_option y (filter_map told xs))) (sym (ap told here ∙ e)) (inl refl)
-    in_told o k (x ∷ xs) (inr later) e = behind_any k (told x) (filter_map told xs) (in_told o k xs later e)
-
     -- the positions stay if more keys are added
     pub positions_stay : (os : List O) (ks ls : List K) → ((o : O) (k : K) → In o os → told o ≡ Some k → list_any (eq k) ks ≡ true) → map (position_in ks) os ≡ map (position_in (insert_all eq ks ls)) os
     positions_stay [] ks ls h = refl
@@ -140,7 +131,7 @@ module _ {K : Type 0} (cmp : K → K → Ordering) (total : IsTotalOrder cmp) (e
         all_keys = insert_all eq old (filter_map told all)
 
         step : IsAdding old all (o ∷ left) ks ns
-        step = subst (λ xs. IsAdding old all xs ks ns) (heads all i o here) h
+        step = subst (λ xs. IsAdding old all xs ks ns) (left_there all i o here) h
 
         in_turn : (y : Option K) (ls : List K) → insert_all eq (insert_all eq ks (cons_option y [])) ls ≡ insert_all eq ks (cons_option y ls)
         in_turn None ls = refl

@@ -17,9 +17,6 @@ pub record IsMergedTo (ones others : List (Option Key)) (passed : ℕ) (ranks : 
 
 module _ (ones others : List (Option Key)) (up : IsStrictlySortedBy by_key ones) (more : IsStrictlySortedBy by_key others) (passed : ℕ) (ranks : List ℕ) (m : IsMergedTo ones others passed ranks)
     (key : Option Key) (here : slice_get others (length ranks) ≡ Some key) where
-  n : ℕ
-  n = length ranks
-
   low : length ranks < length others
   low = slice_get_within others (length ranks) key here
 

@@ -1,11 +1,12 @@
 -- The numbers of the names of selections: names of two reports are equal if and only if their numbers are.
 use Rattle.erd_compare.proofs.Common.{◌≡◌, ℕ, true, List, [], map, ◌==◌, Some, None, Option, option_map, filter_map, option_and_then, sym, refl, ap, ◌∙◌, subst, ap₂, fun_ext, list_any, position_or_len, Data, family, In, position_of, Judged, NameParts, NumberedParts, numbered_name_cmp, Placed, objects, has_id, owner_at, owner, name_of, name_named, option_and_then_some, option_eq, find-Some, option_map-Some, in_at, numbered_name_cmp_total, numbered_name_cmp_exact, name_by_ranks, name_by_ranks_of, name_told, name_eq, names_on, names_of_both, number_of_name, number_of_selection, numbers_on, AreNameNumbers, Decides, on_side, AreCommonByRank, CommonRanks, Side, Left, Right}
 use Rattle.indexmap.specs.IndexSet.{insert_all}
+use Rattle.erd_check.proofs.Order.{In-filter_map}
 use Rattle.erd_meaning.proofs.selections.RankedReports.{known_name}
 use Rattle.erd_meaning.specs.code.RanksAmong.{HasKeysIn}
 use Rattle.erd_compare.specs.declared.ranks.name_numbers.NameNumbers.{NameNumbers}
 use Rattle.erd_compare.proofs.same_values.EqualOptions.{options_decide}
-use Rattle.erd_compare.proofs.same_ranks.InsertedKeys.{added_any, in_told, one_position, positions_stay, stands_all}
+use Rattle.erd_compare.proofs.same_ranks.InsertedKeys.{added_any, one_position, positions_stay, stands_all}
 use Rattle.erd_compare.proofs.same_ranks.NamesOnSides.{from_ranks, name_is_told}
 use Rattle.erd_compare.proofs.same_ranks.KeyRanks.{prefer_on, tree_on}
 
@@ -58,7 +59,7 @@ module _ (a b : Judged) where
             positions_stay numbered_name_cmp numbered_name_cmp_total numbered_name_cmp_exact (told Left) (selections_on Left) ks (filter_map (told Right) (selections_on Right))
             (λ o q inside is. subst (λ xs. list_any (name_eq q) xs ≡ true) (sym first)
             (added_any numbered_name_cmp numbered_name_cmp_total numbered_name_cmp_exact q (filter_map (told Left) (selections_on Left)) []
-            (in_told numbered_name_cmp numbered_name_cmp_total numbered_name_cmp_exact (told Left) o q (selections_on Left) inside is)))
+            (In-filter_map (told Left) o q (selections_on Left) inside is)))
             ∙ ap (λ xs. map (λ o. place xs (told Left o)) (selections_on Left)) (sym both)
 
         at : (side : Side) → numbers_on side n ≡ map (λ o. number_of_selection a b side o.value) (selections_on side)
@@ -83,7 +84,7 @@ module _ (a b : Judged) where
   selection_named side o n inside is = record {
     known = known_name (prefer_on a b side) (tree_on a b side) o.value n is;
     listed = listed_on side (name_by_ranks a b n)
-        (in_told numbered_name_cmp numbered_name_cmp_total numbered_name_cmp_exact (λ (x : Placed). name_by_ranks_of a b side x.value) o (name_by_ranks a b n) (selections_on side) inside (ap (option_map (name_by_ranks a b)) is));
+        (In-filter_map (λ (x : Placed). name_by_ranks_of a b side x.value) o (name_by_ranks a b n) (selections_on side) inside (ap (option_map (name_by_ranks a b)) is));
   }
 
   -- so is one that a reference names

@@ -1,7 +1,6 @@
 -- The names that a report gives to its selections: each key in them is that of an object, so it has a common rank, which is
 -- found by its rank.
-use Rattle.erd_compare.proofs.Common.{◌≡◌, ℕ, true, List, [], ◌∷◌, map, slice_get, Some, None, Option, option_map, filter_map, option_and_then, sym, refl, ap, ◌∙◌, subst, ap₂, AllByRecursion, cons_option, Data, view, Family, family, Role, role, In-from_contains, all_weakened, Judged, has_keys, rank_of, NameParts, NumberedParts, without_keys, numbered_parts, Placed, objects, numbered_selections, family_chosen, ranked_name, PlacedName, ranked_selection_in, name_of, Key, role_of_name, ranks_in_name, name_by_ranks, name_by_ranks_of, ranks_told, name_told, rank_of_key, common_rank_of, HasKeyAt, on_side, AreCommonByRank, CommonRanks, Side}
-use Rattle.erd_meaning.proofs.orders.DistinctEntries.{place_of as place_in}
+use Rattle.erd_compare.proofs.Common.{◌≡◌, ℕ, true, List, [], ◌∷◌, map, slice_get, Some, None, Option, option_map, filter_map, option_and_then, sym, refl, ap, ◌∙◌, subst, ap₂, AllByRecursion, cons_option, Data, view, Family, family, Role, role, In-from_contains, all_weakened, Judged, has_keys, rank_of, NameParts, NumberedParts, without_keys, numbered_parts, Placed, objects, numbered_selections, family_chosen, ranked_name, PlacedName, ranked_selection_in, name_of, Key, role_of_name, ranks_in_name, name_by_ranks, name_by_ranks_of, ranks_told, name_told, rank_of_key, common_rank_of, HasKeyAt, on_side, AreCommonByRank, CommonRanks, Side, position_of}
 use Rattle.erd_meaning.proofs.selections.NamesTold.{numbered_at}
 use Rattle.erd_meaning.proofs.selections.RankedReports.{known_name, chosen_keyed}
 use Rattle.erd_meaning.specs.code.RanksAmong.{HasKeysIn, IsKeyIn}
@@ -16,7 +15,7 @@ module _ (a b : Judged) where
   -- the object with a key of a name stands at a position
   key_stands : (side : Side) (f : Family) → has_keys f ≡ true → (key : Key) → IsKeyIn (prefer_on a b side) (tree_on a b side) f key → (i : ℕ) × HasKeyAt (prefer_on a b side) (tree_on a b side) (role.OfFamily f) i (Some key)
   key_stands side f keyed key h =
-      let place = place_in h.owner (objects f (tree_on a b side)) (In-from_contains h.owner (objects f (tree_on a b side)) h.stands) in
+      let place = position_of (objects f (tree_on a b side)) h.owner (In-from_contains h.owner (objects f (tree_on a b side)) h.stands) in
       (place.0, record { object = h.owner; stands = place.1; key = kept (prefer_on a b side) f h.owner.value keyed ∙ h.keyed })
 
   key_known : (side : Side) (f : Family) → has_keys f ≡ true → (key : Key) → IsKeyIn (prefer_on a b side) (tree_on a b side) f key → Stands (Some key) (both_keys a b (role.OfFamily f))

@@ -1,16 +1,12 @@
 -- The selections of a contest by the numbers of their names: numbers are equal if and only if the names are. So two contests
 -- mean the same by numbers if and only if they do by names.
-use Rattle.erd_compare.proofs.Common.{◌≡◌, ℕ, Bool, true, cond, List, [], ◌∷◌, ◌==◌, Some, None, Option, option_map, find, option_and_then, is_eq, sym, refl, ap, ◌∙◌, subst, inl, inr, fun_ext, Decides-eqb, tied_itself, both_ways, option_cmp, Data, view, In, position_of, Judged, NameParts, selection_record, selection_map, name_of, name_cmp, name_cmp_total, option_eq, find-Some, in_at, options_exact, SelectionRecord, number_of_name, number_of_selection, Decides, on_side, has_number, numbered_map, Side, Left, Right}
+use Rattle.erd_compare.proofs.Common.{◌≡◌, ℕ, Bool, true, cond, List, [], ◌∷◌, ◌==◌, Some, None, Option, option_map, find, option_and_then, is_eq, sym, refl, ap, ◌∙◌, subst, inl, inr, fun_ext, Decides-eqb, tied_itself, both_ways, option_cmp, Data, view, In, Judged, NameParts, selection_record, selection_map, name_of, name_cmp, name_cmp_total, option_eq, find-Some, options_exact, SelectionRecord, number_of_name, number_of_selection, Decides, on_side, has_number, numbered_map, Side, Left, Right}
 use Rattle.erd_compare.proofs.same_ranks.NameNumbers.{IsNameOn, one_name}
 use Rattle.erd_meaning.proofs.orders.DistinctEntries.{equal_names}
 
 same_find : {A : Type 0} (p q : A → Bool) (xs : List A) → ((x : A) → In x xs → p x ≡ q x) → find p xs ≡ find q xs
 same_find p q [] same = refl
 same_find p q (x ∷ xs) same = ap (λ b. cond b (Some x) (find p xs)) (same x (inl refl)) ∙ ap (λ r. cond (q x) (Some x) r) (same_find p q xs (λ y i. same y (inr i)))
-
--- what is found is in the list, and passes the test
-found : {A : Type 0} (test : A → Bool) (xs : List A) (x : A) → find test xs ≡ Some x → In x xs × (test x ≡ true)
-found test xs x e = let h = find-Some test xs x e in let place = position_of xs x h.0 in (in_at xs place.0 x place.1, h.1)
 
 module _ (a b : Judged) where
   abbrev name_on : Side → Data → Option NameParts
@@ -73,7 +69,7 @@ module _ (a b : Judged) where
     names_same same k = at (find (is_named Left k) ds) refl (find (is_named Right k) es) refl
       where
         its_name : (r : Side) (xs : List Data) (e : Data) → AreNamed r xs → find (is_named r k) xs ≡ Some e → IsNameOn a b r k
-        its_name r xs e named is = let h = found (is_named r k) xs e is in named e h.0 k (name_tested (name_on r e) k h.1)
+        its_name r xs e named is = let h = find-Some (is_named r k) xs e is in named e h.0 k (name_tested (name_on r e) k h.1)
 
         at : (o : Option Data) → find (is_named Left k) ds ≡ o → (p : Option Data) → find (is_named Right k) es ≡ p → map_on Left ds k ≡ map_on Right es k
         at (Some d) is p other = names_at Left k (its_name Left ds d mine is) (same (number_of_name a b k))
@@ -88,7 +84,7 @@ module _ (a b : Judged) where
     has_its_name r xs e q named is = at (name_on r e) refl (number_tested (number_of_selection a b r e) q h.1)
       where
         h : In e xs × (has_number a b r q e ≡ true)
-        h = found (has_number a b r q) xs e is
+        h = find-Some (has_number a b r q) xs e is
 
         at : (o : Option NameParts) → name_on r e ≡ o → option_map (number_of_name a b) o ≡ Some q → Named r q
         at None here none = cc

@@ -1,9 +1,8 @@
 -- The selections of a contest among those of their report.
-use Rattle.erd_compare.proofs.Common.{◌≡◌, ℕ, ◌+◌, Bool, true, false, cond, List, map, ◌==◌, slice_get, Some, None, codes, Option, option_map, option_and_then, sym, refl, ap, ◌∙◌, subst, slice_get-map, Data, get, view, role_of_class, kind_of_member, Class, class, family, role, MemberKind, kind, In, In-flat_map, entries_of, entries_at, Judged, Placed, contests, selections_of_contest, objects, numbered_selections, selection_map, name_of, option_and_then_some, option_map-Some, in_at, Decides, IsPairOf, IsPlaced, AreSelectionsAt, AreSelectionsIn, on_side, is_selections, numbered_map, MemberPair, Side, Left, Right}
+use Rattle.erd_compare.proofs.Common.{◌≡◌, ℕ, ◌+◌, Bool, true, false, cond, List, map, ◌==◌, slice_get, Some, None, codes, Option, option_map, option_and_then, sym, refl, ap, ◌∙◌, subst, slice_get-map, Data, get, view, role_of_class, kind_of_member, Class, class, family, role, MemberKind, kind, In, In-flat_map, entries_of, entries_at, Judged, Placed, contests, selections_of_contest, objects, numbered_selections, selection_map, name_of, option_and_then_some, option_map-Some, in_at, Decides, IsPairOf, IsPlaced, AreSelectionsAt, AreSelectionsIn, on_side, is_selections, numbered_map, MemberPair, Side, Left, Right, position_of}
 use Rattle.erd_meaning.proofs.selections.NamesTold.{numbered_at}
 use Rattle.erd_meaning.proofs.accepted.Standing.{values-placed_entries}
 use Rattle.erd_meaning.specs.code.SelectionWalk.{StandFrom, if_of_contest, selection_of}
-use Rattle.erd_meaning.proofs.orders.DistinctEntries.{place_of as place_in}
 use Rattle.erd_compare.proofs.same_ranks.NameNumbers.{selection_named}
 use Rattle.erd_compare.proofs.same_ranks.NumberedSelections.{AreNamed, maps_decide}
 use Rattle.erd_compare.specs.declared.objects.placed.Selections.{Selections}
@@ -97,7 +96,7 @@ module _ (a : Judged) (c : ℕ) (ds : List Data) (are : AreSelectionsIn a c ds) 
 contest_named : (a b : Judged) (side : Side) (c : ℕ) (ds : List Data) → AreSelectionsIn (on_side side a b) c ds → AreNamed a b side ds
 contest_named a b side c ds are d inside n is =
     let j = on_side side a b in
-    let place = place_in d ds inside in
+    let place = position_of ds d inside in
     let o = stands_among j c ds are place.0 d place.1 in
     selection_named a b side o.0 n o.1 (ap (name_of j.prefer (view j.tree)) o.2 ∙ is)
 

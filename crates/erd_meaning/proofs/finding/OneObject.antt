@@ -5,7 +5,6 @@ use Rattle.erd_meaning.proofs.identity.ObjectFamilies.{is_met, is_of, objects_me
 use Rattle.erd_meaning.proofs.identity.ObjectPlaces.{AreApart, all_parted, apart, id_place}
 use Rattle.erd_meaning.proofs.identity.ToldFaults.{before_apart, less_itself}
 use Rattle.std.proofs.lemmas.List.Sums.{count_by-le-length, length-filter}
-use Rattle.erd_meaning.proofs.orders.DistinctEntries.{place_of}
 use Rattle.erd_meaning.proofs.accepted.Standing.{find-any, find-Some, has_id-from, has_id-Some}
 
 -- ---- positions in lists
@@ -279,7 +278,7 @@ only_family f p (k ∷ ks) one = at (p k) refl (is_of_family f k) refl (only_fam
 id_there : (π : Preference) (t : Data) (id : List ℕ) (k : Kept) → In k (kept_objects π t) → keeps_id id k ≡ true → (i : ℕ) × (id_in k.family t i ≡ Some id)
 id_there π t id k i h =
     let among = In-filter_kept (is_of_family k.family) k (kept_objects π t) i (itself (family_number k.family)) in
-    let place = place_of k (those_of k.family (kept_objects π t)) among in
+    let place = position_of (those_of k.family (kept_objects π t)) k among in
     let same = same_id_from k.id (Some id) h in
     (place.0, sym (kept_part π (λ j. j.id) k.family t place.0) ∙ ap (option_and_then (λ (j : Kept). j.id)) place.1 ∙ same.1 ∙ sym same.2)
 

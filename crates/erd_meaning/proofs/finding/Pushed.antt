@@ -1,5 +1,5 @@
 -- What the indexes and the sets with numbered keys answer, once something was added.
-use Rattle.erd_meaning.proofs.Common.{◌≡◌, ℕ, zero, suc, ◌+◌, ◌<◌, Bool, true, false, cond, List, [], ◌∷◌, ◌++◌, length, is_some, slice_get, Some, None, Option, option_map, position, option_and_then, sym, refl, ap, ◌∙◌, subst, append_assoc, append-nil, arith, append_snoc, take-append_seam, position_from-zero, take-append-le, length_push, slice_get_within, position_from, lookup, option_or, Family, family, with_place, places_from, rank, number_at, number_of_id, number_of_key, contests_noted, contests_before, is_of_family, those_of, is_keyed, keeps_id, Kept, Key, inl, inr, cases_Bool, ◌&&◌, ◌==◌, is_eq, rules, and_parts, Equal-is, family_number, key_writes, key_cmp, same_owned, is_salted_owned, key_cmp_exact, salted_number, Salted, Decides-eqb, not, ◌||◌, ap₂, HashWrites, list_any, position_or_len, insert_key, keys_in, AreNumbered, cond_both, OnErr, Ok, Err, Result}
+use Rattle.erd_meaning.proofs.Common.{◌≡◌, ℕ, zero, suc, ◌+◌, ◌<◌, Bool, true, false, cond, List, [], ◌∷◌, ◌++◌, length, is_some, slice_get, Some, None, Option, option_map, position, option_and_then, sym, refl, ap, ◌∙◌, subst, append_assoc, append-nil, arith, append_snoc, take-append_seam, position_from-zero, take-append-le, length_push, slice_get_within, position_from, lookup, option_or, Family, family, with_place, places_from, rank, number_at, number_of_id, number_of_key, contests_noted, contests_before, is_of_family, those_of, is_keyed, keeps_id, Kept, Key, inl, inr, cases_Bool, ◌&&◌, ◌==◌, is_eq, rules, and_parts, Equal-is, family_number, key_writes, key_cmp, same_owned, is_salted_owned, key_cmp_exact, salted_number, Salted, Decides-eqb, not, ◌||◌, ap₂, HashWrites, list_any, position_or_len, insert_key, keys_in, AreNumbered, OnErr, Ok, Err, Result}
 use Rattle.erd_meaning.proofs.finding.OneObject.{hit}
 use Rattle.erd_meaning.specs.declared.keys.salt.Salt.{Salt}
 use Rattle.erd_meaning.proofs.identity.ObjectFamilies.{family_exact}
@@ -203,10 +203,6 @@ module _ {K : Type 0} (writes : K → HashWrites) (salt : Salt) where
     pub position_numbered : (keys : List (Salted K)) → AreNumbered writes salt keys → position asked keys ≡ position test (keys_in keys)
     position_numbered keys all = position_from-zero asked keys ∙ from_numbered 0 keys all ∙ sym (position_from-zero test (keys_in keys))
 
-  numbered_push : (keys : List (Salted K)) (s : Salted K) → AreNumbered writes salt keys → s.number ≡ salted_number salt (writes s.key) → AreNumbered writes salt (keys ++ s ∷ [])
-  numbered_push [] s all is = (is, tt)
-  numbered_push (x ∷ keys) s all is = (all.0, numbered_push keys s all.1 is)
-
   keys_push : (keys : List (Salted K)) (s : Salted K) → keys_in (keys ++ s ∷ []) ≡ keys_in keys ++ s.key ∷ []
   keys_push [] s = refl
   keys_push (x ∷ keys) s = ap (λ ks. x.key ∷ ks) (keys_push keys s)
@@ -226,9 +222,6 @@ module _ {K : Type 0} (writes : K → HashWrites) (salt : Salt) where
 
       pub inserted_index : position_or_len (same_salted s) keys ≡ position_or_len (same s.key) (keys_in keys)
       inserted_index = place_numbered s.number (same s.key) (λ l e. is ∙ ap (λ ws. salted_number salt ws) (alike k l e)) keys all
-
-      pub inserted_numbered : AreNumbered writes salt (insert_key same_salted keys s)
-      inserted_numbered = cond_both (list_any (same_salted s) keys) keys (keys ++ s ∷ []) (AreNumbered writes salt) (λ _. all) (λ _. numbered_push keys s all is)
 
       pub inserted_keys : keys_in (insert_key same_salted keys s) ≡ insert_key same (keys_in keys) s.key
       inserted_keys = elim (cases_Bool (list_any (same_salted s) keys)) [ inl is ↦ rw (is, ← inserted_any, is) refl | inr is ↦ rw (is, ← inserted_any, is) (keys_push keys s) ]

@@ -1,14 +1,10 @@
 -- The walk over the elections and the objects of a report tells exactly the faults of identity.
-use Rattle.erd_meaning.proofs.Common.{◌≡◌, ℕ, Bool, true, false, cond, List, [], ◌∷◌, ◌++◌, is_none, IsTrue, ◌==◌, Some, None, Option, Less, sym, refl, ap, ◌∙◌, subst, inl, inr, true≢false, and_parts, and_from, tied_itself, bytes_eq-Decides, list_any, Data, family_number, ListsAll, place_cmp, Family, Role, Fault, Reason, DuplicateId, NoIdentifier, TwinIdentifier, Step, In, In-append_left, In-append_right, In-append, any_at, In-from_contains, contains_from_In, fault_at, has_keys, is_keyed_role, Preference, key_of, key_of_family_object, IdentityFault, LacksIdentifier, RepeatsId, RepeatsKey, Placed, elections, objects, has_several, objects_with_role, needs_key, id_of, kept, Met, an_object, an_election, Located, located_one, located_election, all_located, same_key, same_id, fault_if, is_keyless, are_twins, are_named_alike, faults_after, key_cmp_total, key_cmp_exact, Key, Equal-is, cases_Bool, arith, Contains, role}
+use Rattle.erd_meaning.proofs.Common.{◌≡◌, ℕ, Bool, true, false, cond, List, [], ◌∷◌, ◌++◌, is_none, IsTrue, ◌==◌, Some, None, Option, Less, sym, refl, ap, ◌∙◌, subst, inl, inr, true≢false, and_parts, and_from, tied_itself, bytes_eq-Decides, Data, family_number, ListsAll, place_cmp, Family, Role, Fault, Reason, DuplicateId, NoIdentifier, TwinIdentifier, Step, In, In-append_left, In-append_right, In-append, any_at, In-any, In-from_contains, contains_from_In, fault_at, has_keys, is_keyed_role, Preference, key_of, key_of_family_object, IdentityFault, LacksIdentifier, RepeatsId, RepeatsKey, Placed, elections, objects, has_several, objects_with_role, needs_key, id_of, kept, Met, an_object, an_election, Located, located_one, located_election, all_located, same_key, same_id, fault_if, is_keyless, are_twins, are_named_alike, faults_after, key_cmp_total, key_cmp_exact, Key, Equal-is, arith, Contains, role}
 use Rattle.erd_meaning.proofs.identity.ObjectFamilies.{IsElectionMet, IsObjectMet, election_is_met, is_met, source, family_exact, itself}
 use Rattle.erd_meaning.proofs.identity.ObjectPlaces.{all_parted, id_place}
 use Rattle.erd_meaning.proofs.identity.ToldFaults.{Complete, Told, complete, duplicate_id, has_twin, in_if, is_named_before, no_identifier, told, told_rising, told_sound, twin_identifier}
 
 -- ---- what the tests of keys and `@id` texts that the walk makes say of one object or of two
-
-pub any_from : {A : Type 0} (test : A → Bool) (xs : List A) → list_any test xs ≡ true → (x : A) × In x xs × (test x ≡ true)
-any_from test [] h = absurd (true≢false (sym h))
-any_from test (x ∷ xs) h = elim (cases_Bool (test x)) [ inl e ↦ (x, inl refl, e) | inr e ↦ let found = any_from test xs (rw e at h) in (found.0, inr found.1, found.2) ]
 
 keyed_at : (π : Preference) (d : Data) (k : Key) (b : Bool) → cond b (key_of π d) None ≡ Some k → (b ≡ true) × (key_of π d ≡ Some k)
 keyed_at π d k true e = (refl, e)
@@ -108,7 +104,7 @@ module _ (π : Preference) (t : Data) (f : Family) (o : Placed) (there : In o (o
 
   repeated_key : (before : List Met) → AreEarlier π t before o.place → has_twin before (object_here π f o) ≡ true → RepeatsKey π t o.place
   repeated_key before earlier e =
-      let found = any_from (are_twins (object_here π f o)) before e in
+      let found = In-any (are_twins (object_here π f o)) before e in
       let met = earlier found.0 found.1 in
       let twins : are_twins (object_here π f o) met.0.met ≡ true = ap (are_twins (object_here π f o)) met.2 ∙ found.2 in
       elim (source π t met.0 met.1) [
@@ -124,7 +120,7 @@ module _ (π : Preference) (t : Data) (f : Family) (o : Placed) (there : In o (o
 
   repeated_id : (before : List Met) → AreEarlier π t before o.place → is_named_before before (object_here π f o) ≡ true → RepeatsId t (id_place o.place)
   repeated_id before earlier e =
-      let found = any_from (are_named_alike (object_here π f o)) before e in
+      let found = In-any (are_named_alike (object_here π f o)) before e in
       let met = earlier found.0 found.1 in
       let named : are_named_alike (object_here π f o) met.0.met ≡ true = ap (are_named_alike (object_here π f o)) met.2 ∙ found.2 in
       elim (source π t met.0 met.1) [
@@ -148,7 +144,7 @@ module _ (π : Preference) (t : Data) (e : Placed) (there : In e (elections t)) 
 
   repeated_election : (before : List Met) → AreEarlier π t before e.place → has_twin before (election_here π t e) ≡ true → RepeatsKey π t e.place
   repeated_election before earlier h =
-      let found = any_from (are_twins (election_here π t e)) before h in
+      let found = In-any (are_twins (election_here π t e)) before h in
       let met = earlier found.0 found.1 in
       let twins : are_twins (election_here π t e) met.0.met ≡ true = ap (are_twins (election_here π t e)) met.2 ∙ found.2 in
       elim (source π t met.0 met.1) [

@@ -1,5 +1,5 @@
 -- The objects of a family and the elections are those that the walk meets, in the same order.
-use Rattle.erd_meaning.proofs.Common.{◌≡◌, ℕ, Bool, true, false, cond, List, [], ◌∷◌, ◌++◌, ◌==◌, Some, codes, filter, Option, find, flat_map, sym, refl, ap, ◌∙◌, subst, ap₂, append-nil, Decides-eqb, filter-append, Data, families, family_number, Family, family, Preference, Placed, placed_entries, report_of, elections, selections_of_contest, objects, has_several, Met, an_object, an_election, Located, located_one, located, contest_located, election_located, shared_located, all_located, flat_map-append, fun_ext, map-append, map, key_of, located_election, inside_election, elections_among, all_met, election_keys, ◌⊎◌, inl, inr, In, In-map, In-map_from, In-filter, In-filter_kept}
+use Rattle.erd_meaning.proofs.Common.{◌≡◌, ℕ, Bool, true, false, cond, List, [], ◌∷◌, ◌++◌, ◌==◌, Some, codes, filter, Option, find, flat_map, sym, refl, ap, ◌∙◌, subst, ap₂, append-nil, Decides-eqb, filter-append, Data, families, family_number, Family, family, Preference, Placed, placed_entries, report_of, elections, selections_of_contest, objects, has_keys, has_several, Met, an_object, an_election, Located, located_one, located, contest_located, election_located, shared_located, all_located, flat_map-append, fun_ext, map-append, map, key_of, located_election, inside_election, elections_among, all_met, election_keys, ◌⊎◌, inl, inr, In, In-map, In-map_from, In-filter, In-filter_kept}
 
 -- what is met is an object of the family
 abbrev pub is_object_of : Family → Met → Bool
@@ -75,6 +75,11 @@ family_exact f g e =
     let same : family_number f ≡ family_number g = (Decides-eqb (family_number f) (family_number g)).0 e in
     let found : Some f ≡ Some g = sym (own_number f) ∙ ap family_numbered same ∙ own_number g in
     cc
+
+-- a family that is not that of selections has keys
+pub keyed_unless : (f : Family) → (f ≡ family.Selection → ⊥) → has_keys f ≡ true
+keyed_unless family.Selection other = absurd (other refl)
+keyed_unless f other = refl
 
 -- the entries of an array, where they are of the family
 abbrev if_of : Family → Family → List Placed → List Placed

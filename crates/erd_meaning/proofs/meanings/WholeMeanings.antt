@@ -1,8 +1,8 @@
 -- When two reports mean the same: the report, and the election and the object of each key, mean the same.
-use Rattle.erd_meaning.proofs.Common.{◌≡◌, ℕ, zero, suc, Bool, true, false, not, ◌&&◌, List, [], ◌∷◌, ◌++◌, map, is_some, Some, None, Contains, filter, Option, option_map, find, option_and_then, bytes_eq, is_eq, Ordering, unwrap_or, sym, refl, ap, ◌∙◌, subst, ap₂, true≢false, arith, fun_ext, and_parts, or_parts, or_from, bytes_eq-Decides, list_any, option_cmp, ⊤, Data, null, get, kind_of_member, Class, Family, family, Role, role, MemberKind, kind, class_of_object, has_keys, key_cmp, Preference, key_of, election_key_of, Record, NameParts, Placed, report_of, elections, objects, if_carried, carried_members, label_beside_text, meaning, plain_member, record_with, selection_record, selection_map, member_of_class, object_record, record_in_election, placed_record, placed_with_key, records_of, election_records, selection_role, name_of, name_cmp, Key, inl, inr, cases_Bool}
+use Rattle.erd_meaning.proofs.Common.{◌≡◌, ℕ, zero, suc, Bool, true, false, not, ◌&&◌, List, [], ◌∷◌, ◌++◌, map, is_some, Some, None, Contains, filter, Option, option_map, find, option_and_then, bytes_eq, is_eq, Ordering, unwrap_or, sym, refl, ap, ◌∙◌, subst, ap₂, true≢false, arith, fun_ext, and_parts, or_parts, or_from, bytes_eq-Decides, list_any, option_cmp, ⊤, Data, null, get, Class, Family, family, Role, role, class_of_object, has_keys, key_cmp, Preference, key_of, election_key_of, Record, NameParts, Placed, report_of, elections, objects, meaning, plain_member, record_with, selection_record, selection_map, member_of_class, object_record, record_in_election, placed_record, placed_with_key, records_of, election_records, selection_role, name_of, name_cmp, Key, inl, inr, cases_Bool}
 use Rattle.std.proofs.lemmas.List.Folds.{list_any-append}
 use Rattle.erd_meaning.proofs.orders.DistinctEntries.{options_exact, equal_keys, equal_names}
-use Rattle.erd_meaning.proofs.meanings.WholeRecords.{names_in, nothing_either_way, absent_member, absent_plain, same_at_every_name, same_at_other_names}
+use Rattle.erd_meaning.proofs.meanings.WholeRecords.{names_in, absent_member, absent_plain, same_at_every_name, same_at_other_names}
 
 -- ---- members
 
@@ -77,17 +77,6 @@ pub same_selection_with : (π : Preference) (t u d e : Data) (c : Class) (one : 
     → plain_member π t d c one ≡ plain_member π u e c one → selection_record π t d ≡ selection_record π u e
 same_selection_with π t u d e c one left right agree at_one =
     same_record (plain_member π t d) (plain_member π u e) selection_role d e c left right (same_with_one (plain_member π t d c) (plain_member π u e c) d e one (absent_plain π t d c) (absent_plain π u e c) agree at_one)
-
-nothing_carried : (k : MemberKind) → if_carried k None ≡ None
-nothing_carried kind.Carried = refl
-nothing_carried k = refl
-
--- carried members, and what stands beside translations, are maps of members
-pub absent_carried : (c : Class) (d : Data) → IsOfMembers d (carried_members (Some c) d)
-absent_carried c d name e = ap (if_carried (kind_of_member c name)) e ∙ nothing_carried (kind_of_member c name)
-
-pub absent_beside : (d : Data) → IsOfMembers d (label_beside_text d)
-absent_beside d name e = nothing_either_way _ (get name d) e
 
 -- ---- keys and names
 

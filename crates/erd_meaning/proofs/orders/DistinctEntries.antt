@@ -1,11 +1,5 @@
 -- Lists and sets in which no two entries compare as equal.
-use Rattle.erd_meaning.proofs.Common.{◌≡◌, ℕ, zero, suc, ◌<◌, Bool, true, false, ◌⊎◌, List, [], ◌∷◌, map, take, slice_get, Some, Ordering, Equal, sym, refl, ap, ◌∙◌, subst, inl, inr, true≢false, arith, false_from_ne_true, Equal-is, IsDistinct, eq_by_cmp, Data, Items, no_items, item, get_item, In, In-map_from, any_at, all_from_In, In-all, is_same_json, list_of_items, is_repeated, None, Option, is_eq, option_cmp, NameParts, key_cmp, name_cmp, key_cmp_exact, name_cmp_exact, Key, tied_itself, CmpEqualImpliesEq, IsTotalOrder, list_any, IsStrictlySortedBy, rising_unique, In-any, In-map}
-
--- where an entry of a list stands
-pub place_of : {A : Type 0} (x : A) (xs : List A) → In x xs → (i : ℕ) × (slice_get xs i ≡ Some x)
-place_of x [] h = absurd h
-place_of x (y ∷ ys) (inl e) = (0, ap Some e)
-place_of x (y ∷ ys) (inr h) = let p = place_of x ys h in (suc p.0, p.1)
+use Rattle.erd_meaning.proofs.Common.{◌≡◌, ℕ, zero, suc, ◌<◌, Bool, true, false, ◌⊎◌, List, [], ◌∷◌, map, take, slice_get, Some, Ordering, Equal, sym, refl, ap, ◌∙◌, subst, inl, inr, true≢false, arith, false_from_ne_true, Equal-is, IsDistinct, eq_by_cmp, Data, Items, no_items, item, get_item, In, In-map_from, any_at, all_from_In, In-all, position_of, is_same_json, list_of_items, is_repeated, None, Option, is_eq, option_cmp, NameParts, key_cmp, name_cmp, key_cmp_exact, name_cmp_exact, Key, tied_itself, CmpEqualImpliesEq, IsTotalOrder, list_any, IsStrictlySortedBy, rising_unique, In-any, In-map}
 
 -- entries at two places pass no test
 pub distinct_from_places : {A : Type 0} (test : A → A → Bool) (xs : List A)
@@ -13,7 +7,7 @@ pub distinct_from_places : {A : Type 0} (test : A → A → Bool) (xs : List A)
 unfolding IsDistinct
 distinct_from_places test [] h = tt
 distinct_from_places test (x ∷ xs) h = (
-  all_from_In (λ y. test x y ≡ false) xs (λ y i. let p = place_of y xs i in h 0 (suc p.0) x y (omega arith) refl p.1),
+  all_from_In (λ y. test x y ≡ false) xs (λ y i. let p = position_of xs y i in h 0 (suc p.0) x y (omega arith) refl p.1),
   distinct_from_places test xs (λ i j y z l. h (suc i) (suc j) y z (omega arith)),
 )
 

@@ -1,6 +1,5 @@
 -- The places of positions, each put at its position: the list of places is the inverse of the list of positions.
-use Rattle.erd_meaning.proofs.Common.{◌≡◌, ℕ, zero, suc, ◌+◌, ◌<◌, List, [], ◌∷◌, length, slice_get, slice_set, Some, sym, refl, ap, ◌∙◌, subst, ap₂, arith, length-set, AllByRecursion, all_from_In, places_put}
-use Rattle.erd_meaning.proofs.orders.DistinctEntries.{place_of}
+use Rattle.erd_meaning.proofs.Common.{◌≡◌, ℕ, zero, suc, ◌+◌, ◌<◌, List, [], ◌∷◌, length, slice_get, slice_set, Some, sym, refl, ap, ◌∙◌, subst, ap₂, arith, length-set, AllByRecursion, all_from_In, places_put, position_of}
 
 -- one entry set
 pub set_other : (ns : List ℕ) (i j n : ℕ) → (i ≡ j → ⊥) → slice_get (slice_set ns i n) j ≡ slice_get ns j
@@ -30,7 +29,7 @@ put_at (h ∷ is) r ns zero i once e low =
     let same : h ≡ i = cc in
     let count : r ≡ r + 0 = omega arith in
     let others = all_from_In (λ k. k ≡ i → ⊥) is (λ k inside is_i.
-    let p = place_of k is inside in
+    let p = position_of is k inside in
     let two : 0 ≡ suc p.0 = once 0 (suc p.0) i e (p.1 ∙ ap Some is_i) in
     omega arith) in
     untouched is (r + 1) (slice_set ns h r) i others

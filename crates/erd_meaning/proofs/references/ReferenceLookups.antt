@@ -1,13 +1,11 @@
 -- What is looked up among the objects that are kept is what `@id` texts name, and whether a selection is of another contest.
-use Rattle.erd_meaning.proofs.Common.{◌≡◌, ℕ, Bool, true, false, cond, ◌&&◌, List, [], ◌∷◌, is_some, Some, None, filter, Option, option_map, find, bytes_eq, sym, refl, ap, ◌∙◌, inl, inr, and_from, bytes_eq-Decides, both_ways, list_any, option_map_or, Data, families, family_number, Family, family, In, any_at, NoneOf, Preference, IdentityFault, Placed, objects, id_of, has_id, owner, is_owned, is_of_family, keeps_id, Kept, kept_objects, same_id, is_known, owner_among, and-false, cases_Bool, zero, suc, ◌+◌, not, ◌⊎◌, map, ◌==◌, slice_get, codes, option_and_then, subst, ap₂, arith, Decides-eqb, same_Some, slice_get-map, enumerate_from, In-map, In-map_from, In-flat_map, text_at, is_selection_in, is_in_other_contest, id_in, FindsId, contests, selections_of_contest, numbered_selections_of, numbered_selections, owner_at, number_of_id, contests_before, is_in_contest, number_among, is_elsewhere, in_at}
-use Rattle.erd_meaning.proofs.identity.IdentityFaults.{any_from}
+use Rattle.erd_meaning.proofs.Common.{◌≡◌, ℕ, Bool, true, false, cond, ◌&&◌, List, [], ◌∷◌, is_some, Some, None, filter, Option, option_map, find, bytes_eq, sym, refl, ap, ◌∙◌, inl, inr, and_from, bytes_eq-Decides, both_ways, list_any, option_map_or, Data, families, family_number, Family, family, In, any_at, In-any, NoneOf, Preference, IdentityFault, Placed, objects, id_of, has_id, owner, is_owned, is_of_family, keeps_id, Kept, kept_objects, same_id, is_known, owner_among, and-false, cases_Bool, zero, suc, ◌+◌, not, ◌⊎◌, map, ◌==◌, slice_get, codes, option_and_then, subst, ap₂, arith, Decides-eqb, same_Some, slice_get-map, enumerate_from, In-map, In-map_from, In-flat_map, text_at, is_selection_in, is_in_other_contest, id_in, FindsId, contests, selections_of_contest, numbered_selections_of, numbered_selections, owner_at, number_of_id, contests_before, is_in_contest, number_among, is_elsewhere, in_at, position_of}
 use Rattle.erd_meaning.proofs.finding.OneObject.{kept_of, those_kept, among_first, one_id, with_part, owner_elsewhere, owner_here, owner_nowhere}
 use Rattle.erd_meaning.proofs.identity.ObjectFamilies.{itself, family_exact}
 use Rattle.erd_meaning.proofs.accepted.Standing.{values-placed_entries, has_id-from, has_id-Some}
 use Rattle.erd_meaning.proofs.finding.Found.{finds_kept_id}
 use Rattle.erd_meaning.proofs.selections.NamesTold.{Numbered, numbered_at, of_its_contest}
 use Rattle.erd_meaning.proofs.selections.ContestSelections.{contests_counted_in}
-use Rattle.erd_meaning.proofs.orders.DistinctEntries.{place_of}
 
 -- ---- families
 
@@ -67,7 +65,7 @@ owner_same π t f id none = ap (option_map (λ (k : Kept). k.value)) (among_firs
 
 from_known : (π : Preference) (t : Data) (id : List ℕ) → is_known (kept_objects π t) id ≡ true → is_owned t id ≡ true
 from_known π t id h =
-    let x = any_from (keeps_id id) (kept_objects π t) h in
+    let x = In-any (keeps_id id) (kept_objects π t) h in
     let f = x.0.family in
     let passes : is_of_family f x.0 && keeps_id id x.0 ≡ true = and_from (is_of_family f x.0) (keeps_id id x.0) (itself (family_number f)) x.2 in
     let found : is_some (first_owner (kept_objects π t) f id) ≡ true =
@@ -76,7 +74,7 @@ from_known π t id h =
 
 to_known : (π : Preference) (t : Data) (id : List ℕ) → is_owned t id ≡ true → is_known (kept_objects π t) id ≡ true
 to_known π t id h =
-    let x = any_from (λ f. is_some (owner t f id)) families h in
+    let x = In-any (λ f. is_some (owner t f id)) families h in
     found_any (λ (k : Kept). k.value) (is_of_family x.0) (keeps_id id) (kept_objects π t) (ap is_some (first_owner_same π t x.0 id) ∙ x.2)
 
 pub known_same : (π : Preference) (t : Data) (id : List ℕ) → is_known (kept_objects π t) id ≡ is_owned t id
@@ -95,7 +93,7 @@ to_chosen contest o id i e =
 
 from_chosen : (contest : Placed) (id : List ℕ) → is_selection_in contest.value id ≡ true → (o : Placed) × In o (selections_of_contest contest) × (id_of o.value ≡ Some id)
 from_chosen contest id h =
-    let d = any_from (has_id id) (map (λ o. o.value) (selections_of_contest contest)) (sym (chosen_values contest id) ∙ h) in
+    let d = In-any (has_id id) (map (λ o. o.value) (selections_of_contest contest)) (sym (chosen_values contest id) ∙ h) in
     let image = In-map_from (λ (o : Placed). o.value) (selections_of_contest contest) d.0 d.1 in
     (image.0, image.1, ap id_of image.2 ∙ has_id-Some id d.0 d.2)
 
@@ -140,7 +138,7 @@ module _ (π : Preference) (t : Data) (id : List ℕ) (none : NoneOf (IdentityFa
   one_number : (s c : ℕ) (contest : Placed) (x : SelectionAt t s id) → id_in family.Selection t s ≡ Some id → slice_get (contests t) c ≡ Some contest → is_selection_in contest.value id ≡ true → x.one.0 ≡ c
   one_number s c contest x e is h =
       let o = from_chosen contest id h in
-      let place = place_of {A = Numbered} (c, o.0) (numbered_selections t) (with_its_number t c contest o.0 is o.1) in
+      let place = position_of {A = Numbered} (numbered_selections t) (c, o.0) (with_its_number t c contest o.0 is o.1) in
       let there : id_in family.Selection t place.0 ≡ Some id =
       ap (option_and_then (λ (o : Placed). id_of o.value)) (sym (numbered_at t place.0) ∙ ap (option_map (λ (x : Numbered). x.1)) place.1) ∙ o.2 in
       let same : s ≡ place.0 = (one_id π t id family.Selection family.Selection s place.0 none e there).1 in

@@ -1,7 +1,7 @@
 -- What the walk over selections tells of them, in order: exactly the faults of selections.
-use Rattle.erd_meaning.proofs.Common.{◌≡◌, ℕ, Bool, true, false, cond, ◌||◌, ◌⊎◌, List, [], ◌∷◌, ◌++◌, ◌==◌, Some, None, Option, flat_map, is_eq, Ordering, Less, sym, refl, ap, ◌∙◌, subst, ap₂, inl, inr, append_assoc, append-nil, and_parts, and_from, Decides-eqb, tied_itself, IsStrictlySortedBy, option_map_or, Data, fault_cmp, place_cmp, Fault, TwinSelection, In, In-append_left, In-append_right, In-append, any_at, In-all, sorted_append, fault_at, NameParts, Placed, name_cmp, fault_if, name_cmp_total, name_cmp_exact, NumberedName, is_selection_named, is_taken, NamesMet, added_name, with_name, named_one, named_all, Equal-is, or-false, list_any-append, arith, suc, ◌+◌, map, slice_get, option_map, map-append, same_Some, slice_get-map, enumerate_from, Selection, In-map, In-map_from, In-flat_map, all_from_In, Preference, contests, selections_of_contest, numbered_selections_of, numbered_selections, Located, located_one, located, ListsAll, Reason, Step, In-from_contains, contains_from_In, IsBefore, SelectionFault, RepeatsName, name_of, objects, In-flat_map_from}
+use Rattle.erd_meaning.proofs.Common.{◌≡◌, ℕ, Bool, true, false, cond, ◌||◌, ◌⊎◌, List, [], ◌∷◌, ◌++◌, ◌==◌, Some, None, Option, flat_map, is_eq, Ordering, Less, sym, refl, ap, ◌∙◌, subst, ap₂, inl, inr, append_assoc, append-nil, and_parts, and_from, Decides-eqb, tied_itself, IsStrictlySortedBy, option_map_or, Data, fault_cmp, place_cmp, Fault, TwinSelection, In, In-append_left, In-append_right, In-append, any_at, In-any, In-all, sorted_append, fault_at, NameParts, Placed, name_cmp, fault_if, name_cmp_total, name_cmp_exact, NumberedName, is_selection_named, is_taken, NamesMet, added_name, with_name, named_one, named_all, Equal-is, or-false, list_any-append, arith, suc, ◌+◌, map, slice_get, option_map, map-append, same_Some, slice_get-map, enumerate_from, Selection, In-map, In-map_from, In-flat_map, all_from_In, Preference, contests, selections_of_contest, numbered_selections_of, numbered_selections, Located, located_one, located, ListsAll, Reason, Step, In-from_contains, contains_from_In, IsBefore, SelectionFault, RepeatsName, name_of, objects, In-flat_map_from}
 use Rattle.erd_check.proofs.TwoWalks.{both_empty}
-use Rattle.erd_meaning.proofs.identity.IdentityFaults.{any_from, at_true}
+use Rattle.erd_meaning.proofs.identity.IdentityFaults.{at_true}
 use Rattle.erd_meaning.proofs.identity.ObjectFamilies.{itself}
 use Rattle.erd_meaning.proofs.identity.ToldFaults.{if_sorted, in_if, less_itself, turned, earlier_fault, before_apart}
 use Rattle.erd_meaning.proofs.identity.MetLists.{or_same}
@@ -48,7 +48,7 @@ is_named_itself c n = and_from (c == c) (is_eq (name_cmp n n)) (itself c) (ap is
 
 taken_from : (names : List NumberedName) (c : ℕ) (n : NameParts) → is_taken names c n ≡ true → In {A = NumberedName} (c, n) names
 taken_from names c n h =
-    let found = any_from {A = NumberedName} (is_selection_named c n) names h in
+    let found = In-any {A = NumberedName} (is_selection_named c n) names h in
     subst (λ (s : NumberedName). In {A = NumberedName} s names) (is_named_from found.0 c n found.2) found.1
 
 taken_by : (names : List NumberedName) (c : ℕ) (n : NameParts) → In {A = NumberedName} (c, n) names → is_taken names c n ≡ true

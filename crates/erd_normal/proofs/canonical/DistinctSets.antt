@@ -28,18 +28,20 @@ pub first_reference : (π : Preference) (t : Data) → IsAccepted π t → (f : 
 first_reference π t accepted f d true w = absurd (not_within t (record { want = Reference f; value = d; repeated = true }) (λ x. IsTrue (is_reference_fault t x reason.Repeated)) w (no_reference_fault π t accepted w.place reason.Repeated) refl)
 first_reference π t accepted f d false w = refl
 
-module _ (π : Preference) (t : Data) (accepted : IsAccepted π t) (f : Family) (keyed : has_keys f ≡ true) (r : Bool) (ds : Items) (w : Within t (asked (Member (kind.Many f) r) (array ds))) where
-  entry_of : (i : ℕ) (d : Data) → get_item i ds ≡ Some d → Within t (record { want = Reference f; value = d; repeated = is_repeated ds i d })
-  entry_of i d e = Within-step t (asked (Member (kind.Many f) r) (array ds)) (record { want = Reference f; value = d; repeated = is_repeated ds i d }) (At i) w (rw e)
+-- what is asked of an entry of a set of references
+pub reference_entry : (t : Data) (f : Family) (r : Bool) (ds : Items) → Within t (asked (Member (kind.Many f) r) (array ds)) → (i : ℕ) (d : Data) → get_item i ds ≡ Some d
+    → Within t (record { want = Reference f; value = d; repeated = is_repeated ds i d })
+reference_entry t f r ds w i d e = Within-step t (asked (Member (kind.Many f) r) (array ds)) (record { want = Reference f; value = d; repeated = is_repeated ds i d }) (At i) w (rw e)
 
+module _ (π : Preference) (t : Data) (accepted : IsAccepted π t) (f : Family) (keyed : has_keys f ≡ true) (r : Bool) (ds : Items) (w : Within t (asked (Member (kind.Many f) r) (array ds))) where
   first_of_references : (i : ℕ) (d : Data) → get_item i ds ≡ Some d → is_repeated ds i d ≡ false
-  first_of_references i d e = first_reference π t accepted f d (is_repeated ds i d) (entry_of i d e)
+  first_of_references i d e = first_reference π t accepted f d (is_repeated ds i d) (reference_entry t f r ds w i d e)
 
   -- a reference is a text
   reference_text : (d : Data) → In d (list_of_items ds) → (s : List ℕ) × (d ≡ string s) × Within t (asked (Reference f) (string s))
   reference_text d i =
       let p = list_of_items-place ds d i in
-      let w' : Within t (asked (Reference f) d) = subst (λ b. Within t (record { want = Reference f; value = d; repeated = b })) (first_of_references p.0 d p.1) (entry_of p.0 d p.1) in
+      let w' : Within t (asked (Reference f) d) = subst (λ b. Within t (record { want = Reference f; value = d; repeated = b })) (first_of_references p.0 d p.1) (reference_entry t f r ds w p.0 d p.1) in
       let s = string_from_text d (wanted_within t (no_shape_fault π t accepted) (asked (Reference f) d) w') in
       (s.0, s.1, subst (λ x. Within t (asked (Reference f) x)) s.1 w')
 
@@ -67,22 +69,25 @@ pub first_value : (π : Preference) (t : Data) → IsAccepted π t → (w : Want
 first_value π t accepted w d true inside is = let h = sym (is refl) ∙ faultless t (no_shape_fault π t accepted) (record { want = w; value = d; repeated = true }) reason.Repeated inside in h
 first_value π t accepted w d false inside is = refl
 
+-- what is asked of an entry of a set of objects
+pub value_entry : (t : Data) (k : MemberKind) (r : Bool) (o : Role) (ds : Items) → Within t (asked (Member k r) (array ds)) → entry_want (Member k r) ≡ Some (Object o) → (i : ℕ) (d : Data) → get_item i ds ≡ Some d
+    → Within t (record { want = Object o; value = d; repeated = is_compared_set (Member k r) && is_repeated ds i d })
+value_entry t k r o ds w entries i d e =
+    Within-step t (asked (Member k r) (array ds)) (record { want = Object o; value = d; repeated = is_compared_set (Member k r) && is_repeated ds i d }) (At i) w (rw (entries, e))
+
 -- a set whose entries are of a class with texts and carried members alone, where compact texts tell the entries apart
 module _ (π : Preference) (t : Data) (accepted : IsAccepted π t) (k : MemberKind) (r : Bool) (o : Role) (ds : Items) (w : Within t (asked (Member k r) (array ds))) (entries : entry_want (Member k r) ≡ Some (Object o))
     (compared : is_compared_set (Member k r) ≡ true) (simple : (c : Class) → role_of_class c ≡ o → is_simple_class c ≡ true) (trees : AreTrees ds)
     (exact : (d e : Data) → In d (list_of_items ds) → In e (list_of_items ds) → compact_text d ≡ compact_text e → d ≡ e) where
-  value_of : (i : ℕ) (d : Data) → get_item i ds ≡ Some d → Within t (record { want = Object o; value = d; repeated = is_compared_set (Member k r) && is_repeated ds i d })
-  value_of i d e = Within-step t (asked (Member k r) (array ds)) (record { want = Object o; value = d; repeated = is_compared_set (Member k r) && is_repeated ds i d }) (At i) w (rw (entries, e))
-
   first_of_values : (i : ℕ) (d : Data) → get_item i ds ≡ Some d → is_repeated ds i d ≡ false
   first_of_values i d e =
-      first_value π t accepted (Object o) d (is_repeated ds i d) (subst (λ b. Within t (record { want = Object o; value = d; repeated = b && is_repeated ds i d })) compared (value_of i d e)) (λ h. refl)
+      first_value π t accepted (Object o) d (is_repeated ds i d) (subst (λ b. Within t (record { want = Object o; value = d; repeated = b && is_repeated ds i d })) compared (value_entry t k r o ds w entries i d e)) (λ h. refl)
 
   equal_values : (d e : Data) → In d (list_of_items ds) → In e (list_of_items ds) → compact_cmp d e ≡ Equal → is_same_json e d ≡ true
   equal_values d e i j h =
       let p = list_of_items-place ds d i in
       let tree = list_of_items-tree ds d trees i in
-      let inside : Within t (asked (Object o) d) = unrepeated t (no_shape_fault π t accepted) (Object o) d (is_compared_set (Member k r) && is_repeated ds p.0 d) refl (value_of p.0 d p.1) in
+      let inside : Within t (asked (Object o) d) = unrepeated t (no_shape_fault π t accepted) (Object o) d (is_compared_set (Member k r) && is_repeated ds p.0 d) refl (value_entry t k r o ds w entries p.0 d p.1) in
       let same : d ≡ e = exact d e i j (exact_bytes (compact_text d) (compact_text e) h) in
       ap (λ x. is_same_json x d) (sym same) ∙ entry_itself t (no_shape_fault π t accepted) o d simple tree inside
 

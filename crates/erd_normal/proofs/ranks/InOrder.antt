@@ -1,5 +1,5 @@
 -- Entries of a list in the order of their keys, each with its position.
-use Rattle.erd_normal.proofs.Common.{◌≡◌, ℕ, zero, suc, ◌+◌, ◌<◌, Bool, true, false, cond, List, [], ◌∷◌, map, length, get_or, drop, slice_get, Some, filter, Ordering, sym, refl, ap, ◌∙◌, subst, add-one, arith, on_total, IsTotalOrder, enumerate_from, In, rising_list, by_first, rising_list_map, In-rising}
+use Rattle.erd_normal.proofs.Common.{◌≡◌, ℕ, zero, suc, ◌+◌, ◌<◌, Bool, true, false, cond, List, [], ◌∷◌, map, length, get_or, slice_get, Some, filter, Ordering, sym, refl, ap, ◌∙◌, subst, arith, on_total, IsTotalOrder, enumerate_from, In, rising_list, by_first, rising_list_map, In-rising}
 use Rattle.erd_normal.proofs.lists.FilteredRising.{filter_rising}
 use Rattle.erd_normal.proofs.lists.NumberedKept.{numbered_stands}
 use Rattle.erd_normal.proofs.lists.StableRising.{map_after}
@@ -72,12 +72,3 @@ next {A} ps xs places k are low stands =
     let e = entry_there ps k (subst (λ is. k < length is) are low) in
     let at : slice_get ps k ≡ Some (get_or places k 0, e.0) = e.1 ∙ ap (λ is. Some (get_or is k 0, e.0)) (sym are) in
     record { entry = e.0; at = at; there = stands (get_or places k 0, e.0) at }
-
--- what is left from a place on
-some_left : {A : Type 0} (xs : List A) (k : ℕ) (x : A) → slice_get xs k ≡ Some x → drop k xs ≡ x ∷ drop (suc k) xs
-some_left [] k x e = cc
-some_left (y ∷ xs) zero x e = let same : y ≡ x = cc in ap (λ z. z ∷ xs) same
-some_left (y ∷ xs) (suc k) x e = some_left xs k x e
-
-pub left_there : {A : Type 0} (xs : List A) (k : ℕ) (x : A) → slice_get xs k ≡ Some x → drop k xs ≡ x ∷ drop (k + 1) xs
-left_there xs k x e = some_left xs k x e ∙ ap (λ n. x ∷ drop n xs) (sym (add-one k))

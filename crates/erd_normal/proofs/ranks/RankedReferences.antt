@@ -1,5 +1,5 @@
 -- The rank of the object that a reference names.
-use Rattle.erd_normal.proofs.Common.{◌≡◌, ℕ, ◌≤◌, true, false, cond, List, [], ◌∷◌, length, is_none, if◌then◌else◌, ◌==◌, Some, None, filter, Option, option_map, option_and_then, is_lt, is_gt, sym, refl, ap, ◌∙◌, subst, true≢false, arith, options_total, option_cmp, option_map_or, Data, family_number, Family, family, IsAccepted, has_keys, key_cmp, Preference, key_of, key_in, rank_of, id_in, FindsId, Placed, objects, id_of, owner, key_named, key_cmp_total, text_of, owner_is, owned_by, in_at, with_part, place_of, Key, id_of_rank, normal_id, reference_cmp, rank_named}
+use Rattle.erd_normal.proofs.Common.{◌≡◌, ℕ, ◌≤◌, true, false, cond, List, [], ◌∷◌, length, is_none, if◌then◌else◌, ◌==◌, Some, None, filter, Option, option_map, option_and_then, is_lt, is_gt, sym, refl, ap, ◌∙◌, subst, true≢false, arith, options_total, option_cmp, option_map_or, Data, family_number, Family, family, IsAccepted, has_keys, key_cmp, Preference, key_of, key_in, rank_of, id_in, FindsId, Placed, objects, id_of, owner, key_named, key_cmp_total, text_of, owner_is, owned_by, in_at, with_part, position_of, Key, id_of_rank, normal_id, reference_cmp, rank_named}
 use Rattle.erd_meaning.proofs.identity.ObjectFamilies.{family_exact, itself}
 use Rattle.erd_meaning.proofs.finding.OneObject.{ObjectIn}
 use Rattle.erd_normal.proofs.lists.NumbersInOrder.{ranks_climb}
@@ -10,11 +10,6 @@ none_lesser π [] = refl
 none_lesser π (o ∷ os) =
     let rest : List Placed = filter (λ o. is_lt (option_cmp key_cmp (key_of π o.value) None)) os in
     elim (key_of π o.value) as (λ k. length (cond (is_lt (option_cmp key_cmp k None)) (o ∷ rest) rest) ≡ 0) [ None ↦ none_lesser π os | Some k ↦ none_lesser π os ]
-
--- a family that is not that of selections has keys
-pub keyed_unless : (f : Family) → (f ≡ family.Selection → ⊥) → has_keys f ≡ true
-keyed_unless family.Selection other = absurd (other refl)
-keyed_unless f other = refl
 
 -- ---- the object at a position
 
@@ -72,7 +67,7 @@ module _ (π : Preference) (t : Data) (f : Family) (id : List ℕ) where
         | None ↦ λ e. refl
         | Some d ↦ λ e.
             let x = owned_by t f id d e in
-            let place = place_of x.0 (objects f t) (x.1) in
+            let place = position_of (objects f t) x.0 x.1 in
             absurd (none place.0 (ap (option_and_then (λ (o : Placed). id_of o.value)) place.1 ∙ (ap id_of x.2 ∙ x.3)))
       ]) refl
 

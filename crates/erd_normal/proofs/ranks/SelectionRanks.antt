@@ -1,6 +1,7 @@
 -- The selections of a contest in the order of their names, and their ranks.
 use Rattle.erd_normal.proofs.Common.{◌≡◌, ℕ, ◌+◌, ◌<◌, ◌≤◌, List, [], ◌∷◌, ◌++◌, map, length, take, drop, replicate, slice_get, Some, None, codes, Option, option_map, flat_map, option_copied, Ordering, sym, refl, ap, ◌∙◌, subst, arith, length-take, Bor, on_total, length-map, take_more, same_Some, slice_get-map, slice_get_within, get_or_from_slice_get, IsTotalOrder, options_total, AllByRecursion, enumerate_from, option_cmp, eq_by_cmp, Data, family, Name, entries_at, IsAccepted, Preference, NameParts, Placed, contests, selections_of_contest, objects, rising_list, name_of, name_cmp, positioned, rank_by, positions_by, name_cmp_total, drop_all, values-placed_from, in_at, distinct_map, by_first, rising_list_map, rank_map, rank_of_name, by_name, lent_name_cmp, rising_selections, AreSelectionRanks, In}
 use Rattle.std.proofs.lemmas.List.Folds.{flat_map-map}
+use Rattle.erd_check.proofs.Positions.{left_there}
 use Rattle.erd_meaning.specs.NumberedNames.{numbered_name_cmp, numbered_parts}
 use Rattle.erd_meaning.specs.Places.{places_put}
 use Rattle.erd_meaning.specs.RankedNames.{RankedParts, ranked_name}
@@ -11,7 +12,7 @@ use Rattle.erd_meaning.proofs.selections.RankedReports.{numbered_names_alike}
 use Rattle.erd_normal.proofs.canonical.RisingReports.{selection_values_distinct}
 use Rattle.erd_normal.proofs.lists.NumberedKept.{in_part}
 use Rattle.erd_normal.proofs.lists.StableRising.{map_after}
-use Rattle.erd_normal.proofs.ranks.InOrder.{Next, entries, left_there, next, positions, stands, values}
+use Rattle.erd_normal.proofs.ranks.InOrder.{Next, entries, next, positions, stands, values}
 
 -- ---- positions by one key and by another
 

@@ -1,5 +1,5 @@
 -- What a reference to a selection becomes, by the ranks of the selection and its contest.
-use Rattle.erd_normal.proofs.Common.{◌≡◌, ℕ, true, false, List, [], ◌==◌, slice_get, Some, None, codes, Option, option_map, find, option_and_then, sym, refl, ap, ◌∙◌, subst, ap₂, slice_get-map, option_map_or, Data, string, family_number, Family, family, entries_at, IsAccepted, Preference, key_of, key_in, rank_of, id_in, selection_in, FindsId, NameParts, Placed, contests, selections_of_contest, objects, numbered_selections, id_of, has_id, name_of, find-Some, option_map-Some, stands, one_object, has_id-Some, owner_is, in_at, with_part, place_of, canonical_selection_id, rank_of_name, id_of_selection, contest_with, selection_with, normal_selection_reference, AreSelectionRanks, In, In-flat_map}
+use Rattle.erd_normal.proofs.Common.{◌≡◌, ℕ, true, false, List, [], ◌==◌, slice_get, Some, None, codes, Option, option_map, find, option_and_then, sym, refl, ap, ◌∙◌, subst, ap₂, slice_get-map, option_map_or, Data, string, family_number, Family, family, entries_at, IsAccepted, Preference, key_of, key_in, rank_of, id_in, selection_in, FindsId, NameParts, Placed, contests, selections_of_contest, objects, numbered_selections, id_of, has_id, name_of, find-Some, option_map-Some, stands, one_object, has_id-Some, owner_is, in_at, with_part, position_of, canonical_selection_id, rank_of_name, id_of_selection, contest_with, selection_with, normal_selection_reference, AreSelectionRanks, In, In-flat_map}
 use Rattle.erd_meaning.proofs.selections.NamesTold.{Numbered, OfContest, of_its_contest, placed_of_contests}
 use Rattle.erd_meaning.proofs.identity.ObjectFamilies.{family_exact}
 use Rattle.erd_normal.proofs.canonical.ContestSelections.{one_contest}
@@ -73,7 +73,7 @@ module _ (π : Preference) (t : Data) (id : List ℕ) where
       inside c of_report None is h = cc
       inside c of_report (Some o) is h =
           let found = find-Some (λ (o : Placed). has_id id o.value) (selections_of_contest c) o is in
-          let place = place_of o (objects family.Selection t) (In-flat_map selections_of_contest o c (contests t) of_report found.0) in
+          let place = position_of (objects family.Selection t) o (In-flat_map selections_of_contest o c (contests t) of_report found.0) in
           none place.0 (ap (option_and_then (λ (o : Placed). id_of o.value)) place.1 ∙ has_id-Some id o.value found.1)
 
 -- what is looked up where a selection is found

@@ -4,7 +4,7 @@ use Rattle.erd_meaning.specs.Meaning.{Meaning}
 use Rattle.erd_check.proofs.Reports.{contest_node, header_node}
 use Rattle.erd_check.proofs.WholeExamples.{small_ballot_is_faultless, small_ballot_canonical_is_faultless}
 use Rattle.erd_meaning.proofs.refused.Refused.{accepted_by_lists}
-use Rattle.erd_normal.proofs.examples.CanonicalReports.{small_ballot_is_accepted}
+use Rattle.erd_meaning.proofs.examples.RefusedExamples.{small_ballot_is_accepted}
 use Rattle.erd_normal.proofs.examples.RearrangedExamples.{edited}
 use Rattle.erd_normal.proofs.meaning.AlikeRecords.{members_in}
 use Rattle.erd_normal.proofs.same.Back.{says_back}

@@ -1,7 +1,7 @@
 -- Members that are put into an object, written in the order of their names.
 use Rattle.erd_normal.proofs.Common.{◌≡◌, ℕ, zero, suc, ◌+◌, ◌<◌, ◌≤◌, Bool, true, false, List, [], ◌∷◌, ◌++◌, map, length, get_or, drop, is_some, slice_get, Some, None, string_bytes, Option, Less, Equal, Greater, sym, refl, ap, ◌∙◌, subst, append_assoc, append-nil, arith, nat_list_cmp_total, length-map, drop_more, exact_bytes, slice_get_read, option_map_or, ordering_reverse, Data, item, Members, no_members, member, put, items_of, view, items_view, members_view, Value, text_cmp, IsBeforeFirst, drop_all, Token, begin_array, end_array, key, Entry, all_at, before_put, put_all, due_value, IsWholeDue, due_list, IsBeforeAll, NamesRise, AreWholeDue, WritesThrough, array_of, value_tokens, items_tokens, members_tokens, member_tokens}
 use Rattle.erd_normal.specs.declared.text.due_members.DueMember.{DueMember}
-use Rattle.erd_normal.proofs.ranks.InOrder.{left_there}
+use Rattle.erd_check.proofs.Positions.{left_there}
 
 -- ---- tokens that are written one value after another
 

@@ -1,5 +1,5 @@
 -- The contests and headers of the ballots of an accepted report: what they refer to, and the arrays inside them.
-use Rattle.erd_normal.proofs.Common.{◌≡◌, ℕ, true, false, ◌⊎◌, List, Some, None, codes, Option, bytes_eq, is_eq, Ordering, Equal, sym, refl, ap, ◌∙◌, subst, inl, inr, is_eq-slice_cmp, Data, string, array, object, Items, Members, no_members, member, get_member, role_of_class, text_cmp, Class, class, family, role, kind, string_from_text, array_from, object_in, is_absent, is_filled_array, MayBeArray, ObjectAt, ObjectIn, of_role, wanted_within, lacks_none, member_within, Within, has_wanted_kind, entries_at, text_of, member_want, asked, Want, Member, Object, Reference, no_shape_fault, IsAccepted, Preference, is_selection_in, Content, no_content, owner, content_of, content_inside, In, In-all}
+use Rattle.erd_normal.proofs.Common.{◌≡◌, ℕ, true, false, ◌⊎◌, List, Some, None, codes, Option, bytes_eq, sym, refl, ap, ◌∙◌, subst, inl, inr, Data, string, array, object, Items, Members, get_member, role_of_class, Class, class, family, role, kind, string_from_text, array_from, object_in, is_absent, is_filled_array, MayBeArray, ObjectAt, ObjectIn, of_role, wanted_within, lacks_none, member_within, Within, has_wanted_kind, entries_at, text_of, member_want, asked, Want, Member, Object, Reference, no_shape_fault, IsAccepted, Preference, is_selection_in, Content, owner, In, In-all}
 use Rattle.erd_normal.proofs.canonical.ChosenEntries.{IsChosen, contest_named, entries_chosen, list_name}
 
 abbrev pub inner_name : List ℕ
@@ -9,21 +9,6 @@ pub content_class : (c : Class) → role_of_class c ≡ role.Content → (c ≡ 
 content_class class.OrderedContest e = inl refl
 content_class class.OrderedHeader e = inr refl
 content_class c e = cc
-
--- the content that a member gives, if it is there
-abbrev pub content_at : Preference → Data → Option Data → Content
-content_at π t None = no_content
-content_at π t (Some v) = content_of π t v
-
--- what stands inside a header is its member's
-pub content_inside-get : (π : Preference) (t : Data) (ms : Members) → content_inside π t ms ≡ content_at π t (get_member (codes "OrderedContent") ms)
-content_inside-get π t no_members = refl
-content_inside-get π t (member k d ms) = at (text_cmp (codes "OrderedContent") k) refl (content_inside-get π t ms)
-  where
-    at : (o : Ordering) → text_cmp (codes "OrderedContent") k ≡ o → content_inside π t ms ≡ content_at π t (get_member (codes "OrderedContent") ms)
-        → content_inside π t (member k d ms) ≡ content_at π t (get_member (codes "OrderedContent") (member k d ms))
-    at Equal is h = rw (is, sym (is_eq-slice_cmp (codes "OrderedContent") k) ∙ ap is_eq is)
-    at e is h = rw (is, sym (is_eq-slice_cmp (codes "OrderedContent") k) ∙ ap is_eq is) h
 
 -- an object of a ballot's content, of this class
 abbrev pub NodeAt : Data → Class → Members → Type 0

@@ -1,12 +1,13 @@
 -- Contents of ballots that mean the same say the same, headers inside headers included.
 use Rattle.erd_normal.proofs.Common.{◌≡◌, ℕ, zero, suc, ◌≤◌, max, Bool, true, false, cond, List, [], ◌∷◌, map, Some, None, codes, Option, option_and_then, bytes_eq, sym, refl, ap, ◌∙◌, subst, arith, Data, string, array, object, Items, no_items, item, Members, depth, items_depth, members_depth, get_member, get_item, as_str, kind_of_member, is_required, Class, class, Family, family, role, MemberKind, kind, At, entries_in, text_exact, get_member-tree, get_member-depth, is_absent, is_filled_array, MayBeArray, Within-step, of_role, member_within, Within, kind_of_unlisted_has, no_strange, no_unknown, IsTree, AreTrees, AreMembers, want_of_kind, member_want, want_of_name, entry_want, is_table_set, asked, Scope, scope, ClassText, Member, Object, Reference, no_shape_fault, resolves, IsAccepted, has_keys, Preference, key_of, JsonMap, Content, no_content, Node, a_contest, a_header, NameParts, if_carried, carried_members, contest_node, header_node, nodes_of, node_of, content_inside, key_named, name_named, Key, Sides, StandsFor, is_array_kind, an_empty_array, a_text, an_id, an_object, no_entry, one_entry, Same, SameEntries, SameMembers, In, inl, inr}
+use Rattle.erd_meaning.proofs.meanings.InnerContent.{content_at, content_inside-get}
 use Rattle.erd_normal.proofs.lists.Matched.{Matched, matched_back, matched_on, Paired, none, more}
 use Rattle.erd_normal.proofs.same.Back.{entries_paired, set_says, list_says}
 use Rattle.erd_normal.proofs.same.Lookups.{Aligned, both_there, not_both, lacks_none, lacks_one, merged}
 use Rattle.erd_normal.proofs.canonical.ChosenEntries.{list_name}
 use Rattle.erd_normal.proofs.same.Labels.{equal_aligned}
 use Rattle.erd_normal.proofs.same.Steady.{AllPlain, is_plain_kind, plain_of_kind}
-use Rattle.erd_normal.proofs.same.complete.ContentNodes.{ContestNode, HeaderNode, IsSelected, NodeAt, NodeView, content_at, content_inside-get, contest_view, header_view, inner_name, node_view}
+use Rattle.erd_normal.proofs.same.complete.ContentNodes.{ContestNode, HeaderNode, IsSelected, NodeAt, NodeView, contest_view, header_view, inner_name, node_view}
 use Rattle.erd_normal.proofs.same.complete.Sets.{TextsTied}
 
 -- ---- arrays whose entries say the same say the same, and so do an absent one and an empty one

@@ -1,6 +1,7 @@
 -- Sets that mean the same say the same: references that name one set of keys, and JSON values.
-use Rattle.erd_normal.proofs.Common.{◌≡◌, ℕ, Bool, true, false, ◌&&◌, ◌⊎◌, List, [], ◌∷◌, Some, None, Option, filter_map, option_and_then, is_eq, sym, refl, ap, ◌∙◌, subst, ap₂, true≢false, tied_itself, Equal-is, IsDistinct, cons_option, list_any, Data, string, array, Items, get_item, as_str, role_of_class, Class, Family, family, Role, MemberKind, kind, At, string_from_text, list_of_items-place, list_of_items-tree, text_itself, Within-step, wanted_within, unrepeated, Within, is_simple_class, entry_itself, IsTree, AreTrees, is_same_json, list_of_items, entry_want, is_compared_set, asked, is_repeated, Member, Object, Reference, no_shape_fault, unrepeated_reference, resolves, unrepeated_distinct, IsAccepted, has_keys, key_cmp, Preference, key_of, is_selection_in, owner, key_set, meaning, key_named, keys_named, name_named, key_cmp_total, key_cmp_exact, Key, Sides, StandsFor, an_id, Same, ⊎_elim, In, In-all, In-any, any_at, inl, inr}
-use Rattle.erd_normal.proofs.canonical.DistinctSets.{first_reference, first_value, names_accepted}
+use Rattle.erd_normal.proofs.Common.{◌≡◌, ℕ, Bool, true, false, ◌&&◌, ◌⊎◌, List, [], ◌∷◌, Some, None, Option, filter_map, option_and_then, is_eq, sym, refl, ap, ◌∙◌, subst, ap₂, true≢false, tied_itself, Equal-is, IsDistinct, cons_option, list_any, Data, string, array, Items, as_str, role_of_class, Class, Family, family, Role, MemberKind, kind, string_from_text, list_of_items-place, list_of_items-tree, text_itself, wanted_within, unrepeated, Within, is_simple_class, entry_itself, IsTree, AreTrees, is_same_json, list_of_items, entry_want, is_compared_set, asked, is_repeated, Member, Object, Reference, no_shape_fault, unrepeated_reference, resolves, unrepeated_distinct, IsAccepted, has_keys, key_cmp, Preference, key_of, is_selection_in, owner, key_set, meaning, key_named, keys_named, name_named, key_cmp_total, key_cmp_exact, Key, Sides, StandsFor, an_id, Same, ⊎_elim, In, In-all, In-any, any_at, inl, inr}
+use Rattle.erd_check.proofs.Order.{In-filter_map}
+use Rattle.erd_normal.proofs.canonical.DistinctSets.{first_reference, first_value, names_accepted, reference_entry, value_entry}
 use Rattle.erd_normal.proofs.lists.Matched.{Matched, Paired, none, more}
 use Rattle.erd_normal.proofs.same.Lists.{ApartBy, matched_by_keys, AreSound, itself}
 use Rattle.erd_normal.proofs.same.Related.{matched_within_both}
@@ -28,15 +29,6 @@ unfolding IsDistinct
 apart_by test key [] tells d = tt
 apart_by test key (x ∷ xs) tells d =
     (λ y i e. true≢false (sym (tells x y (inl refl) (inr i) e) ∙ In-all (λ z. test x z ≡ false) y xs d.0 i), apart_by test key xs (λ y z i j. tells y z (inr i) (inr j)) d.1)
-
-pub has_kept : {A K : Type 0} (key : A → Option K) (x : A) (k : K) (xs : List A) → In x xs → key x ≡ Some k → In k (filter_map key xs)
-has_kept key x k [] h e = absurd h
-has_kept key x k (y ∷ ys) (inl i) e = subst (λ o. In k (cons_option o (filter_map key ys))) (sym (ap key i ∙ e)) (inl refl)
-has_kept {A} {K} key x k (y ∷ ys) (inr h) e = at (key y) (has_kept key x k ys h e)
-  where
-    at : (o : Option K) → In k (filter_map key ys) → In k (cons_option o (filter_map key ys))
-    at None i = i
-    at (Some l) i = inr i
 
 pub kept_has : {A K : Type 0} (key : A → Option K) (k : K) (xs : List A) → In k (filter_map key xs) → (x : A) × In x xs × (key x ≡ Some k)
 kept_has key k [] h = elim h [ ]
@@ -73,17 +65,14 @@ module _ (π : Preference) (t : Data) (accepted : IsAccepted π t) (f : Family) 
   entry_named d n = ap (entry_key π t f) n.is ∙ n.named
 
   module _ (r : Bool) (ds : Items) (w : Within t (asked (Member (kind.Many f) r) (array ds))) where
-    entry_at : (i : ℕ) (d : Data) → get_item i ds ≡ Some d → Within t (record { want = Reference f; value = d; repeated = is_repeated ds i d })
-    entry_at i d e = Within-step t (asked (Member (kind.Many f) r) (array ds)) (record { want = Reference f; value = d; repeated = is_repeated ds i d }) (At i) w (rw e)
-
     pub reference_named : (d : Data) → In d (list_of_items ds) → NamedBy π t f d
-    reference_named d h = let p = list_of_items-place ds d h in named_by d (unrepeated_reference π t accepted f d (is_repeated ds p.0 d) (entry_at p.0 d p.1))
+    reference_named d h = let p = list_of_items-place ds d h in named_by d (unrepeated_reference π t accepted f d (is_repeated ds p.0 d) (reference_entry t f r ds w p.0 d p.1))
 
     pub references_apart : ApartBy (entry_key π t f) (list_of_items ds)
     references_apart =
         apart_by (λ d e. is_same_json e d) (entry_key π t f) (list_of_items ds)
         (λ x y i j e. same x y (reference_named x i) (reference_named y j) e)
-        (unrepeated_distinct ds (λ i d e. first_reference π t accepted f d (is_repeated ds i d) (entry_at i d e)))
+        (unrepeated_distinct ds (λ i d e. first_reference π t accepted f d (is_repeated ds i d) (reference_entry t f r ds w i d e)))
       where
         same : (x y : Data) → NamedBy π t f x → NamedBy π t f y → entry_key π t f x ≡ entry_key π t f y → is_same_json y x ≡ true
         same x y a b e =
@@ -96,7 +85,7 @@ fellow : (π : Preference) (t u : Data) (f : Family) (ds es : List Data) → key
 fellow π t u f ds es same x h n =
     let e : entry_key π t f x ≡ Some n.key = ap (entry_key π t f) n.is ∙ n.named in
     let there : list_any (λ l. is_eq (key_cmp l n.key)) (keys_named π u f es) ≡ true =
-    sym (ap (λ set. set n.key) same) ∙ any_at (λ l. is_eq (key_cmp l n.key)) n.key (keys_named π t f ds) (has_kept (entry_key π t f) x n.key ds h e) (ap is_eq (tied_itself key_cmp_total n.key)) in
+    sym (ap (λ set. set n.key) same) ∙ any_at (λ l. is_eq (key_cmp l n.key)) n.key (keys_named π t f ds) (In-filter_map (entry_key π t f) x n.key ds h e) (ap is_eq (tied_itself key_cmp_total n.key)) in
     let l = In-any (λ l. is_eq (key_cmp l n.key)) (keys_named π u f es) there in
     let y = kept_has (entry_key π u f) l.0 es l.1 in
     (y.0, y.1, e ∙ ap Some (sym (key_cmp_exact l.0 n.key ((Equal-is (key_cmp l.0 n.key)).0 l.2))) ∙ sym y.2)
@@ -129,16 +118,13 @@ module _ (π : Preference) (t u : Data) (m : Sides) (accepted : IsAccepted π t)
 
 module _ (π : Preference) (t : Data) (accepted : IsAccepted π t) (k : MemberKind) (r : Bool) (o : Role) (ds : Items) (w : Within t (asked (Member k r) (array ds))) (entries : entry_want (Member k r) ≡ Some (Object o))
     (compared : is_compared_set (Member k r) ≡ true) (simple : (c : Class) → role_of_class c ≡ o → is_simple_class c ≡ true) (trees : AreTrees ds) where
-  value_at : (i : ℕ) (d : Data) → get_item i ds ≡ Some d → Within t (record { want = Object o; value = d; repeated = is_compared_set (Member k r) && is_repeated ds i d })
-  value_at i d e = Within-step t (asked (Member k r) (array ds)) (record { want = Object o; value = d; repeated = is_compared_set (Member k r) && is_repeated ds i d }) (At i) w (rw (entries, e))
-
   pub values_sound : AreSound (list_of_items ds)
   values_sound d h =
       let p = list_of_items-place ds d h in
       let tree : IsTree d = list_of_items-tree ds d trees h in
-      (tree, entry_itself t (no_shape_fault π t accepted) o d simple tree (unrepeated t (no_shape_fault π t accepted) (Object o) d (is_compared_set (Member k r) && is_repeated ds p.0 d) refl (value_at p.0 d p.1)))
+      (tree, entry_itself t (no_shape_fault π t accepted) o d simple tree (unrepeated t (no_shape_fault π t accepted) (Object o) d (is_compared_set (Member k r) && is_repeated ds p.0 d) refl (value_entry t k r o ds w entries p.0 d p.1)))
 
   pub values_apart : ApartBy itself (list_of_items ds)
   values_apart =
       apart_by (λ d e. is_same_json e d) itself (list_of_items ds) (λ x y i j e. ap (λ z. is_same_json z x) (sym e) ∙ (values_sound x i).1)
-      (unrepeated_distinct ds (λ i d e. first_value π t accepted (Object o) d (is_repeated ds i d) (subst (λ b. Within t (record { want = Object o; value = d; repeated = b && is_repeated ds i d })) compared (value_at i d e)) (λ h. refl)))
+      (unrepeated_distinct ds (λ i d e. first_value π t accepted (Object o) d (is_repeated ds i d) (subst (λ b. Within t (record { want = Object o; value = d; repeated = b && is_repeated ds i d })) compared (value_entry t k r o ds w entries i d e)) (λ h. refl)))

@@ -1,7 +1,8 @@
 -- The order of a ballot means the same in two reports that say the same, headers inside headers included.
 use Rattle.erd_normal.proofs.Common.{◌≡◌, ℕ, Bool, true, false, cond, ◌⊎◌, List, [], map, Some, None, codes, Option, option_and_then, bytes_eq, nat_cmp, is_eq, Ordering, Equal, unwrap_or, sym, refl, ap, ◌∙◌, subst, ap₂, inl, inr, is_eq-slice_cmp, slice_cmp, list_any, option_map_or, match_ordering, Data, array, object, Items, Members, member, get_member, get, as_str, kind_of_member, required_names, Class, class, Family, family, MemberKind, kind, text_exact, get_member-before, of_role, wanted_within, lacks_none, text_from_equal, want_by_kind, is_object, names_wanted, AreMembers, list_of_items, entries_of, entries_at, text_at, scope_inside, member_want, want_of_name, entry_want, is_table_set, Scope, scope, Want, Carried, Member, Object, Reference, no_shape_fault, kind_of_type, Preference, Content, no_content, first_node, a_contest, a_header, if_carried, carried_members, class_of_node, is_header_class, contest_node, header_node, content_of, nodes_of, node_of, content_inside, is_in_envelope, key_named, name_named, Sides, a_list, a_set, an_object, no_entry, one_entry, no_member, in_both, left_only, right_only, MayBeAbsent, Same, SameEntries, SameMembers, fun_ext, not_asked, In}
+use Rattle.erd_meaning.proofs.meanings.InnerContent.{content_at, content_inside-get}
 use Rattle.erd_normal.proofs.canonical.ChosenEntries.{list_name}
-use Rattle.erd_normal.proofs.same.complete.ContentNodes.{content_at, content_class, content_inside-get, inner_name}
+use Rattle.erd_normal.proofs.same.complete.ContentNodes.{content_class, inner_name}
 use Rattle.erd_normal.proofs.same.FromAlike.{Stands, entry_stands, stands_tree}
 use Rattle.erd_normal.proofs.same.Related.{Related}
 use Rattle.erd_normal.proofs.same.Steady.{is_steady_kind, is_plain}

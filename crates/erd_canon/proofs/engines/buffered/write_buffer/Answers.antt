@@ -1,7 +1,7 @@
-use Rattle.erd_canon.proofs.Common.{subst, IsPartWritten}
-use Rattle.erd_canon.proofs.runs.Moving.{IsFrontMoved-part, on_err}
+use Rattle.erd_canon.proofs.Common.{subst, IsPartWritten, on_error}
+use Rattle.erd_canon.proofs.runs.Moving.{IsFrontMoved-part}
 use Rattle.erd_canon.proofs.engines.buffered.write_buffer.Goals as goal
 
 pub returns-in_err-write_out-clause-part : goal.returns-in_err-write_out-clause-part
 returns-in_err-write_out-clause-part g c =
-    on_err c.from_residual.result (IsFrontMoved-part (subst (IsPartWritten (g.O.Sink.contents c.args.out.now) (g.O.Sink.contents c.write_out.new.sink)) c.as_slice.ensures.value c.write_out.ensures.part))
+    on_error c.from_residual.result (IsFrontMoved-part (subst (IsPartWritten (g.O.Sink.contents c.args.out.now) (g.O.Sink.contents c.write_out.new.sink)) c.as_slice.ensures.value c.write_out.ensures.part))

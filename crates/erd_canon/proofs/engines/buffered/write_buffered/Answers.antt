@@ -1,9 +1,9 @@
-use Rattle.erd_canon.proofs.Common.{◌++◌, OnOk, subst, on_ok_weaker, OnErr, on_err_weaker, IsFrontMoved, IsMoved}
-use Rattle.erd_canon.proofs.runs.Moving.{IsFrontMoved-behind, IsFrontMoved-trans, IsMoved-behind, IsMoved-trans, on_err}
+use Rattle.erd_canon.proofs.Common.{◌++◌, OnOk, subst, on_ok_weaker, OnErr, on_err_weaker, IsFrontMoved, IsMoved, on_error}
+use Rattle.erd_canon.proofs.runs.Moving.{IsFrontMoved-behind, IsFrontMoved-trans, IsMoved-behind, IsMoved-trans}
 use Rattle.erd_canon.proofs.engines.buffered.write_buffered.Goals as goal
 
 pub returns-in_err-make_room-clause-part : goal.returns-in_err-make_room-clause-part
-returns-in_err-make_room-clause-part g c = on_err c.from_residual.result (IsFrontMoved-behind c.args.bytes.now c.in_err-make_room.ensures.part)
+returns-in_err-make_room-clause-part g c = on_error c.from_residual.result (IsFrontMoved-behind c.args.bytes.now c.in_err-make_room.ensures.part)
 
 pub returns-in-Err-clause-moved : goal.returns-in-Err-clause-moved
 returns-in-Err-clause-moved g c =

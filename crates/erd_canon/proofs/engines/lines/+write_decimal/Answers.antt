@@ -1,6 +1,6 @@
-use Rattle.erd_canon.proofs.Common.{◌≡◌, ℕ, ◌/◌, ◌%◌, ◌^◌, ◌<◌, ◌≤◌, ◌++◌, decimal, sym, ap, ◌∙◌, arith, false}
+use Rattle.erd_canon.proofs.Common.{◌≡◌, ℕ, ◌/◌, ◌%◌, ◌^◌, ◌<◌, ◌≤◌, ◌++◌, decimal, sym, ap, ◌∙◌, arith, false, on_error}
 use Rattle.std.proofs.lemmas.Fmt.{decimal_digit, decimal_step}
-use Rattle.erd_canon.proofs.runs.Moving.{IsFrontMoved-first, IsMoved-first, last_moved, last_part, on_err}
+use Rattle.erd_canon.proofs.runs.Moving.{IsFrontMoved-first, IsMoved-first, last_moved, last_part}
 use Rattle.erd_canon.proofs.engines.lines.+write_decimal.Goals as goal
 
 -- a number in decimal is all but its last digit, and then that digit
@@ -9,7 +9,7 @@ decimal_split n ten fits = decimal_step n ten fits ∙ ap (λ l. decimal (n / 10
 
 pub returns-in_err-write_decimal-clause-part : goal.returns-in_err-write_decimal-clause-part
 returns-in_err-write_decimal-clause-part g n c =
-    on_err c.from_residual.result (IsFrontMoved-first c.args.buffer.now.items (decimal (c.args.number / 10)) (decimal (c.args.number % 10)) (decimal c.args.number)
+    on_error c.from_residual.result (IsFrontMoved-first c.args.buffer.now.items (decimal (c.args.number / 10)) (decimal (c.args.number % 10)) (decimal c.args.number)
     (decimal_split c.args.number c.if-number-lt10.false c.ranges.number.fits) c.in_err-write_decimal.ensures.part)
 
 pub returns-clause-moved : goal.returns-clause-moved

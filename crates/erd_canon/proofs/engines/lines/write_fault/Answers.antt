@@ -1,14 +1,14 @@
-use Rattle.erd_canon.proofs.Common.{◌++◌, codes, refl, reason_text, fault_line, pointer_text}
-use Rattle.erd_canon.proofs.runs.Moving.{IsFrontMoved-first, IsFrontMoved-more, IsMoved-first, IsMoved-more, last_moved, last_part, on_err}
+use Rattle.erd_canon.proofs.Common.{◌++◌, codes, refl, reason_text, fault_line, pointer_text, on_error}
+use Rattle.erd_canon.proofs.runs.Moving.{IsFrontMoved-first, IsFrontMoved-more, IsMoved-first, IsMoved-more, last_moved, last_part}
 use Rattle.erd_canon.proofs.engines.lines.write_fault.Goals as goal
 
 pub returns-in_err-write_place-clause-part : goal.returns-in_err-write_place-clause-part
 returns-in_err-write_place-clause-part g c =
-    on_err c.from_residual.result (IsFrontMoved-first c.args.buffer.now.items (pointer_text c.args.fault.now.place) (codes ": " ++ reason_text c.args.fault.now.reason) (fault_line c.args.fault.now) refl c.in_err-write_place.ensures.part)
+    on_error c.from_residual.result (IsFrontMoved-first c.args.buffer.now.items (pointer_text c.args.fault.now.place) (codes ": " ++ reason_text c.args.fault.now.reason) (fault_line c.args.fault.now) refl c.in_err-write_place.ensures.part)
 
 pub returns-in_err-write_buffered-clause-part : goal.returns-in_err-write_buffered-clause-part
 returns-in_err-write_buffered-clause-part g c =
-    on_err c.from_residual-in_err-write_buffered.result (IsFrontMoved-more c.write_place.new.buffer.items (codes ": ") (reason_text c.args.fault.now.reason)
+    on_error c.from_residual-in_err-write_buffered.result (IsFrontMoved-more c.write_place.new.buffer.items (codes ": ") (reason_text c.args.fault.now.reason)
     (IsMoved-first c.args.buffer.now.items (pointer_text c.args.fault.now.place) (codes ": " ++ reason_text c.args.fault.now.reason) (fault_line c.args.fault.now) refl c.in_ok-write_place.ensures.moved) refl c.in_err-write_buffered.ensures.part)
 
 pub returns-clause-moved : goal.returns-clause-moved

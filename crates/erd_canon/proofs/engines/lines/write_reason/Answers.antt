@@ -1,10 +1,10 @@
-use Rattle.erd_canon.proofs.Common.{◌++◌, sym, ap, ◌∙◌, missing_name, reason_text}
-use Rattle.erd_canon.proofs.runs.Moving.{IsFrontMoved-first, IsMoved-first, last_moved, last_part, on_err}
+use Rattle.erd_canon.proofs.Common.{◌++◌, sym, ap, ◌∙◌, missing_name, reason_text, on_error}
+use Rattle.erd_canon.proofs.runs.Moving.{IsFrontMoved-first, IsMoved-first, last_moved, last_part}
 use Rattle.erd_canon.proofs.engines.lines.write_reason.Goals as goal
 
 pub returns-in_err-write_buffered-clause-part : goal.returns-in_err-write_buffered-clause-part
 returns-in_err-write_buffered-clause-part g c =
-    on_err c.from_residual.result (IsFrontMoved-first c.args.buffer.now.items c.as_bytes.result.now (missing_name c.args.reason.now) (reason_text c.args.reason.now)
+    on_error c.from_residual.result (IsFrontMoved-first c.args.buffer.now.items c.as_bytes.result.now (missing_name c.args.reason.now) (reason_text c.args.reason.now)
     (sym (ap (λ l. l ++ missing_name c.args.reason.now) c.as_bytes.ensures.value ∙ c.words.ensures)) c.in_err-write_buffered.ensures.part)
 
 pub returns-clause-moved : goal.returns-clause-moved

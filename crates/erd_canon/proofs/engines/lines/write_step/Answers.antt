@@ -1,10 +1,10 @@
-use Rattle.erd_canon.proofs.Common.{◌≡◌, [], ◌∷◌, decimal, refl, ap, rules, escaped_name, step_text}
-use Rattle.erd_canon.proofs.runs.Moving.{IsFrontMoved-first, IsMoved-first, last_moved, last_part, on_err}
+use Rattle.erd_canon.proofs.Common.{◌≡◌, [], ◌∷◌, decimal, refl, ap, rules, escaped_name, step_text, on_error}
+use Rattle.erd_canon.proofs.runs.Moving.{IsFrontMoved-first, IsMoved-first, last_moved, last_part}
 use Rattle.erd_canon.proofs.engines.lines.write_step.Goals as goal
 
 pub returns-in_err-write_buffered-clause-part : goal.returns-in_err-write_buffered-clause-part
 returns-in_err-write_buffered-clause-part g c =
-    on_err c.from_residual.result (IsFrontMoved-first c.args.buffer.now.items (47 ∷ []) (step_text c.args.step.now) (47 ∷ step_text c.args.step.now) refl c.in_err-write_buffered.ensures.part)
+    on_error c.from_residual.result (IsFrontMoved-first c.args.buffer.now.items (47 ∷ []) (step_text c.args.step.now) (47 ∷ step_text c.args.step.now) refl c.in_err-write_buffered.ensures.part)
 
 pub returns-in-Name-clause-moved : goal.returns-in-Name-clause-moved
 returns-in-Name-clause-moved g c =

@@ -1,14 +1,11 @@
-use Rattle.erd_meaning.proofs.Common.{◌≡◌, true, List, [], map, Option, sym, refl, ap, ◌∙◌, subst, IfOk-weaker, IsDistinct, Family, family, has_keys, positioned, keys_seen, AreDistinct, family_keys, IsOrder, shown, Key}
+use Rattle.erd_meaning.proofs.Common.{◌≡◌, true, List, [], map, Option, sym, ap, ◌∙◌, subst, IfOk-weaker, IsDistinct, has_keys, positioned, keys_seen, AreDistinct, family_keys, IsOrder, shown, Key}
+use Rattle.erd_meaning.proofs.identity.ObjectFamilies.{keyed_unless}
 use Rattle.erd_meaning.proofs.selections.PositionedKeys.{KeyEntry, keys_placed}
 use Rattle.erd_meaning.proofs.objects.ranked_objects.order_of.Goals as goal
 
 none_distinct : AreDistinct []
 unfolding IsDistinct
 none_distinct = tt
-
-keyed_unless : (f : Family) → (f ≡ family.Selection → ⊥) → has_keys f ≡ true
-keyed_unless family.Selection h = absurd (h refl)
-keyed_unless f h = refl
 
 pub of-requires-clause-distinct : goal.of-requires-clause-distinct
 of-requires-clause-distinct c = subst (λ (es : List KeyEntry). AreDistinct (keys_seen es)) (sym c.new.ensures.items) none_distinct

@@ -1,5 +1,5 @@
 use Rattle.erd_normal.proofs.Common.{subst, view, IsAccepted, Judged, FindsId}
-use Rattle.erd_normal.proofs.ranks.RankedReferences.{keyed_unless}
+use Rattle.erd_meaning.proofs.identity.ObjectFamilies.{keyed_unless}
 use Rattle.erd_normal.proofs.writer.Writer.rank_in_row.Goals as goal
 
 pub rank_of-requires : goal.rank_of-requires
