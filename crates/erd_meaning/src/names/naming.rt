@@ -77,7 +77,8 @@ fn in_rising_order(
 
 /// Returns the references of a selection to the candidates or parties that it is for.
 fn references_chosen(class: Class, selection: &Value) -> &[Value]
-    ensures { (key : Family → List ℕ → Option Key) → keys_found (key (family_chosen class)) (map view result.now) ≡ keys_of_selection key class (view selection.now) }
+    ensures { (ks : List Kept) → keys_found (key_among ks (family_chosen class)) (map view result.now)
+        ≡ keys_of_selection (key_among ks) class (view selection.now) }
 {
     match class {
         Class::CandidateSelection => entries_at(selection, "CandidateIds"),

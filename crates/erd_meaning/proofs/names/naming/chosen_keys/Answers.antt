@@ -8,6 +8,6 @@ returns c =
     let f = family_chosen c.args.class in
     let keys = keys_of_selection (key_among ks) c.args.class (view c.args.selection.now) in
     subst (λ (found : List (ℕ × Key)). IfOk c.in_rising_order.result (λ rising. rising.items ≡ found))
-    (ap (rising_list (λ a b. nat_cmp a.0 b.0)) (c.in_ok-chosen.ensures ∙ ap (map (ranked_key ks f)) (c.references_chosen-references.ensures (key_among ks)))
+    (ap (rising_list (λ a b. nat_cmp a.0 b.0)) (c.in_ok-chosen.ensures ∙ ap (map (ranked_key ks f)) (c.references_chosen-references.ensures ks))
     ∙ ranked_in_order ks f keys (all_chosen (IsKeyAmong ks) (key_among ks) (referred_known ks) c.args.class (view c.args.selection.now)))
     c.in_rising_order.ensures
