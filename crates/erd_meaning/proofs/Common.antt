@@ -60,10 +60,10 @@ pub use Rattle.erd_meaning.specs.LaterFaults.{IsBefore, IdentityFault, is_refere
 pub use Rattle.erd_meaning.specs.Lookups.{key_in, rank_of, rising_keys, election_rank_of, id_in, election_key_in, election_key_of, election_in, selection_in, selections_before, FindsKey, FindsId, FindsSelection}
 pub use Rattle.erd_meaning.specs.Meaning.{Label, untranslated, Content, no_content, first_node, Node, a_contest, a_header, PlainValue, a_json, a_label, a_key, a_key_set, MemberValue, a_plain, ObjectRecord, Record}
 pub use Rattle.erd_meaning.specs.NameParts.{NameParts}
-pub use Rattle.erd_meaning.specs.NumberedNames.{NumberedParts, without_keys, numbered_parts, numbered_name_cmp}
+pub use Rattle.erd_meaning.specs.NumberedNames.{RankedParts, without_keys, numbered_parts, numbered_name_cmp}
 pub use Rattle.erd_meaning.specs.Objects.{Placed, placed_from, placed_entries, report_of, elections, contests, selections_of_contest, objects, has_several, objects_with_role, needs_key, election_of_place, numbered_selections_of, numbered_selections, id_of, has_id, owner_at, owner, is_owned, IsBounded}
 pub use Rattle.erd_meaning.specs.Places.{places_put}
-pub use Rattle.erd_meaning.specs.RankedNames.{family_chosen, RankedParts, ranked_name, PlacedName, ranked_selection_in, ranked_name_cmp, ranked_name_writes, IsRankedIn}
+pub use Rattle.erd_meaning.specs.RankedNames.{family_chosen, ranked_name, PlacedName, ranked_selection_in, ranked_name_cmp, ranked_name_writes, IsRankedIn}
 pub use Rattle.erd_meaning.specs.Records.{json_set, if_carried, carried_members, label_beside_text, label_of, content_of, meaning, plain_value, is_in_envelope, plain_member, record_with, selection_record, selection_map, member_value, member_of_class, object_record, with_election_id, record_in_election, placed_record, placed_with_key, records_of, election_records}
 pub use Rattle.erd_meaning.specs.SelectionNames.{with_inserted, rising_list, compact_cmp, key_named, keys_found, keys_named, keys_of_selection, is_write_in, order_of_selection, with_rising_text, label_of_selection, name_in_class, selection_role, name_by, name_of, class_cmp, name_cmp, name_named}
 pub use Rattle.erd_meaning.specs.code.ChosenKeys.{is_preferred, choice_cmp, choice_of_two, choice_of, choice}

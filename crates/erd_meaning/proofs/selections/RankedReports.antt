@@ -1,5 +1,5 @@
 -- The names of the selections of a report with the ranks of their keys: the keys are those of objects, and the ranks are in their order.
-use Rattle.erd_meaning.proofs.Common.{◌≡◌, ℕ, List, [], ◌∷◌, Some, None, Option, option_and_then, refl, ap, ◌∙◌, subst, AllByRecursion, Data, Class, class, Family, class_of_object, key_cmp, Preference, key_of, NameParts, objects, family_chosen, key_named, name_in_class, selection_role, name_of, HasKeysIn, IsKeyIn, Key, and_then-Some, option_map-Some, slice_get, option_map, nat_cmp, Equal, sym, ap₂, slice_cmp, option_cmp, In, In-from_contains, In-all, rank_of, NumberedParts, numbered_parts, numbered_name_cmp, Placed, numbered_selections, RankedParts, ranked_name, IsRankedIn, class_cmp, name_cmp, classes_exact, true, cond, map, length, filter, is_lt, slice_get-map, map-map, view, Value, has_keys, key_of_family_object, key_in, rising_keys, PlacedName, ranked_selection_in, rising_list, positioned, those_of, Kept, kept, rank_among, rising_keys_among, ranked_parts, names_of, AllAreRanked, IsRanked, IsResolved, NumberedName, shown, Object, owner, contains_from_In, in_at}
+use Rattle.erd_meaning.proofs.Common.{◌≡◌, ℕ, List, [], ◌∷◌, Some, None, Option, option_and_then, refl, ap, ◌∙◌, subst, AllByRecursion, Data, Class, class, Family, class_of_object, key_cmp, Preference, key_of, NameParts, objects, family_chosen, key_named, name_in_class, selection_role, name_of, HasKeysIn, IsKeyIn, Key, and_then-Some, option_map-Some, slice_get, option_map, nat_cmp, Equal, sym, ap₂, slice_cmp, option_cmp, In, In-from_contains, In-all, rank_of, Placed, numbered_selections, RankedParts, ranked_name, IsRankedIn, class_cmp, name_cmp, classes_exact, true, cond, map, length, filter, is_lt, slice_get-map, map-map, view, Value, has_keys, key_of_family_object, key_in, rising_keys, PlacedName, ranked_selection_in, rising_list, positioned, those_of, Kept, kept, rank_among, rising_keys_among, ranked_parts, names_of, AllAreRanked, IsRanked, IsResolved, NumberedName, shown, Object, owner, contains_from_In, in_at, ranked_name_cmp}
 use Rattle.erd_meaning.proofs.accepted.Standing.{owned_by, has_identifier}
 use Rattle.erd_meaning.proofs.orders.RisingOrders.{IsKeyOf, counted_as_key, count_map}
 use Rattle.erd_meaning.specs.code.NumberedOrders.{numbered_as_named, numbers_as_keys}
@@ -47,18 +47,16 @@ module _ (π : Preference) (t : Data) where
           slice_cmp nat_cmp (ranked_name π t (name_in c d)).ranks (ranked_name π t (name_in x e)).ranks
           ≡ slice_cmp key_cmp (name_in c d).keys (name_in x e).keys
 
-  abbrev numbered_name : NameParts → NumberedParts
-  numbered_name n = numbered_parts n (ranked_name π t n).ranks
-
-  abbrev numbered_name_of : Data → Option NumberedParts
-  numbered_name_of d = option_map numbered_name (name_of π t d)
+  -- the name of a selection with the ranks of its keys
+  abbrev pub ranked_name_of : Data → Option RankedParts
+  ranked_name_of d = option_map (ranked_name π t) (name_of π t d)
 
   -- names with ranks compare as the names do
-  pub numbered_names_alike : (d e : Data) → option_cmp numbered_name_cmp (numbered_name_of d) (numbered_name_of e) ≡ option_cmp name_cmp (name_of π t d) (name_of π t e)
-  numbered_names_alike d e = at (class_of_object selection_role d) (class_of_object selection_role e)
+  pub ranked_names_alike : (d e : Data) → option_cmp ranked_name_cmp (ranked_name_of d) (ranked_name_of e) ≡ option_cmp name_cmp (name_of π t d) (name_of π t e)
+  ranked_names_alike d e = at (class_of_object selection_role d) (class_of_object selection_role e)
     where
       at : (c b : Option Class)
-          → option_cmp numbered_name_cmp (option_map numbered_name (option_map (λ c. name_in c d) c)) (option_map numbered_name (option_map (λ b. name_in b e) b))
+          → option_cmp ranked_name_cmp (option_map (ranked_name π t) (option_map (λ c. name_in c d) c)) (option_map (ranked_name π t) (option_map (λ b. name_in b e) b))
           ≡ option_cmp name_cmp (option_map (λ c. name_in c d) c) (option_map (λ b. name_in b e) b)
       at None None = refl
       at None (Some b) = refl
@@ -89,16 +87,15 @@ module _ (π : Preference) (t : Data) where
       at (Some s) e = by s (name_of π t s.1.value) refl e
 
   abbrev Alike : Option NameParts → Option NameParts → Type 0
-  Alike o p = option_cmp numbered_name_cmp (option_map numbered_name o) (option_map numbered_name p) ≡ option_cmp name_cmp o p
+  Alike o p = option_cmp ranked_name_cmp (option_map (ranked_name π t) o) (option_map (ranked_name π t) p) ≡ option_cmp name_cmp o p
 
   -- two names of one report compare by their ranks as they do by their keys
-  pub names_in_order : (a b : RankedParts) → IsRankedIn π t a → IsRankedIn π t b → numbered_name_cmp (numbered_parts a.name a.ranks) (numbered_parts b.name b.ranks) ≡ name_cmp a.name b.name
+  pub names_in_order : (a b : RankedParts) → IsRankedIn π t a → IsRankedIn π t b → ranked_name_cmp a b ≡ name_cmp a.name b.name
   names_in_order a b h k =
       let m = named a h in
       let n = named b k in
-      let one = subst (λ o. Alike o (name_of π t n.selection)) m.name (numbered_names_alike m.selection n.selection) in
-      let both : Alike (Some a.name) (Some b.name) = subst (λ o. Alike (Some a.name) o) n.name one in
-      ap₂ numbered_name_cmp (ap (λ (q : RankedParts). numbered_parts a.name q.ranks) m.ranks) (ap (λ (q : RankedParts). numbered_parts b.name q.ranks) n.ranks) ∙ both
+      let one = subst (λ o. Alike o (name_of π t n.selection)) m.name (ranked_names_alike m.selection n.selection) in
+      ap₂ ranked_name_cmp m.ranks n.ranks ∙ subst (λ o. Alike (Some a.name) o) n.name one
 
 -- ---- the names that a report keeps with ranks are those of its selections, with the ranks of their keys in the report
 

@@ -11,7 +11,8 @@ use Rattle.erd_meaning.specs.NameParts.{NameParts}
 use Rattle.erd_meaning.specs.Objects.{IsObject, Placed}
 use Rattle.erd_meaning.specs.SelectionNames.{name_by, rising_list}
 use Rattle.erd_meaning.specs.code.KeyOrders.{family_keys, positioned}
-use Rattle.erd_meaning.specs.RankedNames.{PlacedName, RankedParts, family_chosen, ranked_name_cmp}
+use Rattle.erd_meaning.specs.NumberedNames.{RankedParts}
+use Rattle.erd_meaning.specs.RankedNames.{PlacedName, family_chosen, ranked_name_cmp}
 use Rattle.erd_meaning.specs.code.ObjectIndexes.{number_of_key}
 use Rattle.erd_meaning.specs.code.ObjectLookups.{key_among, those_of}
 use Rattle.erd_meaning.specs.code.ObjectWalk.{Kept}
