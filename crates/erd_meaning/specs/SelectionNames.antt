@@ -46,7 +46,7 @@ compact_cmp a b = text_cmp (compact_text a) (compact_text b)
 abbrev pub key_named : Preference → Data → Family → List ℕ → Option Key
 key_named π t f id = option_and_then (key_of π) (owner t f id)
 
--- The keys of what the references in a list lead to, where the function says which key a text leads to.
+-- The keys that the references in a list lead to, if the function says which key a reference leads to.
 abbrev pub keys_found : (List ℕ → Option Key) → List Data → List Key
 keys_found key references = filter_map (λ r. option_and_then key (as_str r)) references
 
@@ -55,7 +55,7 @@ abbrev pub keys_named : Preference → Data → Family → List Data → List Ke
 keys_named π t f references = keys_found (key_named π t f) references
 
 -- The keys of the candidates of a CandidateSelection or of the parties of a PartySelection, and no keys for any other class.
--- The function says which key a text leads to in a family. (classes CandidateSelection, PartySelection)
+-- The function says which key a reference to an object of the family leads to. (classes CandidateSelection, PartySelection)
 abbrev pub keys_of_selection : (Family → List ℕ → Option Key) → Class → Data → List Key
 keys_of_selection key class.CandidateSelection d = keys_found (key family.Candidate) (entries_at (codes "CandidateIds") d)
 keys_of_selection key class.PartySelection d = keys_found (key family.Party) (entries_at (codes "PartyIds") d)
@@ -86,7 +86,7 @@ label_of_selection c d = None
 
 -- ---- names
 
--- The name of a selection of this class, made of its six parts, with such a function.
+-- The name of a selection of this class, made of its six parts. The function says which keys its references lead to.
 abbrev pub name_in_class : Preference → (Family → List ℕ → Option Key) → Class → Data → NameParts
 name_in_class π key c d = record {
   class = c;
@@ -101,11 +101,12 @@ name_in_class π key c d = record {
 abbrev pub selection_role : Role
 selection_role = role.OfFamily family.Selection
 
--- The name of a selection with such a function, or none if its `@type` is not that of a selection class.
+-- The name of a selection, or none if its `@type` is not that of a selection class. The function says which keys its references
+-- lead to.
 abbrev pub name_by : Preference → (Family → List ℕ → Option Key) → Data → Option NameParts
 name_by π key d = option_map (λ c. name_in_class π key c d) (class_of_object selection_role d)
 
--- The name of a selection in a report, or none if its `@type` is not that of a selection class.
+-- The name of a selection of the report, or none if its `@type` is not that of a selection class.
 abbrev pub name_of : Preference → Data → Data → Option NameParts
 name_of π t d = name_by π (key_named π t) d
 

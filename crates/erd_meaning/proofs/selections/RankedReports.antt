@@ -25,7 +25,7 @@ module _ (π : Preference) (t : Data) where
   pub known_name : (d : Data) (n : NameParts) → name_of π t d ≡ Some n → HasKeysIn π t n
   known_name d n e = let r = option_map-Some (λ c. name_in c d) (class_of_object selection_role d) n e in subst (HasKeysIn π t) r.2 (keys_known r.0 d)
 
--- ---- the ranks of keys are in the order of the keys, wherever objects of the family have the keys. So names with ranks in place of their keys are in the order of names
+  -- ---- the ranks of keys are in the order of the keys, wherever objects of the family have the keys. So names with ranks in place of their keys are in the order of names
 
   its_key : (f : Family) (k : Key) → IsKeyIn π t f k → IsKeyOf (λ (o : Placed). key_of π o.value) (objects f t) k
   its_key f k h = record { owner = h.owner; stands = In-from_contains h.owner (objects f t) h.stands; keyed = h.keyed }
