@@ -1,5 +1,5 @@
 -- The names that the proofs of this crate cite most, passed on from one place. Declares nothing.
-pub use Rattle.erd_meaning.proofs.Common.{◌≡◌, ℕ, zero, suc, ◌+◌, ◌-◌, ◌<◌, ◌≤◌, Bool, true, false, cond, not, ◌&&◌, ◌||◌, ◌≢◌, ◌⊎◌, List, [], ◌∷◌, ◌++◌, map, length, get_or, take, drop, pos, is_some, IfSome, IfOk, nat_lt, ◌==◌, slice_get, Some, None, Ok, Err, codes, filter, Option, Result, option_map, IsPermutation, IsSorted, find, flat_map, filter_map, option_and_then, option_copied, bytes_eq, nat_cmp, is_eq, is_lt, Ordering, Less, Equal, Greater, unwrap_or, sym, refl, ap, ◌∙◌, subst, ap₂, inl, inr, true≢false, append-nil, add-one, arith, lit<, take_all, Bor, rules, fun_ext, and_parts, cases_order, and_from, or_parts, or_from, Decides-eqb, Decides-int_eq, tied_itself, nat_cmp_total, nat_list_cmp_total, map-append, length-map, drop_more, take_more, CmpEqualImpliesEq, exact_unsigned, exact_bytes, same_Some, slice_get-map, slice_get_within, slice_get_read, get_or_from_slice_get, IfOk-weaker, bytes_eq-Decides, Equal-is, IsTotalOrder, both_ways, AllByRecursion, cons_option, list_all, list_any, position_or_len, IsStrictlySortedBy, option_cmp, option_map_or, option_or, eq_by_cmp, match_ordering, ordering_then, Data, null, boolean, string, array, object, Items, no_items, item, Members, no_members, member, get_member, get, as_str, as_object, view, items_view, members_view, has_float, items_have_float, members_have_float, compact_text, Value, role_of_class, family_of_class, family_number, is_reference_name, kind_of_identity, kind_of_member, text_cmp, Class, class, Family, family, Role, role, MemberKind, kind, In, In-map, In-map_from, In-flat_map, any_at, In-from_contains, contains_from_In, In-all, position_of, all_weakened, tree_of, small_ballot_with, header_node, contest_node, small_ballot, election, one_unit, report_of_two, IsTree, is_same_json, list_of_items, entries_of, entries_at, text_at, Judged, has_keys, key_cmp, Preference, key_of, key_of_family_object, key_in, rank_of, rising_keys, election_rank_of, election_key_in, election_in, selections_before, FindsId, untranslated, Content, no_content, first_node, Node, a_contest, a_header, PlainValue, a_json, a_label, a_key, MemberValue, a_plain, ObjectRecord, NameParts, NumberedParts, without_keys, numbered_parts, numbered_name_cmp, Placed, placed_from, placed_entries, report_of, elections, contests, selections_of_contest, objects, has_several, election_of_place, numbered_selections, has_id, owner_at, owner, family_chosen, ranked_name, PlacedName, ranked_selection_in, json_set, if_carried, carried_members, label_beside_text, content_of, meaning, plain_value, plain_member, selection_record, selection_map, member_value, member_of_class, object_record, with_election_id, record_in_election, placed_record, records_of, election_records, rising_list, key_named, keys_named, name_in_class, selection_role, name_of, name_cmp, name_named, positioned, rank_in_keys, rising_positions, key_cmp_total, key_cmp_exact, name_cmp_total, option_map-Some, In-any, all_hold, each_holds, In-flat_map_from}
+pub use Rattle.erd_meaning.proofs.Common.{◌≡◌, ℕ, zero, suc, ◌+◌, ◌-◌, ◌<◌, ◌≤◌, Bool, true, false, cond, not, ◌&&◌, ◌||◌, ◌≢◌, ◌⊎◌, List, [], ◌∷◌, ◌++◌, map, length, get_or, take, drop, pos, is_some, IfSome, IfOk, nat_lt, ◌==◌, slice_get, Some, None, Ok, Err, codes, filter, Option, Result, option_map, IsPermutation, IsSorted, find, flat_map, filter_map, option_and_then, option_copied, bytes_eq, nat_cmp, is_eq, is_lt, Ordering, Less, Equal, Greater, unwrap_or, sym, refl, ap, ◌∙◌, subst, ap₂, inl, inr, true≢false, append-nil, add-one, arith, lit<, take_all, Bor, rules, fun_ext, and_parts, cases_order, and_from, or_parts, or_from, Decides-eqb, Decides-int_eq, tied_itself, nat_cmp_total, nat_list_cmp_total, map-append, length-map, drop_more, take_more, CmpEqualImpliesEq, exact_unsigned, exact_bytes, same_Some, slice_get-map, slice_get_within, slice_get_read, get_or_from_slice_get, IfOk-weaker, bytes_eq-Decides, Equal-is, IsTotalOrder, both_ways, AllByRecursion, cons_option, list_all, list_any, position_or_len, IsStrictlySortedBy, option_cmp, option_map_or, option_or, eq_by_cmp, match_ordering, ordering_then, Data, null, boolean, string, array, object, Items, no_items, item, Members, no_members, member, get_member, get, as_str, as_object, view, items_view, members_view, has_float, items_have_float, members_have_float, compact_text, Value, role_of_class, family_of_class, family_number, is_reference_name, kind_of_identity, kind_of_member, text_cmp, Class, class, Family, family, Role, role, MemberKind, kind, In, In-map, In-map_from, In-flat_map, any_at, In-from_contains, contains_from_In, In-all, position_of, all_weakened, tree_of, small_ballot_with, header_node, contest_node, small_ballot, election, one_unit, report_of_two, IsTree, is_same_json, list_of_items, entries_of, entries_at, text_at, Judged, has_keys, key_cmp, Preference, key_of, key_of_family_object, key_in, rank_of, rising_keys, election_rank_of, election_key_in, election_in, selections_before, FindsId, untranslated, Content, no_content, first_node, Node, a_contest, a_header, PlainValue, a_json, a_label, a_key, MemberValue, a_plain, ObjectRecord, NameParts, without_keys, numbered_parts, numbered_name_cmp, Placed, placed_from, placed_entries, report_of, elections, contests, selections_of_contest, objects, has_several, election_of_place, numbered_selections, has_id, owner_at, owner, family_chosen, ranked_name, PlacedName, ranked_selection_in, json_set, if_carried, carried_members, label_beside_text, content_of, meaning, plain_value, plain_member, selection_record, selection_map, member_value, member_of_class, object_record, with_election_id, record_in_election, placed_record, records_of, election_records, rising_list, key_named, keys_named, name_in_class, selection_role, name_of, name_cmp, name_named, positioned, rank_in_keys, rising_positions, key_cmp_total, key_cmp_exact, name_cmp_total, option_map-Some, In-any, all_hold, each_holds, In-flat_map_from, RankedParts}
 pub use Rattle.erd_check.proofs.Common.{◌↔◌, Num, unsigned, negative, float, number, depth, members_depth, is_float, kind_in_rows, kind_of_unlisted, IsBeforeFirst, AreTrees, AreMembers, same_number, are_same_items, are_same_members, names}
 unfoldable pub use Rattle.erd_meaning.proofs.Common.{IsDistinct, serde_json_on_literals}
 pub use Rattle.std.proofs.Common.{◌*◌, eqb, drop-cons}
@@ -22,12 +22,8 @@ pub use Rattle.erd_check.proofs.Positions.{in_at}
 pub use Rattle.erd_meaning.proofs.finding.OneObject.{at_low, sorted_at, one_key}
 pub use Rattle.erd_meaning.proofs.meanings.WholeMeanings.{same_but_one, same_object, AgreeAt, is_key_in, same_at_every_key, AreAmong, no_record, value_with_key, ObjectsAgree, same_at_key, same_at_key_with, HaveKeys, keys_of_family, nothing_at, same_family, selection_with_name, SelectionsAgreeButOne, same_at_name, names_of_selections, same_selections, election_has_key, same_sole_election, same_meaning}
 pub use Rattle.erd_meaning.proofs.meanings.WholeRecords.{absent_plain, absent_member, no_election_id, other_than_election}
-pub use Rattle.erd_meaning.proofs.orders.DistinctEntries.{distinct_from_one_place}
-pub use Rattle.erd_meaning.proofs.orders.DistinctEntries.{options_exact}
-pub use Rattle.erd_meaning.proofs.orders.DistinctEntries.{equal_keys}
-pub use Rattle.erd_meaning.proofs.orders.RisingOrders.{greater_turned, less_turned, all_rising, rising_strictly, stands_at_rank}
-pub use Rattle.erd_meaning.proofs.orders.DistinctEntries.{distinct_from_one_place, options_exact, equal_keys}
-pub use Rattle.erd_meaning.proofs.orders.RisingOrders.{greater_turned, all_rising, rising_strictly, stands_at_rank}
+pub use Rattle.erd_meaning.proofs.orders.DistinctEntries.{distinct_from_one_place, options_exact, equal_keys, distinct_from_one_place, options_exact, equal_keys}
+pub use Rattle.erd_meaning.proofs.orders.RisingOrders.{greater_turned, less_turned, all_rising, rising_strictly, stands_at_rank, greater_turned, all_rising, rising_strictly, stands_at_rank}
 pub use Rattle.erd_meaning.proofs.selections.PositionedKeys.{KeyPosition, positioned_made, positioned_keys, all_positioned, rising_positioned}
 pub use Rattle.erd_meaning.specs.Lookups.{rising_election_keys}
 pub use Rattle.erd_meaning.specs.Meaning.{JsonMap, KeySet, translated, a_content, SelectionRecord, a_selection_map, Meaning}

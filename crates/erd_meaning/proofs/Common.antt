@@ -60,23 +60,22 @@ pub use Rattle.erd_meaning.specs.LaterFaults.{IsBefore, IdentityFault, is_refere
 pub use Rattle.erd_meaning.specs.Lookups.{key_in, rank_of, rising_keys, election_rank_of, id_in, election_key_in, election_key_of, election_in, selection_in, selections_before, FindsKey, FindsId, FindsSelection}
 pub use Rattle.erd_meaning.specs.Meaning.{Label, untranslated, Content, no_content, first_node, Node, a_contest, a_header, PlainValue, a_json, a_label, a_key, a_key_set, MemberValue, a_plain, ObjectRecord, Record}
 pub use Rattle.erd_meaning.specs.NameParts.{NameParts}
-pub use Rattle.erd_meaning.specs.NumberedNames.{NumberedParts, without_keys, numbered_parts, numbered_name_cmp}
+pub use Rattle.erd_meaning.specs.NumberedNames.{RankedParts, without_keys, numbered_parts, numbered_name_cmp}
 pub use Rattle.erd_meaning.specs.Objects.{Placed, placed_from, placed_entries, report_of, elections, contests, selections_of_contest, objects, has_several, objects_with_role, needs_key, election_of_place, numbered_selections_of, numbered_selections, id_of, has_id, owner_at, owner, is_owned, IsBounded}
 pub use Rattle.erd_meaning.specs.Places.{places_put}
-pub use Rattle.erd_meaning.specs.RankedNames.{family_chosen, RankedParts, ranked_name, PlacedName, ranked_selection_in, ranked_name_cmp, ranked_name_writes, IsRankedIn}
+pub use Rattle.erd_meaning.specs.RankedNames.{family_chosen, ranked_name, PlacedName, ranked_selection_in, ranked_name_cmp, ranked_name_writes, IsRankedIn}
 pub use Rattle.erd_meaning.specs.Records.{json_set, if_carried, carried_members, label_beside_text, label_of, content_of, meaning, plain_value, is_in_envelope, plain_member, record_with, selection_record, selection_map, member_value, member_of_class, object_record, with_election_id, record_in_election, placed_record, placed_with_key, records_of, election_records}
-pub use Rattle.erd_meaning.specs.SelectionNames.{with_inserted, rising_list, compact_cmp, key_named, keys_named, keys_of_selection, is_write_in, order_of_selection, with_rising_text, label_of_selection, name_in_class, selection_role, name_of, class_cmp, name_cmp, name_named}
+pub use Rattle.erd_meaning.specs.SelectionNames.{with_inserted, rising_list, compact_cmp, key_named, keys_found, keys_named, keys_of_selection, is_write_in, order_of_selection, with_rising_text, label_of_selection, name_in_class, selection_role, name_by, name_of, class_cmp, name_cmp, name_named}
 pub use Rattle.erd_meaning.specs.code.ChosenKeys.{is_preferred, choice_cmp, choice_of_two, choice_of, choice}
 pub use Rattle.erd_meaning.specs.code.ElectionKeys.{AreSeen, is_seen, seen_with, held_from}
 pub use Rattle.erd_meaning.specs.code.Indexed.{same_owned, is_salted_id, is_salted_owned}
 pub use Rattle.erd_meaning.specs.code.KeyOrders.{positioned, seen_keys, keys_seen, lent_key_cmp, AreDistinct, rank_by, positions_by, rank_in_keys, rising_positions, family_keys, HaveDistinctKeys, IsOrder}
 pub use Rattle.erd_meaning.specs.code.LabelTexts.{joined_text, translations_text, rest_text}
-pub use Rattle.erd_meaning.specs.code.NamesAmong.{key_among, keys_among, selection_keys_among, class_name_among, name_among}
 pub use Rattle.erd_meaning.specs.code.ObjectIndexes.{with_place, places_from, rank, number_at, number_of_id, number_of_key, contests_noted, contests_before, is_in_contest, IsStart, number_among}
-pub use Rattle.erd_meaning.specs.code.ObjectLookups.{is_of_family, those_of, is_keyed, keeps_id, object_among}
+pub use Rattle.erd_meaning.specs.code.ObjectLookups.{is_of_family, those_of, is_keyed, keeps_id, object_among, key_among}
 pub use Rattle.erd_meaning.specs.code.ObjectWalk.{Kept, kept, Met, an_object, an_election, Located, located_one, located_election, located, contest_located, inside_election, election_located, shared_located, all_located, object_met, election_met, objects_among, elections_among, all_met, kept_objects, election_keys, same_key, same_id, has_same_key, has_same_id, fault_if, faults_told, is_keyless, are_twins, are_named_alike, faults_after, ObjectsMet, met_one, met_all}
 pub use Rattle.erd_meaning.specs.code.Orders.{key_cmp_total, key_cmp_exact, classes_exact, name_cmp_total, name_cmp_exact}
-pub use Rattle.erd_meaning.specs.code.RanksAmong.{rank_among, AreRanks, key_at_among, rising_keys_among, ranked_key, is_key_among, fed_rank, ranked_parts, ranked_name_among, HasKeysIn, has_keys_among, names_of, are_ranks_of, is_sought, AllAreRanked, IsKeyIn, IsRanked}
+pub use Rattle.erd_meaning.specs.code.RanksAmong.{rank_among, AreRanks, key_at_among, rising_keys_among, ranked_key, is_key_among, fed_rank, name_among, ranked_parts, ranked_name_among, HasKeysIn, has_keys_among, names_of, are_ranks_of, is_sought, AllAreRanked, IsKeyIn, IsRanked}
 pub use Rattle.erd_meaning.specs.code.ReferenceReasons.{leads_to_references, is_known, owner_among, is_of_others, is_selection_family, is_selection_elsewhere, is_elsewhere, reason_if, id_reasons, reference_reasons_told, AreClear, IsClear}
 pub use Rattle.erd_meaning.specs.code.Resolved.{IsIdentified, IsReferred, IsToldApart, AreNames, IsResolved}
 pub use Rattle.erd_meaning.specs.code.RisingNumbers.{IsRisingFrom}

@@ -11,17 +11,12 @@ use Rattle.erd_tables.specs.declared.class.Family.TheVariants as family
 use Rattle.erd_meaning.specs.Keys.{Preference}
 use Rattle.erd_meaning.specs.Lookups.{rank_of, selection_in}
 use Rattle.erd_meaning.specs.NameParts.{NameParts}
-use Rattle.erd_meaning.specs.NumberedNames.{NumberedParts, numbered_name_cmp, numbered_name_writes, numbered_parts}
+use Rattle.erd_meaning.specs.NumberedNames.{RankedParts, numbered_name_cmp, numbered_name_writes, numbered_parts}
 
 -- The family of the objects that a selection of the class is for. Only candidates and parties have selections.
 abbrev pub family_chosen : Class → Family
 family_chosen class.PartySelection = family.Party
 family_chosen c = family.Candidate
-
--- A name, and the ranks of its keys in the order of the keys.
-pub record RankedParts : Type 0 where
-  pub name : NameParts
-  pub ranks : List ℕ
 
 -- The name with the ranks of its keys in the report.
 abbrev pub ranked_name : Preference → Data → NameParts → RankedParts
@@ -42,7 +37,7 @@ pub record IsRankedIn (π : Preference) (t : Data) (r : RankedParts) : Type 0 wh
   pub is : ranked_selection_in π t index ≡ Some (contest, r)
 
 -- The name with the ranks in place of its keys.
-abbrev pub with_ranks : RankedParts → NumberedParts
+abbrev pub with_ranks : RankedParts → RankedParts
 with_ranks r = numbered_parts r.name r.ranks
 
 -- These are compared as names are, with the ranks in place of the keys.

@@ -46,16 +46,20 @@ compact_cmp a b = text_cmp (compact_text a) (compact_text b)
 abbrev pub key_named : Preference → Data → Family → List ℕ → Option Key
 key_named π t f id = option_and_then (key_of π) (owner t f id)
 
+-- The keys that the references in a list lead to, if the function says which key a reference leads to.
+abbrev pub keys_found : (List ℕ → Option Key) → List Data → List Key
+keys_found key references = filter_map (λ r. option_and_then key (as_str r)) references
+
 -- The keys of the objects of the family that the references in a list name.
 abbrev pub keys_named : Preference → Data → Family → List Data → List Key
-keys_named π t f references = filter_map (λ r. option_and_then (key_named π t f) (as_str r)) references
+keys_named π t f references = keys_found (key_named π t f) references
 
 -- The keys of the candidates of a CandidateSelection or of the parties of a PartySelection, and no keys for any other class.
--- (classes CandidateSelection, PartySelection)
-abbrev pub keys_of_selection : Preference → Data → Class → Data → List Key
-keys_of_selection π t class.CandidateSelection d = keys_named π t family.Candidate (entries_at (codes "CandidateIds") d)
-keys_of_selection π t class.PartySelection d = keys_named π t family.Party (entries_at (codes "PartyIds") d)
-keys_of_selection π t c d = []
+-- The function says which key a reference to an object of the family leads to. (classes CandidateSelection, PartySelection)
+abbrev pub keys_of_selection : (Family → List ℕ → Option Key) → Class → Data → List Key
+keys_of_selection key class.CandidateSelection d = keys_found (key family.Candidate) (entries_at (codes "CandidateIds") d)
+keys_of_selection key class.PartySelection d = keys_found (key family.Party) (entries_at (codes "PartyIds") d)
+keys_of_selection key c d = []
 
 -- True for a CandidateSelection whose `IsWriteIn` is true. (class CandidateSelection)
 abbrev pub is_write_in : Class → Data → Bool
@@ -82,11 +86,11 @@ label_of_selection c d = None
 
 -- ---- names
 
--- The name of a selection of this class, made of its six parts.
-abbrev pub name_in_class : Preference → Data → Class → Data → NameParts
-name_in_class π t c d = record {
+-- The name of a selection of this class, made of its six parts. The function says which keys its references lead to.
+abbrev pub name_in_class : Preference → (Family → List ℕ → Option Key) → Class → Data → NameParts
+name_in_class π key c d = record {
   class = c;
-  keys = rising_list key_cmp (keys_of_selection π t c d);
+  keys = rising_list key_cmp (keys_of_selection key c d);
   write_in = is_write_in c d;
   order = order_of_selection d;
   label = label_of_selection c d;
@@ -97,9 +101,14 @@ name_in_class π t c d = record {
 abbrev pub selection_role : Role
 selection_role = role.OfFamily family.Selection
 
--- The name of a selection, or none if its `@type` is not that of a selection class.
+-- The name of a selection, or none if its `@type` is not that of a selection class. The function says which keys its references
+-- lead to.
+abbrev pub name_by : Preference → (Family → List ℕ → Option Key) → Data → Option NameParts
+name_by π key d = option_map (λ c. name_in_class π key c d) (class_of_object selection_role d)
+
+-- The name of a selection of the report, or none if its `@type` is not that of a selection class.
 abbrev pub name_of : Preference → Data → Data → Option NameParts
-name_of π t d = option_map (λ c. name_in_class π t c d) (class_of_object selection_role d)
+name_of π t d = name_by π (key_named π t) d
 
 -- Classes are compared by their names.
 abbrev pub class_cmp : Class → Class → Ordering

@@ -15,7 +15,6 @@ pub mod Indexed  -- when these indexes are those of the objects
 pub mod OwnIds  -- what tells objects apart, where no two have one `@id`
 pub mod ReferenceReasons  -- the reasons of a reference, as the program tells them
 pub mod RisingNumbers  -- numbers that rise
-pub mod NamesAmong  -- the names of selections by these look-ups
 pub mod SelectionWalk  -- the names of selections in the order in which the program meets them, with the faults of selections
 pub mod KeyOrders  -- the order of objects by their keys: their positions in rising order, and their ranks
 pub mod RanksAmong  -- names with ranks among the objects that the program keeps, which an index compares

@@ -1,5 +1,5 @@
 -- The numbers of the names of selections: names of two reports are equal if and only if their numbers are.
-use Rattle.erd_compare.proofs.Common.{◌≡◌, ℕ, true, List, [], map, ◌==◌, Some, None, Option, option_map, filter_map, option_and_then, sym, refl, ap, ◌∙◌, subst, ap₂, fun_ext, list_any, position_or_len, Data, family, In, position_of, Judged, NameParts, NumberedParts, numbered_name_cmp, Placed, objects, has_id, owner_at, owner, name_of, name_named, option_and_then_some, option_eq, find-Some, option_map-Some, in_at, numbered_name_cmp_total, numbered_name_cmp_exact, name_by_ranks, name_by_ranks_of, name_told, name_eq, names_on, names_of_both, number_of_name, number_of_selection, numbers_on, AreNameNumbers, Decides, on_side, AreCommonByRank, CommonRanks, Side, Left, Right}
+use Rattle.erd_compare.proofs.Common.{◌≡◌, ℕ, true, List, [], map, ◌==◌, Some, None, Option, option_map, filter_map, option_and_then, sym, refl, ap, ◌∙◌, subst, ap₂, fun_ext, list_any, position_or_len, Data, family, In, position_of, Judged, NameParts, RankedParts, numbered_name_cmp, Placed, objects, has_id, owner_at, owner, name_of, name_named, option_and_then_some, option_eq, find-Some, option_map-Some, in_at, numbered_name_cmp_total, numbered_name_cmp_exact, name_by_ranks, name_by_ranks_of, name_told, name_eq, names_on, names_of_both, number_of_name, number_of_selection, numbers_on, AreNameNumbers, Decides, on_side, AreCommonByRank, CommonRanks, Side, Left, Right}
 use Rattle.indexmap.specs.IndexSet.{insert_all}
 use Rattle.erd_check.proofs.Order.{In-filter_map}
 use Rattle.erd_meaning.proofs.selections.RankedReports.{known_name}
@@ -17,7 +17,7 @@ module _ (a b : Judged) where
   -- ---- the numbers that are made
 
   -- the position of a name
-  abbrev place : List NumberedParts → Option NumberedParts → Option ℕ
+  abbrev place : List RankedParts → Option RankedParts → Option ℕ
   place ks o = option_map (λ q. position_or_len (name_eq q) ks) o
 
   by_names : (side : Side) (d : Data) → place (names_of_both a b) (name_by_ranks_of a b side d) ≡ number_of_selection a b side d
@@ -28,7 +28,7 @@ module _ (a b : Judged) where
       at (Some n) = refl
 
   module _ (common : CommonRanks) (are : AreCommonByRank a b common) where
-    abbrev told : Side → Placed → Option NumberedParts
+    abbrev told : Side → Placed → Option RankedParts
     told side o = name_told common side (on_side side a b) o.value
 
     is_told : (side : Side) (o : Placed) → told side o ≡ name_by_ranks_of a b side o.value
@@ -37,11 +37,11 @@ module _ (a b : Judged) where
     names_told : (side : Side) → filter_map (told side) (selections_on side) ≡ names_on a b side
     names_told side = ap (λ f. filter_map f (selections_on side)) (fun_ext (is_told side))
 
-    numbers_told : (side : Side) (ks : List NumberedParts) → ks ≡ names_of_both a b → map (λ o. place ks (told side o)) (selections_on side) ≡ map (λ o. number_of_selection a b side o.value) (selections_on side)
+    numbers_told : (side : Side) (ks : List RankedParts) → ks ≡ names_of_both a b → map (λ o. place ks (told side o)) (selections_on side) ≡ map (λ o. number_of_selection a b side o.value) (selections_on side)
     numbers_told side ks both =
         ap (λ f. map f (selections_on side)) (fun_ext (λ (o : Placed). ap (place ks) (is_told side o) ∙ (ap (λ ls. place ls (name_by_ranks_of a b side o.value)) both ∙ by_names side o.value)))
 
-    pub are_name_numbers : (js ks ls : List NumberedParts) (n : NameNumbers) → js ≡ [] → ks ≡ insert_all name_eq js (filter_map (told Left) (selections_on Left)) → ls ≡ insert_all name_eq ks (filter_map (told Right) (selections_on Right))
+    pub are_name_numbers : (js ks ls : List RankedParts) (n : NameNumbers) → js ≡ [] → ks ≡ insert_all name_eq js (filter_map (told Left) (selections_on Left)) → ls ≡ insert_all name_eq ks (filter_map (told Right) (selections_on Right))
         → n.left.items ≡ map (λ o. place ks (told Left o)) (selections_on Left) → n.right.items ≡ map (λ o. place ls (told Right o)) (selections_on Right) → AreNameNumbers a b n
     are_name_numbers js ks ls n none begun both mine its side = at side
       where
@@ -73,7 +73,7 @@ module _ (a b : Judged) where
     pub known : HasKeysIn (prefer_on a b side) (tree_on a b side) n
     pub listed : list_any (name_eq (name_by_ranks a b n)) (names_of_both a b) ≡ true
 
-  listed_on : (side : Side) (q : NumberedParts) → In q (names_on a b side) → list_any (name_eq q) (names_of_both a b) ≡ true
+  listed_on : (side : Side) (q : RankedParts) → In q (names_on a b side) → list_any (name_eq q) (names_of_both a b) ≡ true
   listed_on Left q h =
       let left = insert_all name_eq [] (names_on a b Left) in
       (stands_all numbered_name_cmp numbered_name_cmp_total numbered_name_cmp_exact q (names_on a b Right) left (position_or_len (name_eq q) left)

@@ -1,6 +1,6 @@
 -- The names that a report gives to its selections: each key in them is that of an object, so it has a common rank, which is
 -- found by its rank.
-use Rattle.erd_compare.proofs.Common.{◌≡◌, ℕ, true, List, [], ◌∷◌, map, slice_get, Some, None, Option, option_map, filter_map, option_and_then, sym, refl, ap, ◌∙◌, subst, ap₂, AllByRecursion, cons_option, Data, view, Family, family, Role, role, In-from_contains, all_weakened, Judged, has_keys, rank_of, NameParts, NumberedParts, without_keys, numbered_parts, Placed, objects, numbered_selections, family_chosen, ranked_name, PlacedName, ranked_selection_in, name_of, Key, role_of_name, ranks_in_name, name_by_ranks, name_by_ranks_of, ranks_told, name_told, rank_of_key, common_rank_of, HasKeyAt, on_side, AreCommonByRank, CommonRanks, Side, position_of}
+use Rattle.erd_compare.proofs.Common.{◌≡◌, ℕ, true, List, [], ◌∷◌, map, slice_get, Some, None, Option, option_map, filter_map, option_and_then, sym, refl, ap, ◌∙◌, subst, ap₂, AllByRecursion, cons_option, Data, view, Family, family, Role, role, In-from_contains, all_weakened, Judged, has_keys, rank_of, NameParts, without_keys, numbered_parts, Placed, objects, numbered_selections, family_chosen, ranked_name, PlacedName, ranked_selection_in, name_of, Key, role_of_name, ranks_in_name, name_by_ranks, name_by_ranks_of, ranks_told, name_told, rank_of_key, common_rank_of, HasKeyAt, on_side, AreCommonByRank, CommonRanks, Side, position_of, RankedParts}
 use Rattle.erd_meaning.proofs.selections.NamesTold.{numbered_at}
 use Rattle.erd_meaning.proofs.selections.RankedReports.{known_name, chosen_keyed}
 use Rattle.erd_meaning.specs.code.RanksAmong.{HasKeysIn, IsKeyIn}
@@ -49,9 +49,9 @@ module _ (a b : Judged) where
   -- names are equal if they are equal with common ranks in place of their keys
   pub from_ranks : (s r : Side) (m n : NameParts) → HasKeysIn (prefer_on a b s) (tree_on a b s) m → HasKeysIn (prefer_on a b r) (tree_on a b r) n → name_by_ranks a b m ≡ name_by_ranks a b n → m ≡ n
   from_ranks s r m n mine its same =
-      let rest : without_keys m ≡ without_keys n = ap (λ (q : NumberedParts). q.name) same in
+      let rest : without_keys m ≡ without_keys n = ap (λ (q : RankedParts). q.name) same in
       let role : role_of_name m ≡ role_of_name n = ap role_of_name rest in
-      let ranks : ranks_in_name a b m ≡ ranks_in_name a b n = ap (λ (q : NumberedParts). q.numbers) same in
+      let ranks : ranks_in_name a b m ≡ ranks_in_name a b n = ap (λ (q : RankedParts). q.ranks) same in
       one_name m n rest (one_keys (role_of_name m) m.keys n.keys (keys_known s m mine)
       (subst (λ x. AllByRecursion (λ k. Stands (Some k) (both_keys a b x)) n.keys) (sym role) (keys_known r n its))
       (ranks ∙ ap (λ x. map (rank_of_key a b x) n.keys) (sym role)))
@@ -86,7 +86,7 @@ module _ (a b : Judged) where
 -- ---- by position
 
 module _ (a : Judged) (common : CommonRanks) (side : Side) where
-  abbrev pub told_name : PlacedName → NumberedParts
+  abbrev pub told_name : PlacedName → RankedParts
   told_name s = numbered_parts s.1.name (ranks_told common side s.1)
 
   -- the name of the selection at a position, as its ranks tell it

@@ -1,5 +1,5 @@
 -- The selections of two contests by the numbers of their names: what the right has at each name of the left is taken out.
-use Rattle.erd_compare.proofs.Common.{◌≡◌, ℕ, suc, Bool, true, false, cond, ◌⊎◌, List, [], ◌∷◌, length, ◌==◌, Some, None, Option, option_map, find, option_and_then, sym, refl, ap, ◌∙◌, subst, inl, inr, arith, Bor, fun_ext, AllByRecursion, Data, view, Value, Class, Judged, Preference, plain_member, selection_record, name_in_class, selection_role, ◌↔◌, IsDistinct, option_eq, find-Some, SelectionRecord, number_of_name, Decides, IsWholeTree, on_side, has_number, IsByNumber, numbered_map, Side, Left, Right, In-all}
+use Rattle.erd_compare.proofs.Common.{◌≡◌, ℕ, suc, Bool, true, false, cond, ◌⊎◌, List, [], ◌∷◌, length, ◌==◌, Some, None, Option, option_map, find, option_and_then, sym, refl, ap, ◌∙◌, subst, inl, inr, arith, Bor, fun_ext, AllByRecursion, Data, view, Value, Class, Judged, Preference, plain_member, selection_record, name_in_class, selection_role, ◌↔◌, IsDistinct, option_eq, find-Some, SelectionRecord, number_of_name, Decides, IsWholeTree, on_side, has_number, IsByNumber, numbered_map, Side, Left, Right, In-all, key_named}
 use Rattle.std.specs.Map.{keys_of, lookup}
 use Rattle.erd_check.specs.Wants.{class_of_object}
 use Rattle.erd_meaning.proofs.identity.ObjectFamilies.{itself}
@@ -50,7 +50,7 @@ module _ (a b : Judged) (side : Side) (ds : List Data) where
   means_something : (name : ℕ) (d : Data) → has_number a b side name d ≡ true → selection_record π t d ≡ None → ⊥
   means_something name d named = at (class_of_object selection_role d) named
     where
-      at : (o : Option Class) → option_eq ◌==◌ (option_map (number_of_name a b) (option_map (λ c. name_in_class π t c d) o)) (Some name) ≡ true → option_map (in_class π t d) o ≡ None → ⊥
+      at : (o : Option Class) → option_eq ◌==◌ (option_map (number_of_name a b) (option_map (λ c. name_in_class π (key_named π t) c d) o)) (Some name) ≡ true → option_map (in_class π t d) o ≡ None → ⊥
       at None h nothing = cc
       at (Some c) h nothing = cc
 

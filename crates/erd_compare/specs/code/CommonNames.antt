@@ -12,8 +12,8 @@ use Rattle.erd_meaning.specs.Judged.{Judged}
 use Rattle.erd_meaning.specs.NameParts.{NameParts}
 use Rattle.erd_meaning.specs.Objects.{objects}
 use Rattle.erd_meaning.specs.SelectionNames.{name_of}
-use Rattle.erd_meaning.specs.NumberedNames.{NumberedParts, numbered_name_cmp, numbered_parts}
-use Rattle.erd_meaning.specs.RankedNames.{RankedParts, family_chosen, ranked_name}
+use Rattle.erd_meaning.specs.NumberedNames.{RankedParts, numbered_name_cmp, numbered_parts}
+use Rattle.erd_meaning.specs.RankedNames.{family_chosen, ranked_name}
 use Rattle.erd_compare.specs.code.CommonRanks.{common_rank_of, rank_of_key}
 use Rattle.erd_compare.specs.code.RankedSides.{on_side}
 use Rattle.erd_compare.specs.declared.ranks.common_ranks.CommonRanks.{CommonRanks}
@@ -32,11 +32,11 @@ abbrev pub ranks_in_name : Judged → Judged → NameParts → List ℕ
 ranks_in_name a b n = map (rank_of_key a b (role_of_name n)) n.keys
 
 -- The name with common ranks in place of its keys.
-abbrev pub name_by_ranks : Judged → Judged → NameParts → NumberedParts
+abbrev pub name_by_ranks : Judged → Judged → NameParts → RankedParts
 name_by_ranks a b n = numbered_parts n (ranks_in_name a b n)
 
 -- The name of a selection with common ranks in place of its keys, or none if its `@type` is not that of a selection class.
-abbrev pub name_by_ranks_of : Judged → Judged → Side → Data → Option NumberedParts
+abbrev pub name_by_ranks_of : Judged → Judged → Side → Data → Option RankedParts
 name_by_ranks_of a b side d = option_map (name_by_ranks a b) (name_of (on_side side a b).prefer (view (on_side side a b).tree) d)
 
 -- The common ranks of the keys in a name, by their ranks on the side.
@@ -44,21 +44,21 @@ abbrev pub ranks_told : CommonRanks → Side → RankedParts → List ℕ
 ranks_told common side r = filter_map (common_rank_of common side (role_of_name r.name)) r.ranks
 
 -- The name of a selection of the report, with these common ranks in place of its keys.
-abbrev pub name_told : CommonRanks → Side → Judged → Data → Option NumberedParts
+abbrev pub name_told : CommonRanks → Side → Judged → Data → Option RankedParts
 name_told common side a d = option_map (λ n. numbered_parts n (ranks_told common side (ranked_name a.prefer (view a.tree) n))) (name_of a.prefer (view a.tree) d)
 
 -- True if the two names are equal.
-abbrev pub name_eq : NumberedParts → NumberedParts → Bool
+abbrev pub name_eq : RankedParts → RankedParts → Bool
 name_eq = eq_by_cmp numbered_name_cmp
 
 -- ---- numbers in place of names
 
 -- The names of the selections of a report, in the order of the report.
-abbrev pub names_on : Judged → Judged → Side → List NumberedParts
+abbrev pub names_on : Judged → Judged → Side → List RankedParts
 names_on a b side = filter_map (λ o. name_by_ranks_of a b side o.value) (objects family.Selection (view (on_side side a b).tree))
 
 -- The names of the selections of both reports, each once, in the order in which they come first.
-abbrev pub names_of_both : Judged → Judged → List NumberedParts
+abbrev pub names_of_both : Judged → Judged → List RankedParts
 names_of_both a b = insert_all name_eq (insert_all name_eq [] (names_on a b Left)) (names_on a b Right)
 
 -- The number of a name: its position among these.

@@ -1,5 +1,5 @@
 -- Faults of identity, of references and of selections, as facts on small trees, by computation.
-use Rattle.erd_meaning.proofs.Common.{◌≡◌, ℕ, true, false, [], ◌∷◌, slice_get, Some, None, codes, option_and_then, unwrap_or, refl, lit<, serde_json_on_literals, Data, boolean, class, Family, DuplicateId, NoIdentifier, SelectionOfOtherContest, TwinIdentifier, TwinSelection, WrongFamily, At, Name, tree_of, asked, Reference, IdentityFault, ReferenceFault, SelectionFault, a_json, Placed, report_of, elections, objects, selection_record, name_in_class, name_of, role, family}
+use Rattle.erd_meaning.proofs.Common.{◌≡◌, ℕ, true, false, [], ◌∷◌, slice_get, Some, None, codes, option_and_then, unwrap_or, refl, lit<, serde_json_on_literals, Data, boolean, class, Family, DuplicateId, NoIdentifier, SelectionOfOtherContest, TwinIdentifier, TwinSelection, WrongFamily, At, Name, tree_of, asked, Reference, IdentityFault, ReferenceFault, SelectionFault, a_json, Placed, report_of, elections, objects, selection_record, name_in_class, name_of, role, family, key_named}
 use Rattle.erd_meaning.proofs.identity.IdentityFaults.{lacks_identifier, repeats_id, repeats_key}
 use Rattle.erd_check.specs.declared.want.Want.TheVariants.{Object}
 
@@ -62,7 +62,7 @@ twin_selections = record {
   earlier = object_at write_ins family.Selection 0;
   earlier_stands = (0, lit< tt, refl);
   before = refl;
-  name = record (name_in_class None write_ins class.CandidateSelection write_ins) { write_in = true };
+  name = record (name_in_class None (key_named None write_ins) class.CandidateSelection write_ins) { write_in = true };
   later_name = refl;
   earlier_name = refl;
 }

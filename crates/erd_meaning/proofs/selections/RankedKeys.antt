@@ -1,6 +1,6 @@
 -- The ranks of keys are in the order of the keys, wherever objects of the family have the keys. The keys in the name of a
 -- selection are those of objects.
-use Rattle.erd_meaning.proofs.Common.{◌≡◌, ℕ, Bool, true, false, cond, List, [], ◌∷◌, map, is_some, slice_get, Some, None, codes, Option, option_map, position, find, option_and_then, option_copied, nat_cmp, is_eq, sym, refl, ap, ◌∙◌, subst, inl, inr, Bor, and_parts, and_from, tied_itself, on_total, slice_get-map, IsTotalOrder, options_total, AllByRecursion, cons_option, list_all, option_cmp, Data, as_str, Class, class, Family, family, In, entries_at, class_of_object, key_cmp, Preference, key_of, NameParts, family_chosen, RankedParts, rising_list, is_write_in, order_of_selection, label_of_selection, selection_role, lent_key_cmp, key_among, keys_among, selection_keys_among, class_name_among, name_among, rank, number_of_key, is_of_family, those_of, is_keyed, keeps_id, Kept, same_key, key_cmp_total, rank_among, AreRanks, ranked_key, is_key_among, ranked_parts, ranked_name_among, has_keys_among, IsRanked, Key, cases_Bool, arith, and_then-Some, option_map-Some, some_from, in_at}
+use Rattle.erd_meaning.proofs.Common.{◌≡◌, ℕ, Bool, true, false, cond, List, [], ◌∷◌, map, is_some, slice_get, Some, None, codes, Option, option_map, position, find, option_and_then, option_copied, nat_cmp, is_eq, sym, refl, ap, ◌∙◌, subst, inl, inr, Bor, and_parts, and_from, tied_itself, on_total, slice_get-map, IsTotalOrder, options_total, AllByRecursion, cons_option, list_all, option_cmp, Data, as_str, Class, class, Family, family, In, entries_at, class_of_object, key_cmp, Preference, key_of, NameParts, family_chosen, RankedParts, rising_list, is_write_in, order_of_selection, label_of_selection, selection_role, lent_key_cmp, key_among, name_among, rank, number_of_key, is_of_family, those_of, is_keyed, keeps_id, Kept, same_key, key_cmp_total, rank_among, AreRanks, ranked_key, is_key_among, ranked_parts, ranked_name_among, has_keys_among, IsRanked, Key, cases_Bool, arith, and_then-Some, option_map-Some, some_from, in_at, name_in_class, keys_found, keys_of_selection}
 use Rattle.erd_meaning.proofs.finding.OneObject.{ranked, hit, missed}
 use Rattle.erd_meaning.proofs.identity.IdentityFaults.{same_key_from}
 use Rattle.erd_meaning.proofs.orders.RisingOrders.{IsKeyOf, counted_as_key, all_rising, rising_alike}
@@ -95,7 +95,7 @@ module _ (ks : List Kept) (f : Family) where
       at None is = absurd (missed (is_keyed f key) ks k is there (and_from (is_of_family f k) (same_key k.key (Some key)) of_family same))
       at (Some n) is = refl
 
-  referred_known : (id : List ℕ) (key : Key) → key_among ks f id ≡ Some key → IsKeyAmong key
+  pub referred_known : (id : List ℕ) (key : Key) → key_among ks f id ≡ Some key → IsKeyAmong key
   referred_known id key e = at (find (keeps_id id) ks) refl e
     where
       of : (k : Kept) (b : Bool) → In k ks → is_of_family f k ≡ b → option_and_then (λ (k : Kept). k.key) (cond b (Some k) None) ≡ Some key → IsKeyAmong key
@@ -106,49 +106,55 @@ module _ (ks : List Kept) (f : Family) where
       at None is h = cc
       at (Some k) is h = of k (is_of_family f k) (found_in (keeps_id id) ks k is) refl h
 
-  by_reference : (id : Option (List ℕ)) (key : Key) → option_and_then (key_among ks f) id ≡ Some key → IsKeyAmong key
-  by_reference None key e = cc
-  by_reference (Some id) key e = referred_known id key e
-
-  pub referred_all : (rs : List Data) → AllByRecursion IsKeyAmong (keys_among ks f rs)
-  referred_all [] = tt
-  referred_all (r ∷ rs) = at (option_and_then (key_among ks f) (as_str r)) refl (referred_all rs)
-    where
-      at : (o : Option Key) → option_and_then (key_among ks f) (as_str r) ≡ o → AllByRecursion IsKeyAmong (keys_among ks f rs) → AllByRecursion IsKeyAmong (cons_option o (keys_among ks f rs))
-      at None is h = h
-      at (Some key) is h = (by_reference (as_str r) key is, h)
-
 -- ---- names
 
 -- the name of a selection of this class with these keys
 abbrev pub name_with : Preference → Class → Data → List Key → NameParts
 name_with π c d keys = record { class = c; keys = keys; write_in = is_write_in c d; order = order_of_selection d; label = label_of_selection c d; identifier = key_of π d }
 
-module _ (ks : List Kept) where
-  pub chosen_known : (c : Class) (d : Data) → AllByRecursion (IsKeyAmong ks (family_chosen c)) (selection_keys_among ks c d)
-  chosen_known class.CandidateSelection d = referred_all ks family.Candidate (entries_at (codes "CandidateIds") d)
-  chosen_known class.PartySelection d = referred_all ks family.Party (entries_at (codes "PartyIds") d)
-  chosen_known c d = tt
+-- what holds of each key that references lead to holds of each key that a list of references leads to
+module _ (P : Key → Type 0) (key : List ℕ → Option Key) (holds : (id : List ℕ) (k : Key) → key id ≡ Some k → P k) where
+  by_reference : (id : Option (List ℕ)) (k : Key) → option_and_then key id ≡ Some k → P k
+  by_reference None k e = cc
+  by_reference (Some id) k e = holds id k e
 
+  all_found : (rs : List Data) → AllByRecursion P (keys_found key rs)
+  all_found [] = tt
+  all_found (r ∷ rs) = at (option_and_then key (as_str r)) refl (all_found rs)
+    where
+      at : (o : Option Key) → option_and_then key (as_str r) ≡ o → AllByRecursion P (keys_found key rs) → AllByRecursion P (cons_option o (keys_found key rs))
+      at None is rest = rest
+      at (Some k) is rest = (by_reference (as_str r) k is, rest)
+
+-- and so of each key in a name
+module _ (P : Family → Key → Type 0) (key : Family → List ℕ → Option Key) (holds : (f : Family) (id : List ℕ) (k : Key) → key f id ≡ Some k → P f k) where
+  pub all_chosen : (c : Class) (d : Data) → AllByRecursion (P (family_chosen c)) (keys_of_selection key c d)
+  all_chosen class.CandidateSelection d = all_found (P family.Candidate) (key family.Candidate) (holds family.Candidate) (entries_at (codes "CandidateIds") d)
+  all_chosen class.PartySelection d = all_found (P family.Party) (key family.Party) (holds family.Party) (entries_at (codes "PartyIds") d)
+  all_chosen c d = tt
+
+  pub keys_in_name : (π : Preference) (c : Class) (d : Data) → AllByRecursion (P (family_chosen c)) (name_in_class π key c d).keys
+  keys_in_name π c d = all_rising (P (family_chosen c)) key_cmp (keys_of_selection key c d) (all_chosen c d)
+
+module _ (ks : List Kept) where
   -- a name that is made with the ranks of its keys
   pub made_ranked : (π : Preference) (d : Data) (n : NameParts) → name_among π ks d ≡ Some n → IsRanked ks (ranked_parts ks n)
   made_ranked π d n e =
-      let r = option_map-Some (λ c. class_name_among π ks c d) (class_of_object selection_role d) n e in
-      let f = family_chosen r.0 in
-      let chosen = all_rising (IsKeyAmong ks f) key_cmp (selection_keys_among ks r.0 d) (chosen_known r.0 d) in
-      record { ranks = refl; known = sym (ap (has_keys_among ks) r.2) ∙ all_pass (is_key_among ks f) (rising_list key_cmp (selection_keys_among ks r.0 d)) chosen }
+      let r = option_map-Some (λ c. name_in_class π (key_among ks) c d) (class_of_object selection_role d) n e in
+      let known = all_pass (is_key_among ks (family_chosen r.0)) (name_in_class π (key_among ks) r.0 d).keys (keys_in_name (IsKeyAmong ks) (key_among ks) (referred_known ks) π r.0 d) in
+      record { ranks = refl; known = sym (ap (has_keys_among ks) r.2) ∙ known }
 
   -- the name that is made of a selection, with the ranks of its keys
   pub ranked_selection : (π : Preference) (d : Data) (c : Class) (chosen : List (ℕ × Key)) (r : RankedParts) → class_of_object selection_role d ≡ Some c
-      → chosen ≡ map (ranked_key ks (family_chosen c)) (rising_list key_cmp (selection_keys_among ks c d)) → r.name ≡ name_with π c d (map (λ x. x.1) chosen) → r.ranks ≡ map (λ x. x.0) chosen
+      → chosen ≡ map (ranked_key ks (family_chosen c)) (rising_list key_cmp (keys_of_selection (key_among ks) c d)) → r.name ≡ name_with π c d (map (λ x. x.1) chosen) → r.ranks ≡ map (λ x. x.0) chosen
       → Some r ≡ ranked_name_among π ks d
   ranked_selection π d c chosen r is are name ranks =
-      let keys = rising_list key_cmp (selection_keys_among ks c d) in
+      let keys = rising_list key_cmp (keys_of_selection (key_among ks) c d) in
       let f = family_chosen c in
-      let named : r.name ≡ class_name_among π ks c d = name ∙ ap (name_with π c d) (ap (map (λ x. x.1)) are ∙ keys_only f keys) in
+      let named : r.name ≡ name_in_class π (key_among ks) c d = name ∙ ap (name_with π c d) (ap (map (λ x. x.1)) are ∙ keys_only f keys) in
       let numbered : r.ranks ≡ map (λ key. rank_among ks f (Some key)) keys = ranks ∙ ap (map (λ x. x.0)) are ∙ ranks_only f keys in
-      let whole : r ≡ ranked_parts ks (class_name_among π ks c d) = λ i. record { name = named i; ranks = numbered i } in
-      ap Some whole ∙ sym (ap (λ o. option_map (ranked_parts ks) (option_map (λ b. class_name_among π ks b d) o)) is)
+      let whole : r ≡ ranked_parts ks (name_in_class π (key_among ks) c d) = λ i. record { name = named i; ranks = numbered i } in
+      ap Some whole ∙ sym (ap (λ o. option_map (ranked_parts ks) (option_map (λ b. name_in_class π (key_among ks) b d) o)) is)
     where
       keys_only : (f : Family) (keys : List Key) → map (λ x. x.1) (map (ranked_key ks f) keys) ≡ keys
       keys_only f [] = refl

@@ -1,10 +1,11 @@
 -- The names of the selections of a report with the ranks of their keys: the keys are those of objects, and the ranks are in their order.
-use Rattle.erd_meaning.proofs.Common.{◌≡◌, ℕ, List, [], ◌∷◌, Some, None, codes, Option, option_and_then, refl, ap, ◌∙◌, subst, AllByRecursion, cons_option, Data, as_str, Class, class, Family, family, entries_at, class_of_object, key_cmp, Preference, key_of, NameParts, objects, family_chosen, key_named, keys_named, keys_of_selection, name_in_class, selection_role, name_of, HasKeysIn, IsKeyIn, Key, and_then-Some, option_map-Some, slice_get, option_map, nat_cmp, Equal, sym, ap₂, slice_cmp, option_cmp, In, In-from_contains, In-all, rank_of, NumberedParts, numbered_parts, numbered_name_cmp, Placed, numbered_selections, RankedParts, ranked_name, IsRankedIn, class_cmp, name_cmp, classes_exact, true, cond, map, length, filter, is_lt, slice_get-map, map-map, view, Value, has_keys, key_of_family_object, key_in, rising_keys, PlacedName, ranked_selection_in, rising_list, positioned, those_of, Kept, kept, rank_among, rising_keys_among, ranked_parts, names_of, AllAreRanked, IsRanked, IsResolved, NumberedName, shown, Object, owner, contains_from_In, in_at}
+use Rattle.erd_meaning.proofs.Common.{◌≡◌, ℕ, List, Some, None, Option, option_and_then, refl, ap, ◌∙◌, subst, AllByRecursion, Data, Class, class, Family, class_of_object, key_cmp, Preference, key_of, NameParts, objects, family_chosen, key_named, name_in_class, selection_role, name_of, HasKeysIn, IsKeyIn, Key, and_then-Some, option_map-Some, slice_get, option_map, nat_cmp, Equal, sym, ap₂, slice_cmp, option_cmp, In, In-from_contains, In-all, rank_of, Placed, numbered_selections, RankedParts, ranked_name, IsRankedIn, class_cmp, name_cmp, classes_exact, true, cond, map, length, filter, is_lt, slice_get-map, map-map, view, Value, has_keys, key_of_family_object, key_in, rising_keys, PlacedName, ranked_selection_in, rising_list, positioned, those_of, Kept, kept, rank_among, rising_keys_among, ranked_parts, names_of, AllAreRanked, IsRanked, IsResolved, NumberedName, shown, Object, owner, contains_from_In, in_at, ranked_name_cmp}
 use Rattle.erd_meaning.proofs.accepted.Standing.{owned_by, has_identifier}
-use Rattle.erd_meaning.proofs.orders.RisingOrders.{all_rising, IsKeyOf, counted_as_key, count_map}
+use Rattle.erd_meaning.proofs.orders.RisingOrders.{IsKeyOf, counted_as_key, count_map}
 use Rattle.erd_meaning.specs.code.NumberedOrders.{numbered_as_named, numbers_as_keys}
 use Rattle.erd_meaning.proofs.finding.OneObject.{those_shown}
 use Rattle.erd_meaning.proofs.selections.PositionedKeys.{rising_positioned}
+use Rattle.erd_meaning.proofs.selections.RankedKeys.{keys_in_name}
 
 module _ (π : Preference) (t : Data) (f : Family) where
   referred_in : (id : List ℕ) (k : Key) → key_named π t f id ≡ Some k → IsKeyIn π t f k
@@ -12,73 +13,56 @@ module _ (π : Preference) (t : Data) (f : Family) where
       let r = and_then-Some (key_of π) (owner t f id) k e in
       let x = owned_by t f id r.0 r.1 in record { owner = x.0; stands = contains_from_In x.0 (objects f t) x.1; keyed = ap (key_of π) x.2 ∙ r.2 }
 
-  by_reference : (id : Option (List ℕ)) (k : Key) → option_and_then (key_named π t f) id ≡ Some k → IsKeyIn π t f k
-  by_reference None k e = cc
-  by_reference (Some id) k e = referred_in id k e
-
-  -- so it is with each key that references name
-  pub all_named : (rs : List Data) → AllByRecursion (IsKeyIn π t f) (keys_named π t f rs)
-  all_named [] = tt
-  all_named (r ∷ rs) = at (option_and_then (key_named π t f) (as_str r)) refl (all_named rs)
-    where
-      at : (o : Option Key) → option_and_then (key_named π t f) (as_str r) ≡ o → AllByRecursion (IsKeyIn π t f) (keys_named π t f rs) → AllByRecursion (IsKeyIn π t f) (cons_option o (keys_named π t f rs))
-      at None is rest = rest
-      at (Some k) is rest = (by_reference (as_str r) k is, rest)
-
 module _ (π : Preference) (t : Data) where
-  chosen_all : (c : Class) (d : Data) → AllByRecursion (IsKeyIn π t (family_chosen c)) (keys_of_selection π t c d)
-  chosen_all class.CandidateSelection d = all_named π t family.Candidate (entries_at (codes "CandidateIds") d)
-  chosen_all class.PartySelection d = all_named π t family.Party (entries_at (codes "PartyIds") d)
-  chosen_all c d = tt
+  -- the name of a selection of this class
+  abbrev name_in : Class → Data → NameParts
+  name_in c d = name_in_class π (key_named π t) c d
 
-  -- and with each key in a name
-  pub keys_in_name : (c : Class) (d : Data) → AllByRecursion (IsKeyIn π t (family_chosen c)) (name_in_class π t c d).keys
-  keys_in_name c d = all_rising (IsKeyIn π t (family_chosen c)) key_cmp (keys_of_selection π t c d) (chosen_all c d)
+  -- each key in it is that of an object
+  keys_known : (c : Class) (d : Data) → AllByRecursion (IsKeyIn π t (family_chosen c)) (name_in c d).keys
+  keys_known c d = keys_in_name (IsKeyIn π t) (key_named π t) (referred_in π t) π c d
 
   pub known_name : (d : Data) (n : NameParts) → name_of π t d ≡ Some n → HasKeysIn π t n
-  known_name d n e = let r = option_map-Some (λ c. name_in_class π t c d) (class_of_object selection_role d) n e in subst (HasKeysIn π t) r.2 (keys_in_name r.0 d)
+  known_name d n e = let r = option_map-Some (λ c. name_in c d) (class_of_object selection_role d) n e in subst (HasKeysIn π t) r.2 (keys_known r.0 d)
 
--- ---- the ranks of keys are in the order of the keys, wherever objects of the family have the keys. So names with ranks in place of their keys are in the order of names
+  -- ---- the ranks of keys are in the order of the keys, wherever objects of the family have the keys. So names with ranks in place of their keys are in the order of names
 
-module _ (π : Preference) (t : Data) where
   its_key : (f : Family) (k : Key) → IsKeyIn π t f k → IsKeyOf (λ (o : Placed). key_of π o.value) (objects f t) k
   its_key f k h = record { owner = h.owner; stands = In-from_contains h.owner (objects f t) h.stands; keyed = h.keyed }
 
   rank_as_key : (f : Family) (k l : Key) → IsKeyIn π t f k → IsKeyIn π t f l → nat_cmp (rank_of π t f (Some k)) (rank_of π t f (Some l)) ≡ key_cmp k l
   rank_as_key f k l has other = counted_as_key (λ (o : Placed). key_of π o.value) (objects f t) k l (its_key f k has) (its_key f l other)
 
-  in_name : (c : Class) (d : Data) (k : Key) → In k (name_in_class π t c d).keys → IsKeyIn π t (family_chosen c) k
-  in_name c d k inside = In-all (IsKeyIn π t (family_chosen c)) k (name_in_class π t c d).keys (keys_in_name π t c d) inside
+  in_name : (c : Class) (d : Data) (k : Key) → In k (name_in c d).keys → IsKeyIn π t (family_chosen c) k
+  in_name c d k inside = In-all (IsKeyIn π t (family_chosen c)) k (name_in c d).keys (keys_known c d) inside
 
   in_one_class : (c b : Class) (d e : Data) → class_cmp c b ≡ Equal
-      → slice_cmp nat_cmp (ranked_name π t (name_in_class π t c d)).ranks (ranked_name π t (name_in_class π t b e)).ranks ≡ slice_cmp key_cmp (name_in_class π t c d).keys (name_in_class π t b e).keys
+      → slice_cmp nat_cmp (ranked_name π t (name_in c d)).ranks (ranked_name π t (name_in b e)).ranks ≡ slice_cmp key_cmp (name_in c d).keys (name_in b e).keys
   in_one_class c b d e same = subst (λ x. Same x) (classes_exact c b same)
-      (numbers_as_keys (λ k. rank_of π t (family_chosen c) (Some k)) (name_in_class π t c d).keys (name_in_class π t c e).keys
+      (numbers_as_keys (λ k. rank_of π t (family_chosen c) (Some k)) (name_in c d).keys (name_in c e).keys
       (λ k l i j. rank_as_key (family_chosen c) k l (in_name c d k i) (in_name c e l j)))
     where
       Same : Class → Type 0
       Same x =
-          slice_cmp nat_cmp (ranked_name π t (name_in_class π t c d)).ranks (ranked_name π t (name_in_class π t x e)).ranks
-          ≡ slice_cmp key_cmp (name_in_class π t c d).keys (name_in_class π t x e).keys
+          slice_cmp nat_cmp (ranked_name π t (name_in c d)).ranks (ranked_name π t (name_in x e)).ranks
+          ≡ slice_cmp key_cmp (name_in c d).keys (name_in x e).keys
 
-  abbrev numbered_name : NameParts → NumberedParts
-  numbered_name n = numbered_parts n (ranked_name π t n).ranks
-
-  abbrev numbered_name_of : Data → Option NumberedParts
-  numbered_name_of d = option_map numbered_name (name_of π t d)
+  -- the name of a selection with the ranks of its keys
+  abbrev pub ranked_name_of : Data → Option RankedParts
+  ranked_name_of d = option_map (ranked_name π t) (name_of π t d)
 
   -- names with ranks compare as the names do
-  pub numbered_names_alike : (d e : Data) → option_cmp numbered_name_cmp (numbered_name_of d) (numbered_name_of e) ≡ option_cmp name_cmp (name_of π t d) (name_of π t e)
-  numbered_names_alike d e = at (class_of_object selection_role d) (class_of_object selection_role e)
+  pub ranked_names_alike : (d e : Data) → option_cmp ranked_name_cmp (ranked_name_of d) (ranked_name_of e) ≡ option_cmp name_cmp (name_of π t d) (name_of π t e)
+  ranked_names_alike d e = at (class_of_object selection_role d) (class_of_object selection_role e)
     where
       at : (c b : Option Class)
-          → option_cmp numbered_name_cmp (option_map numbered_name (option_map (λ c. name_in_class π t c d) c)) (option_map numbered_name (option_map (λ b. name_in_class π t b e) b))
-          ≡ option_cmp name_cmp (option_map (λ c. name_in_class π t c d) c) (option_map (λ b. name_in_class π t b e) b)
+          → option_cmp ranked_name_cmp (option_map (ranked_name π t) (option_map (λ c. name_in c d) c)) (option_map (ranked_name π t) (option_map (λ b. name_in b e) b))
+          ≡ option_cmp name_cmp (option_map (λ c. name_in c d) c) (option_map (λ b. name_in b e) b)
       at None None = refl
       at None (Some b) = refl
       at (Some c) None = refl
       at (Some c) (Some b) =
-          numbered_as_named (name_in_class π t c d) (name_in_class π t b e) (ranked_name π t (name_in_class π t c d)).ranks (ranked_name π t (name_in_class π t b e)).ranks (in_one_class c b d e)
+          numbered_as_named (name_in c d) (name_in b e) (ranked_name π t (name_in c d)).ranks (ranked_name π t (name_in b e)).ranks (in_one_class c b d e)
 
   -- ---- names that a report lends
 
@@ -103,16 +87,15 @@ module _ (π : Preference) (t : Data) where
       at (Some s) e = by s (name_of π t s.1.value) refl e
 
   abbrev Alike : Option NameParts → Option NameParts → Type 0
-  Alike o p = option_cmp numbered_name_cmp (option_map numbered_name o) (option_map numbered_name p) ≡ option_cmp name_cmp o p
+  Alike o p = option_cmp ranked_name_cmp (option_map (ranked_name π t) o) (option_map (ranked_name π t) p) ≡ option_cmp name_cmp o p
 
   -- two names of one report compare by their ranks as they do by their keys
-  pub names_in_order : (a b : RankedParts) → IsRankedIn π t a → IsRankedIn π t b → numbered_name_cmp (numbered_parts a.name a.ranks) (numbered_parts b.name b.ranks) ≡ name_cmp a.name b.name
+  pub names_in_order : (a b : RankedParts) → IsRankedIn π t a → IsRankedIn π t b → ranked_name_cmp a b ≡ name_cmp a.name b.name
   names_in_order a b h k =
       let m = named a h in
       let n = named b k in
-      let one = subst (λ o. Alike o (name_of π t n.selection)) m.name (numbered_names_alike m.selection n.selection) in
-      let both : Alike (Some a.name) (Some b.name) = subst (λ o. Alike (Some a.name) o) n.name one in
-      ap₂ numbered_name_cmp (ap (λ (q : RankedParts). numbered_parts a.name q.ranks) m.ranks) (ap (λ (q : RankedParts). numbered_parts b.name q.ranks) n.ranks) ∙ both
+      let one = subst (λ o. Alike o (name_of π t n.selection)) m.name (ranked_names_alike m.selection n.selection) in
+      ap₂ ranked_name_cmp m.ranks n.ranks ∙ subst (λ o. Alike (Some a.name) o) n.name one
 
 -- ---- the names that a report keeps with ranks are those of its selections, with the ranks of their keys in the report
 

@@ -1,5 +1,5 @@
 -- The names that the walk over the selections of a report meets and leaves are those of the definition.
-use Rattle.erd_meaning.proofs.Common.{◌≡◌, ℕ, true, cond, List, [], ◌∷◌, Some, None, codes, Option, option_map, find, option_and_then, refl, ap, ◌∙◌, cons_option, Data, as_str, Class, class, Family, family, NoneOf, entries_at, class_of_object, has_keys, key_cmp, Preference, key_of, key_of_family_object, IdentityFault, Placed, id_of, has_id, rising_list, key_named, keys_named, keys_of_selection, is_write_in, order_of_selection, label_of_selection, name_in_class, selection_role, name_of, key_among, keys_among, selection_keys_among, class_name_among, name_among, is_of_family, keeps_id, Kept, kept_objects, inl, inr, cases_Bool, zero, suc, ◌<◌, ◌++◌, slice_get, flat_map, sym, cases_order, option_map_or, Selection, TwinSelection, object_in, ObjectIn, In, In-flat_map, ShapeFault, SelectionFault, selection_in, NameParts, contests, selections_of_contest, numbered_selections, AreNames, NumberedName, and_then-Some, length, subst, ListsAll, Fault, none_from_empty, names_of, is_taken, NamesMet, named_all, names_met, nil_from_length, objects, in_at}
+use Rattle.erd_meaning.proofs.Common.{◌≡◌, ℕ, true, cond, List, [], ◌∷◌, Some, None, codes, Option, option_map, find, option_and_then, refl, ap, ◌∙◌, Data, Class, class, Family, family, NoneOf, entries_at, class_of_object, has_keys, key_cmp, Preference, key_of, key_of_family_object, IdentityFault, Placed, id_of, has_id, rising_list, key_named, keys_of_selection, is_write_in, order_of_selection, label_of_selection, name_in_class, selection_role, name_of, key_among, name_among, is_of_family, keeps_id, Kept, kept_objects, inl, inr, cases_Bool, zero, suc, ◌<◌, ◌++◌, slice_get, flat_map, sym, cases_order, option_map_or, Selection, TwinSelection, object_in, ObjectIn, In, In-flat_map, ShapeFault, SelectionFault, selection_in, NameParts, contests, selections_of_contest, numbered_selections, AreNames, NumberedName, and_then-Some, length, subst, ListsAll, Fault, none_from_empty, names_of, is_taken, NamesMet, named_all, names_met, nil_from_length, objects, in_at, keys_found}
 use Rattle.erd_meaning.proofs.finding.OneObject.{kept_of, those_kept, among_first, sorted_at}
 use Rattle.erd_meaning.proofs.references.ReferenceLookups.{find_both, named_same}
 use Rattle.erd_meaning.proofs.selections.NamesTold.{Numbered, in_places, name_list, numbered_rising, of_its_contest, repeats, all_faults, all_names, names_told, selections_listed, selections_told}
@@ -23,24 +23,14 @@ key_same π t f id none h =
 
 -- ---- the keys of a selection
 
-referred_same : (π : Preference) (t : Data) (f : Family) (o : Option (List ℕ)) → NoneOf (IdentityFault π t) → has_keys f ≡ true → option_and_then (key_among (kept_objects π t) f) o ≡ option_and_then (key_named π t f) o
-referred_same π t f None none h = refl
-referred_same π t f (Some id) none h = key_same π t f id none h
-
-keys_same : (π : Preference) (t : Data) (f : Family) (ds : List Data) → NoneOf (IdentityFault π t) → has_keys f ≡ true → keys_among (kept_objects π t) f ds ≡ keys_named π t f ds
-keys_same π t f [] none h = refl
-keys_same π t f (d ∷ ds) none h =
-    ap (λ o. cons_option o (keys_among (kept_objects π t) f ds)) (referred_same π t f (as_str d) none h)
-    ∙ ap (cons_option (option_and_then (key_named π t f) (as_str d))) (keys_same π t f ds none h)
-
-selection_keys_same : (π : Preference) (t : Data) (c : Class) (d : Data) → NoneOf (IdentityFault π t) → selection_keys_among (kept_objects π t) c d ≡ keys_of_selection π t c d
-selection_keys_same π t class.CandidateSelection d none = keys_same π t family.Candidate (entries_at (codes "CandidateIds") d) none refl
-selection_keys_same π t class.PartySelection d none = keys_same π t family.Party (entries_at (codes "PartyIds") d) none refl
+selection_keys_same : (π : Preference) (t : Data) (c : Class) (d : Data) → NoneOf (IdentityFault π t) → keys_of_selection (key_among (kept_objects π t)) c d ≡ keys_of_selection (key_named π t) c d
+selection_keys_same π t class.CandidateSelection d none = λ i. keys_found (λ id. key_same π t family.Candidate id none refl i) (entries_at (codes "CandidateIds") d)
+selection_keys_same π t class.PartySelection d none = λ i. keys_found (λ id. key_same π t family.Party id none refl i) (entries_at (codes "PartyIds") d)
 selection_keys_same π t c d none = refl
 
 -- ---- names
 
-class_name_same : (π : Preference) (t : Data) (c : Class) (d : Data) → NoneOf (IdentityFault π t) → class_name_among π (kept_objects π t) c d ≡ name_in_class π t c d
+class_name_same : (π : Preference) (t : Data) (c : Class) (d : Data) → NoneOf (IdentityFault π t) → name_in_class π (key_among (kept_objects π t)) c d ≡ name_in_class π (key_named π t) c d
 class_name_same π t c d none =
     let keys_equal = selection_keys_same π t c d none in
     λ i. record {
@@ -55,7 +45,7 @@ class_name_same π t c d none =
 pub name_same : (π : Preference) (t d : Data) → NoneOf (IdentityFault π t) → name_among π (kept_objects π t) d ≡ name_of π t d
 name_same π t d none = at (class_of_object selection_role d)
   where
-    at : (o : Option Class) → option_map (λ c. class_name_among π (kept_objects π t) c d) o ≡ option_map (λ c. name_in_class π t c d) o
+    at : (o : Option Class) → option_map (λ c. name_in_class π (key_among (kept_objects π t)) c d) o ≡ option_map (λ c. name_in_class π (key_named π t) c d) o
     at None = refl
     at (Some c) = ap Some (class_name_same π t c d none)
 
@@ -75,7 +65,7 @@ selections_named : (π : Preference) (t : Data) → NoneOf (ShapeFault t) → Ha
 selections_named π t none x i =
     let contest = of_its_contest t x i in
     let c = selection_class t none x.1 (In-flat_map selections_of_contest x.1 contest.contest (contests t) contest.there contest.inside) in
-    (name_in_class π t c.0 x.1.value, ap (option_map (λ k. name_in_class π t k x.1.value)) c.1)
+    (name_in_class π (key_named π t) c.0 x.1.value, ap (option_map (λ k. name_in_class π (key_named π t) k x.1.value)) c.1)
 
 -- ---- the name at a position
 

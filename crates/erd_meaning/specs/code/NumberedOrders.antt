@@ -14,25 +14,25 @@ use Rattle.erd_tables.specs.Texts.{text_cmp}
 use Rattle.erd_meaning.specs.Keys.{key_cmp}
 use Rattle.erd_meaning.specs.NameParts.{NameParts}
 use Rattle.erd_meaning.specs.SelectionNames.{class_cmp, name_cmp}
-use Rattle.erd_meaning.specs.NumberedNames.{NumberedParts, numbered_name_cmp, numbered_parts, without_keys}
+use Rattle.erd_meaning.specs.NumberedNames.{RankedParts, numbered_name_cmp, numbered_parts, without_keys}
 use Rattle.erd_meaning.specs.code.Orders.{name_cmp_exact, name_cmp_total}
 use Rattle.erd_meaning.specs.declared.keys.key.Key.{Key}
 
 pub numbered_name_cmp_total : IsTotalOrder numbered_name_cmp
 numbered_name_cmp_total =
     then_total (on_total (λ n. n.name.class) (on_total class_name nat_list_cmp_total))
-    (then_total (on_total (λ n. n.numbers) (lists_total nat_cmp_total)) (on_total (λ n. n.name) name_cmp_total))
+    (then_total (on_total (λ n. n.ranks) (lists_total nat_cmp_total)) (on_total (λ n. n.name) name_cmp_total))
 
 pub numbered_name_cmp_exact : CmpEqualImpliesEq numbered_name_cmp
 numbered_name_cmp_exact a b e =
     let later = then_both (class_cmp a.name.class b.name.class) _ e in
-    let parts = then_both (slice_cmp nat_cmp a.numbers b.numbers) (name_cmp a.name b.name) later.1 in
-    let numbers = lists_exact nat_cmp exact_unsigned a.numbers b.numbers parts.0 in
+    let parts = then_both (slice_cmp nat_cmp a.ranks b.ranks) (name_cmp a.name b.name) later.1 in
+    let ranks = lists_exact nat_cmp exact_unsigned a.ranks b.ranks parts.0 in
     let name = name_cmp_exact a.name b.name parts.1 in
-    λ i. record { numbers = numbers i; name = name i }
+    λ i. record { name = name i; ranks = ranks i }
 
 -- what is made of such a name is the same of an equal one
-pub equal_numbered_alike : {B : Type 0} (f : NumberedParts → B) (a b : NumberedParts) → eq_by_cmp numbered_name_cmp a b ≡ true → f a ≡ f b
+pub equal_numbered_alike : {B : Type 0} (f : RankedParts → B) (a b : RankedParts) → eq_by_cmp numbered_name_cmp a b ≡ true → f a ≡ f b
 equal_numbered_alike f a b e = ap f (numbered_name_cmp_exact a b ((Equal-is (numbered_name_cmp a b)).0 e))
 
 -- How the parts of two names compare that come after the keys.

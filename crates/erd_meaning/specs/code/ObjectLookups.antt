@@ -25,3 +25,7 @@ keeps_id id k = same_id k.id (Some id)
 -- The first object with this `@id`, or none if that object is of another family.
 abbrev pub object_among : List Kept → Family → List ℕ → Option Kept
 object_among ks f id = option_and_then (λ k. if is_of_family f k then Some k else None) (find (keeps_id id) ks)
+
+-- The key of the object of the family with this `@id`, or none.
+abbrev pub key_among : List Kept → Family → List ℕ → Option Key
+key_among ks f id = option_and_then (λ k. k.key) (object_among ks f id)

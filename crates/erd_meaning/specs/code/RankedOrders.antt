@@ -6,10 +6,10 @@ use Rattle.std.proofs.lemmas.Bool.Decides.{Decides-eqb}
 use Rattle.std.proofs.lemmas.Cmp.{on_total}
 use Rattle.std.proofs.lemmas.Bool.{and_parts}
 use Rattle.erd_meaning.specs.NameParts.{NameParts}
-use Rattle.erd_meaning.specs.NumberedNames.{numbered_name_writes}
+use Rattle.erd_meaning.specs.NumberedNames.{RankedParts, numbered_name_writes}
 use Rattle.erd_meaning.specs.code.NumberedOrders.{equal_numbered_alike, numbered_name_cmp_total}
 use Rattle.erd_meaning.specs.code.ObjectWalk.{Kept}
-use Rattle.erd_meaning.specs.RankedNames.{PlacedName, RankedParts, ranked_name_cmp, ranked_name_writes, with_ranks}
+use Rattle.erd_meaning.specs.RankedNames.{PlacedName, ranked_name_cmp, ranked_name_writes, with_ranks}
 use Rattle.erd_meaning.specs.code.RanksAmong.{has_keys_among, is_sought, ranked_parts}
 
 pub ranked_name_cmp_total : IsTotalOrder ranked_name_cmp

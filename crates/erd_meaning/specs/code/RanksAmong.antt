@@ -9,12 +9,12 @@ use Rattle.erd_tables.specs.declared.class.Family.{Family}
 use Rattle.erd_meaning.specs.Keys.{Preference, key_cmp, key_of}
 use Rattle.erd_meaning.specs.NameParts.{NameParts}
 use Rattle.erd_meaning.specs.Objects.{IsObject, Placed}
-use Rattle.erd_meaning.specs.SelectionNames.{rising_list}
+use Rattle.erd_meaning.specs.SelectionNames.{name_by, rising_list}
 use Rattle.erd_meaning.specs.code.KeyOrders.{family_keys, positioned}
-use Rattle.erd_meaning.specs.code.NamesAmong.{name_among}
-use Rattle.erd_meaning.specs.RankedNames.{PlacedName, RankedParts, family_chosen, ranked_name_cmp}
+use Rattle.erd_meaning.specs.NumberedNames.{RankedParts}
+use Rattle.erd_meaning.specs.RankedNames.{PlacedName, family_chosen, ranked_name_cmp}
 use Rattle.erd_meaning.specs.code.ObjectIndexes.{number_of_key}
-use Rattle.erd_meaning.specs.code.ObjectLookups.{those_of}
+use Rattle.erd_meaning.specs.code.ObjectLookups.{key_among, those_of}
 use Rattle.erd_meaning.specs.code.ObjectWalk.{Kept}
 use Rattle.erd_meaning.specs.code.SelectionWalk.{NumberedName}
 use Rattle.erd_meaning.specs.declared.keys.key.Key.{Key}
@@ -50,6 +50,11 @@ abbrev pub fed_rank : List Kept → Family → Key → ℕ
 fed_rank ks f key = if is_key_among ks f key then rank_among ks f (Some key) else 0
 
 -- ---- names
+
+-- The name of a selection, with the keys that are found among the objects, or none if its `@type` is not that of a selection
+-- class.
+abbrev pub name_among : Preference → List Kept → Data → Option NameParts
+name_among π ks d = name_by π (key_among ks) d
 
 -- The name with the ranks of its keys.
 abbrev pub ranked_parts : List Kept → NameParts → RankedParts

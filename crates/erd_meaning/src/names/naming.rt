@@ -3,11 +3,11 @@ ghost use Rattle.std.specs.Ordering.{nat_cmp};
 ghost use Rattle.serde_json.specs.View.{view};
 ghost use Rattle.serde_json.specs.Written.{has_float};
 ghost use Rattle.erd_meaning.specs.Keys.{key_cmp};
-ghost use Rattle.erd_meaning.specs.code.NamesAmong.{keys_among, selection_keys_among};
+ghost use Rattle.erd_meaning.specs.code.ObjectLookups.{key_among};
 ghost use Rattle.erd_meaning.specs.code.ObjectWalk.{Kept};
 ghost use Rattle.erd_meaning.specs.RankedNames.{family_chosen};
 ghost use Rattle.erd_meaning.specs.code.RanksAmong.{ranked_key, ranked_name_among};
-ghost use Rattle.erd_meaning.specs.SelectionNames.{is_write_in, label_of_selection, order_of_selection, rising_list};
+ghost use Rattle.erd_meaning.specs.SelectionNames.{is_write_in, keys_found, keys_of_selection, label_of_selection, order_of_selection, rising_list};
 ghost use Rattle.erd_meaning.specs.code.Shown.{shown};
 
 use crate::keys::key_rule::KeyRule;
@@ -58,7 +58,7 @@ fn chosen_keys(
     selection: &Value,
 ) -> Result<Vec<(usize, SharedKey)>, AllocError>
     ensures { IfOk result (λ chosen. chosen.items ≡ map (ranked_key (map shown objects.now) (family_chosen class))
-        (rising_list key_cmp (selection_keys_among (map shown objects.now) class (view selection.now)))) }
+        (rising_list key_cmp (keys_of_selection (key_among (map shown objects.now)) class (view selection.now)))) }
 {
     let references = references_chosen(class, selection);
     let chosen = keys_in_turn(alloc, objects, class, references)?;
@@ -77,7 +77,8 @@ fn in_rising_order(
 
 /// Returns the references of a selection to the candidates or parties that it is for.
 fn references_chosen(class: Class, selection: &Value) -> &[Value]
-    ensures { (ks : List Kept) → keys_among ks (family_chosen class) (map view result.now) ≡ selection_keys_among ks class (view selection.now) }
+    ensures { (ks : List Kept) → keys_found (key_among ks (family_chosen class)) (map view result.now)
+        ≡ keys_of_selection (key_among ks) class (view selection.now) }
 {
     match class {
         Class::CandidateSelection => entries_at(selection, "CandidateIds"),
@@ -95,7 +96,7 @@ fn keys_in_turn(
     references: &[Value],
 ) -> Result<Vec<(usize, SharedKey)>, AllocError>
     ensures { IfOk result (λ chosen. chosen.items ≡ map (ranked_key (map shown objects.now) (family_chosen class))
-        (keys_among (map shown objects.now) (family_chosen class) (map view references.now))) }
+        (keys_found (key_among (map shown objects.now) (family_chosen class)) (map view references.now))) }
 {
     let mut chosen = Vec::with_capacity(alloc, references.len())?;
     for reference in references {

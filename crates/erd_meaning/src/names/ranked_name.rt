@@ -55,7 +55,7 @@ pub struct RankedName<N: Named> {
 }
 
 impl<N: Named> Model for RankedName<N> {
-    ghost use Rattle.erd_meaning.specs.RankedNames.{RankedParts};
+    ghost use Rattle.erd_meaning.specs.NumberedNames.{RankedParts};
 
     ghost Value = { RankedParts };
 

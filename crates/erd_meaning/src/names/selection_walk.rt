@@ -2,10 +2,9 @@ ghost use Rattle.std.specs.Prelude.{◌≡◌, ◌+◌, ◌<◌, ◌^◌, codes,
 ghost use Rattle.serde_json.specs.View.{view};
 ghost use Rattle.serde_json.specs.Written.{has_float};
 ghost use Rattle.erd_check.specs.Paths.{steps_of};
-ghost use Rattle.erd_meaning.specs.code.NamesAmong.{name_among};
 ghost use Rattle.erd_meaning.specs.Objects.{numbered_selections, numbered_selections_of, placed_entries};
 ghost use Rattle.erd_meaning.specs.code.ObjectWalk.{Kept, kept_objects};
-ghost use Rattle.erd_meaning.specs.code.RanksAmong.{AllAreRanked, IsRanked};
+ghost use Rattle.erd_meaning.specs.code.RanksAmong.{AllAreRanked, IsRanked, name_among};
 ghost use Rattle.erd_meaning.specs.code.SelectionWalk.{named_all, named_one, numbered_from, with_name};
 ghost use Rattle.erd_meaning.specs.code.Shown.{placed_at, shown};
 ghost use Rattle.erd_meaning.specs.code.ShownWalks.{names_met};

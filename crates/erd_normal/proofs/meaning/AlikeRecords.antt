@@ -26,7 +26,7 @@ class_within π t accepted r d w = let a : ObjectIn t r d = object_in t (no_shap
 
 -- a selection has a name
 pub has_name : (π : Preference) (t : Data) → IsAccepted π t → (d : Data) → Within t (asked (Object selection_role) d) → (n : NameParts) × (name_of π t d ≡ Some n)
-has_name π t accepted d w = let c = class_within π t accepted selection_role d w in (_, ap (option_map (λ c. name_in_class π t c d)) c.1)
+has_name π t accepted d w = let c = class_within π t accepted selection_role d w in (_, ap (option_map (λ c. name_in_class π (key_named π t) c d)) c.1)
 
 -- a selection has a record
 pub has_selection_record : (π : Preference) (t : Data) → IsAccepted π t → (d : Data) → Within t (asked (Object selection_role) d) → (r : SelectionRecord) × (selection_record π t d ≡ Some r)

@@ -2,17 +2,17 @@
 use Rattle.erd_normal.proofs.Common.{◌≡◌, ℕ, ◌+◌, ◌<◌, ◌≤◌, List, [], ◌∷◌, ◌++◌, map, length, take, drop, replicate, slice_get, Some, None, codes, Option, option_map, flat_map, option_copied, Ordering, sym, refl, ap, ◌∙◌, subst, arith, length-take, Bor, on_total, length-map, take_more, same_Some, slice_get-map, slice_get_within, get_or_from_slice_get, IsTotalOrder, options_total, AllByRecursion, enumerate_from, option_cmp, eq_by_cmp, Data, family, Name, entries_at, IsAccepted, Preference, NameParts, Placed, contests, selections_of_contest, objects, rising_list, name_of, name_cmp, positioned, rank_by, positions_by, name_cmp_total, drop_all, values-placed_from, in_at, distinct_map, by_first, rising_list_map, rank_map, rank_of_name, by_name, lent_name_cmp, rising_selections, AreSelectionRanks, In}
 use Rattle.std.proofs.lemmas.List.Folds.{flat_map-map}
 use Rattle.erd_check.proofs.Positions.{left_there}
-use Rattle.erd_meaning.specs.NumberedNames.{numbered_name_cmp, numbered_parts}
+use Rattle.erd_meaning.specs.NumberedNames.{RankedParts}
 use Rattle.erd_meaning.specs.Places.{places_put}
-use Rattle.erd_meaning.specs.RankedNames.{RankedParts, ranked_name}
-use Rattle.erd_meaning.specs.code.NumberedOrders.{numbered_name_cmp_total}
+use Rattle.erd_meaning.specs.RankedNames.{ranked_name_cmp}
 use Rattle.erd_meaning.proofs.orders.OrdersMade.{all_low, ranks_are}
 use Rattle.erd_meaning.proofs.selections.PositionedKeys.{positioned-append, positioned_made}
-use Rattle.erd_meaning.proofs.selections.RankedReports.{numbered_names_alike}
+use Rattle.erd_meaning.proofs.selections.RankedReports.{ranked_name_of, ranked_names_alike}
 use Rattle.erd_normal.proofs.canonical.RisingReports.{selection_values_distinct}
 use Rattle.erd_normal.proofs.lists.NumberedKept.{in_part}
 use Rattle.erd_normal.proofs.lists.StableRising.{map_after}
 use Rattle.erd_normal.proofs.ranks.InOrder.{Next, entries, next, positions, stands, values}
+use Rattle.erd_meaning.specs.code.RankedOrders.{ranked_name_cmp_total}
 
 -- ---- positions by one key and by another
 
@@ -38,9 +38,6 @@ one_placed {K} ks i k seen here before =
 
 -- ---- names with ranks
 
-abbrev ranked_cmp : Option RankedParts → Option RankedParts → Ordering
-ranked_cmp = option_cmp (λ m n. numbered_name_cmp (numbered_parts m.name m.ranks) (numbered_parts n.name n.ranks))
-
 -- a borrowed name with a position
 abbrev pub LentName : Type 0
 LentName = Option (Bor RankedParts) × ℕ
@@ -49,36 +46,23 @@ abbrev pub see : LentName → Option RankedParts × ℕ
 see p = (option_copied p.0, p.1)
 
 pub lent_total : IsTotalOrder lent_name_cmp
-lent_total = options_total (on_total (λ (m : Bor RankedParts). numbered_parts m.now.name m.now.ranks) numbered_name_cmp_total)
+lent_total = options_total (on_total (λ (m : Bor RankedParts). m.now) ranked_name_cmp_total)
 
-lent_alike : (a b : Option (Bor RankedParts)) → lent_name_cmp a b ≡ ranked_cmp (option_copied a) (option_copied b)
+lent_alike : (a b : Option (Bor RankedParts)) → lent_name_cmp a b ≡ option_cmp ranked_name_cmp (option_copied a) (option_copied b)
 lent_alike None None = refl
 lent_alike None (Some n) = refl
 lent_alike (Some m) None = refl
 lent_alike (Some m) (Some n) = refl
 
 module _ (π : Preference) (t : Data) where
-  abbrev pub ranked_name_of : Data → Option RankedParts
-  ranked_name_of d = option_map (ranked_name π t) (name_of π t d)
-
-  ranked_alike : (a b : Data) → ranked_cmp (ranked_name_of a) (ranked_name_of b) ≡ option_cmp name_cmp (name_of π t a) (name_of π t b)
-  ranked_alike a b = at (name_of π t a) (name_of π t b) (numbered_names_alike π t a b)
-    where
-      at : (m n : Option NameParts) → option_cmp numbered_name_cmp (option_map (λ x. numbered_parts x (ranked_name π t x).ranks) m) (option_map (λ x. numbered_parts x (ranked_name π t x).ranks) n) ≡ option_cmp name_cmp m n
-          → ranked_cmp (option_map (ranked_name π t) m) (option_map (ranked_name π t) n) ≡ option_cmp name_cmp m n
-      at None None e = e
-      at None (Some n) e = e
-      at (Some m) None e = e
-      at (Some m) (Some n) e = e
-
   -- the positions that stand with the sorted names
-  pub sorted_names : (names sorted : List LentName) (ds : List Data) → map see names ≡ positioned 0 (map ranked_name_of ds) → sorted ≡ rising_list (λ a b. lent_name_cmp a.0 b.0) names
+  pub sorted_names : (names sorted : List LentName) (ds : List Data) → map see names ≡ positioned 0 (map (ranked_name_of π t) ds) → sorted ≡ rising_list (λ a b. lent_name_cmp a.0 b.0) names
       → map (λ (p : LentName). p.1) sorted ≡ positions_by (option_cmp name_cmp) (map (name_of π t) ds)
   sorted_names names sorted ds placed is =
       ap (map (λ (p : LentName). p.1)) (is ∙ ap (λ (c : LentName → LentName → Ordering). rising_list c names) (λ i a b. lent_alike a.0 b.0 i))
-      ∙ (map_after see (λ (p : Option RankedParts × ℕ). p.1) (rising_list (λ a b. ranked_cmp (see a).0 (see b).0) names)
-      ∙ (ap (map (λ (p : Option RankedParts × ℕ). p.1)) (rising_list_map see (by_first ranked_cmp) names ∙ ap (rising_list (by_first ranked_cmp)) placed)
-      ∙ positions_alike ranked_cmp (option_cmp name_cmp) ranked_name_of (name_of π t) ranked_alike ds))
+      ∙ (map_after see (λ (p : Option RankedParts × ℕ). p.1) (rising_list (λ a b. option_cmp ranked_name_cmp (see a).0 (see b).0) names)
+      ∙ (ap (map (λ (p : Option RankedParts × ℕ). p.1)) (rising_list_map see (by_first (option_cmp ranked_name_cmp)) names ∙ ap (rising_list (by_first (option_cmp ranked_name_cmp))) placed)
+      ∙ positions_alike (option_cmp ranked_name_cmp) (option_cmp name_cmp) (ranked_name_of π t) (name_of π t) (ranked_names_alike π t) ds))
 
   -- ---- one contest
 

@@ -87,7 +87,7 @@ module _ (π : Preference) (t u : Data) (canonical : IsCanonical π t) (canonica
   keys_alike : (f : Family) → has_keys f ≡ true → (ds : List Data) → keys_named π t f ds ≡ keys_named π u f ds
   keys_alike f keyed ds = λ i. filter_map (λ r. option_and_then (λ s. one_key f s keyed i) (as_str r)) ds
 
-  selection_keys : (c : Class) (d : Data) → keys_of_selection π t c d ≡ keys_of_selection π u c d
+  selection_keys : (c : Class) (d : Data) → keys_of_selection (key_named π t) c d ≡ keys_of_selection (key_named π u) c d
   selection_keys class.CandidateSelection d = keys_alike family.Candidate refl (entries_at (codes "CandidateIds") d)
   selection_keys class.PartySelection d = keys_alike family.Party refl (entries_at (codes "PartyIds") d)
   selection_keys c d = refl

@@ -8,9 +8,9 @@ use Rattle.erd_check.specs.Values.{entries_at}
 use Rattle.erd_meaning.specs.Keys.{Preference}
 use Rattle.erd_meaning.specs.Lookups.{selection_in}
 use Rattle.erd_meaning.specs.NameParts.{NameParts}
-use Rattle.erd_meaning.specs.NumberedNames.{numbered_name_cmp, numbered_parts}
+use Rattle.erd_meaning.specs.NumberedNames.{RankedParts}
 use Rattle.erd_meaning.specs.Objects.{Placed, contests, numbered_selections}
-use Rattle.erd_meaning.specs.RankedNames.{RankedParts}
+use Rattle.erd_meaning.specs.RankedNames.{ranked_name_cmp}
 use Rattle.erd_meaning.specs.SelectionNames.{name_cmp, name_of}
 use Rattle.erd_meaning.specs.code.KeyOrders.{positions_by}
 use Rattle.erd_normal.specs.code.NormalTree.{rank_of_name}
@@ -18,7 +18,7 @@ use denote.Ref.{Bor}
 
 -- Borrowed names with ranks are compared by what they point to, with ranks in place of keys. None is less than any.
 abbrev pub lent_name_cmp : Option (Bor RankedParts) → Option (Bor RankedParts) → Ordering
-lent_name_cmp = option_cmp (λ m n. numbered_name_cmp (numbered_parts m.now.name m.now.ranks) (numbered_parts n.now.name n.now.ranks))
+lent_name_cmp = option_cmp (λ m n. ranked_name_cmp m.now n.now)
 
 -- The name of the selection at this position of the report, or none.
 abbrev pub name_in : Preference → Data → ℕ → Option NameParts

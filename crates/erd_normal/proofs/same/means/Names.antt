@@ -1,5 +1,5 @@
 -- Selections that say the same have one name.
-use Rattle.erd_normal.proofs.Common.{◌≡◌, ℕ, true, false, List, Some, codes, Option, option_map, option_and_then, unwrap_or, sym, refl, ap, ◌∙◌, Data, get, as_bool, as_number, as_integer, compact_text, kind_of_member, Class, class, family, role, kind, entries_at, member_want, Member, Object, Reference, no_shape_fault, key_cmp, Preference, owner, is_in_envelope, rising_list, keys_of_selection, is_write_in, order_of_selection, with_rising_text, label_of_selection, name_in_class, selection_role, name_of, name_named, IsUsed, Sides, StandsFor}
+use Rattle.erd_normal.proofs.Common.{◌≡◌, ℕ, true, false, List, Some, codes, Option, option_map, option_and_then, unwrap_or, sym, refl, ap, ◌∙◌, Data, get, as_bool, as_number, as_integer, compact_text, kind_of_member, Class, class, family, role, kind, entries_at, member_want, Member, Object, Reference, no_shape_fault, key_cmp, Preference, owner, is_in_envelope, rising_list, keys_of_selection, is_write_in, order_of_selection, with_rising_text, label_of_selection, name_in_class, selection_role, name_of, name_named, IsUsed, Sides, StandsFor, key_named}
 use Rattle.erd_normal.proofs.lists.Matched.{said_same}
 use Rattle.erd_normal.proofs.same.Owners.{owners_related}
 use Rattle.erd_normal.proofs.same.Related.{Related}
@@ -11,7 +11,7 @@ use Rattle.erd_normal.proofs.same.means.References.{keys_list_alike, label_text_
 module _ (m : Sides) (π : Preference) (g : TwoReports m π) where
   -- ---- the six parts
 
-  keys_same : (c : Class) (d e : Data) → HaveMembers m c d e → rising_list key_cmp (keys_of_selection π m.left c d) ≡ rising_list key_cmp (keys_of_selection π m.right c e)
+  keys_same : (c : Class) (d e : Data) → HaveMembers m c d e → rising_list key_cmp (keys_of_selection (key_named π m.left) c d) ≡ rising_list key_cmp (keys_of_selection (key_named π m.right) c e)
   keys_same class.CandidateSelection d e h =
       let name = codes "CandidateIds" in
       keys_list_alike m π g family.Candidate (entries_at name d) (entries_at name e)
@@ -65,9 +65,9 @@ module _ (m : Sides) (π : Preference) (g : TwoReports m π) where
       let order = order_same o.class d e o.members in
       let label = label_same o.class d e o.members in
       let identifier = related_key m g.left_tree g.right_tree (no_shape_fault π m.left g.accepted) π family.Selection d e r in
-      let same : name_in_class π m.left o.class d ≡ name_in_class π m.right o.class e =
+      let same : name_in_class π (key_named π m.left) o.class d ≡ name_in_class π (key_named π m.right) o.class e =
       λ i. record { class = o.class; keys = keys i; write_in = write_in i; order = order i; label = label i; identifier = identifier i } in
-      ap (option_map (λ c. name_in_class π m.left c d)) o.left ∙ ap Some same ∙ sym (ap (option_map (λ c. name_in_class π m.right c e)) o.right)
+      ap (option_map (λ c. name_in_class π (key_named π m.left) c d)) o.left ∙ ap Some same ∙ sym (ap (option_map (λ c. name_in_class π (key_named π m.right) c e)) o.right)
 
   -- texts that stand for one another name selections of one name
   pub name_named_alike : (s s' : List ℕ) → StandsFor m s s' → IsUsed m.left s → IsUsed m.right s' → name_named π m.left s ≡ name_named π m.right s'

@@ -1,11 +1,11 @@
-use Rattle.erd_compare.proofs.Common.{◌<◌, ◌≤◌, map, length, Some, None, Option, option_map, option_and_then, sym, ap, ◌∙◌, subst, view, family, NumberedParts, numbered_name_cmp, Placed, objects, at_low, with_ranks, numbered_name_cmp_total, numbered_name_cmp_exact, name_told, name_eq, false, true}
+use Rattle.erd_compare.proofs.Common.{◌<◌, ◌≤◌, map, length, Some, None, Option, option_map, option_and_then, sym, ap, ◌∙◌, subst, view, family, RankedParts, numbered_name_cmp, Placed, objects, at_low, with_ranks, numbered_name_cmp_total, numbered_name_cmp_exact, name_told, name_eq, false, true}
 use Rattle.erd_compare.proofs.same_ranks.InsertedKeys.{inserted_seen, next, none_left, place_seen}
 use Rattle.erd_compare.proofs.ranks.name_numbers.numbers_of_names.Goals.{in-Some+in_ok-insert_full-in-Some, in-None}
 use Rattle.erd_compare.proofs.ranks.name_numbers.numbers_of_names.Goals as goal
 
 pub loop-position-preserved : goal.loop-position-preserved
 loop-position-preserved c =
-    let told : Placed → Option NumberedParts = λ o. name_told c.args.common.now c.args.side c.args.report.now o.value in
+    let told : Placed → Option RankedParts = λ o. name_told c.args.common.now c.args.side c.args.report.now o.value in
     let os = objects family.Selection (view c.args.report.now.tree) in
     let i = c.loop-position.position in
     let ks = map with_ranks c.loop-position.names in

@@ -1,6 +1,8 @@
 use Rattle.erd_normal.proofs.Common.{◌≡◌, ◌<◌, ◌≤◌, [], ◌∷◌, ◌++◌, map, length, slice_get, Some, Option, option_map, option_copied, ap, ◌∙◌, arith, take_all, map-append, length-map, slice_get-map, view, at_low, positioned, false, true}
-use Rattle.erd_meaning.specs.RankedNames.{RankedParts, ranked_name}
-use Rattle.erd_normal.proofs.ranks.SelectionRanks.{one_placed, ranked_name_of, see}
+use Rattle.erd_meaning.specs.NumberedNames.{RankedParts}
+use Rattle.erd_meaning.specs.RankedNames.{ranked_name}
+use Rattle.erd_meaning.proofs.selections.RankedReports.{ranked_name_of}
+use Rattle.erd_normal.proofs.ranks.SelectionRanks.{one_placed, see}
 use Rattle.erd_normal.proofs.writer.selection_orders.names_from.Goals as goal
 
 pub loop-index-preserved : goal.loop-index-preserved
