@@ -6,7 +6,7 @@ use Rattle.erd_meaning.specs.code.SelectionWalk.{StandFrom, if_of_contest, selec
 use Rattle.erd_meaning.proofs.orders.DistinctEntries.{place_of as place_in}
 use Rattle.erd_compare.proofs.same_ranks.NameNumbers.{selection_named}
 use Rattle.erd_compare.proofs.same_ranks.NumberedSelections.{AreNamed, maps_decide}
-use Rattle.erd_compare.specs.declared.objects.placed.Selections.{Selections}
+use Rattle.erd_compare.specs.declared.objects.selections.Selections.{Selections}
 use Rattle.erd_meaning.proofs.meanings.SelectionKinds as kinds
 
 -- ---- the member of a contest
