@@ -4,6 +4,5 @@ pub(crate) mod acceptance;
 pub(crate) mod canonical;
 pub(crate) mod comparison;
 pub(crate) mod disposal;
-pub(crate) mod input;
 pub(crate) mod laws;
 pub(crate) mod refusal;

@@ -1,6 +1,5 @@
 //! The calls that answer data: the outcome of a check or a comparison with a JSON text.
 
-pub(crate) mod answer;
 pub(crate) mod check;
 pub(crate) mod compare;
 mod fault_texts;

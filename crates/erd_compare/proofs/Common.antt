@@ -52,6 +52,6 @@ pub use Rattle.erd_compare.specs.declared.difference.How.TheVariants.{Member, On
 pub use Rattle.erd_compare.specs.declared.difference.Part.{Part, Part as part}
 pub use Rattle.erd_compare.specs.declared.objects.least_name.MemberPair.{MemberPair}
 pub use Rattle.erd_compare.specs.declared.ranks.common_ranks.CommonRanks.{CommonRanks}
-pub use Rattle.erd_compare.specs.declared.ranks.side.Side.{Side}
-pub use Rattle.erd_compare.specs.declared.ranks.side.Side.TheVariants.{Left, Right}
+pub use Rattle.erd_compare.specs.declared.ranks.common_ranks.Side.{Side}
+pub use Rattle.erd_compare.specs.declared.ranks.common_ranks.Side.TheVariants.{Left, Right}
 pub use Rattle.erd_compare.specs.declared.values.chosen_members.Choice.TheVariants.{BesideText, Carried}

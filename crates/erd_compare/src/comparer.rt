@@ -9,10 +9,9 @@ ghost use Rattle.erd_compare.specs.code.CommonRanks.{AreAllCommonRanks, AreCommo
 ghost use Rattle.erd_compare.specs.code.KeyedDifferences.{IsComparable, holder_key_in, is_ranked, key_in_role};
 ghost use Rattle.erd_compare.specs.code.RankedSides.{AreCommonByRank, on_side};
 
-use crate::ranks::common_ranks::CommonRanks;
+use crate::ranks::common_ranks::{CommonRanks, Side};
 use crate::ranks::name_numbers::NameNumbers;
 use crate::ranks::role_objects::{election_of, rank_at};
-use crate::ranks::side::Side;
 use erd_meaning::Report;
 use erd_tables::Role;
 use std::alloc::Global;

@@ -1,10 +1,8 @@
 //! Differences between reports, and the lines that describe them.
 
-ghost use Rattle.std.specs.Prelude.{◌≡◌, string_bytes, IfOk};
-ghost use Rattle.std.specs.Option.{option_copied};
+ghost use Rattle.std.specs.Prelude.{◌≡◌, string_bytes, option_copied, IfOk};
 ghost use Rattle.serde_json.specs.Data.{string};
 ghost use Rattle.serde_json.specs.View.{view};
-ghost use Rattle.serde_json.specs.Written.{compact_text};
 ghost use Rattle.erd_compare.specs.declared.difference.How.TheVariants.{Member};
 ghost use Rattle.erd_compare.specs.DifferenceLine.{difference_line, how_text, key_as_json, key_text, part_text};
 
@@ -120,7 +118,7 @@ fn key_words(alloc: Global, key: Option<&Key>) -> Result<String, AllocError>
 {
     match key {
         Some(key) => {
-            let json = key_in_json(alloc, key)?;
+            let json = key_value(alloc, key)?.to_string(alloc)?;
             format!(in alloc; " {json}")
         }
         None => Ok(String::new(alloc)),
@@ -136,18 +134,10 @@ fn how_words(alloc: Global, how: &How) -> Result<String, AllocError>
         How::OnlyRight => String::from_str(alloc, "only right"),
         How::OtherClass => String::from_str(alloc, "other class"),
         How::Member(name) => {
-            let json = text_in_json(alloc, name)?;
+            let json = string_value(alloc, name)?.to_string(alloc)?;
             format!(in alloc; "member {json}")
         }
     }
-}
-
-/// Returns the three texts of a key as a compact JSON array.
-fn key_in_json(alloc: Global, key: &Key) -> Result<String, AllocError>
-    ensures { IfOk result (λ json. string_bytes json ≡ compact_text (key_as_json key.now)) }
-{
-    let value = key_value(alloc, key)?;
-    value.to_string(alloc)
 }
 
 /// Returns the three texts of a key as a JSON array.
@@ -159,14 +149,6 @@ pub(crate) fn key_value(alloc: Global, key: &Key) -> Result<Value, AllocError>
     let value = string_value(alloc, &key.value)?;
     let texts = vec![in alloc; kind, other, value]?;
     Ok(Value::Array(texts))
-}
-
-/// Returns a text as compact JSON.
-fn text_in_json(alloc: Global, text: &Text) -> Result<String, AllocError>
-    ensures { IfOk result (λ json. string_bytes json ≡ compact_text (string text.now)) }
-{
-    let value = string_value(alloc, text)?;
-    value.to_string(alloc)
 }
 
 /// Returns a text as a JSON value.

@@ -1,17 +1,17 @@
-ghost use Rattle.std.specs.Prelude.{◌≡◌, IfOk};
+ghost use Rattle.std.specs.Prelude.{◌≡◌, option_copied, IfOk};
 ghost use Rattle.serde_json.specs.View.{view};
 ghost use Rattle.erd_meaning.specs.Records.{meaning};
 ghost use Rattle.erd_compare.specs.Differences.{IsDifference};
+ghost use Rattle.erd_compare.specs.code.Comparing.{TellsPart};
 
-mod parts;
 mod tables;
 
 use crate::comparer::Comparer;
 use crate::difference::{Difference, Part};
-use crate::first::parts::part_difference;
+use crate::first::tables::{KeyedDifference, least_difference};
 use crate::ranks::common_ranks::CommonRanks;
 use crate::ranks::name_numbers::names_of_both;
-use erd_meaning::Report;
+use erd_meaning::{Key, Report};
 use std::alloc::{AllocError, Global};
 
 /// The parts in the order in which they are compared.
@@ -69,4 +69,30 @@ pub fn first_difference(
         }
     }
     Ok(None)
+}
+
+/// Returns the first difference between the two reports at a part.
+pub(crate) fn part_difference(
+    comparer: &Comparer,
+    part: Part,
+) -> Result<Option<Difference>, AllocError>
+    ensures { IfOk result (TellsPart (meaning comparer.now.left.prefer (view comparer.now.left.tree)) (meaning comparer.now.right.prefer (view comparer.now.right.tree)) part) }
+{
+    match least_difference(comparer, part)? {
+        Some(KeyedDifference { key, how }) => {
+            let key = copied(comparer.alloc, key)?;
+            Ok(Some(Difference { part, key, how }))
+        }
+        None => Ok(None),
+    }
+}
+
+/// Returns a copy of the key, if there is one.
+fn copied(alloc: Global, key: Option<&Key>) -> Result<Option<Key>, AllocError>
+    ensures { IfOk result (λ copy. copy ≡ option_copied key.entry) }
+{
+    match key {
+        Some(key) => Ok(Some(key.try_clone(alloc)?)),
+        None => Ok(None),
+    }
 }

@@ -3,7 +3,6 @@
 pub(crate) mod held;
 pub(crate) mod least_name;
 mod members_left;
-pub(crate) mod placed;
 mod plain_members;
 pub(crate) mod records;
 mod selections;

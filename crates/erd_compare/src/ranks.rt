@@ -6,4 +6,3 @@ pub(crate) mod common_ranks;
 pub(crate) mod merging;
 pub(crate) mod name_numbers;
 pub(crate) mod role_objects;
-pub(crate) mod side;

@@ -85,5 +85,5 @@ pub use Rattle.erd_meaning.specs.code.Shown.{shown, placed_at}
 pub use Rattle.erd_meaning.specs.code.ShownWalks.{met_of, names_met}
 pub use Rattle.erd_meaning.specs.declared.keys.key.Key.{Key}
 pub use Rattle.erd_meaning.specs.declared.keys.salted.Salted.{Salted}
-pub use Rattle.erd_meaning.specs.declared.objects.object.Object.{Object}
+pub use Rattle.erd_meaning.specs.declared.objects.table.Object.{Object}
 pub use Rattle.erd_meaning.specs.declared.objects.order.Order.{Order}

@@ -2,7 +2,6 @@
 
 pub(crate) mod election_table;
 pub(crate) mod holders;
-pub(crate) mod object;
 pub(crate) mod object_walk;
 pub(crate) mod order;
 pub(crate) mod per_family;

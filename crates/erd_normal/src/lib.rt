@@ -5,7 +5,6 @@ mod laws;
 mod objects;
 mod order;
 mod report;
-mod same_forms;
 mod same_laws;
 mod text;
 mod values;
@@ -19,10 +18,8 @@ pub use order::compact_text::CompactText;
 pub use order::set_order::SetOrder;
 pub use order::stable_sort::in_order;
 pub use report::canonical_form::{normal_text, normal_tree};
-pub use same_forms::{
-    canonical_says_the_same, meaning_the_same_says_the_same, saying_and_meaning_agree,
-};
 pub use same_laws::{
-    exchanged_says_the_same, rearranged_says_the_same, references_name_the_same,
-    renamed_says_the_same, same_is_accepted, says_back, says_in_turn, says_itself,
+    canonical_says_the_same, exchanged_says_the_same, meaning_the_same_says_the_same,
+    rearranged_says_the_same, references_name_the_same, renamed_says_the_same, same_is_accepted,
+    saying_and_meaning_agree, says_back, says_in_turn, says_itself,
 };

@@ -1,6 +1,5 @@
 //! What the canonical form of a report is written from: the report, and the orders of its parts.
-ghost use Rattle.std.specs.Prelude.{◌≡◌, ◌==◌, ℕ, List, [], Some, true, false, map, option_map, IfOk};
-ghost use Rattle.std.specs.List.{slice_get};
+ghost use Rattle.std.specs.Prelude.{◌≡◌, ◌==◌, ℕ, List, [], Some, true, false, map, option_map, slice_get, IfOk};
 ghost use Rattle.std.specs.Option.{option_map_or};
 ghost use Rattle.serde_json.specs.Data.{string};
 ghost use Rattle.serde_json.specs.declared.value.Value.{Value};
@@ -21,17 +20,24 @@ ghost use Rattle.erd_normal.specs.code.SelectionOrders.{rising_selections};
 
 pub(crate) mod election_parts;
 pub(crate) mod ids;
-pub(crate) mod orders;
 pub(crate) mod selection_orders;
 
 use crate::writer::election_parts::election_parts;
-use crate::writer::orders::Orders;
-use crate::writer::selection_orders::selection_orders;
-use erd_meaning::{Report, Row};
+use crate::writer::selection_orders::{SelectionOrders, selection_orders};
+use erd_meaning::{PerFamily, Report, Row};
 use erd_tables::Family;
 use serde_json::Value;
 use std::alloc::{AllocError, Global};
 use std::marker::Model;
+
+/// The orders in which the parts of a report are written, beside those that the report lends.
+#[derive(Drop)]
+pub(crate) struct Orders {
+    /// For each family, the positions of its objects in the order of their keys, in one part for each election. If no election
+    /// holds the family, they are all in the first part.
+    pub(crate) parts: PerFamily<Vec<Vec<usize>>>,
+    pub(crate) selections: SelectionOrders,
+}
 
 /// What the canonical form of a report is written from. Contracts see the report.
 #[derive(Drop)]

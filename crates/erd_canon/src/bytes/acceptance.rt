@@ -1,4 +1,4 @@
-ghost use Rattle.std.specs.Prelude.{◌≡◌, IfOk, IfErr, OnOk, None};
+ghost use Rattle.std.specs.Prelude.{◌≡◌, ℕ, List, IfOk, IfErr, OnOk, None};
 ghost use Rattle.std.specs.Option.{option_copied};
 ghost use Rattle.serde_json.specs.View.{view};
 ghost use Rattle.erd_check.specs.Refusals.{RefusedFor};
@@ -9,12 +9,39 @@ ghost use Rattle.erd_canon.specs.Bytes.{IsTreeOf};
 ghost use Rattle.erd_canon.specs.Refused.{IsSomeReport, RefusedAs};
 
 use crate::bytes::disposal::{Disposal, Free};
-use crate::bytes::input::Input;
 use crate::bytes::refusal::Refusal;
 use erd_check::CheckError;
 use erd_meaning::{Report, accept_with};
 use serde_json::Value;
 use std::alloc::Global;
+
+/// The bytes of a report, for one use: a slice, or a vector that is freed once it is parsed.
+pub(crate) trait Input: Drop {
+    // The bytes.
+    ghost bytes: { Self → List ℕ };
+
+    /// Parses the bytes into a tree, and lets go of them.
+    fn into_tree(self, alloc: Global) -> Result<Value, Refusal>
+        ensures read { IfOk result (λ tree. IsTreeOf (bytes self) (view tree)) }
+        ensures nests { IfOk result (λ tree. IsShallow (view tree)) }
+        ensures refused { IfErr result (λ refusal. (π : Preference) → RefusedAs π (bytes self) refusal) };
+}
+
+impl Input for &[u8] {
+    ghost bytes = { λ s. s.now };
+
+    fn into_tree(self, alloc: Global) -> Result<Value, Refusal> {
+        tree_of(alloc, self)
+    }
+}
+
+impl Input for Vec<u8> {
+    ghost bytes = { λ v. v.items };
+
+    fn into_tree(self, alloc: Global) -> Result<Value, Refusal> {
+        tree_of(alloc, self.as_slice())
+    }
+}
 
 /// Checks that the bytes are an accepted report, with no preferred type of identifier. `check_bytes_with` takes a
 /// preference.
@@ -74,7 +101,7 @@ pub(crate) fn check_input<I: Input, D: Disposal>(
 }
 
 /// Parses the bytes into a tree.
-pub(crate) fn tree_of(alloc: Global, bytes: &[u8]) -> Result<Value, Refusal>
+fn tree_of(alloc: Global, bytes: &[u8]) -> Result<Value, Refusal>
     ensures read { IfOk result (λ tree. IsTreeOf bytes.now (view tree)) }
     ensures nests { IfOk result (λ tree. IsShallow (view tree)) }
     ensures refused { IfErr result (λ refusal. (π : Preference) → RefusedAs π bytes.now refusal) }

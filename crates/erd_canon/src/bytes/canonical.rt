@@ -3,9 +3,8 @@ ghost use Rattle.std.specs.Option.{option_copied};
 ghost use Rattle.erd_canon.specs.Headline.{Headline};
 ghost use Rattle.erd_canon.specs.Refused.{RefusedAs};
 
-use crate::bytes::acceptance::accepted;
+use crate::bytes::acceptance::{Input, accepted};
 use crate::bytes::disposal::{Disposal, Free};
-use crate::bytes::input::Input;
 use crate::bytes::refusal::Refusal;
 use erd_normal::normal_text;
 use std::alloc::Global;

@@ -8,9 +8,8 @@ ghost use Rattle.erd_canon.specs.Bytes.{IsTreeOf};
 ghost use Rattle.erd_canon.specs.EngineTexts.{IsComparison};
 ghost use Rattle.erd_canon.specs.Refused.{IsSomeReport, RefusedSide};
 
-use crate::bytes::acceptance::accepted;
+use crate::bytes::acceptance::{Input, accepted};
 use crate::bytes::disposal::{Disposal, Free};
-use crate::bytes::input::Input;
 use crate::bytes::refusal::{Refusal, Side};
 use erd_compare::{Difference, first_difference};
 use serde_json::Value;

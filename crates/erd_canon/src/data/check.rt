@@ -6,11 +6,19 @@ ghost use Rattle.erd_canon.specs.code.RefusalData.{IsRefusalAnswer};
 
 use crate::bytes::acceptance::check_bytes_with;
 use crate::bytes::refusal::Refusal;
-use crate::data::answer::Answer;
 use crate::data::refusals::push_refusal;
 use crate::engines::outcome::Outcome;
 use serde_json::Value;
 use std::alloc::{AllocError, Global};
+
+/// The answer of a call as data.
+#[derive(Debug, Drop)]
+pub struct Answer {
+    /// The outcome, as that of an engine.
+    pub outcome: Outcome,
+    /// Compact JSON, without a line feed. docs/DATA.md describes its values.
+    pub text: String,
+}
 
 /// Checks the bytes of a report, as `check_data_with` does with no preference.
 ///

@@ -5,7 +5,7 @@ ghost use Rattle.erd_canon.specs.code.RefusalData.{IsSideAnswer};
 
 use crate::bytes::comparison::compare_bytes_with;
 use crate::bytes::refusal::{Refusal, Side};
-use crate::data::answer::Answer;
+use crate::data::check::Answer;
 use crate::data::refusals::{push_refusal, push_string};
 use crate::engines::outcome::Outcome;
 use serde_json::Value;

@@ -5,7 +5,7 @@ use Rattle.erd_meaning.proofs.accepted.Standing.{values-placed_entries}
 use Rattle.erd_meaning.specs.code.SelectionWalk.{StandFrom, if_of_contest, selection_of}
 use Rattle.erd_compare.proofs.same_ranks.NameNumbers.{selection_named}
 use Rattle.erd_compare.proofs.same_ranks.NumberedSelections.{AreNamed, maps_decide}
-use Rattle.erd_compare.specs.declared.objects.placed.Selections.{Selections}
+use Rattle.erd_compare.specs.declared.objects.selections.Selections.{Selections}
 use Rattle.erd_meaning.proofs.meanings.SelectionKinds as kinds
 
 -- ---- the member of a contest

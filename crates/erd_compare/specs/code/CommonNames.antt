@@ -18,8 +18,8 @@ use Rattle.erd_compare.specs.code.CommonRanks.{common_rank_of, rank_of_key}
 use Rattle.erd_compare.specs.code.RankedSides.{on_side}
 use Rattle.erd_compare.specs.declared.ranks.common_ranks.CommonRanks.{CommonRanks}
 use Rattle.erd_compare.specs.declared.ranks.name_numbers.NameNumbers.{NameNumbers}
-use Rattle.erd_compare.specs.declared.ranks.side.Side.{Side}
-use Rattle.erd_compare.specs.declared.ranks.side.Side.TheVariants.{Left, Right}
+use Rattle.erd_compare.specs.declared.ranks.common_ranks.Side.{Side}
+use Rattle.erd_compare.specs.declared.ranks.common_ranks.Side.TheVariants.{Left, Right}
 
 -- ---- names with common ranks in place of keys
 

@@ -14,8 +14,8 @@ use Rattle.erd_meaning.specs.Keys.{key_cmp}
 use Rattle.erd_meaning.specs.declared.keys.key.Key.{Key}
 use Rattle.erd_compare.specs.code.KeyedDifferences.{is_ranked, rising_in_role}
 use Rattle.erd_compare.specs.declared.ranks.common_ranks.CommonRanks.{CommonRanks}
-use Rattle.erd_compare.specs.declared.ranks.side.Side.{Side}
-use Rattle.erd_compare.specs.declared.ranks.side.Side.TheVariants.{Left, Right}
+use Rattle.erd_compare.specs.declared.ranks.common_ranks.Side.{Side}
+use Rattle.erd_compare.specs.declared.ranks.common_ranks.Side.TheVariants.{Left, Right}
 
 -- The first position of the key in the list, or the length of the list if the key is not in it.
 abbrev pub place_of : Option Key → List (Option Key) → ℕ

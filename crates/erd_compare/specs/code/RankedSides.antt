@@ -15,8 +15,8 @@ use Rattle.erd_meaning.specs.declared.keys.key.Key.{Key}
 use Rattle.erd_compare.specs.code.CommonRanks.{common_rank, common_rank_of, rank_of_key}
 use Rattle.erd_compare.specs.code.KeyedDifferences.{HasKeyAt, is_ranked, keys_in_role}
 use Rattle.erd_compare.specs.declared.ranks.common_ranks.CommonRanks.{CommonRanks}
-use Rattle.erd_compare.specs.declared.ranks.side.Side.{Side}
-use Rattle.erd_compare.specs.declared.ranks.side.Side.TheVariants.{Left, Right}
+use Rattle.erd_compare.specs.declared.ranks.common_ranks.Side.{Side}
+use Rattle.erd_compare.specs.declared.ranks.common_ranks.Side.TheVariants.{Left, Right}
 
 -- The report on the side.
 abbrev pub on_side : Side → Judged → Judged → Judged

@@ -10,7 +10,7 @@ use Rattle.erd_meaning.specs.Meaning.{SelectionRecord}
 use Rattle.erd_meaning.specs.Records.{selection_record}
 use Rattle.erd_compare.specs.code.CommonNames.{number_of_selection}
 use Rattle.erd_compare.specs.code.RankedSides.{on_side}
-use Rattle.erd_compare.specs.declared.ranks.side.Side.{Side}
+use Rattle.erd_compare.specs.declared.ranks.common_ranks.Side.{Side}
 use denote.Ref.{Bor}
 
 -- True if the name of the selection has the number.

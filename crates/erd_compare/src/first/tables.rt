@@ -1,5 +1,4 @@
-ghost use Rattle.std.specs.Prelude.{◌≡◌, true, slice_get, IfOk};
-ghost use Rattle.std.specs.Option.{option_copied};
+ghost use Rattle.std.specs.Prelude.{◌≡◌, true, slice_get, option_copied, IfOk};
 ghost use Rattle.serde_json.specs.View.{view};
 ghost use Rattle.erd_meaning.specs.Records.{meaning};
 ghost use Rattle.erd_compare.specs.Differences.{record_at};
@@ -10,8 +9,7 @@ ghost use Rattle.erd_compare.specs.declared.difference.How.TheVariants.{OnlyLeft
 use crate::comparer::Comparer;
 use crate::difference::{How, Part};
 use crate::objects::held::{held_difference, is_same_holder};
-use crate::objects::placed::Placed;
-use crate::objects::records::object_difference;
+use crate::objects::records::{Placed, object_difference};
 use crate::ranks::role_objects::{key_at, key_at_rank, object_at, rising, role_of};
 use erd_meaning::Key;
 use erd_tables::Role;

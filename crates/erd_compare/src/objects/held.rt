@@ -7,7 +7,7 @@ ghost use Rattle.erd_compare.specs.code.KeyedDifferences.{holder_key_in};
 
 use crate::comparer::Comparer;
 use crate::difference::How;
-use crate::ranks::side::Side;
+use crate::ranks::common_ranks::Side;
 use erd_tables::Role;
 use std::alloc::{AllocError, Global};
 

@@ -2,7 +2,6 @@ ghost use Rattle.std.specs.Prelude.{◌≡◌, option_map};
 ghost use Rattle.serde_json.specs.Data.{Data};
 ghost use Rattle.serde_json.specs.Find.{get};
 ghost use Rattle.serde_json.specs.View.{members_view, view};
-ghost use Rattle.erd_check.specs.Values.{names};
 ghost use Rattle.erd_compare.specs.code.LeastNames.{lesser_name};
 ghost use Rattle.erd_compare.specs.code.NamesInStep.{AreMembersOf, first_of, members_from, members_left, names_left, names_past};
 
@@ -17,7 +16,7 @@ pub(crate) struct MembersLeft<'a> {
 }
 
 impl<'a> MembersLeft<'a> {
-    /// Starts with all the members.
+    /// Returns all the members, as those that remain.
     pub(crate) fn of(members: &'a Map<String, Value>) -> MembersLeft<'a>
         ensures { members_left result ≡ members_view members.now.entries }
     {

@@ -12,12 +12,19 @@ ghost use Rattle.erd_compare.specs.code.SelectionMembers.{is_selections};
 use crate::comparer::Comparer;
 use crate::difference::How;
 use crate::objects::least_name::{MemberPair, least_differing_name};
-use crate::objects::placed::{Found, Placed};
 use crate::objects::plain_members::is_same_plain_member;
-use crate::objects::selections::is_same_selections;
+use crate::objects::selections::{Found, is_same_selections};
 use erd_check::values::class_of_object;
 use erd_tables::{Class, Family, MemberKind, Role, member_kind};
+use serde_json::Value;
 use std::alloc::AllocError;
+
+/// An object that is compared, and its position among the objects of its role in its report.
+#[derive(Clone, Copy)]
+pub(crate) struct Placed<'a> {
+    pub(crate) value: &'a Value,
+    pub(crate) index: usize,
+}
 
 /// Returns how two objects with a role differ: in their class, or else at the least name of a member that differs.
 pub(crate) fn object_difference(

@@ -11,14 +11,27 @@ ghost use Rattle.erd_compare.specs.code.SelectionsByName.{IsByNumber};
 
 use crate::comparer::Comparer;
 use crate::objects::least_name::least_differing_name;
-use crate::objects::placed::{Found, Selections};
 use crate::objects::plain_members::is_same_plain_member;
-use crate::ranks::side::Side;
+use crate::ranks::common_ranks::Side;
 use erd_check::values::{class_of_object, entries_of, is_empty_array};
 use erd_tables::{Class, Family, Role};
 use indexmap::IndexMap;
 use serde_json::Value;
 use std::alloc::AllocError;
+
+/// The value of a member, if the object has the member, and the position of the object among those of its role.
+#[derive(Clone, Copy)]
+pub(crate) struct Found<'a> {
+    pub(crate) value: Option<&'a Value>,
+    pub(crate) index: usize,
+}
+
+/// The selections of a contest, and the position of the contest.
+#[derive(Clone, Copy)]
+struct Selections<'a> {
+    values: &'a [Value],
+    contest: usize,
+}
 
 /// Returns whether the selections of two contests mean the same. An empty array of selections means the same as no array.
 pub(crate) fn is_same_selections(

@@ -7,10 +7,18 @@ ghost use Rattle.erd_compare.specs.code.KeyedDifferences.{IsComparable};
 ghost use Rattle.erd_compare.specs.code.RankedSides.{AreCommonByRank};
 
 use crate::ranks::merging::common_ranks;
-use crate::ranks::side::Side;
 use erd_meaning::{PerFamily, Report};
 use erd_tables::{Family, Role};
 use std::alloc::{AllocError, Global};
+
+/// One of the two reports that are compared.
+#[derive(Clone, Copy)]
+pub(crate) enum Side {
+    /// The left report.
+    Left,
+    /// The right report.
+    Right,
+}
 
 /// The ranks that the keys of two reports have in common. The common rank of a key of the left report is its rank there. The
 /// keys that only the right report has follow, each with its rank on the right. So objects of a family have the same common

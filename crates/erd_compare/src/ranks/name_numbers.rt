@@ -5,15 +5,13 @@ ghost use Rattle.std.specs.List.{filter_map, position_or_len};
 ghost use Rattle.serde_json.specs.View.{view};
 ghost use Rattle.indexmap.specs.IndexSet.{insert_all};
 ghost use Rattle.erd_tables.specs.declared.class.Family.TheVariants as family;
-ghost use Rattle.erd_tables.specs.declared.class.Role.TheVariants.{OfFamily};
 ghost use Rattle.erd_meaning.specs.Objects.{objects};
 ghost use Rattle.erd_meaning.specs.RankedNames.{with_ranks};
 ghost use Rattle.erd_compare.specs.code.CommonNames.{AreNameNumbers, name_eq, name_told, ranks_told};
 ghost use Rattle.erd_compare.specs.code.CommonRanks.{common_rank_of};
 ghost use Rattle.erd_compare.specs.code.RankedSides.{AreCommonByRank};
 
-use crate::ranks::common_ranks::CommonRanks;
-use crate::ranks::side::Side;
+use crate::ranks::common_ranks::{CommonRanks, Side};
 use erd_meaning::{RankedName, Report, SaltedSet, SelectionName};
 use erd_tables::{Family, Role};
 use std::alloc::{AllocError, Global};

@@ -12,7 +12,7 @@ ghost use Rattle.erd_compare.specs.code.Comparing.{Decides, IsWholeTree};
 ghost use Rattle.erd_compare.specs.code.ContentParts.{content_within};
 
 use crate::comparer::Comparer;
-use crate::ranks::side::Side;
+use crate::ranks::common_ranks::Side;
 use crate::values::chosen_members::is_same_carried;
 use crate::values::references::{number_of_name_named, rank_with_id};
 use erd_check::values::{class_of_object, entries_at, entries_of, text_at};

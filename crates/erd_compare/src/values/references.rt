@@ -1,5 +1,4 @@
-ghost use Rattle.std.specs.Prelude.{◌≡◌, ◌==◌, true, IfOk, map, option_and_then, option_map};
-ghost use Rattle.std.specs.List.{filter_map};
+ghost use Rattle.std.specs.Prelude.{◌≡◌, ◌==◌, true, filter_map, map, option_and_then, option_map, IfOk};
 ghost use Rattle.serde_json.specs.Find.{as_str};
 ghost use Rattle.serde_json.specs.View.{view};
 ghost use Rattle.erd_meaning.specs.Keys.{has_keys};
@@ -11,7 +10,7 @@ ghost use Rattle.erd_compare.specs.code.Comparing.{Decides};
 ghost use Rattle.erd_compare.specs.code.RankedSides.{IsRankSet, rank_with_id, on_side};
 
 use crate::comparer::Comparer;
-use crate::ranks::side::Side;
+use crate::ranks::common_ranks::Side;
 use erd_meaning::Row;
 use erd_tables::{Family, Role};
 use serde_json::Value;

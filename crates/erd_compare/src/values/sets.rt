@@ -35,7 +35,7 @@ pub(crate) fn is_same_set(
     }
 }
 
-/// Does the same for short lists. It compares every pair of values, and allocates no memory.
+/// Returns what `is_same_set` does, for short lists. It compares every pair of values, and allocates no memory.
 fn is_same_few(ones: &[Value], others: &[Value]) -> bool
     requires ones { AllByRecursion (λ v. IsWholeTree (view v)) ones.now }
     requires others { AllByRecursion (λ v. IsWholeTree (view v)) others.now }
@@ -56,7 +56,7 @@ fn are_among(values: &[Value], others: &[Value]) -> bool
     true
 }
 
-/// Does the same for lists of any length. It sorts the values.
+/// Returns what `is_same_set` does, for lists of any length. It sorts the values.
 fn is_same_many<'a>(
     alloc: Global,
     ones: &'a [Value],

@@ -15,7 +15,7 @@ use Rattle.erd_meaning.specs.Lookups.{selection_in}
 use Rattle.erd_meaning.specs.code.ObjectWalk.{kept_objects}
 use Rattle.erd_meaning.specs.code.SelectionWalk.{NumberedName}
 use Rattle.erd_meaning.specs.code.Shown.{shown}
-use Rattle.erd_meaning.specs.declared.objects.object.Object.{Object}
+use Rattle.erd_meaning.specs.declared.objects.table.Object.{Object}
 
 -- The report has no fault of identity: objects that need a key have one, and no key and no `@id` is used twice.
 abbrev pub IsIdentified : Preference → Value → Type 0

@@ -6,7 +6,7 @@ use Rattle.erd_check.specs.Paths.{steps_of}
 use Rattle.erd_check.specs.declared.path.Path.{Path}
 use Rattle.serde_json.specs.declared.value.Value.{Value}
 use Rattle.erd_meaning.specs.Objects.{Placed}
-use Rattle.erd_meaning.specs.declared.objects.object.Object.{Object}
+use Rattle.erd_meaning.specs.declared.objects.table.Object.{Object}
 
 -- What clauses see of an `Object`, which is what is kept of it.
 abbrev pub shown : Object → Kept

@@ -1,6 +1,5 @@
-ghost use Rattle.std.specs.Prelude.{◌≡◌, [], Bool, IsTrue, not, position, slice_get, IfOk, OnErr, OnOk};
+ghost use Rattle.std.specs.Prelude.{◌≡◌, [], Bool, IsTrue, not, option_copied, position, slice_get, IfOk, OnErr, OnOk};
 ghost use Rattle.std.specs.List.{list_any, position_or_len};
-ghost use Rattle.std.specs.Option.{option_copied};
 ghost use Rattle.indexmap.specs.IndexSet.{insert_key};
 ghost use Rattle.erd_meaning.specs.code.Salts.{salted_number};
 

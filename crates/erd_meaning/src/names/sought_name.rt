@@ -1,7 +1,6 @@
-ghost use Rattle.std.specs.Prelude.{◌≡◌, ◌&&◌, ◌==◌, fold, map, Some};
+ghost use Rattle.std.specs.Prelude.{◌≡◌, ◌&&◌, ◌==◌, flat_map, fold, map, Some};
 ghost use Rattle.std.specs.Hash as fed;
 ghost use Rattle.std.specs.Hash.DefaultHasher.{write};
-ghost use Rattle.std.specs.List.{flat_map};
 ghost use Rattle.std.specs.Ordering.{eq_by_cmp};
 ghost use Rattle.erd_meaning.specs.code.RanksAmong.{are_ranks_of, fed_rank, has_keys_among, is_key_among, rank_among, ranked_parts};
 ghost use Rattle.erd_meaning.specs.RankedNames.{family_chosen, ranked_name_cmp};

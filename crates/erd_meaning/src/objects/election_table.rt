@@ -1,6 +1,5 @@
-ghost use Rattle.std.specs.Prelude.{◌≡◌, ◌++◌, ◌∷◌, [], length, IfOk, OnErr, OnOk, option_and_then};
+ghost use Rattle.std.specs.Prelude.{◌≡◌, ◌++◌, ◌∷◌, [], length, option_and_then, option_copied, IfOk, OnErr, OnOk};
 ghost use Rattle.std.specs.List.{list_any, slice_get};
-ghost use Rattle.std.specs.Option.{option_copied};
 ghost use Rattle.erd_meaning.specs.code.ElectionKeys.{is_seen, seen_with};
 ghost use Rattle.erd_meaning.specs.code.KeyOrders.{AreDistinct, IsOrder, positioned, seen_keys};
 ghost use Rattle.erd_meaning.specs.code.ObjectWalk.{same_key};

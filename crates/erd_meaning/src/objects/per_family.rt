@@ -1,6 +1,5 @@
-ghost use Rattle.std.specs.Prelude.{◌≡◌, IfOk};
+ghost use Rattle.std.specs.Prelude.{◌≡◌, IfOk, Ok};
 ghost use Rattle.erd_tables.specs.declared.class.Family.{Family};
-ghost use Rattle.std.specs.declared.result.Result.TheVariants.{Ok};
 ghost use Rattle.erd_meaning.specs.Families.{entry_of};
 
 use erd_tables::Family;

@@ -34,7 +34,7 @@ impl<'a> Model for RankedObjects<'a> {
     ghost use Rattle.erd_tables.specs.declared.class.Family.{Family};
     ghost use Rattle.erd_meaning.specs.Families.{entry_of};
     ghost use Rattle.erd_meaning.specs.Keys.{has_keys};
-    ghost use Rattle.erd_meaning.specs.declared.objects.object.Object.{Object};
+    ghost use Rattle.erd_meaning.specs.declared.objects.table.Object.{Object};
     ghost use Rattle.erd_meaning.specs.code.KeyOrders.{IsOrder, family_keys};
     ghost use Rattle.erd_meaning.specs.code.Shown.{shown};
 

@@ -1,6 +1,5 @@
-ghost use Rattle.std.specs.Prelude.{◌≡◌, ◌==◌, ◌<◌, ◌+◌, ◌++◌, ◌∷◌, ℕ, List, [], length, map, option_and_then, option_map, slice_get, is_some, false, true, OnOk, OnErr, IfOk, IfSome, if◌then◌else◌, Some, None, vec_len, vec_capacity};
+ghost use Rattle.std.specs.Prelude.{◌≡◌, ◌==◌, ◌<◌, ◌+◌, ◌++◌, ◌∷◌, ℕ, List, [], length, map, option_and_then, option_map, slice_get, is_some, bytes_eq, false, true, OnOk, OnErr, IfOk, IfSome, if◌then◌else◌, Some, None, vec_len, vec_capacity};
 ghost use Rattle.std.specs.Option.{option_copied, option_map_or, option_or};
-ghost use Rattle.std.specs.Str.{bytes_eq};
 ghost use Rattle.indexmap.specs.IndexMap.{get_by, spare};
 ghost use Rattle.erd_meaning.specs.code.ObjectIndexes.{IsStart, contests_before, contests_noted, is_in_contest, number_among, number_of_id, number_of_key};
 ghost use Rattle.erd_tables.specs.declared.class.Family.{Family};
@@ -17,13 +16,22 @@ use crate::keys::salt::Salt;
 use crate::keys::salted::Salted;
 use crate::keys::shared_key::SharedKey;
 use crate::keys::triple::Triple;
-use crate::objects::object::Object;
 use crate::objects::places::FamilyPlaces;
 use erd_tables::Family;
 use indexmap::IndexMap;
+use serde_json::Value;
 use std::alloc::{AllocError, Global};
 use std::fmt;
 use std::marker::Model;
+
+/// An object of a family, with its `@id`, if it has one, and its key, if its family has keys.
+#[derive(Debug, Drop)]
+pub(crate) struct Object<'a> {
+    pub(crate) family: Family,
+    pub(crate) value: &'a Value,
+    pub(crate) key: Option<SharedKey>,
+    pub(crate) id: Option<&'a str>,
+}
 
 /// Whether an earlier object of the same family has the same key, and whether an earlier object of any family has the same
 /// `@id`.
@@ -52,7 +60,7 @@ impl<'a> Model for ObjectTable<'a> {
     ghost use Rattle.indexmap.specs.IndexMap.{get_by};
     ghost use Rattle.std.specs.Coded.{codes};
     ghost use Rattle.serde_json.specs.contracts.value.Value as tree_value;
-    ghost use Rattle.erd_meaning.specs.declared.objects.object.Object.{Object};
+    ghost use Rattle.erd_meaning.specs.declared.objects.table.Object.{Object};
     ghost use Rattle.erd_meaning.specs.code.Indexed.{IsIndexed, is_salted_id, is_salted_owned};
     ghost use Rattle.erd_meaning.specs.code.ObjectIndexes.{list_of};
     ghost use Rattle.erd_meaning.specs.code.Shown.{shown};

@@ -1,6 +1,5 @@
 //! Reports in which all is judged with as few walks as there can be.
-ghost use Rattle.std.specs.Prelude.{◌≡◌, map, IfOk, IfErr, IfSome};
-ghost use Rattle.std.specs.Option.{option_copied};
+ghost use Rattle.std.specs.Prelude.{◌≡◌, map, option_copied, IfOk, IfErr, IfSome};
 ghost use Rattle.serde_json.specs.View.{view};
 ghost use Rattle.erd_check.specs.Refusals.{RefusedFor};
 ghost use Rattle.erd_check.specs.Shapes.{IsFaultless};

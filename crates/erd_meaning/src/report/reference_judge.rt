@@ -1,5 +1,4 @@
-ghost use Rattle.std.specs.Prelude.{◌≡◌, ◌++◌, map, IfOk, IfSome};
-ghost use Rattle.std.specs.Option.{option_to_list};
+ghost use Rattle.std.specs.Prelude.{◌≡◌, ◌++◌, map, option_to_list, IfOk, IfSome};
 ghost use Rattle.serde_json.specs.View.{view};
 ghost use Rattle.erd_tables.specs.Faults.{ListsAll};
 ghost use Rattle.erd_check.specs.Shapes.{IsFaultless};
@@ -17,7 +16,7 @@ use crate::keys::key_rule::KeyRule;
 use crate::objects::table::ObjectTable;
 use erd_check::joined_walk::shape_with;
 use erd_check::path::{Path, push_fault};
-use erd_check::visitor::{Position, Visit, Visitor};
+use erd_check::visitor::{Visit, Visitor};
 use erd_check::walk::walk_report;
 use erd_check::want::{Scope, Want};
 use erd_check::{Shaped, is_among};

@@ -11,7 +11,7 @@ use Rattle.erd_meaning.specs.Objects.{IsBounded, contests}
 use Rattle.erd_meaning.specs.SelectionNames.{key_named}
 use Rattle.erd_normal.specs.code.ElectionParts.{part_seen, positions_in_part}
 use Rattle.erd_normal.specs.code.SelectionOrders.{AreSelectionRanks, rising_selections}
-use Rattle.erd_normal.specs.declared.writer.orders.Orders.{Orders}
+use Rattle.erd_normal.specs.declared.writer.Orders.{Orders}
 
 -- The rank of the object of the family that has this `@id`, or 0 if there is none or the family has no keys.
 abbrev pub rank_named : Preference → Data → Family → List ℕ → ℕ

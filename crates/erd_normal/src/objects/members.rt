@@ -1,5 +1,4 @@
-ghost use Rattle.std.specs.Prelude.{◌≡◌, ◌++◌, ℕ, List, Option, Some, false, is_some, drop, IfOk};
-ghost use Rattle.std.specs.Result.{OnOk};
+ghost use Rattle.std.specs.Prelude.{◌≡◌, ◌++◌, ℕ, List, Option, Some, false, is_some, drop, IfOk, OnOk};
 ghost use Rattle.serde_json.specs.Data.{Data, Members, object};
 ghost use Rattle.serde_json.specs.View.{view, members_view};
 ghost use Rattle.serde_json.specs.Written.{has_float, members_have_float};

@@ -1,5 +1,4 @@
-ghost use Rattle.std.specs.Prelude.{◌≡◌, ◌++◌, ◌<◌, Some, length, slice_get};
-ghost use Rattle.std.specs.Result.{OnOk};
+ghost use Rattle.std.specs.Prelude.{◌≡◌, ◌++◌, ◌<◌, Some, length, slice_get, OnOk};
 ghost use Rattle.serde_json.specs.View.{view};
 ghost use Rattle.erd_meaning.specs.Objects.{Placed, elections};
 ghost use Rattle.erd_normal.specs.code.NormalTree.{array_of};

@@ -1,5 +1,4 @@
-ghost use Rattle.std.specs.Prelude.{◌≡◌, ◌++◌};
-ghost use Rattle.std.specs.Result.{OnOk};
+ghost use Rattle.std.specs.Prelude.{◌≡◌, ◌++◌, OnOk};
 ghost use Rattle.serde_json.specs.View.{view};
 ghost use Rattle.erd_normal.specs.code.NormalTree.{normal_tree};
 ghost use Rattle.erd_normal.specs.code.Tokens.{value_tokens};

@@ -9,13 +9,21 @@ ghost use Rattle.erd_meaning.specs.RankedNames.{ranked_name};
 ghost use Rattle.erd_meaning.specs.code.KeyOrders.{positioned, positions_by};
 ghost use Rattle.erd_normal.specs.code.SelectionOrders.{AreNamedFrom, AreSelectionRanks, lent_name_cmp, name_in, rising_selections};
 
-use crate::writer::orders::SelectionOrders;
 use erd_check::values::entries_at;
 use erd_meaning::{RankedName, Report, SelectionName, places_in};
 use erd_tables::Family;
 use serde_json::Value;
 use std::alloc::{AllocError, Global};
 use std::cmp::Ordering;
+
+/// The selections of each contest in the order of their names.
+#[derive(Drop)]
+pub(crate) struct SelectionOrders {
+    /// For each contest, the positions of its selections among them, in the order of their names.
+    pub(crate) rising: Vec<Vec<usize>>,
+    /// The rank of each selection among those of its contest, by its position in the report.
+    pub(crate) ranks: Vec<usize>,
+}
 
 /// Returns the orders of the selections of all contests, by one sort for each contest.
 pub(crate) fn selection_orders(

@@ -1,5 +1,5 @@
 use Rattle.erd_normal.proofs.same.normal.SameForms.{form_says}
-use Rattle.erd_normal.proofs.same_forms.canonical_says_the_same.Goals as goal
+use Rattle.erd_normal.proofs.same_laws.canonical_says_the_same.Goals as goal
 
 pub returns : goal.returns
 returns c = record { law = form_says }
