@@ -30,6 +30,7 @@ pub use Rattle.std.specs.Map.{lookup}
 pub use Rattle.std.specs.Option.{option_or}
 pub use Rattle.std.specs.Ordering.{eq_by_cmp}
 pub use Rattle.std.specs.Prelude.{⊤}
+pub use Rattle.serde_json.proofs.Views.{Entry}
 pub use Rattle.serde_json.specs.Find.{as_str, as_object}
 pub use Rattle.serde_json.specs.Written.{has_float, items_have_float, members_have_float, comma_if, compact_text, items_text, members_text}
 pub use Rattle.indexmap.specs.IndexMap.{get_by}
@@ -66,11 +67,11 @@ pub use Rattle.erd_meaning.specs.Places.{places_put}
 pub use Rattle.erd_meaning.specs.RankedNames.{family_chosen, RankedParts, ranked_name, PlacedName, ranked_selection_in, ranked_name_cmp, ranked_name_writes, IsRankedIn}
 pub use Rattle.erd_meaning.specs.Records.{json_set, if_carried, carried_members, label_beside_text, label_of, content_of, meaning, plain_value, is_in_envelope, plain_member, record_with, selection_record, selection_map, member_value, member_of_class, object_record, with_election_id, record_in_election, placed_record, placed_with_key, records_of, election_records}
 pub use Rattle.erd_meaning.specs.SelectionNames.{with_inserted, rising_list, compact_cmp, key_named, keys_named, keys_of_selection, is_write_in, order_of_selection, with_rising_text, label_of_selection, name_in_class, selection_role, name_of, class_cmp, name_cmp, name_named}
+pub use Rattle.erd_meaning.specs.Tokens.{value_tokens, items_tokens, members_tokens}
 pub use Rattle.erd_meaning.specs.code.ChosenKeys.{is_preferred, choice_cmp, choice_of_two, choice_of, choice}
 pub use Rattle.erd_meaning.specs.code.ElectionKeys.{AreSeen, is_seen, seen_with, held_from}
 pub use Rattle.erd_meaning.specs.code.Indexed.{same_owned, is_salted_id, is_salted_owned}
 pub use Rattle.erd_meaning.specs.code.KeyOrders.{positioned, seen_keys, keys_seen, lent_key_cmp, AreDistinct, rank_by, positions_by, rank_in_keys, rising_positions, family_keys, HaveDistinctKeys, IsOrder}
-pub use Rattle.erd_meaning.specs.code.LabelTexts.{joined_text, translations_text, rest_text}
 pub use Rattle.erd_meaning.specs.code.NamesAmong.{key_among, keys_among, selection_keys_among, class_name_among, name_among}
 pub use Rattle.erd_meaning.specs.code.ObjectIndexes.{with_place, places_from, rank, number_at, number_of_id, number_of_key, contests_noted, contests_before, is_in_contest, IsStart, number_among}
 pub use Rattle.erd_meaning.specs.code.ObjectLookups.{is_of_family, those_of, is_keyed, keeps_id, object_among}

@@ -3,21 +3,17 @@
 
 mod laws;
 mod objects;
-mod order;
 mod report;
 mod same_forms;
 mod same_laws;
-mod text;
 mod values;
 mod writer;
 
+pub use erd_meaning::{CompactText, SetOrder, in_order};
 pub use laws::{
     canonical_form_exists, canonical_is_unique, names_agree, objects_agree, preferences_agree,
     rearranged_means_the_same, references_agree, saying_the_same_means_the_same,
 };
-pub use order::compact_text::CompactText;
-pub use order::set_order::SetOrder;
-pub use order::stable_sort::in_order;
 pub use report::canonical_form::{normal_text, normal_tree};
 pub use same_forms::{
     canonical_says_the_same, meaning_the_same_says_the_same, saying_and_meaning_agree,

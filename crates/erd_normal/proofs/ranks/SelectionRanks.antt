@@ -10,7 +10,7 @@ use Rattle.erd_meaning.proofs.selections.PositionedKeys.{positioned-append, posi
 use Rattle.erd_meaning.proofs.selections.RankedReports.{numbered_names_alike}
 use Rattle.erd_normal.proofs.canonical.RisingReports.{selection_values_distinct}
 use Rattle.erd_normal.proofs.lists.NumberedKept.{in_part}
-use Rattle.erd_normal.proofs.lists.StableRising.{map_after}
+use Rattle.erd_meaning.proofs.orders.StableRising.{map_after}
 use Rattle.erd_normal.proofs.ranks.InOrder.{Next, entries, left_there, next, positions, stands, values}
 
 -- ---- positions by one key and by another
