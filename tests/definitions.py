@@ -60,6 +60,7 @@ SOURCES = {
     'erd_meaning/Records.is_header_class': 'classes OrderedContest and OrderedHeader',
     'erd_meaning/Records.node_of': 'classes BallotStyle and OrderedHeader',
     'erd_meaning/Records.nodes_of': 'classes BallotStyle and OrderedHeader',
+    'erd_meaning/Tokens': 'RFC 8259',
     'erd_program/Engines': 'this project',
     'erd_program/Files': 'this project',
     'erd_program/Messages': 'this project',

@@ -70,7 +70,6 @@ pub use Rattle.erd_meaning.specs.code.ChosenKeys.{is_preferred, choice_cmp, choi
 pub use Rattle.erd_meaning.specs.code.ElectionKeys.{AreSeen, is_seen, seen_with, held_from}
 pub use Rattle.erd_meaning.specs.code.Indexed.{same_owned, is_salted_id, is_salted_owned}
 pub use Rattle.erd_meaning.specs.code.KeyOrders.{positioned, seen_keys, keys_seen, lent_key_cmp, AreDistinct, rank_by, positions_by, rank_in_keys, rising_positions, family_keys, HaveDistinctKeys, IsOrder}
-pub use Rattle.erd_meaning.specs.code.LabelTexts.{joined_text, translations_text, rest_text}
 pub use Rattle.erd_meaning.specs.code.ObjectIndexes.{with_place, places_from, rank, number_at, number_of_id, number_of_key, contests_noted, contests_before, is_in_contest, IsStart, number_among}
 pub use Rattle.erd_meaning.specs.code.ObjectLookups.{is_of_family, those_of, is_keyed, keeps_id, object_among, key_among}
 pub use Rattle.erd_meaning.specs.code.ObjectWalk.{Kept, kept, Met, an_object, an_election, Located, located_one, located_election, located, contest_located, inside_election, election_located, shared_located, all_located, object_met, election_met, objects_among, elections_among, all_met, kept_objects, election_keys, same_key, same_id, has_same_key, has_same_id, fault_if, faults_told, is_keyless, are_twins, are_named_alike, faults_after, ObjectsMet, met_one, met_all}
@@ -87,3 +86,5 @@ pub use Rattle.erd_meaning.specs.declared.keys.key.Key.{Key}
 pub use Rattle.erd_meaning.specs.declared.keys.salted.Salted.{Salted}
 pub use Rattle.erd_meaning.specs.declared.objects.table.Object.{Object}
 pub use Rattle.erd_meaning.specs.declared.objects.order.Order.{Order}
+pub use Rattle.serde_json.proofs.Views.{Entry}
+pub use Rattle.erd_meaning.specs.Tokens.{value_tokens, items_tokens, members_tokens}

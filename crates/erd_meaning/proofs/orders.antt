@@ -6,3 +6,4 @@ pub mod OrdersMade  -- the order that is made of distinct keys
 pub mod PlacesPut  -- places put at the positions that a list names
 pub mod RisingLists
 pub mod RisingOrders
+pub mod StableRising

@@ -3,7 +3,6 @@ pub mod MetSelections
 pub mod NamesTold
 pub mod ContestSelections
 pub mod WalkedNames
-pub mod WrittenLabels
 pub mod RankedKeys  -- the ranks of keys are in the order of the keys
 pub mod PositionedKeys  -- keys with positions, in rising order
 pub mod RankedTests

@@ -4,7 +4,9 @@
 pub mod keys;
 pub mod names;
 mod objects;
+mod order;
 mod report;
+pub mod text;
 
 pub use keys::key::Key;
 pub use keys::key_of::key_of;
@@ -15,6 +17,9 @@ pub use names::selection_name::SelectionName;
 pub use objects::order::places_in;
 pub use objects::per_family::PerFamily;
 pub use objects::row::Row;
+pub use order::compact_text::CompactText;
+pub use order::set_order::SetOrder;
+pub use order::stable_sort::in_order;
 pub use report::Report;
 pub use report::accepting::accept_with;
 pub use report::resolving::{resolve, resolve_with};

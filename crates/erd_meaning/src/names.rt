@@ -1,7 +1,5 @@
 //! Names of selections. A name identifies a selection in its contest, independently of the vendor.
 
-mod label;
-mod label_output;
 pub(crate) mod naming;
 pub mod ranked_name;
 pub mod selection_name;

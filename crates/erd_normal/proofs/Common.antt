@@ -70,6 +70,8 @@ pub use Rattle.erd_meaning.specs.Lookups.{rising_election_keys}
 pub use Rattle.erd_meaning.specs.Meaning.{JsonMap, JsonSet, translated, a_json_set, a_content, SelectionRecord, a_selection_map}
 pub use Rattle.erd_meaning.specs.Objects.{IsObject}
 pub use Rattle.erd_meaning.specs.Records.{key_set, class_of_node, is_header_class, contest_node, header_node, nodes_of, node_of, content_inside, unless_empty}
+pub use Rattle.erd_meaning.specs.StableOrder.{pairs_of, IsStablySorted}
+pub use Rattle.erd_meaning.specs.Tokens.{value_tokens, items_tokens, members_tokens}
 pub use Rattle.erd_meaning.specs.code.Orders.{compact_cmp_total}
 pub use Rattle.erd_meaning.specs.declared.keys.key.Key.{Key}
 pub use Rattle.erd_normal.specs.Canonical.{kind_wanted, HasNoEmptyArray, keys_of, keys_referred, RisesAs, AreSetsInOrder, id_prefix, canonical_id, canonical_selection_id, HasCanonicalEnvelope, HasCanonicalIds, IsCanonical, IsCanonicalFormOf}
@@ -77,13 +79,11 @@ pub use Rattle.erd_normal.specs.Laws.{keys_in, ids_in, names_in, NamesAgree, Ref
 pub use Rattle.erd_normal.specs.Rearranged.{Renaming, replaced_text, is_id_text, renamed_value, renamed_items, renamed_members, renamed, changed_at, member_changed, item_changed, swapped, exchanged, HasEntries, Change, a_renaming, an_exchange, IsAllowed, changed, IsRearrangement, IsRenaming}
 pub use Rattle.erd_normal.specs.SameLaws.{SaysItself, SaysBack, SaysInTurn, ExchangedSaysTheSame, ReferencesNameTheSame, RenamedSaysTheSame, RearrangedSaysTheSame, HasSoundEnvelope, HasDistinctIds, SameIsAccepted, IsUsed}
 pub use Rattle.erd_normal.specs.SaysTheSame.{Sides, StandsFor, IsUnused, is_array_kind, is_envelope, an_empty_array, of_the_envelope, an_unused_id, not_asked, a_null, a_flag, a_number, a_text, an_id, a_list, a_set, an_object, no_entry, one_entry, no_member, in_both, left_only, right_only, MayBeAbsent, Same, SameEntries, SameMembers, SaysTheSame}
-pub use Rattle.erd_normal.specs.StableOrder.{pairs_of, IsStablySorted}
-pub use Rattle.erd_normal.specs.code.Building.{first_if, put_all, put_in, beside, beside_compact_text, id_of_rank}
-pub use Rattle.erd_normal.specs.code.DueMembers.{due_value, IsWholeDue, due_list, IsBeforeAll, NamesRise, AreWholeDue, AreDue, WritesThrough}
+pub use Rattle.erd_normal.specs.code.Building.{first_if, member_tokens, put_all, put_in, id_of_rank}
+pub use Rattle.erd_normal.specs.code.DueMembers.{due_value, due_list, IsBeforeAll, NamesRise, AreDue, WritesThrough}
 pub use Rattle.erd_normal.specs.code.ElectionParts.{in_order_of_keys, rising_objects, rising_elections, part_at, objects_in_part, positions_in_part, part_seen}
 pub use Rattle.erd_normal.specs.code.NormalTree.{id_of_key, normal_id, normal_reference, reference_cmp, rank_of_name, id_of_selection, contest_with, selection_with, normal_selection_reference, unless_no_entry, array_of, normal_value, normal_members, normal_object_with, normal_node_value, normal_content, normal_nodes, normal_node, normal_node_members, with_id, normal_selection, by_key, by_name, normal_object_value, normal_object, normal_objects, normal_election_value, normal_election, normal_report_value, envelope_values, with_envelope, in_envelope, normal_tree}
 pub use Rattle.erd_normal.specs.code.Orders.{rank_named}
 pub use Rattle.erd_normal.specs.code.SelectionOrders.{lent_name_cmp, name_in, AreNamedFrom, rising_selections, AreSelectionRanks}
-pub use Rattle.erd_normal.specs.code.Tokens.{value_tokens, items_tokens, members_tokens, member_tokens}
 pub use Rattle.erd_normal.specs.code.WrittenTree.{map_from, written_selection, written_in_contest, holds_parts, written_object_value, written_object, written_objects, written_election_value, written_election, written_elections, written_report_value}
 pub use mathlib.Core.Path.{fun_ext}

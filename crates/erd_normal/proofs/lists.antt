@@ -1,7 +1,6 @@
 -- Lists in rising order, and what is found in them.
 pub mod FilteredRising
 pub mod NumbersInOrder
-pub mod StableRising
 pub mod BuiltLists
 pub mod KeyedRanks
 pub mod Lists

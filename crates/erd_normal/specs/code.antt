@@ -3,6 +3,5 @@ pub mod WrittenTree  -- the same tree, with objects and selections found by thei
 pub mod Orders  -- the orders in which the parts of a report are written
 pub mod ElectionParts  -- the objects of a family in order with their positions, election by election
 pub mod SelectionOrders  -- the selections of a contest in order, and their ranks
-pub mod Building  -- what is built one after another: members put, values beside what they are sorted by
-pub mod Tokens
+pub mod Building  -- what is built one after another: members put
 pub mod DueMembers

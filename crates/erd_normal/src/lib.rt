@@ -3,20 +3,16 @@
 
 mod laws;
 mod objects;
-mod order;
 mod report;
 mod same_laws;
-mod text;
 mod values;
 mod writer;
 
+pub use erd_meaning::{CompactText, SetOrder, in_order};
 pub use laws::{
     canonical_form_exists, canonical_is_unique, names_agree, objects_agree, preferences_agree,
     rearranged_means_the_same, references_agree, saying_the_same_means_the_same,
 };
-pub use order::compact_text::CompactText;
-pub use order::set_order::SetOrder;
-pub use order::stable_sort::in_order;
 pub use report::canonical_form::{normal_text, normal_tree};
 pub use same_laws::{
     canonical_says_the_same, exchanged_says_the_same, meaning_the_same_says_the_same,

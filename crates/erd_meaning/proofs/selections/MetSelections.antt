@@ -96,7 +96,7 @@ contests_are t vs e = ap (λ ds. flat_map contests_of (placed_from (Name (codes 
 -- ---- the parts of a value that has no fraction have none
 
 -- values that have no fraction
-abbrev AreWhole : List Data → Type 0
+abbrev pub AreWhole : List Data → Type 0
 AreWhole ds = AllByRecursion (λ d. has_float d ≡ false) ds
 
 -- ---- members and entries
@@ -115,18 +115,18 @@ whole_items : (ds : Items) → items_have_float ds ≡ false → AreWhole (list_
 whole_items no_items h = tt
 whole_items (item d ds) h = let both = or_parts (has_float d) (items_have_float ds) h in (both.0, whole_items ds both.1)
 
-whole_entries_of : (d : Data) → has_float d ≡ false → AreWhole (entries_of d)
+pub whole_entries_of : (d : Data) → has_float d ≡ false → AreWhole (entries_of d)
 whole_entries_of (array ds) h = whole_items ds h
 whole_entries_of e h = tt
 
-whole_entries : (name : List ℕ) (d : Data) → has_float d ≡ false → AreWhole (entries_at name d)
+pub whole_entries : (name : List ℕ) (d : Data) → has_float d ≡ false → AreWhole (entries_at name d)
 whole_entries name d h = at (get name d) refl
   where
     at : (o : Option Data) → get name d ≡ o → AreWhole (option_map_or entries_of o [])
     at None e = tt
     at (Some v) e = whole_entries_of v (whole_get name d v h e)
 
-whole_at : (vs : List Value) (i : ℕ) (v : Value) → AreWhole (map view vs) → i < length vs → v ≡ get_or vs i v → has_float (view v) ≡ false
+pub whole_at : (vs : List Value) (i : ℕ) (v : Value) → AreWhole (map view vs) → i < length vs → v ≡ get_or vs i v → has_float (view v) ≡ false
 whole_at [] i v h low e = absurd (omega arith)
 whole_at (w ∷ vs) zero v h low e = subst (λ u. has_float (view u) ≡ false) (sym e) h.0
 whole_at (w ∷ vs) (suc i) v h low e = whole_at vs i v h.1 (omega arith) e

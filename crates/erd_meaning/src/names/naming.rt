@@ -12,10 +12,10 @@ ghost use Rattle.erd_meaning.specs.code.Shown.{shown};
 
 use crate::keys::key_rule::KeyRule;
 use crate::keys::shared_key::SharedKey;
-use crate::names::label::label_text;
 use crate::names::ranked_name::RankedName;
 use crate::names::selection_name::SelectionName;
 use crate::objects::ranked_objects::RankedObjects;
+use crate::text::label::label_text;
 use erd_check::values::{class_of_object, entries_at};
 use erd_tables::{Class, Family, Role, Text};
 use serde_json::{Number, Value};

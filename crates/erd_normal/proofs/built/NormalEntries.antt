@@ -1,22 +1,7 @@
 -- The entries of the arrays that are built.
-use Rattle.erd_normal.proofs.Common.{◌≡◌, ℕ, ◌+◌, ◌<◌, true, false, List, [], ◌∷◌, ◌++◌, map, length, get_or, take, if◌then◌else◌, Some, None, codes, Option, option_and_then, bytes_eq, sym, refl, ap, ◌∙◌, ap₂, Decides-eqb, map-append, take_more, Data, array, get, kind_of_member, Class, class, Family, family, role, kind, entries_in, ShapeFault, NoneOf, IsTree, list_of_items, entries_of, entries_at, class_of_object, Preference, rising_list, compact_cmp, is_empty_array, nil_from_length, is_envelope_name, list_of_items-items_of, unless_no_entry, array_of, normal_selection, by_key, by_name, normal_object, normal_election, normal_report_value, normal_tree}
+use Rattle.erd_normal.proofs.Common.{◌≡◌, ℕ, true, false, List, [], map, length, if◌then◌else◌, Some, None, codes, Option, option_and_then, bytes_eq, sym, refl, ap, ◌∙◌, Decides-eqb, Data, array, get, kind_of_member, Class, class, Family, family, role, kind, entries_in, ShapeFault, NoneOf, IsTree, list_of_items, entries_of, entries_at, class_of_object, Preference, rising_list, compact_cmp, is_empty_array, nil_from_length, is_envelope_name, list_of_items-items_of, unless_no_entry, array_of, normal_selection, by_key, by_name, normal_object, normal_election, normal_report_value, normal_tree}
 use Rattle.erd_normal.proofs.built.NormalGets.{get_election, get_object}
 use Rattle.erd_normal.proofs.built.NormalReports.{get_report}
-
--- ---- entries that are built one after another
-
--- one value more
-pub one_value : {B C : Type 0} (h : B → C) (built : List C) (vs : List B) (i : ℕ) (v : B) (x : C) → i < length vs → v ≡ get_or vs i v → x ≡ h v
-    → built ≡ map h (take i vs) → built ++ x ∷ [] ≡ map h (take (i + 1) vs)
-one_value h built vs i v x low here new earlier =
-    ap₂ (λ ds d. ds ++ d ∷ []) earlier (new ∙ ap h here) ∙ sym (ap (map h) (take_more vs i v low) ∙ map-append h (take i vs) (get_or vs i v ∷ []))
-
--- one entry more
-pub one_more : {A B C : Type 0} (f : A → C) (h : B → C) (built : List A) (vs : List B) (i : ℕ) (v : B) (x : A) → i < length vs → v ≡ get_or vs i v → f x ≡ h v
-    → map f built ≡ map h (take i vs) → map f (built ++ x ∷ []) ≡ map h (take (i + 1) vs)
-one_more f h built vs i v x low here new earlier = map-append f built (x ∷ []) ∙ one_value h (map f built) vs i v (f x) low here new earlier
-
--- ---- the entries of the arrays that are built
 
 -- ---- arrays that are built
 

@@ -1,29 +1,10 @@
 -- Members that are put into an object, written in the order of their names.
-use Rattle.erd_normal.proofs.Common.{◌≡◌, ℕ, zero, suc, ◌+◌, ◌<◌, ◌≤◌, Bool, true, false, List, [], ◌∷◌, ◌++◌, map, length, get_or, drop, is_some, slice_get, Some, None, string_bytes, Option, Less, Equal, Greater, sym, refl, ap, ◌∙◌, subst, append_assoc, append-nil, arith, nat_list_cmp_total, length-map, drop_more, exact_bytes, slice_get_read, option_map_or, ordering_reverse, Data, item, Members, no_members, member, put, items_of, view, items_view, members_view, Value, text_cmp, IsBeforeFirst, drop_all, Token, begin_array, end_array, key, Entry, all_at, before_put, put_all, due_value, IsWholeDue, due_list, IsBeforeAll, NamesRise, AreWholeDue, WritesThrough, array_of, value_tokens, items_tokens, members_tokens, member_tokens}
-use Rattle.erd_normal.specs.declared.text.due_members.DueMember.{DueMember}
+use Rattle.erd_normal.proofs.Common.{◌≡◌, ℕ, zero, suc, ◌+◌, ◌<◌, ◌≤◌, Bool, true, false, List, [], ◌∷◌, ◌++◌, map, length, get_or, drop, is_some, slice_get, Some, None, Option, Less, Equal, Greater, sym, refl, ap, ◌∙◌, subst, append_assoc, append-nil, arith, nat_list_cmp_total, length-map, drop_more, exact_bytes, option_map_or, ordering_reverse, Data, item, Members, no_members, member, put, items_of, view, items_view, Value, text_cmp, IsBeforeFirst, drop_all, Token, begin_array, end_array, key, before_put, put_all, due_value, due_list, IsBeforeAll, NamesRise, WritesThrough, array_of, value_tokens, items_tokens, members_tokens, member_tokens}
 use Rattle.erd_check.proofs.Positions.{left_there}
+use Rattle.erd_normal.specs.declared.objects.due_members.DueMember.{DueMember}
+use Rattle.erd_meaning.proofs.texts.WrittenTokens.{then_rest}
 
 -- ---- tokens that are written one value after another
-
--- one more piece, and then the rest
-pub then_rest : (was more now rest all : List Token) → now ≡ was ++ more → was ++ (more ++ rest) ≡ all → now ++ rest ≡ all
-then_rest was more now rest all e before = ap (λ ts. ts ++ rest) e ∙ (append_assoc was more rest ∙ before)
-
--- the first of the members that are left
-pub member_written : (left rest : List Entry) (e : Entry) (name : List ℕ) (was keyed now all : List Token)
-    → left ≡ e ∷ rest → name ≡ string_bytes e.0 → keyed ≡ was ++ key name ∷ [] → now ≡ keyed ++ value_tokens (view e.1)
-    → was ++ members_tokens (members_view left) ≡ all → now ++ members_tokens (members_view rest) ≡ all
-member_written left rest e name was keyed now all split named first second before =
-    then_rest keyed (value_tokens (view e.1)) now (members_tokens (members_view rest)) all second
-    (then_rest was (key name ∷ []) keyed (value_tokens (view e.1) ++ members_tokens (members_view rest)) all first
-    (ap (λ n. was ++ key n ∷ (value_tokens (view e.1) ++ members_tokens (members_view rest))) named
-    ∙ (ap (λ es. was ++ members_tokens (members_view es)) (sym split) ∙ before)))
-
--- a name and a value, and then the rest
-pub member_then : (name : List ℕ) (d : Data) (rest was keyed now : List Token) → keyed ≡ was ++ key name ∷ [] → now ≡ keyed ++ value_tokens d
-    → was ++ key name ∷ (value_tokens d ++ rest) ≡ now ++ rest
-member_then name d rest was keyed now first second =
-    sym (then_rest keyed (value_tokens d) now rest _ second (then_rest was (key name ∷ []) keyed (value_tokens d ++ rest) _ first refl))
 
 -- a member that is kept
 pub kept_member : (name : List ℕ) (r : Option Data) (was keyed now : List Token) → is_some r ≡ true → keyed ≡ was ++ key name ∷ [] → ((d : Data) → r ≡ Some d → now ≡ keyed ++ value_tokens d)
@@ -149,6 +130,3 @@ rise_from (suc n) (m ∷ ms) rise = rise_from n ms rise.1
 -- the member at a position, and those after it
 pub apart_at : (ms : List DueMember) (at : ℕ) (m : DueMember) → at < length ms → m ≡ get_or ms at m → due_list (drop at ms) ≡ (m.name.now, due_value m.value) ∷ due_list (drop (at + 1) ms)
 apart_at ms at m low is = ap due_list (drop_more ms at m low) ∙ ap (λ (x : DueMember). (x.name.now, due_value x.value) ∷ due_list (drop (at + 1) ms)) (sym is)
-
-pub whole_at : (ms : List DueMember) (at : ℕ) (m : DueMember) → at < length ms → m ≡ get_or ms at m → AreWholeDue ms → IsWholeDue m.value
-whole_at ms at m low is whole = all_at (λ (x : DueMember). IsWholeDue x.value) ms at m whole (slice_get_read ms (length ms) at m refl low is)

@@ -1,5 +1,5 @@
 -- Objects with members put in.
-use Rattle.erd_normal.proofs.Common.{◌≡◌, ℕ, true, false, not, List, [], ◌∷◌, is_some, if◌then◌else◌, Some, None, codes, refl, ap, Data, null, string, Members, no_members, member, Class, Family, family, MemberKind, kind, entries_at, Preference, rising_list, compact_cmp, with_rising_text, is_empty_array, is_envelope_name, put_in, unless_no_entry, array_of, normal_value, normal_members, normal_node_value, with_id, envelope_values, in_envelope, holds_parts, written_object_value, written_election_value, written_report_value}
+use Rattle.erd_normal.proofs.Common.{◌≡◌, ℕ, true, false, not, List, [], ◌∷◌, is_some, if◌then◌else◌, Some, None, codes, refl, ap, Data, null, string, Members, no_members, member, Class, Family, family, MemberKind, kind, Preference, is_empty_array, is_envelope_name, put_in, unless_no_entry, normal_value, normal_members, normal_node_value, with_id, envelope_values, in_envelope, holds_parts, written_object_value, written_election_value, written_report_value}
 
 -- members that are kept as they are
 pub copied : (c : Class) (ms : Members) → normal_members (λ name k d. Some d) c ms ≡ ms
@@ -15,11 +15,6 @@ put_none e = refl
 pub put_id : (id : List ℕ) (d : Data) → put_in ((codes "@id", string id) ∷ []) d ≡ with_id (Some id) d
 put_id id null = refl
 put_id id e = refl
-
--- the translations of a label are put in
-pub put_text : (d : Data) → put_in ((codes "Text", array_of (rising_list compact_cmp (entries_at (codes "Text") d))) ∷ []) d ≡ with_rising_text d
-put_text null = refl
-put_text e = refl
 
 -- the envelope is put in
 pub put_envelope : (d : Data) → put_in envelope_values d ≡ in_envelope d

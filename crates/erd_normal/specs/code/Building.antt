@@ -1,9 +1,10 @@
 -- What is built step by step, in the order of the code, and the texts of `@id`s.
 use Rattle.std.specs.Prelude.{ℕ, List, [], ◌∷◌, Option, Some, None, unwrap_or}
 use Rattle.std.specs.Option.{option_map_or}
+use Rattle.json.specs.Token.{Token, key}
 use Rattle.serde_json.specs.Data.{Data, object, Members, member, put}
-use Rattle.serde_json.specs.Written.{compact_text}
 use Rattle.erd_tables.specs.declared.class.Family.{Family}
+use Rattle.erd_meaning.specs.Tokens.{value_tokens}
 use Rattle.erd_normal.specs.Canonical.{canonical_id}
 
 -- The members with the value under the name. If there is no value, the members stay.
@@ -25,13 +26,10 @@ abbrev pub put_in : List (List ℕ × Data) → Data → Data
 put_in ps (object ms) = object (put_all ps ms)
 put_in ps d = d
 
--- A text and a value, as a pair.
-abbrev pub beside : List ℕ → Data → List ℕ × Data
-beside text d = (text, d)
-
--- The compact text of a value and the value, as a pair.
-abbrev pub beside_compact_text : Data → List ℕ × Data
-beside_compact_text d = beside (compact_text d) d
+-- The tokens of a member with this value. If there is no value, there are none.
+abbrev pub member_tokens : List ℕ → Option Data → List Token
+member_tokens k None = []
+member_tokens k (Some d) = key k ∷ value_tokens d
 
 -- The `@id` text of the object with this rank, or the empty text in a family whose objects have no canonical `@id`.
 abbrev pub id_of_rank : Family → ℕ → List ℕ

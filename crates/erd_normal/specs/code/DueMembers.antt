@@ -1,31 +1,20 @@
 -- Members that are put into an object while it is written.
 use Rattle.std.specs.Prelude.{◌≡◌, ℕ, List, [], map, Bool, true, false, ◌∷◌, ◌++◌}
 use Rattle.std.specs.Bool.{⊤}
-use Rattle.std.specs.List.{AllByRecursion}
 use Rattle.std.specs.declared.cmp.Ordering.TheVariants.{Less}
 use Rattle.json.specs.Token.{Token, key}
 use Rattle.serde_json.specs.Data.{Data, Members, member, number, string, unsigned}
-use Rattle.serde_json.specs.View.{items_view, view}
-use Rattle.serde_json.specs.Written.{items_have_float}
 use Rattle.erd_tables.specs.Texts.{text_cmp}
-use Rattle.erd_meaning.specs.SelectionNames.{compact_cmp, rising_list}
+use Rattle.erd_meaning.specs.Tokens.{members_tokens, value_tokens}
 use Rattle.erd_normal.specs.code.Building.{put_all}
-use Rattle.erd_normal.specs.code.NormalTree.{array_of}
-use Rattle.erd_normal.specs.code.Tokens.{members_tokens, value_tokens}
-use Rattle.erd_normal.specs.declared.text.due_members.DueMember.{DueMember}
-use Rattle.erd_normal.specs.declared.text.due_members.DueValue.{DueValue}
-use Rattle.erd_normal.specs.declared.text.due_members.DueValue.TheVariants as due
+use Rattle.erd_normal.specs.declared.objects.due_members.DueMember.{DueMember}
+use Rattle.erd_normal.specs.declared.objects.due_members.DueValue.{DueValue}
+use Rattle.erd_normal.specs.declared.objects.due_members.DueValue.TheVariants as due
 
 -- The value.
 abbrev pub due_value : DueValue → Data
 due_value (due.Text text) = string text.now
 due_value due.One = number (unsigned 1)
-due_value (due.Rising values) = array_of (rising_list compact_cmp (map view values.now))
-
--- The numbers in the value are whole.
-abbrev pub IsWholeDue : DueValue → Type 0
-IsWholeDue (due.Rising values) = items_have_float (items_view values.now) ≡ false
-IsWholeDue value = ⊤
 
 -- The members, as names with values.
 abbrev pub due_list : List DueMember → List (List ℕ × Data)
@@ -41,14 +30,9 @@ abbrev pub NamesRise : List (List ℕ × Data) → Type 0
 NamesRise [] = ⊤
 NamesRise (p ∷ ps) = IsBeforeAll p.0 ps × NamesRise ps
 
--- The numbers in the values of the members are whole.
-abbrev pub AreWholeDue : List DueMember → Type 0
-AreWholeDue ms = AllByRecursion (λ m. IsWholeDue m.value) ms
-
--- The names of the members strictly rise, and the numbers in their values are whole.
-pub record AreDue (ms : List DueMember) : Type 0 where
-  pub rise : NamesRise (due_list ms)
-  pub whole : AreWholeDue ms
+-- The names of the members strictly rise.
+abbrev pub AreDue : List DueMember → Type 0
+AreDue ms = NamesRise (due_list ms)
 
 -- Of the members that are put, those up to a name were written, and the others are left. `taken` says whether one of those
 -- written has the name.

@@ -1,17 +1,17 @@
 ghost use Rattle.std.specs.Prelude.{◌≡◌, ◌++◌, false, OnOk};
 ghost use Rattle.serde_json.specs.View.{view};
 ghost use Rattle.serde_json.specs.Written.{has_float};
+ghost use Rattle.erd_meaning.specs.Tokens.{value_tokens};
 ghost use Rattle.erd_normal.specs.code.Building.{put_in};
 ghost use Rattle.erd_normal.specs.code.DueMembers.{AreDue, due_list};
-ghost use Rattle.erd_normal.specs.code.Tokens.{value_tokens};
 
+use crate::objects::due_members::DueMember;
 use crate::objects::members::{MemberRule, write_members};
-use crate::text::due_members::DueMember;
-use crate::text::output::Output;
-use crate::text::value::write_value;
+use erd_meaning::text::output::Output;
+use erd_meaning::text::value::write_value;
 use erd_tables::{Class, MemberKind};
 use serde_json::Value;
-use std::alloc::{AllocError, Global};
+use std::alloc::AllocError;
 
 /// The rule that keeps each member as it is.
 #[derive(Drop)]
@@ -33,7 +33,6 @@ impl MemberRule for CopiedMembers {
 
 /// Writes a value as it is, but an object with the members that are put in.
 pub(crate) fn write_with(
-    alloc: Global,
     due: &[DueMember],
     value: &Value,
     out: &mut Output,
@@ -44,7 +43,7 @@ pub(crate) fn write_with(
         Value::Object(members) => {
             // the rule asks for no class
             let class = Class::InternationalizedText;
-            write_members(alloc, &CopiedMembers, class, due, members, out)
+            write_members(&CopiedMembers, class, due, members, out)
         }
         other => write_value(other, out),
     }

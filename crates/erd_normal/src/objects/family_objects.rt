@@ -5,22 +5,22 @@ ghost use Rattle.erd_normal.specs.code.NormalTree.{array_of, normal_object_with,
 ghost use Rattle.erd_check.specs.Wants.{class_of_object};
 ghost use Rattle.erd_meaning.specs.Keys.{has_keys};
 ghost use Rattle.erd_meaning.specs.Objects.{Placed, objects};
+ghost use Rattle.erd_meaning.specs.Tokens.{value_tokens};
 ghost use Rattle.erd_normal.specs.code.WrittenTree.{holds_parts, written_object, written_objects};
-ghost use Rattle.erd_normal.specs.code.Tokens.{value_tokens};
 
 use crate::objects::contest_selections::write_selections;
+use crate::objects::due_members::{DueMember, DueValue};
 use crate::objects::members::MemberRule;
 use crate::objects::written_object::write_object;
-use crate::text::due_members::{DueMember, DueValue};
-use crate::text::output::Output;
 use crate::values::content::write_content;
 use crate::values::value_of_kind::{is_kept, write_of_kind};
 use crate::writer::Writer;
 use crate::writer::ids::{IdText, optional_id_text};
 use erd_check::values::is_empty_array;
+use erd_meaning::text::output::Output;
 use erd_tables::{Family, MemberKind, Role};
 use serde_json::Value;
-use std::alloc::{AllocError, Global};
+use std::alloc::AllocError;
 
 /// The rule for the members of the object at this position of its family.
 #[derive(Drop)]
@@ -99,7 +99,7 @@ fn write_object_at(
             let id = optional_id_text(family, rank)?;
             let rule = ObjectMembers { writer, position };
             let role = Role::OfFamily(family);
-            write_identified(writer.alloc, &rule, role, &id, object, out)
+            write_identified(&rule, role, &id, object, out)
         }
         None => unreachable!(),
     }
@@ -107,7 +107,6 @@ fn write_object_at(
 
 /// Writes an object that has the role, with each member written by the rule, and with this `@id`, if there is one.
 fn write_identified<R: MemberRule>(
-    alloc: Global,
     rule: &R,
     role: Role,
     id: &Option<IdText>,
@@ -123,8 +122,8 @@ fn write_identified<R: MemberRule>(
                 name: "@id",
                 value: DueValue::Text(id.as_str()),
             }];
-            write_object(alloc, rule, role, &due, value, out)
+            write_object(rule, role, &due, value, out)
         }
-        None => write_object(alloc, rule, role, &[], value, out),
+        None => write_object(rule, role, &[], value, out),
     }
 }

@@ -3,16 +3,16 @@ ghost use Rattle.serde_json.specs.Data.{Data, Members, object};
 ghost use Rattle.serde_json.specs.View.{view, members_view};
 ghost use Rattle.serde_json.specs.Written.{has_float, members_have_float};
 ghost use Rattle.erd_tables.specs.declared.member.MemberKind.{MemberKind as Asked};
+ghost use Rattle.erd_meaning.specs.Tokens.{members_tokens, value_tokens};
 ghost use Rattle.erd_normal.specs.code.Building.{first_if, put_all};
 ghost use Rattle.erd_normal.specs.code.DueMembers.{AreDue, due_list};
 ghost use Rattle.erd_normal.specs.code.NormalTree.{normal_members};
-ghost use Rattle.erd_normal.specs.code.Tokens.{members_tokens, value_tokens};
 
-use crate::text::due_members::{DueMember, write_rest, write_through};
-use crate::text::output::Output;
+use crate::objects::due_members::{DueMember, write_rest, write_through};
+use erd_meaning::text::output::Output;
 use erd_tables::{Class, MemberKind, member_kind};
 use serde_json::{Map, Value};
-use std::alloc::{AllocError, Global};
+use std::alloc::AllocError;
 
 /// A rule that gives the canonical members of an object.
 pub(crate) trait MemberRule {
@@ -31,7 +31,6 @@ pub(crate) trait MemberRule {
 /// Writes an object of the class with the members that the rule gives, each from the member with the same name, and with
 /// those that are put in.
 pub(crate) fn write_members<R: MemberRule>(
-    alloc: Global,
     rule: &R,
     class: Class,
     due: &[DueMember],
@@ -46,15 +45,14 @@ pub(crate) fn write_members<R: MemberRule>(
     for (name, member) in members.iter() {
         let name = name.as_str();
         let member = (name, member_kind(class, name), member);
-        at = write_member(alloc, rule, due, at, member, out)?;
+        at = write_member(rule, due, at, member, out)?;
     }
-    write_rest(alloc, due, at, out)?;
+    write_rest(due, at, out)?;
     out.end_object()
 }
 
 /// Writes a member if it is kept, after those that are put in before it. Returns the position of the first that is left.
 fn write_member<R: MemberRule>(
-    alloc: Global,
     rule: &R,
     due: &[DueMember],
     at: usize,
@@ -67,7 +65,7 @@ fn write_member<R: MemberRule>(
 {
     let (name, kind, value) = member;
     if rule.keeps(name, kind, value) {
-        write_kept(alloc, rule, due, at, member, out)
+        write_kept(rule, due, at, member, out)
     } else {
         Ok(at)
     }
@@ -76,7 +74,6 @@ fn write_member<R: MemberRule>(
 /// Writes a member that is kept, or the one that is put in its place, after those that are put in before it. Returns the
 /// position of the first that is left.
 fn write_kept<R: MemberRule>(
-    alloc: Global,
     rule: &R,
     due: &[DueMember],
     at: usize,
@@ -87,7 +84,7 @@ fn write_kept<R: MemberRule>(
         → out.old ++ members_tokens (put_all (due_list (drop at due.now)) (first_if member.entry.0.now (Some d) ms)) ≡ out.new ++ members_tokens (put_all (due_list (drop left due.now)) ms)) }
 {
     let (name, kind, value) = member;
-    let (is_replaced, left) = write_through(alloc, due, at, name, out)?;
+    let (is_replaced, left) = write_through(due, at, name, out)?;
     if !is_replaced {
         out.key(name)?;
         rule.write(kind, value, out)?;

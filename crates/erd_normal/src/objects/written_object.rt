@@ -2,24 +2,23 @@ ghost use Rattle.std.specs.Prelude.{◌≡◌, ◌++◌, Some, false, OnOk};
 ghost use Rattle.serde_json.specs.View.{view};
 ghost use Rattle.serde_json.specs.Written.{has_float};
 ghost use Rattle.erd_check.specs.Wants.{class_of_object};
+ghost use Rattle.erd_meaning.specs.Tokens.{value_tokens};
 ghost use Rattle.erd_normal.specs.code.Building.{put_in};
 ghost use Rattle.erd_normal.specs.code.DueMembers.{AreDue, due_list};
 ghost use Rattle.erd_normal.specs.code.NormalTree.{normal_object_with};
-ghost use Rattle.erd_normal.specs.code.Tokens.{value_tokens};
 
 use crate::objects::copied_members::write_with;
+use crate::objects::due_members::DueMember;
 use crate::objects::members::{MemberRule, write_members};
-use crate::text::due_members::DueMember;
-use crate::text::output::Output;
-use crate::text::value::write_value;
 use erd_check::values::class_of_object;
+use erd_meaning::text::output::Output;
+use erd_meaning::text::value::write_value;
 use erd_tables::{Class, Role};
 use serde_json::Value;
-use std::alloc::{AllocError, Global};
+use std::alloc::AllocError;
 
 /// Writes an object that has the role, with each member written by the rule, and with the members that are put in.
 pub(crate) fn write_object<R: MemberRule>(
-    alloc: Global,
     rule: &R,
     role: Role,
     due: &[DueMember],
@@ -31,14 +30,13 @@ pub(crate) fn write_object<R: MemberRule>(
     ensures { OnOk result (out.new ≡ out.old ++ value_tokens (put_in (due_list due.now) (normal_object_with (R.value_of rule.now) (class_of_object role (view value.now)) (view value.now)))) }
 {
     match class_of_object(role, value) {
-        Some(class) => write_in_class(alloc, rule, class, due, value, out),
-        None => write_with(alloc, due, value, out),
+        Some(class) => write_in_class(rule, class, due, value, out),
+        None => write_with(due, value, out),
     }
 }
 
 /// Writes an object of the class in the same way.
 fn write_in_class<R: MemberRule>(
-    alloc: Global,
     rule: &R,
     class: Class,
     due: &[DueMember],
@@ -50,7 +48,7 @@ fn write_in_class<R: MemberRule>(
     ensures { OnOk result (out.new ≡ out.old ++ value_tokens (put_in (due_list due.now) (normal_object_with (R.value_of rule.now) (Some class) (view value.now)))) }
 {
     match value {
-        Value::Object(members) => write_members(alloc, rule, class, due, members, out),
+        Value::Object(members) => write_members(rule, class, due, members, out),
         other => write_value(other, out),
     }
 }

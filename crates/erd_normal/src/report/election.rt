@@ -1,17 +1,17 @@
 ghost use Rattle.std.specs.Prelude.{◌≡◌, ◌++◌, ◌<◌, Some, length, slice_get, OnOk};
 ghost use Rattle.serde_json.specs.View.{view};
 ghost use Rattle.erd_meaning.specs.Objects.{Placed, elections};
+ghost use Rattle.erd_meaning.specs.Tokens.{value_tokens};
 ghost use Rattle.erd_normal.specs.code.NormalTree.{array_of};
 ghost use Rattle.erd_normal.specs.code.WrittenTree.{written_election, written_elections};
-ghost use Rattle.erd_normal.specs.code.Tokens.{value_tokens};
 
 use crate::objects::family_objects::write_family;
 use crate::objects::members::MemberRule;
 use crate::objects::written_object::write_object;
-use crate::text::output::Output;
 use crate::values::value_of_kind::{is_kept, write_of_kind};
 use crate::writer::Writer;
 use erd_check::values::is_empty_array;
+use erd_meaning::text::output::Output;
 use erd_tables::{MemberKind, Role};
 use serde_json::Value;
 use std::alloc::AllocError;
@@ -67,7 +67,7 @@ fn write_election_at(writer: &Writer, position: usize, out: &mut Output) -> Resu
                 writer,
                 part: position,
             };
-            write_object(writer.alloc, &rule, Role::Election, &[], election, out)
+            write_object(&rule, Role::Election, &[], election, out)
         }
         None => unreachable!(),
     }

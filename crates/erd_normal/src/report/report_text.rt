@@ -1,17 +1,17 @@
 ghost use Rattle.std.specs.Prelude.{◌≡◌, ◌++◌, OnOk};
 ghost use Rattle.serde_json.specs.View.{view};
+ghost use Rattle.erd_meaning.specs.Tokens.{value_tokens};
 ghost use Rattle.erd_normal.specs.code.NormalTree.{normal_tree};
-ghost use Rattle.erd_normal.specs.code.Tokens.{value_tokens};
 
+use crate::objects::due_members::{DueMember, DueValue};
 use crate::objects::family_objects::write_family;
 use crate::objects::members::MemberRule;
 use crate::objects::written_object::write_object;
 use crate::report::election::write_elections;
-use crate::text::due_members::{DueMember, DueValue};
-use crate::text::output::Output;
 use crate::values::value_of_kind::{is_kept, write_of_kind};
 use crate::writer::Writer;
 use erd_check::values::is_empty_array;
+use erd_meaning::text::output::Output;
 use erd_tables::{MemberKind, Role, is_envelope};
 use serde_json::Value;
 use std::alloc::AllocError;
@@ -83,5 +83,5 @@ pub(crate) fn write_report(writer: &Writer, out: &mut Output) -> Result<(), Allo
 {
     let root = writer.report().tree();
     let rule = ReportMembers { writer };
-    write_object(writer.alloc, &rule, Role::Report, &ENVELOPE, root, out)
+    write_object(&rule, Role::Report, &ENVELOPE, root, out)
 }

@@ -3,16 +3,16 @@ ghost use Rattle.serde_json.specs.Data.{string};
 ghost use Rattle.serde_json.specs.View.{view};
 ghost use Rattle.erd_check.specs.Values.{text_of};
 ghost use Rattle.erd_meaning.specs.SelectionNames.{rising_list};
+ghost use Rattle.erd_meaning.specs.Tokens.{value_tokens};
 ghost use Rattle.erd_normal.specs.code.Building.{id_of_rank};
 ghost use Rattle.erd_normal.specs.code.NormalTree.{array_of, normal_reference, normal_selection_reference, reference_cmp};
 ghost use Rattle.erd_normal.specs.code.Orders.{rank_named};
-ghost use Rattle.erd_normal.specs.code.Tokens.{value_tokens};
 
-use crate::text::output::Output;
 use crate::values::reference::{write_reference_to, write_selection_reference};
 use crate::writer::Writer;
 use erd_check::values::text_of;
 use erd_meaning::Row;
+use erd_meaning::text::output::Output;
 use erd_tables::Family;
 use serde_json::Value;
 use std::alloc::AllocError;

@@ -1,4 +1,0 @@
-//! Writing JSON.
-pub(crate) mod due_members;
-pub(crate) mod output;
-pub(crate) mod value;
