@@ -65,7 +65,7 @@ pub use Rattle.erd_meaning.specs.Objects.{Placed, placed_from, placed_entries, r
 pub use Rattle.erd_meaning.specs.Places.{places_put}
 pub use Rattle.erd_meaning.specs.RankedNames.{family_chosen, ranked_name, PlacedName, ranked_selection_in, ranked_name_cmp, ranked_name_writes, IsRankedIn}
 pub use Rattle.erd_meaning.specs.Records.{json_set, if_carried, carried_members, label_beside_text, label_of, content_of, meaning, plain_value, is_in_envelope, plain_member, record_with, selection_record, selection_map, member_value, member_of_class, object_record, with_election_id, record_in_election, placed_record, placed_with_key, records_of, election_records}
-pub use Rattle.erd_meaning.specs.SelectionNames.{with_inserted, rising_list, compact_cmp, key_named, keys_found, keys_named, keys_of_selection, is_write_in, order_of_selection, with_rising_text, label_of_selection, name_in_class, selection_role, name_by, name_of, class_cmp, name_cmp, name_named}
+pub use Rattle.erd_meaning.specs.SelectionNames.{with_inserted, rising_list, compact_cmp, key_named, keys_found, keys_named, keys_of_selection, is_write_in, order_of_selection, with_rising_text, label_of_selection, name_in_class, selection_role, name_of, class_cmp, name_cmp, name_named}
 pub use Rattle.erd_meaning.specs.code.ChosenKeys.{is_preferred, choice_cmp, choice_of_two, choice_of, choice}
 pub use Rattle.erd_meaning.specs.code.ElectionKeys.{AreSeen, is_seen, seen_with, held_from}
 pub use Rattle.erd_meaning.specs.code.Indexed.{same_owned, is_salted_id, is_salted_owned}
