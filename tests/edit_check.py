@@ -46,8 +46,10 @@ class Checked:
 
     def refusal(self, function, cycle):
         """Returns whether the contract of the function refuses it, and the words for that, or no words where nothing is seen."""
-        misfits = self.misfits[function] + self.misfits[cycle]
-        goals = self.goals[function] + self.goals[cycle]
+        # a function that calls itself is a cycle of its own name
+        named = {function, cycle, "::+".join(function.rsplit("::", 1))}
+        misfits = [it for name in named for it in self.misfits[name]]
+        goals = [it for name in named for it in self.goals[name]]
         if self.lines.get(function) == "proved":
             return False, f"NOT REFUSED: {function} is still proved"
         if misfits:

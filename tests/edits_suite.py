@@ -59,6 +59,7 @@ fn pushed(
 }
 """
 LINE = "fn some::a::b::counts: no proof: expected answers in ./proofs/a/b/counts/Answers.antt; `search` did not prove `returns`"
+ITSELF = "fn some::a::b::pushed: not proved"
 CALLS = "fn some::a::b::counts: no proof: it calls `some::a::b::other`, which is not proved"
 GOAL = "note: src/a/b.rt:6:1: it is not proved that what the function ensures holds when it returns (`returns`)"
 METHOD = "fn some::outer::Outer::size: no proof: expected answers in ./proofs/outer/Outer/size/Answers.antt"
@@ -110,6 +111,7 @@ CASES = [
     ("a changed function is not spared", lambda: spared("a::b::copied"), (SOURCE, [])),
     ("an open goal", lambda: judged(LINE, GOAL), "yes"),
     ("an answer of another type", lambda: judged(LINE, TYPE), "yes"),
+    ("a function that calls itself", lambda: judged(ITSELF, TYPE.replace("counts", "+pushed"), function="a::b::pushed"), "yes"),
     ("an open goal beside another call", lambda: judged(CALLS, GOAL), "yes"),
     ("another call alone", lambda: judged(CALLS), "unseen"),
     ("nothing", lambda: judged("only=1 proved=0"), "unseen"),
