@@ -14,7 +14,7 @@ import sys
 
 ROOT = pathlib.Path(__file__).resolve().parent.parent
 PAGE = ROOT / 'docs' / 'DEFINITIONS.md'
-CRATES = ['erd_tables', 'erd_check', 'erd_meaning', 'erd_normal', 'erd_compare', 'erd_canon', 'erd_program', 'erd_c']
+CRATES = ['erd_tables', 'erd_check', 'erd_text', 'erd_meaning', 'erd_normal', 'erd_compare', 'erd_canon', 'erd_program', 'erd_c']
 HEAD = ['| Definition | What it says | From |', '|---|---|---|']
 CODE = 'What private functions answer, step by step; a reader may skip it. What each file says stands in its first lines.'
 
@@ -60,7 +60,6 @@ SOURCES = {
     'erd_meaning/Records.is_header_class': 'classes OrderedContest and OrderedHeader',
     'erd_meaning/Records.node_of': 'classes BallotStyle and OrderedHeader',
     'erd_meaning/Records.nodes_of': 'classes BallotStyle and OrderedHeader',
-    'erd_meaning/Tokens': 'RFC 8259',
     'erd_program/Engines': 'this project',
     'erd_program/Files': 'this project',
     'erd_program/Messages': 'this project',
@@ -71,6 +70,7 @@ SOURCES = {
     'erd_tables/Classes.classes': 'the classes of the standard that the profile covers',
     'erd_tables/Classes.class_of_text': '`@type` of the standard',
     'erd_tables/Classes.NamesItsClass': '`@type` of the standard',
+    'erd_text/Tokens': 'RFC 8259',
     'erd_tables/Rows.selection_rows': 'class ContestSelection',
 }
 

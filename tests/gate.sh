@@ -69,7 +69,7 @@ lane 'rt ci'
 lane 'python3 tests/definitions.py' 'python3 tests/pages.py' 'python3 tests/documented.py' 'python3 tests/edits_suite.py' \
     'conformance/run --in-process reference/erd_reference.py'
 
-edits erd_check erd_meaning erd_normal
+edits erd_check erd_text erd_meaning erd_normal
 edits erd_compare erd_canon erd_program
 for crate in $(sed -n 's|^\([a-z_]*\)/.*|\1|p' tests/edits/gate.txt | sort -u); do
     [[ $tried == *" $crate "* ]] || missing "tests/edits/gate.txt: the edits of $crate are not tried"

@@ -23,7 +23,7 @@ pub use Rattle.erd_meaning.proofs.finding.OneObject.{at_low, sorted_at, one_key}
 pub use Rattle.erd_meaning.proofs.meanings.WholeMeanings.{same_but_one, same_object, AgreeAt, is_key_in, same_at_every_key, AreAmong, no_record, value_with_key, ObjectsAgree, same_at_key, same_at_key_with, HaveKeys, keys_of_family, nothing_at, same_family, selection_with_name, SelectionsAgreeButOne, same_at_name, names_of_selections, same_selections, election_has_key, same_sole_election, same_meaning}
 pub use Rattle.erd_meaning.proofs.meanings.WholeRecords.{absent_plain, absent_member, no_election_id, other_than_election}
 pub use Rattle.erd_meaning.proofs.orders.DistinctEntries.{distinct_from_one_place, options_exact, equal_keys}
-pub use Rattle.erd_meaning.proofs.orders.RisingOrders.{greater_turned, less_turned, all_rising, rising_strictly, stands_at_rank}
+pub use Rattle.erd_text.proofs.RisingOrders.{greater_turned, less_turned, all_rising, rising_strictly, stands_at_rank}
 pub use Rattle.erd_meaning.proofs.selections.PositionedKeys.{KeyPosition, positioned_made, positioned_keys, all_positioned, rising_positioned}
 pub use Rattle.erd_meaning.specs.Lookups.{rising_election_keys}
 pub use Rattle.erd_meaning.specs.Meaning.{JsonMap, KeySet, translated, a_content, SelectionRecord, a_selection_map, Meaning}

@@ -8,4 +8,3 @@ pub mod orders
 pub mod meanings
 pub mod examples
 pub mod references
-pub mod texts

@@ -2,8 +2,6 @@
 pub mod ChoiceOrder
 pub mod ComparisonChains
 pub mod DistinctEntries
+pub mod KeyRanks
 pub mod OrdersMade  -- the order that is made of distinct keys
 pub mod PlacesPut  -- places put at the positions that a list names
-pub mod RisingLists
-pub mod RisingOrders
-pub mod StableRising

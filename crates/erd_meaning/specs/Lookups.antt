@@ -9,7 +9,8 @@ use Rattle.erd_tables.specs.declared.class.Family.TheVariants as family
 use Rattle.erd_meaning.specs.NameParts.{NameParts}
 use Rattle.erd_meaning.specs.Objects.{Placed, contests, election_of_place, elections, id_of, numbered_selections, objects, selections_of_contest}
 use Rattle.erd_meaning.specs.Keys.{Preference, key_cmp, key_of, key_of_family_object}
-use Rattle.erd_meaning.specs.SelectionNames.{name_of, rising_list}
+use Rattle.erd_meaning.specs.SelectionNames.{name_of}
+use Rattle.erd_text.specs.RisingLists.{rising_list}
 use Rattle.erd_meaning.specs.declared.keys.key.Key.{Key}
 
 -- The key of the object at this position of its family, or none if there is no such object or it has no key.

@@ -1,13 +1,12 @@
 -- The names of the selections of a contest. They tell selections apart independently of the vendor.
-use Rattle.std.specs.Prelude.{ℕ, ℤ, List, [], ◌∷◌, Bool, false, if◌then◌else◌, Option, None, option_and_then, option_map, unwrap_or, codes}
+use Rattle.std.specs.Prelude.{ℕ, ℤ, List, [], Bool, false, Option, None, option_and_then, option_map, unwrap_or, codes}
 use Rattle.std.specs.Cmp.Lexicographic.{slice_cmp}
 use Rattle.std.specs.List.{filter_map}
 use Rattle.std.specs.Option.{option_cmp}
-use Rattle.std.specs.Ordering.{int_cmp, bool_cmp, ordering_then, is_lt}
+use Rattle.std.specs.Ordering.{int_cmp, bool_cmp, ordering_then}
 use Rattle.std.specs.declared.cmp.Ordering.{Ordering}
-use Rattle.serde_json.specs.Data.{Data, array, object, put}
+use Rattle.serde_json.specs.Data.{Data}
 use Rattle.serde_json.specs.Find.{get, as_str, as_bool, as_number, as_integer}
-use Rattle.serde_json.specs.View.{items_of}
 use Rattle.serde_json.specs.Written.{compact_text}
 use Rattle.erd_tables.specs.Classes.{class_name}
 use Rattle.erd_tables.specs.Texts.{text_cmp}
@@ -20,25 +19,10 @@ use Rattle.erd_tables.specs.declared.class.Role.TheVariants as role
 use Rattle.erd_check.specs.Wants.{class_of_object}
 use Rattle.erd_meaning.specs.Keys.{Preference, key_cmp, key_of}
 use Rattle.erd_check.specs.Values.{entries_at}
+use Rattle.erd_text.specs.RisingLists.{rising_list, with_rising_text}
 use Rattle.erd_meaning.specs.NameParts.{NameParts}
 use Rattle.erd_meaning.specs.Objects.{owner}
 use Rattle.erd_meaning.specs.declared.keys.key.Key.{Key}
-
--- ---- lists in order
-
--- The list with the value inserted before the first entry that is not less than it.
-abbrev pub with_inserted : {A : Type 0} → (A → A → Ordering) → A → List A → List A
-with_inserted cmp x [] = x ∷ []
-with_inserted cmp x (y ∷ ys) = if is_lt (cmp y x) then y ∷ with_inserted cmp x ys else x ∷ (y ∷ ys)
-
--- The same values in rising order. Each stands as often as before.
-abbrev pub rising_list : {A : Type 0} → (A → A → Ordering) → List A → List A
-rising_list cmp [] = []
-rising_list cmp (x ∷ xs) = with_inserted cmp x (rising_list cmp xs)
-
--- JSON values are compared by the bytes of their compact texts. (profile)
-abbrev pub compact_cmp : Data → Data → Ordering
-compact_cmp a b = text_cmp (compact_text a) (compact_text b)
 
 -- ---- the six parts
 
@@ -69,13 +53,6 @@ is_write_in c d = false
 -- The whole number in `SequenceOrder`, or none. (class ContestSelection)
 abbrev pub order_of_selection : Data → Option ℤ
 order_of_selection d = option_and_then as_integer (option_and_then as_number (get (codes "SequenceOrder") d))
-
--- The label with the entries of its `Text` in rising order. A label that is a plain text stays. (class
--- InternationalizedText)
-abbrev pub with_rising_text : Data → Data
-with_rising_text (object ms) =
-    object (put (codes "Text") (array (items_of (rising_list compact_cmp (entries_at (codes "Text") (object ms))))) ms)
-with_rising_text d = d
 
 -- The compact text of `Selection` in a BallotMeasureSelection, with its translations in rising order, and none for any other
 -- class. (class BallotMeasureSelection)

@@ -4,10 +4,9 @@
 pub mod keys;
 pub mod names;
 mod objects;
-mod order;
 mod report;
-pub mod text;
 
+pub use erd_text::{CompactText, SetOrder, in_order};
 pub use keys::key::Key;
 pub use keys::key_of::key_of;
 pub use keys::salt::Salt;
@@ -17,9 +16,6 @@ pub use names::selection_name::SelectionName;
 pub use objects::order::places_in;
 pub use objects::per_family::PerFamily;
 pub use objects::row::Row;
-pub use order::compact_text::CompactText;
-pub use order::set_order::SetOrder;
-pub use order::stable_sort::in_order;
 pub use report::Report;
 pub use report::accepting::accept_with;
 pub use report::resolving::{resolve, resolve_with};

@@ -55,24 +55,24 @@ pub use Rattle.erd_meaning.proofs.meanings.WholeMeanings.{same_meaning}
 pub use Rattle.erd_meaning.proofs.orders.DistinctEntries.{options_exact}
 pub use Rattle.erd_meaning.proofs.orders.DistinctEntries.{equal_keys}
 pub use Rattle.erd_meaning.proofs.orders.DistinctEntries.{equal_names}
-pub use Rattle.erd_meaning.proofs.orders.RisingOrders.{two_exchanged, reordered-In}
-pub use Rattle.erd_meaning.proofs.orders.RisingOrders.{reordered_flat}
-pub use Rattle.erd_meaning.proofs.orders.RisingOrders.{reordered_rising}
-pub use Rattle.erd_meaning.proofs.orders.RisingOrders.{whole-reordered}
-pub use Rattle.erd_meaning.proofs.orders.RisingOrders.{count-reordered}
-pub use Rattle.erd_meaning.proofs.orders.RisingOrders.{all-reordered}
+pub use Rattle.erd_text.proofs.RisingOrders.{two_exchanged, reordered-In}
+pub use Rattle.erd_text.proofs.RisingOrders.{reordered_flat}
+pub use Rattle.erd_text.proofs.RisingOrders.{reordered_rising}
+pub use Rattle.erd_text.proofs.RisingOrders.{whole-reordered}
+pub use Rattle.erd_text.proofs.RisingOrders.{count-reordered}
+pub use Rattle.erd_text.proofs.RisingOrders.{all-reordered}
 pub use Rattle.erd_meaning.proofs.meanings.WholeMeanings.{same_meaning}
 pub use Rattle.erd_meaning.proofs.orders.DistinctEntries.{distinct_from_one_place, distinct_map, distinct_one, unrepeated_distinct, unrepeated_by_cmp, options_exact, equal_keys, equal_names}
-pub use Rattle.erd_meaning.proofs.orders.RisingOrders.{two_exchanged, along_permutation, reordered_flat, reordered_kept, reordered_rising, whole-reordered, count-reordered, all-reordered, greater_turned, inserted_exchange, all_rising, NeverFalls, rising_strictly, rising_never_falls, rank_map, rank_by_at, length-rising, In-inserted, In-rising}
-pub use Rattle.erd_meaning.proofs.orders.RisingLists.{by_first, rising_from_sort, rising_list_map}
+pub use Rattle.erd_text.proofs.RisingOrders.{two_exchanged, along_permutation, reordered_flat, reordered_kept, reordered_rising, whole-reordered, count-reordered, all-reordered, greater_turned, inserted_exchange, all_rising, NeverFalls, rising_strictly, rising_never_falls, rank_map, rank_by_at, length-rising, In-inserted, In-rising}
+pub use Rattle.erd_text.proofs.RisingLists.{by_first, rising_from_sort, rising_list_map}
 pub use Rattle.erd_meaning.specs.LaterFaults.{is_unresolved, is_of_other_family}
 pub use Rattle.erd_meaning.specs.Lookups.{rising_election_keys}
 pub use Rattle.erd_meaning.specs.Meaning.{JsonMap, JsonSet, translated, a_json_set, a_content, SelectionRecord, a_selection_map}
 pub use Rattle.erd_meaning.specs.Objects.{IsObject}
 pub use Rattle.erd_meaning.specs.Records.{key_set, class_of_node, is_header_class, contest_node, header_node, nodes_of, node_of, content_inside, unless_empty}
-pub use Rattle.erd_meaning.specs.StableOrder.{pairs_of, IsStablySorted}
-pub use Rattle.erd_meaning.specs.Tokens.{value_tokens, items_tokens, members_tokens}
-pub use Rattle.erd_meaning.specs.code.Orders.{compact_cmp_total}
+pub use Rattle.erd_text.specs.StableOrder.{pairs_of, IsStablySorted}
+pub use Rattle.erd_text.specs.Tokens.{value_tokens, items_tokens, members_tokens}
+pub use Rattle.erd_text.proofs.RisingOrders.{compact_cmp_total}
 pub use Rattle.erd_meaning.specs.declared.keys.key.Key.{Key}
 pub use Rattle.erd_normal.specs.Canonical.{kind_wanted, HasNoEmptyArray, keys_of, keys_referred, RisesAs, AreSetsInOrder, id_prefix, canonical_id, canonical_selection_id, HasCanonicalEnvelope, HasCanonicalIds, IsCanonical, IsCanonicalFormOf}
 pub use Rattle.erd_normal.specs.Laws.{keys_in, ids_in, names_in, NamesAgree, ReferencesAgree, ObjectsAgree, CanonicalIsUnique, RearrangedMeansTheSame, PreferencesAgree, HaveSameNames, MeanAlike}

@@ -19,7 +19,8 @@ use Rattle.erd_meaning.specs.Keys.{Preference, has_keys, key_cmp, key_of}
 use Rattle.erd_meaning.specs.Lookups.{rank_of}
 use Rattle.erd_meaning.specs.Objects.{IsObject, Placed, id_of, selections_of_contest}
 use Rattle.erd_meaning.specs.Records.{meaning}
-use Rattle.erd_meaning.specs.SelectionNames.{compact_cmp, name_cmp, name_of, key_named}
+use Rattle.erd_meaning.specs.SelectionNames.{name_cmp, name_of, key_named}
+use Rattle.erd_text.specs.RisingLists.{compact_cmp}
 use Rattle.erd_meaning.specs.declared.keys.key.Key.{Key}
 
 -- ---- the envelope

@@ -8,7 +8,7 @@ mod same_laws;
 mod values;
 mod writer;
 
-pub use erd_meaning::{CompactText, SetOrder, in_order};
+pub use erd_text::{CompactText, SetOrder, in_order};
 pub use laws::{
     canonical_form_exists, canonical_is_unique, names_agree, objects_agree, preferences_agree,
     rearranged_means_the_same, references_agree, saying_the_same_means_the_same,

@@ -5,3 +5,4 @@ mod engines;
 mod reports;
 mod shapes;
 mod tables;
+mod texts;

@@ -1,8 +1,8 @@
 -- The keys of the objects with a role, in rising order: no key stands twice, and each stands at its rank.
 use Rattle.erd_compare.proofs.Common.{◌≡◌, ℕ, ◌+◌, true, cond, List, map, length, slice_get, Some, None, filter, Option, option_map, option_and_then, is_lt, Ordering, sym, refl, ap, ◌∙◌, arith, slice_get-map, IsTotalOrder, AllByRecursion, IsStrictlySortedBy, option_cmp, eq_by_cmp, Data, Family, Role, role, In, In-all, all_weakened, has_keys, key_cmp, Preference, key_of, rank_of, rising_keys, election_rank_of, Placed, elections, objects, rising_list, positioned, rank_in_keys, rising_positions, key_cmp_total, IsDistinct, option_map-Some, in_at, distinct_from_one_place, options_exact, equal_keys, all_rising, rising_strictly, stands_at_rank, KeyPosition, positioned_made, positioned_keys, all_positioned, rising_positioned, rising_election_keys, Key, objects_in, key_with_role, keys_in_role, key_in_role, is_ranked, rising_in_role, HasKeyAt, IsComparable}
 use Rattle.std.specs.Cmp.Lexicographic.{options_total}
-use Rattle.erd_meaning.proofs.orders.RisingOrders.{count_map, rising-In}
-use Rattle.erd_meaning.proofs.orders.RisingLists.{rising_list_map}
+use Rattle.erd_text.proofs.RisingOrders.{count_map, rising-In}
+use Rattle.erd_text.proofs.RisingLists.{rising_list_map}
 use Rattle.erd_compare.proofs.least_difference.KeyedRecords.{one_object}
 
 -- keys are compared, and none comes before each

@@ -2,7 +2,7 @@
 use Rattle.erd_compare.proofs.Common.{◌≡◌, ℕ, zero, suc, ◌+◌, ◌<◌, true, false, ◌&&◌, List, [], ◌∷◌, ◌++◌, map, length, get_or, pos, IfSome, Some, None, codes, Option, option_map, flat_map, sym, refl, subst, arith, Bor, and_from, or_parts, Decides-int_eq, AllByRecursion, option_map_or, Data, null, boolean, string, array, object, Items, no_items, item, Members, no_members, member, get, view, has_float, items_have_float, members_have_float, Value, Family, family, IsTree, is_same_json, list_of_items, entries_of, entries_at, Placed, placed_from, placed_entries, report_of, elections, contests, objects, Num, unsigned, negative, float, number, is_float, AreTrees, same_number, are_same_items, are_same_members, text_itself, flag_itself, is_same_exact, get_member-tree, Decides, IsWholeTree, IsPairOf, MemberPair, In, In-all, In-flat_map_from}
 use Rattle.erd_tables.specs.declared.place.Step.{Step}
 use Rattle.erd_tables.specs.declared.place.Step.TheVariants.{Name}
-use Rattle.erd_meaning.proofs.selections.MetSelections.{whole_get}
+use Rattle.erd_text.proofs.WholeValues.{whole_get}
 
 -- values that are whole trees
 abbrev pub AreWholeTrees : List Data → Type 0

@@ -13,7 +13,7 @@ use Rattle.erd_meaning.specs.Keys.{Preference, has_keys, is_keyed_role, key_cmp,
 use Rattle.erd_meaning.specs.Lookups.{election_in, election_key_in, key_in}
 use Rattle.erd_meaning.specs.Objects.{IsBounded, Placed, elections, objects, report_of}
 use Rattle.erd_meaning.specs.Records.{meaning}
-use Rattle.erd_meaning.specs.SelectionNames.{rising_list}
+use Rattle.erd_text.specs.RisingLists.{rising_list}
 use Rattle.erd_meaning.specs.declared.keys.key.Key.{Key}
 use Rattle.erd_compare.specs.code.Comparing.{DifferAtKey, IsWholeTree, RecordMap, TellsHow}
 use Rattle.erd_compare.specs.Differences.{record_at}

@@ -4,7 +4,7 @@ use Rattle.erd_meaning.specs.code.Holding.{AreHeld, held}
 use Rattle.erd_meaning.specs.declared.objects.holders.Holders.{Holders}
 use Rattle.erd_meaning.proofs.accepted.Standing.{election_entries, skeleton_of_shape, values-placed_from}
 use Rattle.erd_meaning.proofs.meanings.HeldValues.{mapped_then}
-use Rattle.erd_meaning.proofs.orders.RisingOrders.{count_map}
+use Rattle.erd_text.proofs.RisingOrders.{count_map}
 
 -- ---- by position
 

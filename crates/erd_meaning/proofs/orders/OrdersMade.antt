@@ -1,8 +1,8 @@
 -- The order that is made of distinct keys: the positions in the rising order of the keys, and the rank of each key.
 use Rattle.erd_meaning.proofs.Common.{◌≡◌, ℕ, ◌+◌, ◌<◌, List, [], ◌∷◌, map, length, replicate, slice_get, Some, option_map, is_lt, Ordering, sym, ap, ◌∙◌, subst, arith, on_total, length-map, length-replicate, slice_get-map, slice_get_within, IsTotalOrder, AllByRecursion, IsDistinct, eq_by_cmp, all_from_In, places_put, rising_list, positioned, rank_by, positions_by, option_map-Some, in_at}
 use Rattle.erd_meaning.proofs.orders.PlacesPut.{StandOnce, length_put, put_at, same_entries}
-use Rattle.erd_meaning.proofs.orders.RisingLists.{by_first}
-use Rattle.erd_meaning.proofs.orders.RisingOrders.{rank_at, rank_in, stands_at_rank, In-rising, length-rising}
+use Rattle.erd_text.proofs.RisingLists.{by_first}
+use Rattle.erd_text.proofs.RisingOrders.{rank_at, rank_in, stands_at_rank, In-rising, length-rising}
 use Rattle.erd_meaning.proofs.selections.PositionedKeys.{apart_positioned, count_positioned, key_positioned, length_positioned, one_positioned_at, stands_positioned}
 
 module _ {K : Type 0} (cmp : K → K → Ordering) (total : IsTotalOrder cmp) (ks : List K) where

@@ -1,4 +1,4 @@
--- Meeting selections, some and then more; the parts of a value that has no fraction have none.
+-- Meeting selections, some and then more.
 use Rattle.erd_meaning.proofs.Common.{◌≡◌, ℕ, ◌+◌, ◌<◌, ◌≤◌, List, [], ◌∷◌, ◌++◌, map, length, get_or, drop, codes, Option, flat_map, sym, refl, ap, ◌∙◌, ap₂, arith, length-append, at_drop_more, at_drop_all, Data, view, Value, Step, Name, entries_at, NameParts, Placed, placed_from, placed_entries, contests, numbered_selections_of, numbered_from, NamesMet, named_one, named_all, zero, suc, false, Some, None, subst, or_parts, AllByRecursion, option_map_or, array, object, Items, no_items, item, Members, no_members, member, get_member, get, has_float, items_have_float, members_have_float, list_of_items, entries_of}
 use Rattle.erd_meaning.proofs.identity.MetObjects.{entry}
 use Rattle.erd_meaning.proofs.selections.ContestSelections.{numbered_from-append}
@@ -92,45 +92,3 @@ all_left name p vs start = record { named = refl; counted = omega arith }
 -- the contests of a report
 pub contests_are : (t : Data) (vs : List Value) → map view vs ≡ entries_at (codes "Election") t → contests_from (Name (codes "Election") ∷ []) 0 vs ≡ contests t
 contests_are t vs e = ap (λ ds. flat_map contests_of (placed_from (Name (codes "Election") ∷ []) 0 ds)) e
-
--- ---- the parts of a value that has no fraction have none
-
--- values that have no fraction
-abbrev pub AreWhole : List Data → Type 0
-AreWhole ds = AllByRecursion (λ d. has_float d ≡ false) ds
-
--- ---- members and entries
-
-whole_member : (name : List ℕ) (ms : Members) (d : Data) → members_have_float ms ≡ false → get_member name ms ≡ Some d → has_float d ≡ false
-whole_member name no_members d h e = cc
-whole_member name (member l v ms) d h e =
-    let both = or_parts (has_float v) (members_have_float ms) h in
-    found_cases name l d v ms e (λ named same. subst (λ w. has_float w ≡ false) same both.0) (λ found. whole_member name ms d both.1 found)
-
-pub whole_get : (name : List ℕ) (d v : Data) → has_float d ≡ false → get name d ≡ Some v → has_float v ≡ false
-whole_get name (object ms) v h e = whole_member name ms v h e
-whole_get name k v h e = cc
-
-whole_items : (ds : Items) → items_have_float ds ≡ false → AreWhole (list_of_items ds)
-whole_items no_items h = tt
-whole_items (item d ds) h = let both = or_parts (has_float d) (items_have_float ds) h in (both.0, whole_items ds both.1)
-
-pub whole_entries_of : (d : Data) → has_float d ≡ false → AreWhole (entries_of d)
-whole_entries_of (array ds) h = whole_items ds h
-whole_entries_of e h = tt
-
-pub whole_entries : (name : List ℕ) (d : Data) → has_float d ≡ false → AreWhole (entries_at name d)
-whole_entries name d h = at (get name d) refl
-  where
-    at : (o : Option Data) → get name d ≡ o → AreWhole (option_map_or entries_of o [])
-    at None e = tt
-    at (Some v) e = whole_entries_of v (whole_get name d v h e)
-
-pub whole_at : (vs : List Value) (i : ℕ) (v : Value) → AreWhole (map view vs) → i < length vs → v ≡ get_or vs i v → has_float (view v) ≡ false
-whole_at [] i v h low e = absurd (omega arith)
-whole_at (w ∷ vs) zero v h low e = subst (λ u. has_float (view u) ≡ false) (sym e) h.0
-whole_at (w ∷ vs) (suc i) v h low e = whole_at vs i v h.1 (omega arith) e
-
--- an entry of the array of a member
-pub whole_entry : (name : List ℕ) (d : Data) (vs : List Value) (i : ℕ) (v : Value) → has_float d ≡ false → map view vs ≡ entries_at name d → i < length vs → v ≡ get_or vs i v → has_float (view v) ≡ false
-whole_entry name d vs i v h is low e = whole_at vs i v (subst AreWhole (sym is) (whole_entries name d h)) low e

@@ -1,8 +1,8 @@
 -- Keys with their positions: one more, in rising order, and those of a family with their ranks.
 use Rattle.erd_meaning.proofs.Common.{◌≡◌, ℕ, zero, suc, ◌+◌, ◌<◌, Bool, false, List, [], ◌∷◌, ◌++◌, map, length, take, slice_get, Some, filter, Option, option_and_then, option_copied, is_lt, Ordering, sym, refl, ap, ◌∙◌, ap₂, inl, inr, arith, length-take, Bor, map-append, take_more, slice_get-map, get_or_from_slice_get, map-map, AllByRecursion, IsDistinct, enumerate_from, option_cmp, eq_by_cmp, Data, Family, In, all_weakened, key_cmp, Preference, key_of_family_object, rising_keys, Placed, objects, rising_list, positioned, seen_keys, keys_seen, lent_key_cmp, rank_in_keys, family_keys, IsOrder, those_of, Kept, AreRanks, key_at_among, rising_keys_among, Key, Order, cases_Bool, option_map-Some}
 use Rattle.erd_meaning.proofs.finding.OneObject.{at_low}
-use Rattle.erd_meaning.proofs.orders.RisingOrders.{count_map, all_rising}
-use Rattle.erd_meaning.proofs.orders.RisingLists.{by_first, rising_list_map}
+use Rattle.erd_text.proofs.RisingOrders.{count_map, all_rising}
+use Rattle.erd_text.proofs.RisingLists.{by_first, rising_list_map}
 use Rattle.erd_meaning.proofs.selections.RankedKeys.{copied_cmp}
 
 -- a borrowed key with a position

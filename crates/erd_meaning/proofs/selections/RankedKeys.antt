@@ -3,8 +3,9 @@
 use Rattle.erd_meaning.proofs.Common.{◌≡◌, ℕ, Bool, true, false, cond, List, [], ◌∷◌, map, is_some, slice_get, Some, None, codes, Option, option_map, position, find, option_and_then, option_copied, nat_cmp, is_eq, sym, refl, ap, ◌∙◌, subst, inl, inr, Bor, and_parts, and_from, tied_itself, on_total, slice_get-map, IsTotalOrder, options_total, AllByRecursion, cons_option, list_all, option_cmp, Data, as_str, Class, class, Family, family, In, entries_at, class_of_object, key_cmp, Preference, key_of, NameParts, family_chosen, RankedParts, rising_list, is_write_in, order_of_selection, label_of_selection, selection_role, lent_key_cmp, key_among, name_among, rank, number_of_key, is_of_family, those_of, is_keyed, keeps_id, Kept, same_key, key_cmp_total, rank_among, AreRanks, ranked_key, is_key_among, ranked_parts, ranked_name_among, has_keys_among, IsRanked, Key, cases_Bool, arith, and_then-Some, option_map-Some, some_from, in_at, name_in_class, keys_found, keys_of_selection}
 use Rattle.erd_meaning.proofs.finding.OneObject.{ranked, hit, missed}
 use Rattle.erd_meaning.proofs.identity.IdentityFaults.{same_key_from}
-use Rattle.erd_meaning.proofs.orders.RisingOrders.{IsKeyOf, counted_as_key, all_rising, rising_alike}
-use Rattle.erd_meaning.proofs.orders.RisingLists.{rising_list_map}
+use Rattle.erd_text.proofs.RisingOrders.{all_rising, rising_alike}
+use Rattle.erd_meaning.proofs.orders.KeyRanks.{IsKeyOf, counted_as_key}
+use Rattle.erd_text.proofs.RisingLists.{rising_list_map}
 
 -- the order of borrowed keys
 pub lent_key_cmp_total : IsTotalOrder lent_key_cmp

@@ -1,7 +1,8 @@
 -- The names of the selections of a report with the ranks of their keys: the keys are those of objects, and the ranks are in their order.
 use Rattle.erd_meaning.proofs.Common.{◌≡◌, ℕ, List, Some, None, Option, option_and_then, refl, ap, ◌∙◌, subst, AllByRecursion, Data, Class, class, Family, class_of_object, key_cmp, Preference, key_of, NameParts, objects, family_chosen, key_named, name_in_class, selection_role, name_of, HasKeysIn, IsKeyIn, Key, and_then-Some, option_map-Some, slice_get, option_map, nat_cmp, Equal, sym, ap₂, slice_cmp, option_cmp, In, In-from_contains, In-all, rank_of, Placed, numbered_selections, RankedParts, ranked_name, IsRankedIn, class_cmp, name_cmp, classes_exact, true, cond, map, length, filter, is_lt, slice_get-map, map-map, view, Value, has_keys, key_of_family_object, key_in, rising_keys, PlacedName, ranked_selection_in, rising_list, positioned, those_of, Kept, kept, rank_among, rising_keys_among, ranked_parts, names_of, AllAreRanked, IsRanked, IsResolved, NumberedName, shown, Object, owner, contains_from_In, in_at, ranked_name_cmp}
 use Rattle.erd_meaning.proofs.accepted.Standing.{owned_by, has_identifier}
-use Rattle.erd_meaning.proofs.orders.RisingOrders.{IsKeyOf, counted_as_key, count_map}
+use Rattle.erd_text.proofs.RisingOrders.{count_map}
+use Rattle.erd_meaning.proofs.orders.KeyRanks.{IsKeyOf, counted_as_key}
 use Rattle.erd_meaning.specs.code.NumberedOrders.{numbered_as_named, numbers_as_keys}
 use Rattle.erd_meaning.proofs.finding.OneObject.{those_shown}
 use Rattle.erd_meaning.proofs.selections.PositionedKeys.{rising_positioned}

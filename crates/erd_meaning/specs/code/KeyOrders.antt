@@ -6,7 +6,7 @@ use Rattle.std.specs.Ordering.{eq_by_cmp, is_lt}
 use Rattle.std.specs.declared.cmp.Ordering.{Ordering}
 use Rattle.erd_tables.specs.declared.class.Family.{Family}
 use Rattle.erd_meaning.specs.Keys.{has_keys, key_cmp}
-use Rattle.erd_meaning.specs.SelectionNames.{rising_list}
+use Rattle.erd_text.specs.RisingLists.{rising_list}
 use Rattle.erd_meaning.specs.code.ObjectLookups.{those_of}
 use Rattle.erd_meaning.specs.code.ObjectWalk.{Kept}
 use Rattle.erd_meaning.specs.declared.keys.key.Key.{Key}

@@ -1,4 +1,4 @@
--- The orders of keys, names and compact texts are total, and tell unequal ones apart.
+-- The orders of keys and names are total, and tell unequal ones apart.
 use Rattle.std.proofs.Common.{◌≡◌, ℕ, List, Option, Some, None, true, false, Ordering, is_eq, int_cmp, refl, sym, ap, ◌∙◌, find}
 use Rattle.std.specs.Cmp.{Equal-is, IsTotalOrder, bool_cmp_total}
 use Rattle.std.specs.Cmp.Lexicographic.{slice_cmp, options_total}
@@ -6,22 +6,18 @@ use Rattle.std.specs.Option.{option_cmp}
 use Rattle.std.specs.Ordering.{bool_cmp, eq_by_cmp, ordering_then}
 use Rattle.std.proofs.lemmas.Cmp.{nat_list_cmp_total, int_cmp_total, lists_total, then_total, on_total}
 use Rattle.std.proofs.lemmas.Map.Lookups.{CmpEqualImpliesEq, exact_bytes, exact_signed}
-use Rattle.serde_json.specs.Written.{compact_text}
 use Rattle.erd_tables.specs.declared.class.Class.{Class}
 use Rattle.erd_tables.specs.Classes.{class_name, classes}
 use Rattle.erd_tables.specs.Texts.{text_cmp}
 use Rattle.erd_tables.proofs.PlaceOrder.{lists_exact, then_both}
 use Rattle.erd_tables.specs.declared.class.Class.TheVariants as class
 use Rattle.erd_meaning.specs.NameParts.{NameParts}
-use Rattle.erd_meaning.specs.SelectionNames.{class_cmp, compact_cmp, name_cmp}
+use Rattle.erd_meaning.specs.SelectionNames.{class_cmp, name_cmp}
 use Rattle.erd_meaning.specs.Keys.{key_cmp}
 use Rattle.erd_meaning.specs.declared.keys.key.Key.{Key}
 
 pub key_cmp_total : IsTotalOrder key_cmp
 key_cmp_total = then_total (on_total (λ k. k.kind) nat_list_cmp_total) (then_total (on_total (λ k. k.other) nat_list_cmp_total) (on_total (λ k. k.value) nat_list_cmp_total))
-
-pub compact_cmp_total : IsTotalOrder compact_cmp
-compact_cmp_total = on_total compact_text nat_list_cmp_total
 
 pub key_cmp_exact : CmpEqualImpliesEq key_cmp
 key_cmp_exact k l e =

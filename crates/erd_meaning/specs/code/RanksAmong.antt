@@ -9,7 +9,8 @@ use Rattle.erd_tables.specs.declared.class.Family.{Family}
 use Rattle.erd_meaning.specs.Keys.{Preference, key_cmp, key_of}
 use Rattle.erd_meaning.specs.NameParts.{NameParts}
 use Rattle.erd_meaning.specs.Objects.{IsObject, Placed}
-use Rattle.erd_meaning.specs.SelectionNames.{name_by, rising_list}
+use Rattle.erd_meaning.specs.SelectionNames.{name_by}
+use Rattle.erd_text.specs.RisingLists.{rising_list}
 use Rattle.erd_meaning.specs.code.KeyOrders.{family_keys, positioned}
 use Rattle.erd_meaning.specs.NumberedNames.{RankedParts}
 use Rattle.erd_meaning.specs.RankedNames.{PlacedName, family_chosen, ranked_name_cmp}

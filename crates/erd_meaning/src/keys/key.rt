@@ -2,7 +2,9 @@
 ghost use Rattle.std.specs.Prelude.{◌≡◌, IfOk};
 
 use erd_tables::Text;
+use erd_text::SetOrder;
 use std::alloc::{AllocError, Global};
+use std::cmp::Ordering;
 
 /// The key of an object or of an election: the three texts of the external identifier that `key_of` chooses. It
 /// identifies the object in its family independently of the vendor. Keys are ordered by `kind`, then by `other`, then
@@ -34,6 +36,21 @@ impl Key {
         let other = copied(alloc, &self.other)?;
         let value = copied(alloc, &self.value)?;
         Ok(Key { kind, other, value })
+    }
+}
+
+impl SetOrder for Key {
+    ghost use Rattle.erd_meaning.specs.Keys.{key_cmp};
+    ghost use Rattle.erd_meaning.specs.code.Orders.{key_cmp_exact, key_cmp_total};
+
+    ghost cmp = { key_cmp };
+
+    ghost total = { key_cmp_total };
+
+    ghost exact = { key_cmp_exact };
+
+    fn order(&self, other: &Key) -> Ordering {
+        self.cmp(other)
     }
 }
 

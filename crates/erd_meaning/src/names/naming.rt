@@ -7,7 +7,8 @@ ghost use Rattle.erd_meaning.specs.code.ObjectLookups.{key_among};
 ghost use Rattle.erd_meaning.specs.code.ObjectWalk.{Kept};
 ghost use Rattle.erd_meaning.specs.RankedNames.{family_chosen};
 ghost use Rattle.erd_meaning.specs.code.RanksAmong.{ranked_key, ranked_name_among};
-ghost use Rattle.erd_meaning.specs.SelectionNames.{is_write_in, keys_found, keys_of_selection, label_of_selection, order_of_selection, rising_list};
+ghost use Rattle.erd_meaning.specs.SelectionNames.{is_write_in, keys_found, keys_of_selection, label_of_selection, order_of_selection};
+ghost use Rattle.erd_text.specs.RisingLists.{rising_list};
 ghost use Rattle.erd_meaning.specs.code.Shown.{shown};
 
 use crate::keys::key_rule::KeyRule;
@@ -15,9 +16,9 @@ use crate::keys::shared_key::SharedKey;
 use crate::names::ranked_name::RankedName;
 use crate::names::selection_name::SelectionName;
 use crate::objects::ranked_objects::RankedObjects;
-use crate::text::label::label_text;
 use erd_check::values::{class_of_object, entries_at};
 use erd_tables::{Class, Family, Role, Text};
+use erd_text::label_text;
 use serde_json::{Number, Value};
 use std::alloc::{AllocError, Global};
 

@@ -9,6 +9,7 @@ ghost use Rattle.erd_meaning.specs.code.NumberedOrders.{after_keys_cmp};
 use crate::keys::key::{Key, copied};
 use crate::keys::shared_key::SharedKey;
 use erd_tables::{Class, Text, type_text};
+use erd_text::SetOrder;
 use std::alloc::{AllocError, Global};
 use std::cmp::Ordering;
 use std::hash::{Hash, Hasher};
@@ -221,5 +222,20 @@ fn copied_identifier(alloc: Global, identifier: &Option<Key>) -> Result<Option<K
     match identifier {
         Some(key) => Ok(Some(key.try_clone(alloc)?)),
         None => Ok(None),
+    }
+}
+
+impl SetOrder for SelectionName {
+    ghost use Rattle.erd_meaning.specs.code.Orders.{name_cmp_exact, name_cmp_total};
+    ghost use Rattle.erd_meaning.specs.SelectionNames.{name_cmp};
+
+    ghost cmp = { name_cmp };
+
+    ghost total = { name_cmp_total };
+
+    ghost exact = { name_cmp_exact };
+
+    fn order(&self, other: &SelectionName) -> Ordering {
+        self.cmp(other)
     }
 }

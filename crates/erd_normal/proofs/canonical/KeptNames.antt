@@ -4,7 +4,7 @@ use Rattle.erd_normal.proofs.Common.{◌≡◌, true, false, List, map, option_a
 use Rattle.erd_normal.proofs.built.NormalTrees.{normal_tree-tree}
 use Rattle.erd_normal.proofs.canonical.SelectionIds.{listed, selection_values}
 use Rattle.erd_normal.proofs.lists.BuiltLists.{maps_agree}
-use Rattle.erd_meaning.proofs.orders.StableRising.{map_after}
+use Rattle.erd_text.proofs.StableRising.{map_after}
 use Rattle.erd_normal.proofs.same.FromAlike.{Stands}
 use Rattle.erd_normal.proofs.same.IdsOfObjects.{Refers}
 use Rattle.erd_normal.proofs.same.means.Meanings.{two_reports}

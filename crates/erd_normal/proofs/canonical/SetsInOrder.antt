@@ -11,7 +11,7 @@ use Rattle.erd_normal.proofs.lists.Lists.{IsPart, part_has}
 use Rattle.erd_normal.proofs.canonical.RisingReports.{elections_rise, objects_rise, references_rise, selections_rise, values_rise}
 use Rattle.erd_normal.proofs.same.complete.Values.{identifier_simple, language_simple}
 use Rattle.erd_normal.proofs.lists.BuiltLists.{maps_agree}
-use Rattle.erd_meaning.proofs.orders.StableRising.{map_after}
+use Rattle.erd_text.proofs.StableRising.{map_after}
 use Rattle.erd_normal.proofs.same.IdsOfObjects.{Refers, references_refer}
 use Rattle.erd_normal.proofs.same.normal.NewIds.{prefixed_keys}
 use Rattle.erd_normal.proofs.throughout.ThroughoutMembers.{HoldsOfMembers, built_references, is_prefixed}

@@ -1,6 +1,6 @@
 -- The rank of a key in a list: how many entries have lesser keys, wherever they stand. Ranks tell the keys of entries apart.
 use Rattle.erd_normal.proofs.Common.{◌≡◌, ℕ, suc, ◌<◌, true, List, [], ◌∷◌, length, filter, is_lt, Ordering, Less, Equal, Greater, refl, ap, arith, tied_itself, IsTotalOrder, less, greater_turned, In}
-use Rattle.erd_meaning.proofs.orders.RisingOrders.{more_pass}
+use Rattle.erd_text.proofs.RisingOrders.{more_pass}
 
 -- how many entries have keys below this one
 abbrev pub rank_by : {A K : Type 0} → (A → K) → (K → K → Ordering) → K → List A → ℕ

@@ -1,7 +1,7 @@
 -- Numbers that never fall along an order: when they are sorted, they are those of the values in that order.
 use Rattle.erd_normal.proofs.Common.{◌≡◌, ℕ, ◌<◌, ◌≤◌, true, false, cond, List, [], ◌∷◌, map, length, filter, IsPermutation, IsSorted, option_and_then, nat_cmp, is_lt, is_gt, Ordering, Less, Equal, Greater, sym, refl, ap, ◌∙◌, arith, nat_cmp_total, CmpEqualImpliesEq, exact_unsigned, IsTotalOrder, AllByRecursion, ordering_reverse, Data, as_str, Family, less, key_cmp, Preference, with_inserted, rising_list, key_named, keys_named, key_cmp_total, key_cmp_exact, ranked, by_ranked, alike_right, reordered_rising, whole-reordered, rising_from_sort, inserted_exchange, NeverFalls, rising_never_falls, IsPermutation-map, IsPermutation-sym, IsPermutation-trans, reordered_kept}
 use Rattle.erd_normal.proofs.lists.BuiltLists.{all_map}
-use Rattle.erd_meaning.proofs.orders.RisingOrders.{no_fewer}
+use Rattle.erd_text.proofs.RisingOrders.{no_fewer}
 
 -- ---- a list in the order of an exact comparison is the same, in whichever order its entries came
 

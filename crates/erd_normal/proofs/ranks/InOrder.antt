@@ -2,7 +2,7 @@
 use Rattle.erd_normal.proofs.Common.{◌≡◌, ℕ, zero, suc, ◌+◌, ◌<◌, Bool, true, false, cond, List, [], ◌∷◌, map, length, get_or, slice_get, Some, filter, Ordering, sym, refl, ap, ◌∙◌, subst, arith, on_total, IsTotalOrder, enumerate_from, In, rising_list, by_first, rising_list_map, In-rising}
 use Rattle.erd_normal.proofs.lists.FilteredRising.{filter_rising}
 use Rattle.erd_normal.proofs.lists.NumberedKept.{numbered_stands}
-use Rattle.erd_meaning.proofs.orders.StableRising.{map_after}
+use Rattle.erd_text.proofs.StableRising.{map_after}
 
 -- without their positions, the entries are left
 without_positions : {A : Type 0} (n : ℕ) (xs : List A) → map (λ (p : ℕ × A). p.1) (enumerate_from n xs) ≡ xs

@@ -12,7 +12,7 @@ use Rattle.erd_normal.proofs.canonical.RisingReports.{selection_values_distinct}
 use Rattle.erd_normal.proofs.lists.NumberedKept.{in_part}
 use Rattle.erd_normal.proofs.ranks.InOrder.{Next, entries, next, positions, stands, values}
 use Rattle.erd_meaning.specs.code.RankedOrders.{ranked_name_cmp_total}
-use Rattle.erd_meaning.proofs.orders.StableRising.{map_after}
+use Rattle.erd_text.proofs.StableRising.{map_after}
 
 -- ---- positions by one key and by another
 

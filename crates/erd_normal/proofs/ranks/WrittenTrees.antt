@@ -6,7 +6,7 @@ use Rattle.erd_normal.proofs.canonical.RisingReports.{selection_ranks}
 use Rattle.erd_normal.proofs.lists.BuiltLists.{maps_agree}
 use Rattle.erd_normal.proofs.ranks.InOrder.{stands, values}
 use Rattle.erd_normal.proofs.ranks.PartObjects.{in_elections_kept, in_order, in_report_kept, is_in, values_of_part}
-use Rattle.erd_meaning.proofs.orders.StableRising.{map_after}
+use Rattle.erd_text.proofs.StableRising.{map_after}
 
 -- the report as it is written
 abbrev pub written_tree : Preference → Data → Data

@@ -2,7 +2,7 @@
 use Rattle.erd_normal.proofs.Common.{◌≡◌, ℕ, zero, suc, ◌+◌, ◌<◌, ◌≤◌, Bool, true, false, List, [], ◌∷◌, ◌++◌, map, length, get_or, drop, is_some, slice_get, Some, None, Option, Less, Equal, Greater, sym, refl, ap, ◌∙◌, subst, append_assoc, append-nil, arith, nat_list_cmp_total, length-map, drop_more, exact_bytes, option_map_or, ordering_reverse, Data, item, Members, no_members, member, put, items_of, view, items_view, Value, text_cmp, IsBeforeFirst, drop_all, Token, begin_array, end_array, key, before_put, put_all, due_value, due_list, IsBeforeAll, NamesRise, WritesThrough, array_of, value_tokens, items_tokens, members_tokens, member_tokens}
 use Rattle.erd_check.proofs.Positions.{left_there}
 use Rattle.erd_normal.specs.declared.objects.due_members.DueMember.{DueMember}
-use Rattle.erd_meaning.proofs.texts.WrittenTokens.{then_rest}
+use Rattle.erd_text.proofs.WrittenTokens.{then_rest}
 
 -- ---- tokens that are written one value after another
 

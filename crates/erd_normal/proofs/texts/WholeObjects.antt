@@ -1,8 +1,8 @@
 -- What stands in a report that has no fraction has none.
 use Rattle.erd_normal.proofs.Common.{◌≡◌, ℕ, false, List, slice_get, Some, option_map, sym, ap, ◌∙◌, Data, array, object, get_item, has_float, items_have_float, Family, role, Within, list_of_items, entries_at, Asked, asked, IsAccepted, Preference, Placed, elections, objects, all_at, within-holds, Object, option_map-Some, skeleton, election_stands, stands, in_at}
 use Rattle.erd_normal.proofs.lists.BuiltLists.{entry_holds, items_again}
-use Rattle.erd_meaning.proofs.selections.MetSelections.{whole_entries, whole_get}
-use Rattle.erd_meaning.proofs.texts.WholeValues.{all_whole}
+use Rattle.erd_text.proofs.WholeValues.{whole_entries, whole_get}
+use Rattle.erd_text.proofs.WholeValues.{all_whole}
 
 -- an entry of an array that is a member
 pub entry_whole : (name : List ℕ) (d : Data) → has_float d ≡ false → (i : ℕ) (e : Data) → slice_get (entries_at name d) i ≡ Some e → has_float e ≡ false

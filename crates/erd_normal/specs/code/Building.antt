@@ -4,7 +4,7 @@ use Rattle.std.specs.Option.{option_map_or}
 use Rattle.json.specs.Token.{Token, key}
 use Rattle.serde_json.specs.Data.{Data, object, Members, member, put}
 use Rattle.erd_tables.specs.declared.class.Family.{Family}
-use Rattle.erd_meaning.specs.Tokens.{value_tokens}
+use Rattle.erd_text.specs.Tokens.{value_tokens}
 use Rattle.erd_normal.specs.Canonical.{canonical_id}
 
 -- The members with the value under the name. If there is no value, the members stay.

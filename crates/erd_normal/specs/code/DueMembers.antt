@@ -5,7 +5,7 @@ use Rattle.std.specs.declared.cmp.Ordering.TheVariants.{Less}
 use Rattle.json.specs.Token.{Token, key}
 use Rattle.serde_json.specs.Data.{Data, Members, member, number, string, unsigned}
 use Rattle.erd_tables.specs.Texts.{text_cmp}
-use Rattle.erd_meaning.specs.Tokens.{members_tokens, value_tokens}
+use Rattle.erd_text.specs.Tokens.{members_tokens, value_tokens}
 use Rattle.erd_normal.specs.code.Building.{put_all}
 use Rattle.erd_normal.specs.declared.objects.due_members.DueMember.{DueMember}
 use Rattle.erd_normal.specs.declared.objects.due_members.DueValue.{DueValue}

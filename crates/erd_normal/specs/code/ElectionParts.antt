@@ -8,7 +8,7 @@ use Rattle.erd_tables.specs.declared.class.Family.{Family}
 use Rattle.erd_meaning.specs.Keys.{Preference, has_keys}
 use Rattle.erd_meaning.specs.Lookups.{election_in}
 use Rattle.erd_meaning.specs.Objects.{Placed, elections, objects}
-use Rattle.erd_meaning.specs.SelectionNames.{rising_list}
+use Rattle.erd_text.specs.RisingLists.{rising_list}
 use Rattle.erd_normal.specs.code.NormalTree.{by_key}
 
 -- The values in the order of their keys, each with its position.

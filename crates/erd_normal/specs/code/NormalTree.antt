@@ -19,7 +19,8 @@ use Rattle.erd_meaning.specs.Keys.{Preference, key_cmp, key_of}
 use Rattle.erd_meaning.specs.NameParts.{NameParts}
 use Rattle.erd_meaning.specs.Objects.{has_id, contests, selections_of_contest, Placed}
 use Rattle.erd_meaning.specs.Records.{class_of_node}
-use Rattle.erd_meaning.specs.SelectionNames.{compact_cmp, key_named, name_cmp, name_of, rising_list, selection_role, with_rising_text}
+use Rattle.erd_meaning.specs.SelectionNames.{key_named, name_cmp, name_of, selection_role}
+use Rattle.erd_text.specs.RisingLists.{compact_cmp, rising_list, with_rising_text}
 use Rattle.erd_meaning.specs.declared.keys.key.Key.{Key}
 use Rattle.erd_normal.specs.code.Building.{put_all}
 use Rattle.erd_normal.specs.Canonical.{canonical_id, canonical_selection_id}

@@ -16,7 +16,8 @@ use Rattle.erd_check.specs.Wants.{class_of_object}
 use Rattle.erd_meaning.specs.Keys.{Preference, key_of}
 use Rattle.erd_meaning.specs.Lookups.{rank_of}
 use Rattle.erd_meaning.specs.Objects.{contests}
-use Rattle.erd_meaning.specs.SelectionNames.{rising_list, selection_role}
+use Rattle.erd_meaning.specs.SelectionNames.{selection_role}
+use Rattle.erd_text.specs.RisingLists.{rising_list}
 use Rattle.erd_normal.specs.Canonical.{canonical_selection_id}
 use Rattle.erd_normal.specs.code.ElectionParts.{objects_in_part, rising_elections}
 use Rattle.erd_normal.specs.code.NormalTree.{array_of, by_name, id_of_key, normal_content, normal_object_with, normal_value, unless_no_entry, with_id}

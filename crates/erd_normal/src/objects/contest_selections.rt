@@ -4,7 +4,7 @@ ghost use Rattle.serde_json.specs.Written.{has_float};
 ghost use Rattle.erd_check.specs.Wants.{class_of_object};
 ghost use Rattle.erd_meaning.specs.Objects.{contests};
 ghost use Rattle.erd_meaning.specs.SelectionNames.{selection_role};
-ghost use Rattle.erd_meaning.specs.Tokens.{items_tokens, value_tokens};
+ghost use Rattle.erd_text.specs.Tokens.{items_tokens, value_tokens};
 ghost use Rattle.erd_normal.specs.Canonical.{canonical_selection_id};
 ghost use Rattle.erd_normal.specs.code.NormalTree.{array_of, normal_object_with, normal_value, with_id};
 ghost use Rattle.erd_normal.specs.code.WrittenTree.{written_in_contest, written_selections};
@@ -16,8 +16,8 @@ use crate::values::value_of_kind::{is_kept, write_of_kind};
 use crate::writer::Writer;
 use crate::writer::ids::selection_id_text;
 use erd_check::values::entries_at;
-use erd_meaning::text::output::Output;
 use erd_tables::{Family, MemberKind, Role};
+use erd_text::Output;
 use serde_json::Value;
 use std::alloc::AllocError;
 

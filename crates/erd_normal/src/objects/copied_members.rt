@@ -1,15 +1,14 @@
 ghost use Rattle.std.specs.Prelude.{◌≡◌, ◌++◌, false, OnOk};
 ghost use Rattle.serde_json.specs.View.{view};
 ghost use Rattle.serde_json.specs.Written.{has_float};
-ghost use Rattle.erd_meaning.specs.Tokens.{value_tokens};
+ghost use Rattle.erd_text.specs.Tokens.{value_tokens};
 ghost use Rattle.erd_normal.specs.code.Building.{put_in};
 ghost use Rattle.erd_normal.specs.code.DueMembers.{AreDue, due_list};
 
 use crate::objects::due_members::DueMember;
 use crate::objects::members::{MemberRule, write_members};
-use erd_meaning::text::output::Output;
-use erd_meaning::text::value::write_value;
 use erd_tables::{Class, MemberKind};
+use erd_text::{Output, write_value};
 use serde_json::Value;
 use std::alloc::AllocError;
 

@@ -5,7 +5,7 @@ ghost use Rattle.erd_normal.specs.code.NormalTree.{array_of, normal_object_with,
 ghost use Rattle.erd_check.specs.Wants.{class_of_object};
 ghost use Rattle.erd_meaning.specs.Keys.{has_keys};
 ghost use Rattle.erd_meaning.specs.Objects.{Placed, objects};
-ghost use Rattle.erd_meaning.specs.Tokens.{value_tokens};
+ghost use Rattle.erd_text.specs.Tokens.{value_tokens};
 ghost use Rattle.erd_normal.specs.code.WrittenTree.{holds_parts, written_object, written_objects};
 
 use crate::objects::contest_selections::write_selections;
@@ -17,8 +17,8 @@ use crate::values::value_of_kind::{is_kept, write_of_kind};
 use crate::writer::Writer;
 use crate::writer::ids::{IdText, optional_id_text};
 use erd_check::values::is_empty_array;
-use erd_meaning::text::output::Output;
 use erd_tables::{Family, MemberKind, Role};
+use erd_text::Output;
 use serde_json::Value;
 use std::alloc::AllocError;
 

@@ -3,14 +3,14 @@ ghost use Rattle.serde_json.specs.Data.{Data, Members, object};
 ghost use Rattle.serde_json.specs.View.{view, members_view};
 ghost use Rattle.serde_json.specs.Written.{has_float, members_have_float};
 ghost use Rattle.erd_tables.specs.declared.member.MemberKind.{MemberKind as Asked};
-ghost use Rattle.erd_meaning.specs.Tokens.{members_tokens, value_tokens};
+ghost use Rattle.erd_text.specs.Tokens.{members_tokens, value_tokens};
 ghost use Rattle.erd_normal.specs.code.Building.{first_if, put_all};
 ghost use Rattle.erd_normal.specs.code.DueMembers.{AreDue, due_list};
 ghost use Rattle.erd_normal.specs.code.NormalTree.{normal_members};
 
 use crate::objects::due_members::{DueMember, write_rest, write_through};
-use erd_meaning::text::output::Output;
 use erd_tables::{Class, MemberKind, member_kind};
+use erd_text::Output;
 use serde_json::{Map, Value};
 use std::alloc::AllocError;
 

@@ -9,7 +9,7 @@ ghost use Rattle.erd_normal.specs.CanonicalText.{IsCanonicalText};
 use crate::report::report_text::write_report;
 use crate::writer::{Writer, orders_of};
 use erd_meaning::Report;
-use erd_meaning::text::output::Output;
+use erd_text::Output;
 use serde_json::Value;
 use std::alloc::{AllocError, Global};
 

@@ -1,7 +1,7 @@
 ghost use Rattle.std.specs.Prelude.{◌≡◌, ◌++◌, ◌<◌, Some, length, slice_get, OnOk};
 ghost use Rattle.serde_json.specs.View.{view};
 ghost use Rattle.erd_meaning.specs.Objects.{Placed, elections};
-ghost use Rattle.erd_meaning.specs.Tokens.{value_tokens};
+ghost use Rattle.erd_text.specs.Tokens.{value_tokens};
 ghost use Rattle.erd_normal.specs.code.NormalTree.{array_of};
 ghost use Rattle.erd_normal.specs.code.WrittenTree.{written_election, written_elections};
 
@@ -11,8 +11,8 @@ use crate::objects::written_object::write_object;
 use crate::values::value_of_kind::{is_kept, write_of_kind};
 use crate::writer::Writer;
 use erd_check::values::is_empty_array;
-use erd_meaning::text::output::Output;
 use erd_tables::{MemberKind, Role};
+use erd_text::Output;
 use serde_json::Value;
 use std::alloc::AllocError;
 

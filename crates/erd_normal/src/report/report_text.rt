@@ -1,6 +1,6 @@
 ghost use Rattle.std.specs.Prelude.{◌≡◌, ◌++◌, OnOk};
 ghost use Rattle.serde_json.specs.View.{view};
-ghost use Rattle.erd_meaning.specs.Tokens.{value_tokens};
+ghost use Rattle.erd_text.specs.Tokens.{value_tokens};
 ghost use Rattle.erd_normal.specs.code.NormalTree.{normal_tree};
 
 use crate::objects::due_members::{DueMember, DueValue};
@@ -11,8 +11,8 @@ use crate::report::election::write_elections;
 use crate::values::value_of_kind::{is_kept, write_of_kind};
 use crate::writer::Writer;
 use erd_check::values::is_empty_array;
-use erd_meaning::text::output::Output;
 use erd_tables::{MemberKind, Role, is_envelope};
+use erd_text::Output;
 use serde_json::Value;
 use std::alloc::AllocError;
 

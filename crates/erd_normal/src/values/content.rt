@@ -4,16 +4,15 @@ ghost use Rattle.serde_json.specs.View.{view, items_view, members_view};
 ghost use Rattle.serde_json.specs.Written.{has_float, items_have_float, members_have_float};
 ghost use Rattle.erd_tables.specs.Table.{kind_of_member};
 ghost use Rattle.erd_meaning.specs.Keys.{Preference};
-ghost use Rattle.erd_meaning.specs.Tokens.{items_tokens, members_tokens, value_tokens};
+ghost use Rattle.erd_text.specs.Tokens.{items_tokens, members_tokens, value_tokens};
 ghost use Rattle.erd_normal.specs.code.NormalTree.{normal_content, normal_node, normal_node_members, normal_node_value, normal_nodes};
 ghost use Rattle.erd_normal.specs.code.Building.{member_tokens};
 
 use crate::values::value_of_kind::{is_kept, write_of_kind};
 use crate::writer::Writer;
 use erd_check::values::{class_of_object, is_empty_array};
-use erd_meaning::text::output::Output;
-use erd_meaning::text::value::write_value;
 use erd_tables::{Class, MemberKind, Role, member_kind};
+use erd_text::{Output, write_value};
 use serde_json::{Map, Value};
 use std::alloc::AllocError;
 

@@ -1,7 +1,7 @@
 ghost use Rattle.std.specs.Prelude.{◌≡◌, ◌++◌, OnOk};
 ghost use Rattle.serde_json.specs.Data.{string};
 ghost use Rattle.serde_json.specs.View.{view};
-ghost use Rattle.erd_meaning.specs.Tokens.{value_tokens};
+ghost use Rattle.erd_text.specs.Tokens.{value_tokens};
 ghost use Rattle.erd_normal.specs.code.Building.{id_of_rank};
 ghost use Rattle.erd_normal.specs.code.NormalTree.{normal_reference, normal_selection_reference};
 
@@ -9,8 +9,8 @@ use crate::writer::Writer;
 use crate::writer::ids::{id_text, selection_id_text};
 use erd_check::values::text_of;
 use erd_meaning::Row;
-use erd_meaning::text::output::Output;
 use erd_tables::Family;
+use erd_text::Output;
 use serde_json::Value;
 use std::alloc::AllocError;
 

@@ -3,18 +3,15 @@ ghost use Rattle.serde_json.specs.Data.{Data};
 ghost use Rattle.serde_json.specs.View.{view};
 ghost use Rattle.serde_json.specs.Written.{has_float};
 ghost use Rattle.erd_meaning.specs.Keys.{Preference};
-ghost use Rattle.erd_meaning.specs.Tokens.{value_tokens};
+ghost use Rattle.erd_text.specs.Tokens.{value_tokens};
 ghost use Rattle.erd_normal.specs.code.NormalTree.{normal_value};
 
 use crate::values::reference::write_reference;
 use crate::values::reference_set::{write_rising_references, write_selection_references};
 use crate::writer::Writer;
 use erd_check::values::{entries_of, is_empty_array};
-use erd_meaning::text::label::write_label;
-use erd_meaning::text::output::Output;
-use erd_meaning::text::rising_values::write_rising_values;
-use erd_meaning::text::value::write_value;
 use erd_tables::MemberKind;
+use erd_text::{Output, write_label, write_rising_values, write_value};
 use serde_json::Value;
 use std::alloc::AllocError;
 

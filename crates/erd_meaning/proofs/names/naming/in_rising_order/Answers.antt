@@ -1,5 +1,5 @@
 use Rattle.erd_meaning.proofs.Common.{nat_cmp, rules, nat_cmp_total, on_total, answers_always}
-use Rattle.erd_meaning.proofs.orders.RisingLists.{rising_from_sort}
+use Rattle.erd_text.proofs.RisingLists.{rising_from_sort}
 use Rattle.erd_meaning.proofs.names.naming.in_rising_order.Goals as goal
 
 pub returns : goal.returns

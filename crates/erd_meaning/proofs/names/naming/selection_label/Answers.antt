@@ -1,5 +1,5 @@
 use Rattle.erd_meaning.proofs.Common.{codes, sym, view}
-use Rattle.erd_meaning.proofs.selections.MetSelections.{whole_get}
+use Rattle.erd_text.proofs.WholeValues.{whole_get}
 use Rattle.erd_meaning.proofs.names.naming.selection_label.Goals as goal
 
 pub label_text-requires : goal.label_text-requires

@@ -1,5 +1,5 @@
 use Rattle.erd_meaning.proofs.Common.{codes, view, true}
-use Rattle.erd_meaning.proofs.selections.MetSelections.{whole_entry}
+use Rattle.erd_text.proofs.WholeValues.{whole_entry}
 use Rattle.erd_meaning.proofs.names.selection_walk.meet_contest.Goals as goal
 
 pub meet_selection-requires : goal.meet_selection-requires

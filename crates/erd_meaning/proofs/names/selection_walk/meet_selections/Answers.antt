@@ -1,6 +1,7 @@
 use Rattle.erd_meaning.proofs.Common.{◌≡◌, List, [], ◌∷◌, map, length, codes, ap, ◌∙◌, arith, view, Contest, Step, Name, contests, name_among, numbered_from, named_all, shown, names_met, false, true}
 use Rattle.erd_meaning.proofs.finding.OneObject.{counted_kept}
-use Rattle.erd_meaning.proofs.selections.MetSelections.{all_left, contests_are, contests_from, election_left, none_left, within_all, whole_entry}
+use Rattle.erd_meaning.proofs.selections.MetSelections.{all_left, contests_are, contests_from, election_left, none_left, within_all}
+use Rattle.erd_text.proofs.WholeValues.{whole_entry}
 use Rattle.erd_meaning.proofs.names.selection_walk.meet_selections.Goals as goal
 
 -- the place of the elections

@@ -1,5 +1,5 @@
 use Rattle.erd_meaning.proofs.Common.{rules, on_total, answers_always, lent_key_cmp}
-use Rattle.erd_meaning.proofs.orders.RisingLists.{rising_from_sort}
+use Rattle.erd_text.proofs.RisingLists.{rising_from_sort}
 use Rattle.erd_meaning.proofs.selections.RankedKeys.{lent_key_cmp_total}
 use Rattle.erd_meaning.proofs.objects.order.in_rising_order.Goals as goal
 

@@ -2,7 +2,7 @@ use Rattle.erd_normal.proofs.Common.{◌≡◌, ℕ, ◌+◌, ◌<◌, [], ◌++
 use Rattle.erd_normal.proofs.ranks.PartObjects.{seen_key, seen_value}
 use Rattle.erd_normal.proofs.ranks.SelectionRanks.{next_selection, none_left, selections_left}
 use Rattle.erd_normal.proofs.texts.WholeObjects.{entry_whole}
-use Rattle.erd_meaning.proofs.texts.WrittenTokens.{then_rest}
+use Rattle.erd_text.proofs.WrittenTokens.{then_rest}
 use Rattle.erd_normal.proofs.objects.contest_selections.write_in_contest.Goals as goal
 
 pub entry_at-requires : goal.entry_at-requires

@@ -1,5 +1,5 @@
 use Rattle.erd_normal.proofs.Common.{◌∙◌, true}
-use Rattle.erd_meaning.proofs.texts.WrittenTokens.{member_then}
+use Rattle.erd_text.proofs.WrittenTokens.{member_then}
 use Rattle.erd_normal.proofs.objects.members.write_kept.Goals as goal
 
 pub returns-in_ok-write : goal.returns-in_ok-write

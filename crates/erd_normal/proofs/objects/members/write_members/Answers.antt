@@ -1,5 +1,5 @@
 use Rattle.erd_normal.proofs.Common.{◌++◌, drop, sym, ap, ◌∙◌, view, members_view, kind_of_member, Entry, first_if, put_all, due_list, normal_members, members_tokens}
-use Rattle.erd_meaning.proofs.texts.WholeValues.{whole_first, whole_rest}
+use Rattle.erd_text.proofs.WholeValues.{whole_first, whole_rest}
 use Rattle.erd_normal.proofs.objects.members.write_members.Goals as goal
 
 pub loop-name-preserved : goal.loop-name-preserved

@@ -1,5 +1,5 @@
 use Rattle.erd_normal.proofs.Common.{ap, ◌∙◌, view, text_of, rank_named, true}
-use Rattle.erd_meaning.proofs.texts.OneByOne.{one_value}
+use Rattle.erd_text.proofs.OneByOne.{one_value}
 use Rattle.erd_normal.proofs.values.reference_set.ranks_named.Goals as goal
 
 pub loop-value-preserved : goal.loop-value-preserved

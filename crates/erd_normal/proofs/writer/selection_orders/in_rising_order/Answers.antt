@@ -1,5 +1,5 @@
 use Rattle.erd_normal.proofs.Common.{rules, lent_name_cmp}
-use Rattle.erd_meaning.proofs.orders.StableRising.{rising_from_stable, sorted_by_keys}
+use Rattle.erd_text.proofs.StableRising.{rising_from_stable, sorted_by_keys}
 use Rattle.erd_normal.proofs.ranks.SelectionRanks.{lent_total}
 use Rattle.erd_normal.proofs.writer.selection_orders.in_rising_order.Goals as goal
 

@@ -1,7 +1,7 @@
 use Rattle.erd_normal.proofs.Common.{◌≡◌, ℕ, ◌+◌, ◌<◌, List, [], ◌++◌, map, length, take, replicate, slice_get, Some, option_map, flat_map, sym, ap, ◌∙◌, subst, ap₂, arith, length-map, slice_get-map, AllByRecursion, option_cmp, option_map_or, Data, view, Placed, contests, IsBounded, name_of, name_cmp, positions_by, take-length, at_low, rising_selections, in_at, true}
 use Rattle.erd_meaning.specs.Places.{places_put}
-use Rattle.erd_meaning.proofs.texts.OneByOne.{one_more}
-use Rattle.erd_meaning.proofs.orders.StableRising.{map_after}
+use Rattle.erd_text.proofs.OneByOne.{one_more}
+use Rattle.erd_text.proofs.StableRising.{map_after}
 use Rattle.erd_normal.proofs.ranks.SelectionsInTurn.{flat_more, starts_after, contest_values, few_in_turn, named_in_turn, selections_of, value_there}
 use Rattle.erd_normal.proofs.ranks.SelectionRanks.{low_in_contest, places_are_ranks, ranks_in, selections_ranked}
 use Rattle.erd_normal.proofs.writer.selection_orders.selection_orders.Goals as goal

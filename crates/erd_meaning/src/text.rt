@@ -1,6 +1,0 @@
-//! Writing JSON.
-
-pub mod label;
-pub mod output;
-pub mod rising_values;
-pub mod value;
