@@ -7,7 +7,6 @@ cd "$(dirname "$0")/.." || exit 1
 . tests/parts.sh
 program=crates/erd/out/erd
 tests=crates/erd_rows/out/erd_rows_tests
-program_tests=crates/erd_program/out/erd_program_tests
 tried=''
 
 # The parts run beside `rt ci`, each as soon as the crates are proved that it needs. At its end `rt ci` puts the libraries that
@@ -44,7 +43,7 @@ program() {
 # tests: waits until `rt ci` has ended, and has left the tests
 tests() {
     ended rt ci
-    [ -x "$tests" ] && [ -x "$program_tests" ]
+    [ -x "$tests" ]
 }
 
 # libraries CRATE: the crates of the repository that it names
@@ -63,7 +62,7 @@ edits() {
 }
 
 # What `rt ci` has proved, compiled and run is what the scripts run, so nothing older may stand there.
-rm -f "$program" "$tests" "$program_tests"
+rm -f "$program" "$tests"
 lane 'rt ci'
 
 lane 'python3 tests/definitions.py' 'python3 tests/pages.py' 'python3 tests/documented.py' 'python3 tests/edits_suite.py' \

@@ -1,12 +1,11 @@
 #!/usr/bin/env bash
 # Refuses each request of memory in turn, in the built program and in built tests, until a run meets no refusal.
 # Each run must end right, or out of memory and with nothing else written. One line a case. `make test` leaves the program and
-# the tests; so do `make erd` and, in crates/erd_rows and crates/erd_program, `rt test`.
+# the tests; so do `make erd` and, in crates/erd_rows, `rt test`.
 set -u
 cd "$(dirname "$0")/.." || exit 1
 tests=crates/erd_rows/out/erd_rows_tests
-program_tests=crates/erd_program/out/erd_program_tests
-for file in ./erd "$tests" "$program_tests"; do
+for file in ./erd "$tests"; do
     [ -x "$file" ] || { echo "refusals: $file is missing" >&2; exit 1; }
 done
 work=$(mktemp -d) || exit 1
@@ -53,12 +52,12 @@ program() {
     said "$name ($refusals refusals)" "$([ "$at" -le "$most" ] || echo 'no end')"
 }
 
-# one_test FILE NAME: a built test, which says itself what is refused, and passes if each call returns the right answer or is out
+# one_test NAME: a built test, which says itself what is refused, and passes if each call returns the right answer or is out
 # of memory
 one_test() {
-    local file=$1 name=$2 refusals=0 why=''
+    local name=$1 refusals=0 why=''
     rm -f "$work/log"
-    REFUSE_LOG=$work/log LD_PRELOAD=$work/refuse.so "$file" "tests::$name" > "$work/out" 2>&1 || why=$(tail -n 5 "$work/out")
+    REFUSE_LOG=$work/log LD_PRELOAD=$work/refuse.so "$tests" "tests::$name" > "$work/out" 2>&1 || why=$(tail -n 5 "$work/out")
     [ -e "$work/log" ] && refusals=$(wc -l < "$work/log")
     [ "$refusals" -gt 0 ] || why+='nothing was refused'
     said "$name ($refusals refusals)" "$why"
@@ -96,11 +95,10 @@ for name in \
     parts::refused_order \
     parts::refused_values \
     command_lines::refused_lines \
-    command_lines::refused_help_and_usage; do
-    one_test "$tests" "$name"
-done
-for name in refused_rows refused_help_and_usage; do
-    one_test "$program_tests" "$name"
+    command_lines::refused_help_and_usage \
+    program::refused_rows \
+    program::refused_help_and_usage; do
+    one_test "$name"
 done
 
 counts

@@ -6,8 +6,6 @@ mod files;
 mod messages;
 mod open_in;
 mod program;
-#[cfg(test)]
-mod tests;
 mod world;
 
 pub use files::{Files, WorldFault};

@@ -16,6 +16,7 @@ mod pair_calls;
 mod parts;
 mod places;
 mod preferred_rows;
+mod program;
 mod readers;
 mod refusing;
 mod report_calls;

@@ -1,11 +1,11 @@
 //! Runs of the program over a world in memory. What they write was worked out from the README.
-use crate::WorldFault;
+use crate::tests::answers::{Answer, right_if};
+use crate::tests::program::world::{Ended, GOOD, Good, REPORT, run};
 use crate::tests::refusing::each_refused;
-use crate::tests::world::{Ended, GOOD, Good, REPORT, run};
+use erd_program::WorldFault;
 use std::alloc::Global;
 use std::test::Fail;
 
-mod refusing;
 mod world;
 
 const NOTHING: &str = "";
@@ -57,6 +57,16 @@ fn is(found: &Ended, status: u8, out: &str, err: &str) -> bool {
     found.is(status, out.as_bytes(), err.as_bytes())
 }
 
+// Runs the line, and compares how it ends with how it ends if there is memory. Out of memory, nothing else is written.
+fn answer(alloc: Global, line: &str, whole: &Ended) -> Answer {
+    let found = run(alloc, Ok(line), GOOD);
+    let is_right = found.is(whole.status, whole.out.text(), whole.err.text());
+    if !is_right && is(&found, 4, NOTHING, "no memory\n") {
+        return Answer::WantsMemory;
+    }
+    right_if(is_right)
+}
+
 // Runs each line, with memory and with each request for memory refused in turn.
 fn all_end_so(alloc: Global, rows: &[Row]) -> Result<(), Fail> {
     for (line, status, out, err) in rows {
@@ -64,7 +74,7 @@ fn all_end_so(alloc: Global, rows: &[Row]) -> Result<(), Fail> {
         if !is(&found, *status, out, err) {
             return Err(Fail::from(format!(in alloc; "at {line}")?));
         }
-        each_refused(alloc, line, &found)?;
+        each_refused(alloc, line, |alloc| answer(alloc, line, &found))?;
     }
     Ok(())
 }
@@ -95,7 +105,7 @@ fn all_begin_so(alloc: Global, rows: &[Row]) -> Result<(), Fail> {
         if found.status != *status || !is_so {
             return Err(Fail::from(format!(in alloc; "at {line}")?));
         }
-        each_refused(alloc, line, &found)?;
+        each_refused(alloc, line, |alloc| answer(alloc, line, &found))?;
     }
     Ok(())
 }

@@ -1,6 +1,6 @@
 //! A world in memory, whose calls fail when they are told to.
-use crate::{Files, World, WorldFault, run_program};
 use erd_canon::{FileName, Free, Log, ReadFrom, WriteTo};
+use erd_program::{Files, World, WorldFault, run_program};
 use std::alloc::{AllocError, Global};
 use std::io;
 use std::io::{ErrorKind, Read, Write};
