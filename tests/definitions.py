@@ -14,7 +14,7 @@ import sys
 
 ROOT = pathlib.Path(__file__).resolve().parent.parent
 PAGE = ROOT / 'docs' / 'DEFINITIONS.md'
-CRATES = ['erd_tables', 'erd_check', 'erd_text', 'erd_meaning', 'erd_normal', 'erd_compare', 'erd_canon', 'erd_program', 'erd_c']
+CRATES = ['erd_tables', 'erd_index', 'erd_check', 'erd_text', 'erd_meaning', 'erd_normal', 'erd_compare', 'erd_canon', 'erd_program', 'erd_c']
 HEAD = ['| Definition | What it says | From |', '|---|---|---|']
 CODE = 'What private functions answer, step by step; a reader may skip it. What each file says stands in its first lines.'
 
@@ -43,6 +43,7 @@ SOURCES = {
     'erd_check/Visits': 'this project',
     'erd_compare/DifferenceData': 'docs/DATA.md',
     'erd_compare/DifferenceLine.key_as_json': 'RFC 8259',
+    'erd_index/Salts': 'this project',
     'erd_meaning/Families': 'this project',
     'erd_meaning/Hashes': 'this project',
     'erd_meaning/Lookups.id_in': "the standard's rule of references",

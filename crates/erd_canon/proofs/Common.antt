@@ -1,8 +1,7 @@
 -- The names that the proofs of this crate cite most, passed on from one place. Declares nothing.
 pub use Rattle.erd_normal.proofs.Common.{◌≡◌, ℕ, zero, suc, ◌+◌, ◌-◌, ◌/◌, ◌%◌, ◌^◌, ◌<◌, ◌≤◌, Bool, true, false, ◌&&◌, ◌⊎◌, ◌↔◌, List, [], ◌∷◌, ◌++◌, map, length, get_or, take, drop, pos, negsuc, is_some, OnOk, nat_lt, ◌==◌, slice_get, Some, None, string_bytes, codes, IsUtf8, decimal, Contains, Option, option_map, option_copied, bytes_eq, unwrap_or, sym, refl, ap, ◌∙◌, subst, ap₂, inl, inr, append_assoc, append-nil, map-id, arith, lit<, length-append, Bor, rules, lt-ltb, ne_eqb, IfOk-weaker, on_ok_weaker, Num, unsigned, negative, float, Data, null, number, string, array, object, Items, no_items, item, Members, no_members, member, depth, items_depth, read, max_depth, items_of, view, number_text, outline, items_outline, members_outline, has_float, items_have_float, comma_if, compact_text, items_text, Reason, reason, IsFittingNumber, HasFittingNumbers, ItemsHaveFittingNumbers, MembersHaveFittingNumbers, IsTree, AreTrees, IsShallow, IsNoDeeper, IsAccepted, Preference, meaning}
 pub use Rattle.erd_compare.proofs.Common.{◌≢◌, IfOk, Ok, Err, Result, iter_rest, record_at, Differ, IsDifference}
-pub use Rattle.erd_meaning.proofs.Common.{OnErr, fold, take-append-drop, err_from_is_err_and, fault_cmp, Fault, IsFault}
-pub use Rattle.erd_meaning.proofs.finding.Pushed.{on_error}
+pub use Rattle.erd_meaning.proofs.Common.{OnErr, on_error, fold, take-append-drop, err_from_is_err_and, fault_cmp, Fault, IsFault}
 unfoldable pub use Rattle.erd_normal.proofs.Common.{digits, serde_json_on_literals}
 pub use Rattle.std.proofs.Common.{IsErrAnd, vec_len, MatchResult, take-add}
 pub use Rattle.std.proofs.lemmas.Result.{on_err_weaker}

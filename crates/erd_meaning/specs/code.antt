@@ -1,8 +1,6 @@
 -- What private functions answer, step by step, and laws that the code cites; that it agrees with the definitions is proved.
 pub mod Orders  -- the orders of keys and names are total, and tell unequal ones apart
 pub mod ChosenKeys  -- the order in which the program chooses among identifiers
-pub mod Salts  -- the numbers by which an index hashes its keys under a salt
-pub mod SaltedQueries  -- a query under a salt finds keys as the index tells them apart
 pub mod NumberedOrders  -- their order is total, tells unequal ones apart, and keeps the order of names if the numbers keep that of keys
 pub mod ObjectWalk  -- the elections and the objects in the order in which the program meets them, with the faults of identity
 pub mod ElectionKeys  -- what the program keeps of the elections: their keys, and which holds an object

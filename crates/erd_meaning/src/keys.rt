@@ -3,8 +3,6 @@
 pub mod key;
 pub mod key_of;
 pub(crate) mod key_rule;
-pub mod salt;
-pub(crate) mod salted;
-pub mod salted_set;
+pub(crate) mod salt;
 pub(crate) mod shared_key;
 pub(crate) mod triple;

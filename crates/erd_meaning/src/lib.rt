@@ -6,11 +6,10 @@ pub mod names;
 mod objects;
 mod report;
 
+pub use erd_index::{Salt, SaltedSet};
 pub use erd_text::{CompactText, SetOrder, in_order};
 pub use keys::key::Key;
 pub use keys::key_of::key_of;
-pub use keys::salt::Salt;
-pub use keys::salted_set::SaltedSet;
 pub use names::ranked_name::{Named, RankedName};
 pub use names::selection_name::SelectionName;
 pub use objects::order::places_in;

@@ -20,8 +20,6 @@ pub(crate) mod reference_judge;
 pub(crate) mod resolving;
 
 use crate::keys::key::Key;
-use crate::keys::salt::Salt;
-use crate::keys::salted_set::SaltedSet;
 use crate::names::ranked_name::RankedName;
 use crate::names::selection_name::SelectionName;
 use crate::names::sought_name::SoughtName;
@@ -32,6 +30,7 @@ use crate::objects::ranked_objects::RankedObjects;
 use crate::objects::row::Row;
 use crate::objects::table::ObjectTable;
 use erd_check::values::entries_at;
+use erd_index::{Salt, SaltedSet};
 use erd_tables::{Family, Text};
 use serde_json::Value;
 use std::alloc::{AllocError, Global};

@@ -2,6 +2,7 @@
 mod bytes;
 mod data;
 mod engines;
+mod index;
 mod reports;
 mod shapes;
 mod tables;

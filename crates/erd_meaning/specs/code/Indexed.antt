@@ -1,6 +1,9 @@
 -- When the indexes of a table of objects agree with the objects.
 use Rattle.std.specs.Prelude.{◌≡◌, ◌&&◌, ◌==◌, ℕ, List, Bool, Option}
 use Rattle.std.specs.Ordering.{is_eq}
+use Rattle.erd_index.specs.Salts.{salted_number, text_number}
+use Rattle.erd_index.specs.declared.salt.Salt.{Salt}
+use Rattle.erd_index.specs.declared.salted.Salted.{Salted}
 use Rattle.erd_tables.specs.Classes.{family_number}
 use Rattle.erd_tables.specs.declared.class.Family.{Family}
 use Rattle.erd_meaning.specs.Hashes.{key_writes}
@@ -8,9 +11,6 @@ use Rattle.erd_meaning.specs.Keys.{key_cmp}
 use Rattle.erd_meaning.specs.code.ObjectIndexes.{contests_before, number_of_id, number_of_key, places_from}
 use Rattle.erd_meaning.specs.code.ObjectWalk.{Kept}
 use Rattle.erd_meaning.specs.declared.keys.key.Key.{Key}
-use Rattle.erd_meaning.specs.code.Salts.{salted_number, text_number}
-use Rattle.erd_meaning.specs.declared.keys.salt.Salt.{Salt}
-use Rattle.erd_meaning.specs.declared.keys.salted.Salted.{Salted}
 use Rattle.std.specs.Str.{bytes_eq}
 use denote.Ref.{Bor}
 

@@ -1,51 +1,7 @@
-ghost use Rattle.std.specs.Prelude.{◌≡◌};
-ghost use Rattle.erd_meaning.specs.code.Salts.{salted_number, text_number};
-
 use erd_check::values::{entries_at, text_at};
+use erd_index::Salt;
 use serde_json::{Map, Value};
 use std::hash::{DefaultHasher, Hash, Hasher};
-
-/// What the indexes of a report hash before each key: std's default hasher after two words, which come from the texts of
-/// the report. So nobody can choose texts whose numbers crowd an index before the words are known, and these change with
-/// each text.
-#[derive(Debug, Clone, Copy, Drop)]
-pub struct Salt {
-    pub(crate) start: DefaultHasher,
-}
-
-impl Salt {
-    /// Returns a salt for an index that has keys of two reports, from the salts of both.
-    ///
-    /// ```
-    /// let mut numbers = SaltedSet::new(alloc, report.salt().joined(&report.salt()));
-    /// ```
-    pub fn joined(&self, other: &Salt) -> Salt {
-        let mut start = self.start;
-        let mut others = other.start;
-        start.write_u64(others.finish());
-        others.write_u64(0);
-        start.write_u64(others.finish());
-        Salt { start }
-    }
-
-    /// Returns the number of a key.
-    pub(crate) fn number<K: Hash>(&self, key: &K) -> u64
-        ensures { result ≡ salted_number self.now (K.hash_input key.now) }
-    {
-        let mut hasher = self.start;
-        key.hash(&mut hasher);
-        hasher.finish()
-    }
-
-    /// Returns the number of a text that is a key by itself.
-    pub(crate) fn text_number(&self, text: &str) -> u64
-        ensures { result ≡ text_number self.now text.now }
-    {
-        let mut hasher = self.start;
-        hasher.write(text.as_bytes());
-        hasher.finish()
-    }
-}
 
 /// Returns the salt of a report. It depends on each text and whole number of the report from which a key of an index is
 /// made.
@@ -56,10 +12,7 @@ pub(crate) fn salt_of(report: &Value) -> Salt {
     };
     words.write(1, 2);
     words.feed_report(report);
-    let mut start = DefaultHasher::new();
-    start.write_u64(words.first.finish());
-    start.write_u64(words.second.finish());
-    Salt { start }
+    Salt::of(words.first.finish(), words.second.finish())
 }
 
 /// The two hashers that compute the words of a salt. Both are given the same words, after a different first one.

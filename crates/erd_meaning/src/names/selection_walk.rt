@@ -10,13 +10,13 @@ ghost use Rattle.erd_meaning.specs.code.Shown.{placed_at, shown};
 ghost use Rattle.erd_meaning.specs.code.ShownWalks.{names_met};
 
 use crate::keys::key_rule::KeyRule;
-use crate::keys::salted_set::SaltedSet;
 use crate::names::naming::name_of_selection;
 use crate::names::ranked_name::RankedName;
 use crate::names::selection_name::SelectionName;
 use crate::objects::ranked_objects::RankedObjects;
 use erd_check::path::{Path, push_fault};
 use erd_check::values::entries_at;
+use erd_index::SaltedSet;
 use erd_tables::{Family, Fault, Reason};
 use serde_json::Value;
 use std::alloc::{AllocError, Global};

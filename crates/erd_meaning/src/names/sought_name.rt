@@ -7,11 +7,10 @@ ghost use Rattle.erd_meaning.specs.RankedNames.{family_chosen, ranked_name_cmp};
 ghost use Rattle.erd_meaning.specs.code.Shown.{shown};
 
 use crate::keys::key::Key;
-use crate::keys::salt::Salt;
-use crate::keys::salted_set::Sought;
 use crate::names::ranked_name::RankedName;
 use crate::names::selection_name::{SelectionName, compare_numbered};
 use crate::objects::ranked_objects::RankedObjects;
+use erd_index::{Salt, Sought};
 use erd_tables::type_text;
 use std::hash::{DefaultHasher, Hash, Hasher};
 
@@ -97,7 +96,7 @@ impl<'b, 'a> Sought<(usize, RankedName<SelectionName>)> for SoughtName<'b, 'a> {
 
     fn number(&self, salt: &Salt) -> u64 {
         let name = self.name;
-        let mut hasher = salt.start;
+        let mut hasher = salt.hasher();
         self.contest.hash(&mut hasher);
         type_text(name.class).hash(&mut hasher);
         name.keys.len().hash(&mut hasher);

@@ -5,11 +5,10 @@ ghost use Rattle.erd_meaning.specs.code.KeyOrders.{AreDistinct, IsOrder, positio
 ghost use Rattle.erd_meaning.specs.code.ObjectWalk.{same_key};
 
 use crate::keys::key::Key;
-use crate::keys::salt::Salt;
-use crate::keys::salted_set::SaltedSet;
 use crate::keys::shared_key::SharedKey;
 use crate::keys::triple::Triple;
 use crate::objects::order::Order;
+use erd_index::{Salt, SaltedSet};
 use std::alloc::{AllocError, Global};
 use std::fmt;
 use std::marker::Model;

@@ -12,11 +12,10 @@ ghost use Rattle.erd_meaning.specs.code.Shown.{shown};
 ghost use Rattle.erd_meaning.specs.declared.keys.key.Key.{Key};
 
 use crate::keys::key::Key;
-use crate::keys::salt::Salt;
-use crate::keys::salted::Salted;
 use crate::keys::shared_key::SharedKey;
 use crate::keys::triple::Triple;
 use crate::objects::places::FamilyPlaces;
+use erd_index::{Salt, Salted};
 use erd_tables::Family;
 use indexmap::IndexMap;
 use serde_json::Value;

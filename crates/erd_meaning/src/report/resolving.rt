@@ -13,7 +13,6 @@ ghost use Rattle.erd_meaning.specs.code.Shown.{shown};
 
 use crate::keys::key_rule::KeyRule;
 use crate::keys::salt::salt_of;
-use crate::keys::salted_set::SaltedSet;
 use crate::names::ranked_name::RankedName;
 use crate::names::selection_name::SelectionName;
 use crate::names::selection_walk::{SelectionWalk, meet_selections};
@@ -25,6 +24,7 @@ use crate::objects::table::ObjectTable;
 use crate::report::reference_judge::reference_faults;
 use crate::report::{Elections, Indexes, Report};
 use erd_check::{CheckError, Shaped};
+use erd_index::SaltedSet;
 use erd_tables::{FaultList, Text};
 use serde_json::Value;
 use std::alloc::{AllocError, Global};

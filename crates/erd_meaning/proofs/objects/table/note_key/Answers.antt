@@ -1,6 +1,7 @@
 use Rattle.erd_meaning.proofs.Common.{◌≡◌, Bool, true, cond, is_some, Some, None, sym, ap, ◌∙◌, ap₂, lookup, option_or, get_by, Family, key_writes, same_owned, is_salted_owned, salted_number, Key, Salted, false}
 use Rattle.indexmap.proofs.CallerLemmas.{insert_entry-new}
-use Rattle.erd_meaning.proofs.finding.Pushed.{owned_asked, owned_exact, lookup_push, none_found, or_known, number_implied}
+use Rattle.erd_meaning.proofs.finding.Pushed.{owned_asked, owned_exact, lookup_push, none_found, or_known}
+use Rattle.erd_index.proofs.NumberedKeys.{number_implied}
 use Rattle.erd_meaning.proofs.objects.table.note_key.Goals as goal
 
 pub returns-then-contains_key-clause-noted : goal.returns-then-contains_key-clause-noted

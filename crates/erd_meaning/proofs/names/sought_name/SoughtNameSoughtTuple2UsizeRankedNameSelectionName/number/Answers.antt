@@ -14,7 +14,7 @@ returns c k found =
     let keys = usize (length n.keys) ++ rest in
     let name = str (text_of_class n.class) ++ keys in
     let fed =
-    fed_then write c.args.salt.now.start c.hash.new.state c.hash_after_keys.new.state (usize c.args.self.now.contest) name c.hash.ensures
+    fed_then write c.args.salt.now.start c.hash.new.state c.hash_after_keys.new.state (usize c.args.self.now.contest) name (c.hash.ensures ∙ ap (λ s. fold write s (usize c.args.self.now.contest)) c.hasher-hasher.ensures)
     (fed_then write c.hash.new.state c.hash-2.new.state c.hash_after_keys.new.state (str (text_of_class n.class)) keys class
     (fed_then write c.hash-2.new.state c.hash-3.new.state c.hash_after_keys.new.state (usize (length n.keys)) rest many
     (fed_then write c.hash-3.new.state c.feed_ranks.new.hasher c.hash_after_keys.new.state ranks (after_keys_writes n) c.feed_ranks.ensures c.hash_after_keys.ensures))) in

@@ -1,10 +1,10 @@
 use std::hash::{Hash, Hasher};
 
-/// A key of an index, and the number by which the index hashes it: that of the key under the salt of the report.
+/// A key of an index, and the number by which the index hashes it: that of the key under the salt of the index.
 #[derive(Debug, Clone, Copy, Drop)]
-pub(crate) struct Salted<K> {
-    pub(crate) number: u64,
-    pub(crate) key: K,
+pub struct Salted<K> {
+    pub number: u64,
+    pub key: K,
 }
 
 impl<K: Eq> PartialEq for Salted<K> {

@@ -1,6 +1,10 @@
-use Rattle.erd_meaning.proofs.Common.{not, ap, ◌∙◌, list_any, insert_key, keys_in}
-use Rattle.erd_meaning.proofs.finding.Pushed.{on_error, inserted_any, inserted_keys}
-use Rattle.erd_meaning.proofs.keys.salted_set.SaltedSet.insert.Goals as goal
+use Rattle.std.proofs.Common.{not, ap, ◌∙◌}
+use Rattle.std.specs.List.{list_any}
+use Rattle.indexmap.specs.IndexSet.{insert_key}
+use Rattle.erd_index.specs.Salts.{keys_in}
+use Rattle.erd_index.proofs.Results.{on_error}
+use Rattle.erd_index.proofs.NumberedKeys.{inserted_any, inserted_keys}
+use Rattle.erd_index.proofs.salted_set.SaltedSet.insert.Goals as goal
 
 pub returns-clause-added : goal.returns-clause-added
 returns-clause-added g c =

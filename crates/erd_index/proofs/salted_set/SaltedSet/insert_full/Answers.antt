@@ -1,6 +1,10 @@
-use Rattle.erd_meaning.proofs.Common.{not, ap, ◌∙◌, list_any, position_or_len, insert_key, keys_in}
-use Rattle.erd_meaning.proofs.finding.Pushed.{on_error, inserted_any, inserted_index, inserted_keys}
-use Rattle.erd_meaning.proofs.keys.salted_set.SaltedSet.insert_full.Goals as goal
+use Rattle.std.proofs.Common.{not, ap, ◌∙◌}
+use Rattle.std.specs.List.{list_any, position_or_len}
+use Rattle.indexmap.specs.IndexSet.{insert_key}
+use Rattle.erd_index.specs.Salts.{keys_in}
+use Rattle.erd_index.proofs.Results.{on_error}
+use Rattle.erd_index.proofs.NumberedKeys.{inserted_any, inserted_index, inserted_keys}
+use Rattle.erd_index.proofs.salted_set.SaltedSet.insert_full.Goals as goal
 
 pub returns-clause-index : goal.returns-clause-index
 returns-clause-index g c =

@@ -3,8 +3,8 @@ use Rattle.std.proofs.Common.{◌≡◌, ◌==◌, ◌&&◌, Bool, true, ap, ap�
 use Rattle.std.specs.Hash.{u64}
 use Rattle.std.proofs.lemmas.Bool.Decides.{Decides-eqb}
 use Rattle.std.proofs.lemmas.Bool.{and_parts}
-use Rattle.erd_meaning.specs.declared.keys.salted.Salted.{Salted}
-use Rattle.erd_meaning.specs.declared.keys.salted_set.Numbered.{Numbered}
+use Rattle.erd_index.specs.declared.salted.Salted.{Salted}
+use Rattle.erd_index.specs.declared.salted_set.Numbered.{Numbered}
 
 module _ {Q K : Type 0} (asks : Q → K → Bool) where
   -- True if this is the key that is sought.

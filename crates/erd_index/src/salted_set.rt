@@ -1,25 +1,33 @@
 ghost use Rattle.std.specs.Prelude.{◌≡◌, [], Bool, IsTrue, not, option_copied, position, slice_get, IfOk, OnErr, OnOk};
 ghost use Rattle.std.specs.List.{list_any, position_or_len};
 ghost use Rattle.indexmap.specs.IndexSet.{insert_key};
-ghost use Rattle.erd_meaning.specs.code.Salts.{salted_number};
+ghost use Rattle.erd_index.specs.Salts.{salted_number};
 
-use crate::keys::salt::Salt;
-use crate::keys::salted::Salted;
+use crate::salt::Salt;
+use crate::salted::Salted;
 use indexmap::{Equivalent, IndexSet};
 use std::alloc::{AllocError, Global};
 use std::hash::{Hash, Hasher};
 use std::marker::Model;
 
 /// What is looked up in a salted set: it stands for a key of the set without being one.
-pub(crate) trait Sought<K: Eq + Hash>: Copy {
+pub trait Sought<K: Eq + Hash>: Copy {
     // What `finds` answers.
     ghost finds: { Self → K → Bool };
 
     /// Returns the number under the salt of the key that is sought. If no key can be found, it may be any number.
+    ///
+    /// ```
+    /// assert!(rt; sought.number(&salt) == salt.number(&20));
+    /// ```
     fn number(&self, salt: &Salt) -> u64
         ensures { (k : K) → IsTrue (finds self.now k) → result ≡ salted_number salt.now (K.hash_input k) };
 
     /// Returns whether this is the key that is sought.
+    ///
+    /// ```
+    /// assert!(rt; sought.finds(&20));
+    /// ```
     fn finds(&self, key: &K) -> bool
         ensures { result ≡ finds self.now key.now };
 
@@ -69,7 +77,7 @@ impl<Q> Hash for Numbered<Q> {
 
 impl<K: Eq + Hash, Q: Sought<K>> Equivalent<Salted<K>> for Numbered<Q> {
     ghost use Rattle.std.specs.Prelude.{◌&&◌, ◌==◌};
-    ghost use Rattle.erd_meaning.specs.code.SaltedQueries.{asked_alike, asked_equal};
+    ghost use Rattle.erd_index.specs.code.SaltedQueries.{asked_alike, asked_equal};
 
     ghost equivalent = { λ q k. (q.number == k.number) && Q.finds q.sought k.key };
 
@@ -93,7 +101,7 @@ pub struct SaltedSet<K: Eq + Hash> {
 impl<K: Eq + Hash> Model for SaltedSet<K> {
     ghost use Rattle.std.specs.Prelude.{List};
     ghost use Rattle.std.specs.Coded.{coded_list};
-    ghost use Rattle.erd_meaning.specs.code.Salts.{AreNumbered, keys_in};
+    ghost use Rattle.erd_index.specs.Salts.{AreNumbered, keys_in};
 
     ghost Value = { List K };
 
@@ -108,7 +116,7 @@ impl<K: Eq + Hash + Drop> SaltedSet<K> {
     /// Returns a set without keys. The salt has no part in what a call returns, only in the time that it takes.
     ///
     /// ```
-    /// let mut numbers = SaltedSet::new(alloc, report.salt().joined(&report.salt()));
+    /// let mut numbers = SaltedSet::new(alloc, Salt::of(1, 2));
     /// ```
     pub fn new(alloc: Global, salt: Salt) -> SaltedSet<K>
         ensures { result ≡ [] }
@@ -120,7 +128,16 @@ impl<K: Eq + Hash + Drop> SaltedSet<K> {
     }
 
     /// Adds a key, unless the set has an equal one. Returns whether it was added.
-    pub(crate) fn insert(&mut self, key: K) -> Result<bool, AllocError>
+    ///
+    /// # Errors
+    ///
+    /// `AllocError` if out of memory.
+    ///
+    /// ```
+    /// assert!(rt; numbers.insert(20)?);
+    /// assert!(rt; !numbers.insert(20)?);
+    /// ```
+    pub fn insert(&mut self, key: K) -> Result<bool, AllocError>
         ensures added { IfOk result (λ added. added ≡ not (list_any (K.eq key) self.old)) }
         ensures keys { OnOk result (self.new ≡ insert_key K.eq self.old key) }
         ensures kept { OnErr result (self.new ≡ self.old) }
@@ -136,8 +153,8 @@ impl<K: Eq + Hash + Drop> SaltedSet<K> {
     /// `AllocError` if out of memory.
     ///
     /// ```
-    /// assert_eq!(rt; numbers.insert_full(20)?, (0, true));
-    /// assert_eq!(rt; numbers.insert_full(20)?, (0, false));
+    /// assert_eq!(rt; numbers.insert_full(30)?, (1, true));
+    /// assert_eq!(rt; numbers.insert_full(30)?, (1, false));
     /// ```
     pub fn insert_full(&mut self, key: K) -> Result<(usize, bool), AllocError>
         ensures index { IfOk result (λ r. r.0 ≡ position_or_len (K.eq key) self.old) }
@@ -150,7 +167,11 @@ impl<K: Eq + Hash + Drop> SaltedSet<K> {
     }
 
     /// Returns the key at the position, if there is one.
-    pub(crate) fn get_index(&self, index: usize) -> Option<&K>
+    ///
+    /// ```
+    /// assert_eq!(rt; numbers.get_index(1), Some(&30));
+    /// ```
+    pub fn get_index(&self, index: usize) -> Option<&K>
         ensures { option_copied result ≡ slice_get self.now index }
     {
         match self.set.get_index(index) {
@@ -160,7 +181,11 @@ impl<K: Eq + Hash + Drop> SaltedSet<K> {
     }
 
     /// Returns the position of the key that is sought, if the set has it.
-    pub(crate) fn position<Q: Sought<K>>(&self, sought: Q) -> Option<usize>
+    ///
+    /// ```
+    /// assert_eq!(rt; numbers.position(Number(30)), Some(1));
+    /// ```
+    pub fn position<Q: Sought<K>>(&self, sought: Q) -> Option<usize>
         ensures { result ≡ position (Q.finds sought) self.now }
     {
         let number = sought.number(&self.salt);

@@ -1,6 +1,6 @@
-use Rattle.erd_meaning.proofs.Common.{position, ap, ◌∙◌}
-use Rattle.erd_meaning.proofs.finding.Pushed.{position_numbered}
-use Rattle.erd_meaning.proofs.keys.salted_set.SaltedSet.position.Goals as goal
+use Rattle.std.proofs.Common.{position, ap, ◌∙◌}
+use Rattle.erd_index.proofs.NumberedKeys.{position_numbered}
+use Rattle.erd_index.proofs.salted_set.SaltedSet.position.Goals as goal
 
 pub returns : goal.returns
 returns g c =

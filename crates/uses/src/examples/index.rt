@@ -1,0 +1,56 @@
+//! Examples of `erd_index`.
+use erd_index::{Salt, SaltedSet, Sought};
+use std::hash::{Hash, Hasher};
+use std::test::Fail;
+
+// A number that is looked up in a set of numbers.
+#[derive(Clone, Copy, Drop)]
+struct Number(u64);
+
+impl Sought<u64> for Number {
+    ghost use Rattle.std.proofs.Common.{◌==◌, ap};
+    ghost use Rattle.std.proofs.lemmas.Bool.Decides.{Decides-eqb};
+
+    ghost finds = { λ q k. q.0 == k };
+
+    ghost respects_eq = { λ q x y found. ap (λ n. n == y) ((Decides-eqb q.0 x).0 found) };
+
+    fn number(&self, salt: &Salt) -> u64 {
+        salt.number(&self.0)
+    }
+
+    fn finds(&self, key: &u64) -> bool {
+        self.0 == *key
+    }
+}
+
+#[test]
+fn salts(rt: HostRuntime) {
+    let salt = Salt::of(1, 2);
+    let joined = salt.joined(&Salt::of(3, 4));
+    assert!(rt; joined.number(&20) != salt.number(&20));
+    assert!(rt; salt.text_number("gp1") != salt.text_number("gp2"));
+    let mut hasher = salt.hasher();
+    20.hash(&mut hasher);
+    assert!(rt; hasher.finish() == salt.number(&20));
+}
+
+#[test]
+fn sought_keys(rt: HostRuntime) {
+    let (salt, sought) = (Salt::of(1, 2), Number(20));
+    assert!(rt; sought.number(&salt) == salt.number(&20));
+    assert!(rt; sought.finds(&20));
+}
+
+#[test]
+fn salted_sets(rt: HostRuntime) -> Result<(), Fail> {
+    let alloc = rt.alloc();
+    let mut numbers = SaltedSet::new(alloc, Salt::of(1, 2));
+    assert!(rt; numbers.insert(20)?);
+    assert!(rt; !numbers.insert(20)?);
+    assert_eq!(rt; numbers.insert_full(30)?, (1, true));
+    assert_eq!(rt; numbers.insert_full(30)?, (1, false));
+    assert_eq!(rt; numbers.get_index(1), Some(&30));
+    assert_eq!(rt; numbers.position(Number(30)), Some(1));
+    Ok(())
+}
