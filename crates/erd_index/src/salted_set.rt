@@ -18,7 +18,7 @@ pub trait Sought<K: Eq + Hash>: Copy {
     /// Returns the number under the salt of the key that is sought. If no key can be found, it may be any number.
     ///
     /// ```
-    /// assert!(rt; sought.number(&salt) == salt.number(&20));
+    /// assert!(rt; sought.number(&salt) == salt.number(&20u64));
     /// ```
     fn number(&self, salt: &Salt) -> u64
         ensures { (k : K) → IsTrue (finds self.now k) → result ≡ salted_number salt.now (K.hash_input k) };

@@ -38,7 +38,7 @@ fn salts(rt: HostRuntime) {
 #[test]
 fn sought_keys(rt: HostRuntime) {
     let (salt, sought) = (Salt::of(1, 2), Number(20));
-    assert!(rt; sought.number(&salt) == salt.number(&20));
+    assert!(rt; sought.number(&salt) == salt.number(&20u64));
     assert!(rt; sought.finds(&20));
 }
 
