@@ -44,7 +44,6 @@ SOURCES = {
     'erd_compare/DifferenceData': 'docs/DATA.md',
     'erd_compare/DifferenceLine.key_as_json': 'RFC 8259',
     'erd_index/Salts': 'this project',
-    'erd_meaning/Families': 'this project',
     'erd_meaning/Hashes': 'this project',
     'erd_meaning/Lookups.id_in': "the standard's rule of references",
     'erd_meaning/Lookups.election_in': 'class Election',
@@ -71,8 +70,9 @@ SOURCES = {
     'erd_tables/Classes.classes': 'the classes of the standard that the profile covers',
     'erd_tables/Classes.class_of_text': '`@type` of the standard',
     'erd_tables/Classes.NamesItsClass': '`@type` of the standard',
-    'erd_text/Tokens': 'RFC 8259',
+    'erd_tables/Families': 'this project',
     'erd_tables/Rows.selection_rows': 'class ContestSelection',
+    'erd_text/Tokens': 'RFC 8259',
 }
 
 DEFINITION = re.compile(r'(?:  )?(?:abbrev pub|pub data|pub record|pub)\s+([^\s:({]+)')

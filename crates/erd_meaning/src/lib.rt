@@ -7,13 +7,13 @@ mod objects;
 mod report;
 
 pub use erd_index::{Salt, SaltedSet};
+pub use erd_tables::PerFamily;
 pub use erd_text::{CompactText, SetOrder, in_order};
 pub use keys::key::Key;
 pub use keys::key_of::key_of;
 pub use names::ranked_name::{Named, RankedName};
 pub use names::selection_name::SelectionName;
 pub use objects::order::places_in;
-pub use objects::per_family::PerFamily;
 pub use objects::row::Row;
 pub use report::Report;
 pub use report::accepting::accept_with;

@@ -4,7 +4,6 @@ pub(crate) mod election_table;
 pub(crate) mod holders;
 pub(crate) mod object_walk;
 pub(crate) mod order;
-pub(crate) mod per_family;
 pub(crate) mod places;
 pub(crate) mod ranked_objects;
 pub(crate) mod row;

@@ -4,6 +4,7 @@
 pub mod class;
 pub mod fault;
 pub mod member;
+pub mod per_family;
 pub mod place;
 mod row_kinds;
 pub mod text;
@@ -13,5 +14,6 @@ pub use fault::{Fault, FaultList, Reason};
 pub use member::{
     MemberKind, is_envelope, is_reference_form, is_required_member, member_kind, required,
 };
+pub use per_family::PerFamily;
 pub use place::{Place, Step, pointer};
 pub use text::Text;

@@ -6,9 +6,9 @@ use Rattle.std.specs.Ordering.{is_eq}
 use Rattle.std.specs.declared.cmp.Ordering.{Ordering}
 use Rattle.std.specs.declared.cmp.Ordering.TheVariants.{Greater}
 use Rattle.serde_json.specs.View.{view}
+use Rattle.erd_tables.specs.Families.{entry_of}
 use Rattle.erd_tables.specs.declared.class.Role.{Role}
 use Rattle.erd_tables.specs.declared.class.Role.TheVariants as role
-use Rattle.erd_meaning.specs.Families.{entry_of}
 use Rattle.erd_meaning.specs.Judged.{Judged}
 use Rattle.erd_meaning.specs.Keys.{key_cmp}
 use Rattle.erd_meaning.specs.declared.keys.key.Key.{Key}

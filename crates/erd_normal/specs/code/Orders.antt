@@ -2,9 +2,9 @@
 use Rattle.std.specs.Prelude.{◌≡◌, ℕ, List, false, if◌then◌else◌, map}
 use Rattle.serde_json.specs.Data.{Data}
 use Rattle.serde_json.specs.Written.{has_float}
+use Rattle.erd_tables.specs.Families.{entry_of}
 use Rattle.erd_tables.specs.declared.class.Family.{Family}
 use Rattle.erd_meaning.specs.Accepted.{IsAccepted}
-use Rattle.erd_meaning.specs.Families.{entry_of}
 use Rattle.erd_meaning.specs.Keys.{Preference, has_keys}
 use Rattle.erd_meaning.specs.Lookups.{rank_of}
 use Rattle.erd_meaning.specs.Objects.{IsBounded, contests}

@@ -3,8 +3,8 @@ use crate::report_of;
 use erd_check::{same_json, shape};
 use erd_compare::first_difference;
 use erd_meaning::{
-    Key, Named, PerFamily, RankedName, Report, Row, SaltedSet, SelectionName, accept_with, key_of,
-    places_in, resolve, resolve_with,
+    Key, Named, RankedName, Report, Row, SaltedSet, SelectionName, accept_with, key_of, places_in,
+    resolve, resolve_with,
 };
 use erd_normal::{CompactText, SetOrder, in_order, normal_text, normal_tree};
 use erd_tables::{Family, Text};
@@ -55,13 +55,6 @@ fn objects(rt: &impl Abort, report: &Report) {
         Some((Family::Candidate, 0))
     );
     assert_eq!(rt; report.first_selection(0), 0);
-}
-
-// One value for each family.
-fn counts(rt: &impl Abort, report: &Report) -> Result<(), Fail> {
-    let counts = PerFamily::of(|family| Ok(report.count(family)))?;
-    assert_eq!(rt; *counts.get(Family::Selection), 2);
-    Ok(())
 }
 
 // What the report finds by keys.
@@ -128,7 +121,6 @@ fn numbers(rt: &impl Abort, alloc: Global, report: &Report) -> Result<(), Fail> 
 fn look_ups(rt: &impl Abort, alloc: Global, tree: &Value, report: &Report) -> Result<(), Fail> {
     positions(rt, tree, report)?;
     objects(rt, report);
-    counts(rt, report)?;
     places(rt, report);
     keys(rt, alloc, report)?;
     rising_keys(rt, alloc, report)?;

@@ -1,8 +1,8 @@
 //! Examples of `erd_tables`.
 use erd_tables::{
-    Class, Family, Fault, FaultList, MemberKind, Place, Reason, Role, Step, Text, class_in,
-    class_of, family_of, is_envelope, is_reference_form, is_required_member, member_kind, pointer,
-    required, role_of, type_text,
+    Class, Family, Fault, FaultList, MemberKind, PerFamily, Place, Reason, Role, Step, Text,
+    class_in, class_of, family_of, is_envelope, is_reference_form, is_required_member, member_kind,
+    pointer, required, role_of, type_text,
 };
 use std::alloc::{AllocError, Global};
 use std::process::Abort;
@@ -22,6 +22,14 @@ fn classes(rt: HostRuntime) {
         Some(Class::Candidate)
     );
     assert_eq!(rt; class_in(candidate, "ElectionResults.Party"), None);
+}
+
+#[test]
+fn values_of_families(rt: HostRuntime) -> Result<(), Fail> {
+    let are_parties = PerFamily::of(|family| Ok(family == Family::Party))?;
+    assert!(rt; *are_parties.get(Family::Party));
+    assert!(rt; !*are_parties.get(Family::Person));
+    Ok(())
 }
 
 #[test]

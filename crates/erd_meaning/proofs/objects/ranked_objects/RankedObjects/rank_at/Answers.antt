@@ -1,5 +1,5 @@
 use Rattle.erd_meaning.proofs.Common.{List, map, slice_get, option_map, ap, ◌∙◌, slice_get-map, those_of, Kept, rank_among, shown, Object, Order}
-use Rattle.erd_meaning.specs.Families.{entry_of}
+use Rattle.erd_tables.specs.Families.{entry_of}
 use Rattle.erd_meaning.proofs.selections.PositionedKeys.{ranks_of_order}
 use Rattle.erd_meaning.proofs.objects.ranked_objects.RankedObjects.rank_at.Goals as goal
 

@@ -1,8 +1,8 @@
 ghost use Rattle.std.specs.Prelude.{◌≡◌, IfOk, Ok};
 ghost use Rattle.erd_tables.specs.declared.class.Family.{Family};
-ghost use Rattle.erd_meaning.specs.Families.{entry_of};
+ghost use Rattle.erd_tables.specs.Families.{entry_of};
 
-use erd_tables::Family;
+use crate::class::Family;
 use std::alloc::AllocError;
 
 /// One value for each family.
@@ -27,7 +27,7 @@ impl<T: Drop> PerFamily<T> {
     /// `AllocError` if the function returns it for a family.
     ///
     /// ```
-    /// let counts = PerFamily::of(|family| Ok(report.count(family)))?;
+    /// let are_parties = PerFamily::of(|family| Ok(family == Family::Party))?;
     /// ```
     pub fn of<F: Fn(Family) -> Result<T, AllocError>>(make: F) -> Result<PerFamily<T>, AllocError>
         requires { F.IsAlwaysCallable make }
@@ -49,7 +49,8 @@ impl<T: Drop> PerFamily<T> {
     /// Returns the value of the family.
     ///
     /// ```
-    /// assert_eq!(rt; *counts.get(Family::Selection), 2);
+    /// assert!(rt; *are_parties.get(Family::Party));
+    /// assert!(rt; !*are_parties.get(Family::Person));
     /// ```
     pub fn get(&self, family: Family) -> &T
         ensures { result.now ≡ entry_of self.now family }
