@@ -1,9 +1,6 @@
 //! The two reports that are compared, and what they have in common.
-ghost use Rattle.std.specs.Prelude.{◌≡◌, true, option_and_then, option_map, slice_get};
-ghost use Rattle.serde_json.specs.View.{view};
+ghost use Rattle.erd_compare.specs.Words.{◌≡◌, true, option_and_then, option_map, slice_get, view, Election, IsBounded, objects};
 ghost use Rattle.erd_tables.specs.declared.class.Family.TheVariants as family;
-ghost use Rattle.erd_tables.specs.declared.class.Role.TheVariants.{Election};
-ghost use Rattle.erd_meaning.specs.Objects.{IsBounded, objects};
 ghost use Rattle.erd_compare.specs.code.CommonNames.{AreNameNumbers, number_of_selection};
 ghost use Rattle.erd_compare.specs.code.CommonRanks.{AreAllCommonRanks, AreCommonRanks, rank_of_key};
 ghost use Rattle.erd_compare.specs.code.KeyedDifferences.{IsComparable, holder_key_in, is_ranked, key_in_role};

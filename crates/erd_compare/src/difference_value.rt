@@ -1,7 +1,4 @@
-ghost use Rattle.std.specs.Prelude.{◌≡◌, codes, option_copied, IfOk};
-ghost use Rattle.serde_json.specs.Data.{string, object, member, no_members};
-ghost use Rattle.serde_json.specs.View.{view};
-ghost use Rattle.erd_compare.specs.DifferenceData.{difference_data, key_data};
+ghost use Rattle.erd_compare.specs.Words.{◌≡◌, codes, option_copied, IfOk, string, object, member, no_members, view, difference_data, key_data};
 
 use crate::difference::{Difference, How, key_value, part_words};
 use erd_meaning::Key;

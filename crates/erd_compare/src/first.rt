@@ -1,7 +1,4 @@
-ghost use Rattle.std.specs.Prelude.{◌≡◌, option_copied, IfOk};
-ghost use Rattle.serde_json.specs.View.{view};
-ghost use Rattle.erd_meaning.specs.Records.{meaning};
-ghost use Rattle.erd_compare.specs.Differences.{IsDifference};
+ghost use Rattle.erd_compare.specs.Words.{◌≡◌, option_copied, IfOk, view, meaning, IsDifference};
 ghost use Rattle.erd_compare.specs.code.Comparing.{TellsPart};
 
 mod tables;

@@ -1,13 +1,5 @@
-ghost use Rattle.std.specs.Prelude.{◌≡◌, false, List, Some, length, map, option_copied, option_map, slice_get, IfOk};
-ghost use Rattle.serde_json.specs.View.{view};
-ghost use Rattle.serde_json.specs.Written.{has_float};
-ghost use Rattle.erd_check.specs.Numbers.{HasFittingNumbers};
-ghost use Rattle.erd_check.specs.Trees.{IsShallow, IsTree};
-ghost use Rattle.erd_meaning.specs.Accepted.{IsAccepted};
-ghost use Rattle.erd_meaning.specs.Lookups.{FindsId, FindsKey, FindsSelection, election_in, election_key_in, key_in, rising_keys, selection_in, selections_before};
-ghost use Rattle.erd_meaning.specs.Objects.{IsBounded, elections, objects};
+ghost use Rattle.erd_meaning.specs.Words.{◌≡◌, false, List, Some, length, map, option_copied, option_map, slice_get, IfOk, view, has_float, HasFittingNumbers, IsShallow, IsTree, IsAccepted, FindsId, FindsKey, FindsSelection, election_in, election_key_in, key_in, rising_keys, selection_in, selections_before, IsBounded, elections, objects, ranked_selection_in};
 ghost use Rattle.erd_meaning.specs.code.RanksAmong.{AllAreRanked, names_of};
-ghost use Rattle.erd_meaning.specs.RankedNames.{ranked_selection_in};
 ghost use Rattle.erd_meaning.specs.code.Resolved.{IsResolved};
 ghost use Rattle.erd_meaning.specs.code.ResolvedElections.{AreElections};
 ghost use Rattle.erd_meaning.specs.code.SelectionWalk.{NumberedName};
@@ -69,9 +61,9 @@ pub(crate) struct Elections<'a> {
 }
 
 impl<'a> Model for Report<'a> {
+    ghost use Rattle.erd_meaning.specs.Words.{Judged};
     ghost use Rattle.std.specs.Coded.{codes};
     ghost use Rattle.serde_json.specs.contracts.value.Value as tree_value;
-    ghost use Rattle.erd_meaning.specs.Judged.{Judged};
     ghost use Rattle.erd_meaning.specs.code.ResolvedIndexes.{AreResolved};
 
     ghost Value = { Judged };

@@ -1,5 +1,4 @@
-ghost use Rattle.erd_normal.specs.Laws.{NamesAgree, ReferencesAgree, ObjectsAgree, CanonicalFormExists, CanonicalIsUnique, PreferencesAgree, RearrangedMeansTheSame};
-ghost use Rattle.erd_normal.specs.MeansTheSame.{SayingTheSameMeansTheSame};
+ghost use Rattle.erd_normal.specs.Words.{NamesAgree, ReferencesAgree, ObjectsAgree, CanonicalFormExists, CanonicalIsUnique, PreferencesAgree, RearrangedMeansTheSame, SayingTheSameMeansTheSame};
 
 /// The law that two canonical reports with the same meaning have the same keys, selection names and `@id` texts, in the same
 /// order. The function does nothing.

@@ -1,5 +1,4 @@
-ghost use Rattle.erd_normal.specs.SameForms.{CanonicalSaysTheSame, MeaningTheSameSaysTheSame, SayingAndMeaningAgree};
-ghost use Rattle.erd_normal.specs.SameLaws.{ExchangedSaysTheSame, RearrangedSaysTheSame, ReferencesNameTheSame, RenamedSaysTheSame, SameIsAccepted, SaysBack, SaysInTurn, SaysItself};
+ghost use Rattle.erd_normal.specs.Words.{CanonicalSaysTheSame, MeaningTheSameSaysTheSame, SayingAndMeaningAgree, ExchangedSaysTheSame, RearrangedSaysTheSame, ReferencesNameTheSame, RenamedSaysTheSame, SameIsAccepted, SaysBack, SaysInTurn, SaysItself};
 
 /// The law that each report says what it says. The function does nothing.
 pub fn says_itself()

@@ -1,18 +1,7 @@
 //! What the canonical form of a report is written from: the report, and the orders of its parts.
-ghost use Rattle.std.specs.Prelude.{◌≡◌, ◌==◌, ℕ, List, [], Some, true, false, map, option_map, slice_get, IfOk};
-ghost use Rattle.std.specs.Option.{option_map_or};
-ghost use Rattle.serde_json.specs.Data.{string};
-ghost use Rattle.serde_json.specs.declared.value.Value.{Value};
+ghost use Rattle.erd_normal.specs.Words.{◌≡◌, ◌==◌, ℕ, List, [], Some, true, false, map, option_map, slice_get, IfOk, option_map_or, string, Value, view, has_float, family_number, IsAccepted, has_keys, FindsId, id_in, key_in, rank_of, contests, elections, objects, canonical_selection_id};
 ghost use denote.Ref.{Bor};
-ghost use Rattle.serde_json.specs.View.{view};
-ghost use Rattle.serde_json.specs.Written.{has_float};
-ghost use Rattle.erd_tables.specs.Classes.{family_number};
 ghost use Rattle.erd_tables.specs.declared.class.Family.TheVariants as family;
-ghost use Rattle.erd_meaning.specs.Accepted.{IsAccepted};
-ghost use Rattle.erd_meaning.specs.Keys.{has_keys};
-ghost use Rattle.erd_meaning.specs.Lookups.{FindsId, id_in, key_in, rank_of};
-ghost use Rattle.erd_meaning.specs.Objects.{contests, elections, objects};
-ghost use Rattle.erd_normal.specs.Canonical.{canonical_selection_id};
 ghost use Rattle.erd_normal.specs.code.ElectionParts.{objects_in_part, part_seen};
 ghost use Rattle.erd_normal.specs.code.NormalTree.{normal_selection_reference};
 ghost use Rattle.erd_normal.specs.code.Orders.{AreOrders, rank_named};
@@ -48,10 +37,9 @@ pub(crate) struct Writer<'a> {
 }
 
 impl<'a> Model for Writer<'a> {
+    ghost use Rattle.erd_normal.specs.Words.{view as data_of, Judged};
     ghost use Rattle.std.specs.Coded.{codes};
-    ghost use Rattle.serde_json.specs.View.{view as data_of};
     ghost use Rattle.serde_json.specs.contracts.value.Value as tree_value;
-    ghost use Rattle.erd_meaning.specs.Judged.{Judged};
     ghost use Rattle.erd_normal.specs.code.Orders.{AreOrders};
 
     ghost Value = { Judged };

@@ -1,10 +1,6 @@
-ghost use Rattle.std.specs.Prelude.{◌≡◌, true, slice_get, option_copied, IfOk};
-ghost use Rattle.serde_json.specs.View.{view};
-ghost use Rattle.erd_meaning.specs.Records.{meaning};
-ghost use Rattle.erd_compare.specs.Differences.{record_at};
+ghost use Rattle.erd_compare.specs.Words.{◌≡◌, true, slice_get, option_copied, IfOk, view, meaning, record_at, OnlyLeft, OnlyRight};
 ghost use Rattle.erd_compare.specs.code.RisingParts.{AreRising};
 ghost use Rattle.erd_compare.specs.code.KeyedDifferences.{TellsAtPositions, TellsLeast, TellsNext, is_ranked, rising_in_role, shared_at};
-ghost use Rattle.erd_compare.specs.declared.difference.How.TheVariants.{OnlyLeft, OnlyRight};
 
 use crate::comparer::Comparer;
 use crate::difference::{How, Part};

@@ -1,6 +1,4 @@
-ghost use Rattle.std.specs.Prelude.{◌≡◌, IfOk, Option};
-ghost use Rattle.serde_json.specs.View.{view};
-ghost use Rattle.erd_meaning.specs.declared.keys.key.Key.{Key as key};
+ghost use Rattle.erd_compare.specs.Words.{◌≡◌, IfOk, Option, view, Key as key};
 ghost use Rattle.erd_compare.specs.code.Comparing.{Decides};
 ghost use Rattle.erd_compare.specs.code.HeldDifferences.{TellsHeld, is_before_election};
 ghost use Rattle.erd_compare.specs.code.KeyedDifferences.{holder_key_in};

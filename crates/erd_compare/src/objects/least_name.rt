@@ -1,6 +1,4 @@
-ghost use Rattle.std.specs.Prelude.{option_map, IfOk, Ok};
-ghost use Rattle.serde_json.specs.View.{view};
-ghost use Rattle.erd_check.specs.Trees.{IsTree};
+ghost use Rattle.erd_compare.specs.Words.{option_map, IfOk, Ok, view, IsTree};
 ghost use Rattle.erd_compare.specs.code.LeastNames.{IsObject, MemberMap, TellsLeastName};
 ghost use Rattle.erd_compare.specs.code.MemberPairs.{DecideNames, IsMapOf, IsPairOf};
 

@@ -1,8 +1,4 @@
-ghost use Rattle.std.specs.Prelude.{◌≡◌, option_map, true, IfOk, IfSome, Some};
-ghost use Rattle.serde_json.specs.View.{view};
-ghost use Rattle.erd_tables.specs.Classes.{role_of_class};
-ghost use Rattle.erd_tables.specs.Table.{kind_of_member};
-ghost use Rattle.erd_meaning.specs.Records.{object_record};
+ghost use Rattle.erd_compare.specs.Words.{◌≡◌, option_map, true, IfOk, IfSome, Some, view, role_of_class, kind_of_member, object_record};
 ghost use Rattle.erd_compare.specs.code.Comparing.{IsWholeTree, TellsHow, Decides};
 ghost use Rattle.erd_compare.specs.code.LeastNames.{IsObject, record_of_class};
 ghost use Rattle.erd_compare.specs.code.PlacedObjects.{AreSelectionsAt, IsPlaced};

@@ -1,7 +1,4 @@
-ghost use Rattle.std.specs.Prelude.{◌≡◌, map, option_map, IfOk, IfSome};
-ghost use Rattle.std.specs.List.{AllByRecursion};
-ghost use Rattle.serde_json.specs.View.{view};
-ghost use Rattle.erd_meaning.specs.Records.{plain_member, selection_map, selection_record};
+ghost use Rattle.erd_compare.specs.Words.{◌≡◌, map, option_map, IfOk, IfSome, AllByRecursion, view, plain_member, selection_map, selection_record};
 ghost use Rattle.erd_compare.specs.code.Comparing.{Decides, IsWholeTree};
 ghost use Rattle.erd_compare.specs.code.LeastNames.{IsObject};
 ghost use Rattle.erd_compare.specs.code.RankedSides.{on_side};

@@ -1,7 +1,4 @@
-ghost use Rattle.std.specs.Prelude.{◌≡◌, true, IfOk};
-ghost use Rattle.serde_json.specs.View.{view};
-ghost use Rattle.erd_tables.specs.declared.class.Role.TheVariants.{OfFamily};
-ghost use Rattle.erd_meaning.specs.Keys.{has_keys};
+ghost use Rattle.erd_compare.specs.Words.{◌≡◌, true, IfOk, view, OfFamily, has_keys};
 ghost use Rattle.erd_compare.specs.code.CommonRanks.{AreAllCommonRanks, AreCommonRanks, common_rank_of, common_ranks_in};
 ghost use Rattle.erd_compare.specs.code.KeyedDifferences.{IsComparable};
 ghost use Rattle.erd_compare.specs.code.RankedSides.{AreCommonByRank};

@@ -1,6 +1,5 @@
 //! The rising keys of two reports, merged.
-ghost use Rattle.std.specs.Prelude.{◌≡◌, true, slice_get, IfOk};
-ghost use Rattle.serde_json.specs.View.{view};
+ghost use Rattle.erd_compare.specs.Words.{◌≡◌, true, slice_get, IfOk, view};
 ghost use Rattle.erd_compare.specs.code.CommonRanks.{AreCommonRanks, next_cmp};
 ghost use Rattle.erd_compare.specs.code.KeyedDifferences.{IsComparable, is_ranked, rising_in_role};
 

@@ -1,9 +1,5 @@
-ghost use Rattle.std.specs.Prelude.{◌≡◌, MatchOption, string_bytes};
-ghost use Rattle.serde_json.specs.Data.{member, no_members};
-ghost use Rattle.serde_json.specs.View.{view, members_view};
-ghost use Rattle.erd_check.specs.Trees.{are_same_members};
+ghost use Rattle.erd_compare.specs.Words.{◌≡◌, MatchOption, string_bytes, member, no_members, view, members_view, are_same_members, carried_members};
 ghost use Rattle.erd_compare.specs.code.Choices.{takes_name, chosen_in, chosen_members};
-ghost use Rattle.erd_meaning.specs.Records.{carried_members};
 ghost use Rattle.erd_compare.specs.code.Comparing.{Decides, IsWholeTree};
 
 use erd_check::same_json;

@@ -1,13 +1,4 @@
-ghost use Rattle.std.specs.Prelude.{◌≡◌, true, map, option_and_then};
-ghost use Rattle.std.specs.List.{AllByRecursion};
-ghost use Rattle.serde_json.specs.Data.{Data};
-ghost use Rattle.serde_json.specs.Find.{as_str};
-ghost use Rattle.serde_json.specs.View.{view};
-ghost use Rattle.erd_meaning.specs.Keys.{Preference, has_keys};
-ghost use Rattle.erd_check.specs.Values.{text_at};
-ghost use Rattle.erd_meaning.specs.Meaning.{no_content};
-ghost use Rattle.erd_meaning.specs.Records.{content_of, node_of, contest_node, header_node, class_of_node, is_header_class};
-ghost use Rattle.erd_meaning.specs.SelectionNames.{key_named, name_named};
+ghost use Rattle.erd_compare.specs.Words.{◌≡◌, true, map, option_and_then, AllByRecursion, Data, as_str, view, Preference, has_keys, text_at, no_content, content_of, node_of, contest_node, header_node, class_of_node, is_header_class, key_named, name_named};
 ghost use Rattle.erd_compare.specs.code.Comparing.{Decides, IsWholeTree};
 ghost use Rattle.erd_compare.specs.code.ContentParts.{content_within};
 

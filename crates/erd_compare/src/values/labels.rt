@@ -1,6 +1,4 @@
-ghost use Rattle.std.specs.Prelude.{IfOk};
-ghost use Rattle.serde_json.specs.View.{view};
-ghost use Rattle.erd_meaning.specs.Records.{label_of};
+ghost use Rattle.erd_compare.specs.Words.{IfOk, view, label_of};
 ghost use Rattle.erd_compare.specs.code.Choices.{translated_label};
 ghost use Rattle.erd_compare.specs.code.Comparing.{Decides, IsWholeTree};
 

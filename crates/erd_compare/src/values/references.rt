@@ -1,10 +1,4 @@
-ghost use Rattle.std.specs.Prelude.{◌≡◌, ◌==◌, true, filter_map, map, option_and_then, option_map, IfOk};
-ghost use Rattle.serde_json.specs.Find.{as_str};
-ghost use Rattle.serde_json.specs.View.{view};
-ghost use Rattle.erd_meaning.specs.Keys.{has_keys};
-ghost use Rattle.erd_tables.specs.Classes.{family_number};
-ghost use Rattle.erd_meaning.specs.Records.{key_set};
-ghost use Rattle.erd_meaning.specs.SelectionNames.{key_named, keys_named, name_named};
+ghost use Rattle.erd_compare.specs.Words.{◌≡◌, ◌==◌, true, filter_map, map, option_and_then, option_map, IfOk, as_str, view, has_keys, family_number, key_set, key_named, keys_named, name_named};
 ghost use Rattle.erd_compare.specs.code.CommonNames.{number_of_name};
 ghost use Rattle.erd_compare.specs.code.Comparing.{Decides};
 ghost use Rattle.erd_compare.specs.code.RankedSides.{IsRankSet, rank_with_id, on_side};

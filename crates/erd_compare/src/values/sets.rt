@@ -1,8 +1,4 @@
-ghost use Rattle.std.specs.Prelude.{◌≡◌, map, IfOk};
-ghost use Rattle.std.specs.List.{AllByRecursion, list_all};
-ghost use Rattle.serde_json.specs.View.{view};
-ghost use Rattle.erd_check.specs.ValueSets.{values_in};
-ghost use Rattle.erd_meaning.specs.Records.{json_set};
+ghost use Rattle.erd_compare.specs.Words.{◌≡◌, map, IfOk, AllByRecursion, list_all, view, values_in, json_set};
 ghost use Rattle.erd_compare.specs.code.Comparing.{Decides, IsWholeTree};
 
 use erd_check::{FEW_VALUES, ValueSet, is_among, same_json};

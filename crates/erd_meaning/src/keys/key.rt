@@ -1,5 +1,5 @@
 //! The key of an object or of an election.
-ghost use Rattle.std.specs.Prelude.{◌≡◌, IfOk};
+ghost use Rattle.erd_meaning.specs.Words.{◌≡◌, IfOk, key_cmp};
 
 use erd_tables::Text;
 use erd_text::SetOrder;
@@ -40,7 +40,6 @@ impl Key {
 }
 
 impl SetOrder for Key {
-    ghost use Rattle.erd_meaning.specs.Keys.{key_cmp};
     ghost use Rattle.erd_meaning.specs.code.Orders.{key_cmp_exact, key_cmp_total};
 
     ghost cmp = { key_cmp };

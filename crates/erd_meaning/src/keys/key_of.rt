@@ -1,7 +1,5 @@
 //! The choice of the key of an object among its external identifiers.
-ghost use Rattle.std.specs.Prelude.{◌≡◌, option_copied, IfOk};
-ghost use Rattle.serde_json.specs.View.{view};
-ghost use Rattle.erd_meaning.specs.Keys.{key_of};
+ghost use Rattle.erd_meaning.specs.Words.{◌≡◌, option_copied, IfOk, view, key_of};
 
 use crate::keys::key::Key;
 use crate::keys::triple::Triple;

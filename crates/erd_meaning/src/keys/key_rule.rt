@@ -1,6 +1,4 @@
-ghost use Rattle.std.specs.Prelude.{◌≡◌, IfOk};
-ghost use Rattle.serde_json.specs.View.{view};
-ghost use Rattle.erd_meaning.specs.Keys.{key_of};
+ghost use Rattle.erd_meaning.specs.Words.{◌≡◌, IfOk, view, key_of};
 
 use crate::keys::key::Key;
 use crate::keys::key_of::{chosen_triple, key_of};
@@ -17,8 +15,7 @@ pub(crate) struct KeyRule<'p> {
 }
 
 impl<'p> Model for KeyRule<'p> {
-    ghost use Rattle.std.specs.Option.{option_copied};
-    ghost use Rattle.erd_meaning.specs.Keys.{Preference};
+    ghost use Rattle.erd_meaning.specs.Words.{option_copied, Preference};
 
     ghost Value = { Preference };
 

@@ -1,4 +1,5 @@
-ghost use Rattle.std.specs.Prelude.{◌≡◌, IfOk};
+ghost use Rattle.erd_meaning.specs.Words.{◌≡◌, IfOk, eq_by_cmp_equiv, partial_equiv_from_equiv, eq_by_cmp, key_cmp, partial_order_from_total, as_partial_cmp, refl, key_writes};
+ghost use Rattle.erd_meaning.specs.code.Orders.{key_cmp_total, equal_keys_alike};
 
 use crate::keys::key::Key;
 use crate::keys::triple::Triple;
@@ -15,7 +16,7 @@ pub(crate) struct SharedKey {
 }
 
 impl Model for SharedKey {
-    ghost use Rattle.erd_meaning.specs.declared.keys.key.Key.{Key};
+    ghost use Rattle.erd_meaning.specs.Words.{Key};
 
     ghost Value = { Key };
 
@@ -63,11 +64,6 @@ impl SharedKey {
 }
 
 impl PartialEq for SharedKey {
-    ghost use Rattle.std.specs.Cmp.{eq_by_cmp_equiv, partial_equiv_from_equiv};
-    ghost use Rattle.std.specs.Ordering.{eq_by_cmp};
-    ghost use Rattle.erd_meaning.specs.Keys.{key_cmp};
-    ghost use Rattle.erd_meaning.specs.code.Orders.{key_cmp_total};
-
     ghost eq = { eq_by_cmp key_cmp };
 
     ghost laws = { partial_equiv_from_equiv (eq_by_cmp_equiv key_cmp_total) };
@@ -78,18 +74,10 @@ impl PartialEq for SharedKey {
 }
 
 impl Eq for SharedKey {
-    ghost use Rattle.std.specs.Cmp.{eq_by_cmp_equiv};
-    ghost use Rattle.erd_meaning.specs.code.Orders.{key_cmp_total};
-
     ghost laws = { eq_by_cmp_equiv key_cmp_total };
 }
 
 impl PartialOrd for SharedKey {
-    ghost use Rattle.std.specs.Cmp.{partial_order_from_total};
-    ghost use Rattle.std.specs.Ordering.{as_partial_cmp};
-    ghost use Rattle.erd_meaning.specs.Keys.{key_cmp};
-    ghost use Rattle.erd_meaning.specs.code.Orders.{key_cmp_total};
-
     ghost partial_cmp = { as_partial_cmp key_cmp };
 
     ghost laws = { partial_order_from_total key_cmp_total };
@@ -100,10 +88,6 @@ impl PartialOrd for SharedKey {
 }
 
 impl Ord for SharedKey {
-    ghost use Rattle.std.proofs.Common.{refl};
-    ghost use Rattle.erd_meaning.specs.Keys.{key_cmp};
-    ghost use Rattle.erd_meaning.specs.code.Orders.{key_cmp_total};
-
     ghost cmp = { key_cmp };
 
     ghost total = { key_cmp_total };
@@ -118,9 +102,6 @@ impl Ord for SharedKey {
 }
 
 impl Hash for SharedKey {
-    ghost use Rattle.erd_meaning.specs.Hashes.{key_writes};
-    ghost use Rattle.erd_meaning.specs.code.Orders.{equal_keys_alike};
-
     ghost hash_input = { key_writes };
 
     ghost respects_eq = { equal_keys_alike key_writes };

@@ -1,8 +1,6 @@
-ghost use Rattle.std.specs.Prelude.{◌≡◌, option_copied, IfOk};
-ghost use Rattle.std.specs.Ordering.{is_lt};
-ghost use Rattle.serde_json.specs.View.{view};
-ghost use Rattle.erd_meaning.specs.Keys.{key_cmp, triple_of};
+ghost use Rattle.erd_meaning.specs.Words.{◌≡◌, option_copied, IfOk, is_lt, view, key_cmp, triple_of, eq_by_cmp_equiv, partial_equiv_from_equiv, eq_by_cmp, key_writes};
 ghost use Rattle.erd_meaning.specs.code.ChosenKeys.{choice_cmp, is_preferred};
+ghost use Rattle.erd_meaning.specs.code.Orders.{key_cmp_total, equal_keys_alike};
 
 use crate::keys::key::Key;
 use erd_check::values::text_at;
@@ -22,7 +20,7 @@ pub(crate) struct Triple<'a> {
 }
 
 impl<'a> Model for Triple<'a> {
-    ghost use Rattle.erd_meaning.specs.declared.keys.key.Key.{Key};
+    ghost use Rattle.erd_meaning.specs.Words.{Key};
 
     ghost Value = { Key };
 
@@ -98,11 +96,6 @@ impl<'a> Triple<'a> {
 }
 
 impl<'a> PartialEq for Triple<'a> {
-    ghost use Rattle.std.specs.Cmp.{eq_by_cmp_equiv, partial_equiv_from_equiv};
-    ghost use Rattle.std.specs.Ordering.{eq_by_cmp};
-    ghost use Rattle.erd_meaning.specs.Keys.{key_cmp};
-    ghost use Rattle.erd_meaning.specs.code.Orders.{key_cmp_total};
-
     ghost eq = { eq_by_cmp key_cmp };
 
     ghost laws = { partial_equiv_from_equiv (eq_by_cmp_equiv key_cmp_total) };
@@ -113,16 +106,10 @@ impl<'a> PartialEq for Triple<'a> {
 }
 
 impl<'a> Eq for Triple<'a> {
-    ghost use Rattle.std.specs.Cmp.{eq_by_cmp_equiv};
-    ghost use Rattle.erd_meaning.specs.code.Orders.{key_cmp_total};
-
     ghost laws = { eq_by_cmp_equiv key_cmp_total };
 }
 
 impl<'a> Hash for Triple<'a> {
-    ghost use Rattle.erd_meaning.specs.Hashes.{key_writes};
-    ghost use Rattle.erd_meaning.specs.code.Orders.{equal_keys_alike};
-
     ghost hash_input = { key_writes };
 
     ghost respects_eq = { equal_keys_alike key_writes };

@@ -1,14 +1,7 @@
-ghost use Rattle.std.specs.Prelude.{◌≡◌, false, List, map, IfOk};
-ghost use Rattle.std.specs.Ordering.{nat_cmp};
-ghost use Rattle.serde_json.specs.View.{view};
-ghost use Rattle.serde_json.specs.Written.{has_float};
-ghost use Rattle.erd_meaning.specs.Keys.{key_cmp};
+ghost use Rattle.erd_meaning.specs.Words.{◌≡◌, false, List, map, IfOk, nat_cmp, view, has_float, key_cmp, family_chosen, is_write_in, keys_found, keys_of_selection, label_of_selection, order_of_selection, rising_list};
 ghost use Rattle.erd_meaning.specs.code.ObjectLookups.{key_among};
 ghost use Rattle.erd_meaning.specs.code.ObjectWalk.{Kept};
-ghost use Rattle.erd_meaning.specs.RankedNames.{family_chosen};
 ghost use Rattle.erd_meaning.specs.code.RanksAmong.{ranked_key, ranked_name_among};
-ghost use Rattle.erd_meaning.specs.SelectionNames.{is_write_in, keys_found, keys_of_selection, label_of_selection, order_of_selection};
-ghost use Rattle.erd_text.specs.RisingLists.{rising_list};
 ghost use Rattle.erd_meaning.specs.code.Shown.{shown};
 
 use crate::keys::key_rule::KeyRule;

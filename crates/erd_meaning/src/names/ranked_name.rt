@@ -1,9 +1,5 @@
-ghost use Rattle.std.specs.Prelude.{◌≡◌};
-ghost use Rattle.serde_json.specs.Data.{Data};
-ghost use Rattle.erd_meaning.specs.Keys.{Preference};
-ghost use Rattle.erd_meaning.specs.NameParts.{NameParts};
-ghost use Rattle.erd_meaning.specs.RankedNames.{IsRankedIn, family_chosen, ranked_name_cmp};
-ghost use Rattle.erd_meaning.specs.SelectionNames.{name_cmp};
+ghost use Rattle.erd_meaning.specs.Words.{◌≡◌, Data, Preference, NameParts, IsRankedIn, family_chosen, ranked_name_cmp, name_cmp, eq_by_cmp_equiv, partial_equiv_from_equiv, eq_by_cmp, ranked_name_writes};
+ghost use Rattle.erd_meaning.specs.code.RankedOrders.{ranked_name_cmp_total, equal_ranked_alike};
 
 use crate::names::selection_name::{SelectionName, compare_numbered};
 use crate::objects::ranked_objects::family_chosen;
@@ -55,7 +51,7 @@ pub struct RankedName<N: Named> {
 }
 
 impl<N: Named> Model for RankedName<N> {
-    ghost use Rattle.erd_meaning.specs.NumberedNames.{RankedParts};
+    ghost use Rattle.erd_meaning.specs.Words.{RankedParts};
 
     ghost Value = { RankedParts };
 
@@ -129,11 +125,6 @@ impl<N: Named> RankedName<N> {
 }
 
 impl<N: Named> PartialEq for RankedName<N> {
-    ghost use Rattle.std.specs.Cmp.{eq_by_cmp_equiv, partial_equiv_from_equiv};
-    ghost use Rattle.std.specs.Ordering.{eq_by_cmp};
-    ghost use Rattle.erd_meaning.specs.RankedNames.{ranked_name_cmp};
-    ghost use Rattle.erd_meaning.specs.code.RankedOrders.{ranked_name_cmp_total};
-
     ghost eq = { eq_by_cmp ranked_name_cmp };
 
     ghost laws = { partial_equiv_from_equiv (eq_by_cmp_equiv ranked_name_cmp_total) };
@@ -144,16 +135,10 @@ impl<N: Named> PartialEq for RankedName<N> {
 }
 
 impl<N: Named> Eq for RankedName<N> {
-    ghost use Rattle.std.specs.Cmp.{eq_by_cmp_equiv};
-    ghost use Rattle.erd_meaning.specs.code.RankedOrders.{ranked_name_cmp_total};
-
     ghost laws = { eq_by_cmp_equiv ranked_name_cmp_total };
 }
 
 impl<N: Named> Hash for RankedName<N> {
-    ghost use Rattle.erd_meaning.specs.RankedNames.{ranked_name_writes};
-    ghost use Rattle.erd_meaning.specs.code.RankedOrders.{equal_ranked_alike};
-
     ghost hash_input = { ranked_name_writes };
 
     ghost respects_eq = { equal_ranked_alike };

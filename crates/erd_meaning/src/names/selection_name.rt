@@ -1,10 +1,7 @@
 //! The name of a selection.
-ghost use Rattle.std.specs.Prelude.{◌≡◌, IfOk, fold};
-ghost use Rattle.std.specs.Ordering.{eq_by_cmp};
-ghost use Rattle.erd_meaning.specs.SelectionNames.{name_cmp};
-ghost use Rattle.erd_meaning.specs.Hashes.{after_keys_writes};
-ghost use Rattle.erd_meaning.specs.NumberedNames.{numbered_name_cmp, numbered_name_writes, numbered_parts};
+ghost use Rattle.erd_meaning.specs.Words.{◌≡◌, IfOk, fold, eq_by_cmp, name_cmp, after_keys_writes, numbered_name_cmp, numbered_name_writes, numbered_parts, eq_by_cmp_equiv, partial_equiv_from_equiv, partial_order_from_total, as_partial_cmp, refl, name_writes};
 ghost use Rattle.erd_meaning.specs.code.NumberedOrders.{after_keys_cmp};
+ghost use Rattle.erd_meaning.specs.code.Orders.{name_cmp_total, equal_names_alike, name_cmp_exact};
 
 use crate::keys::key::{Key, copied};
 use crate::keys::shared_key::SharedKey;
@@ -31,7 +28,7 @@ pub struct SelectionName {
 }
 
 impl Model for SelectionName {
-    ghost use Rattle.erd_meaning.specs.NameParts.{NameParts};
+    ghost use Rattle.erd_meaning.specs.Words.{NameParts};
 
     ghost Value = { NameParts };
 
@@ -128,11 +125,6 @@ pub(crate) fn compare_numbered(
 }
 
 impl PartialEq for SelectionName {
-    ghost use Rattle.std.specs.Cmp.{eq_by_cmp_equiv, partial_equiv_from_equiv};
-    ghost use Rattle.std.specs.Ordering.{eq_by_cmp};
-    ghost use Rattle.erd_meaning.specs.SelectionNames.{name_cmp};
-    ghost use Rattle.erd_meaning.specs.code.Orders.{name_cmp_total};
-
     ghost eq = { eq_by_cmp name_cmp };
 
     ghost laws = { partial_equiv_from_equiv (eq_by_cmp_equiv name_cmp_total) };
@@ -143,18 +135,10 @@ impl PartialEq for SelectionName {
 }
 
 impl Eq for SelectionName {
-    ghost use Rattle.std.specs.Cmp.{eq_by_cmp_equiv};
-    ghost use Rattle.erd_meaning.specs.code.Orders.{name_cmp_total};
-
     ghost laws = { eq_by_cmp_equiv name_cmp_total };
 }
 
 impl PartialOrd for SelectionName {
-    ghost use Rattle.std.specs.Cmp.{partial_order_from_total};
-    ghost use Rattle.std.specs.Ordering.{as_partial_cmp};
-    ghost use Rattle.erd_meaning.specs.SelectionNames.{name_cmp};
-    ghost use Rattle.erd_meaning.specs.code.Orders.{name_cmp_total};
-
     ghost partial_cmp = { as_partial_cmp name_cmp };
 
     ghost laws = { partial_order_from_total name_cmp_total };
@@ -165,10 +149,6 @@ impl PartialOrd for SelectionName {
 }
 
 impl Ord for SelectionName {
-    ghost use Rattle.std.proofs.Common.{refl};
-    ghost use Rattle.erd_meaning.specs.SelectionNames.{name_cmp};
-    ghost use Rattle.erd_meaning.specs.code.Orders.{name_cmp_total};
-
     ghost cmp = { name_cmp };
 
     ghost total = { name_cmp_total };
@@ -183,9 +163,6 @@ impl Ord for SelectionName {
 }
 
 impl Hash for SelectionName {
-    ghost use Rattle.erd_meaning.specs.Hashes.{name_writes};
-    ghost use Rattle.erd_meaning.specs.code.Orders.{equal_names_alike};
-
     ghost hash_input = { name_writes };
 
     ghost respects_eq = { equal_names_alike name_writes };
@@ -226,9 +203,6 @@ fn copied_identifier(alloc: Global, identifier: &Option<Key>) -> Result<Option<K
 }
 
 impl SetOrder for SelectionName {
-    ghost use Rattle.erd_meaning.specs.code.Orders.{name_cmp_exact, name_cmp_total};
-    ghost use Rattle.erd_meaning.specs.SelectionNames.{name_cmp};
-
     ghost cmp = { name_cmp };
 
     ghost total = { name_cmp_total };

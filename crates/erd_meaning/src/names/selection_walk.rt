@@ -1,8 +1,4 @@
-ghost use Rattle.std.specs.Prelude.{◌≡◌, ◌+◌, ◌<◌, ◌^◌, codes, false, length, map, List, IfOk};
-ghost use Rattle.serde_json.specs.View.{view};
-ghost use Rattle.serde_json.specs.Written.{has_float};
-ghost use Rattle.erd_check.specs.Paths.{steps_of};
-ghost use Rattle.erd_meaning.specs.Objects.{numbered_selections, numbered_selections_of, placed_entries};
+ghost use Rattle.erd_meaning.specs.Words.{◌≡◌, ◌+◌, ◌<◌, ◌^◌, codes, false, length, map, List, IfOk, view, has_float, steps_of, numbered_selections, numbered_selections_of, placed_entries};
 ghost use Rattle.erd_meaning.specs.code.ObjectWalk.{Kept, kept_objects};
 ghost use Rattle.erd_meaning.specs.code.RanksAmong.{AllAreRanked, IsRanked, name_among};
 ghost use Rattle.erd_meaning.specs.code.SelectionWalk.{named_all, named_one, numbered_from, with_name};

@@ -1,10 +1,8 @@
-ghost use Rattle.std.specs.Prelude.{◌≡◌, ◌&&◌, ◌==◌, flat_map, fold, map, Some};
+ghost use Rattle.erd_meaning.specs.Words.{◌≡◌, ◌&&◌, ◌==◌, flat_map, fold, map, Some, write, eq_by_cmp, family_chosen, ranked_name_cmp};
 ghost use Rattle.std.specs.Hash as fed;
-ghost use Rattle.std.specs.Hash.DefaultHasher.{write};
-ghost use Rattle.std.specs.Ordering.{eq_by_cmp};
-ghost use Rattle.erd_meaning.specs.code.RanksAmong.{are_ranks_of, fed_rank, has_keys_among, is_key_among, rank_among, ranked_parts};
-ghost use Rattle.erd_meaning.specs.RankedNames.{family_chosen, ranked_name_cmp};
+ghost use Rattle.erd_meaning.specs.code.RanksAmong.{are_ranks_of, fed_rank, has_keys_among, is_key_among, rank_among, ranked_parts, is_sought};
 ghost use Rattle.erd_meaning.specs.code.Shown.{shown};
+ghost use Rattle.erd_meaning.specs.code.RankedOrders.{sought_equal};
 
 use crate::keys::key::Key;
 use crate::names::ranked_name::RankedName;
@@ -85,11 +83,6 @@ impl<'b, 'a> SoughtName<'b, 'a> {
 }
 
 impl<'b, 'a> Sought<(usize, RankedName<SelectionName>)> for SoughtName<'b, 'a> {
-    ghost use Rattle.std.specs.Prelude.{map};
-    ghost use Rattle.erd_meaning.specs.code.RanksAmong.{is_sought};
-    ghost use Rattle.erd_meaning.specs.code.RankedOrders.{sought_equal};
-    ghost use Rattle.erd_meaning.specs.code.Shown.{shown};
-
     ghost finds = { λ q. is_sought (map shown q.objects.now) q.contest q.name.now };
 
     ghost respects_eq = { λ q. sought_equal (map shown q.objects.now) q.contest q.name.now };

@@ -1,6 +1,4 @@
-ghost use Rattle.std.specs.Prelude.{◌≡◌, ◌++◌, codes, length, replicate, slice_get, IfOk};
-ghost use Rattle.serde_json.specs.View.{view};
-ghost use Rattle.erd_check.specs.Values.{entries_at};
+ghost use Rattle.erd_meaning.specs.Words.{◌≡◌, ◌++◌, codes, length, replicate, slice_get, IfOk, view, entries_at};
 ghost use Rattle.erd_meaning.specs.code.ElectionKeys.{held_from};
 ghost use Rattle.erd_meaning.specs.code.Holding.{AreHeld, held};
 

@@ -1,8 +1,4 @@
-ghost use Rattle.std.specs.Prelude.{◌≡◌, ◌++◌, codes, flat_map, length, nat_lt, IfOk};
-ghost use Rattle.serde_json.specs.View.{view};
-ghost use Rattle.erd_check.specs.Paths.{steps_of};
-ghost use Rattle.erd_meaning.specs.Keys.{key_of_family_object};
-ghost use Rattle.erd_meaning.specs.Objects.{id_of, placed_entries};
+ghost use Rattle.erd_meaning.specs.Words.{◌≡◌, ◌++◌, codes, flat_map, length, nat_lt, IfOk, view, steps_of, key_of_family_object, id_of, placed_entries};
 ghost use Rattle.erd_meaning.specs.code.ObjectWalk.{faults_told, located, located_election, located_one, contest_located, election_located, inside_election, all_located, met_one, met_all};
 ghost use Rattle.erd_meaning.specs.code.Shown.{shown, placed_at};
 ghost use Rattle.erd_meaning.specs.code.ShownWalks.{met_of};

@@ -1,9 +1,6 @@
 //! The order of the objects of a family, or of the elections, by their keys.
-ghost use Rattle.std.specs.Prelude.{◌≡◌, ◌<◌, length, map, replicate, slice_get, IfOk};
-ghost use Rattle.std.specs.List.{AllByRecursion};
-ghost use Rattle.erd_text.specs.RisingLists.{rising_list};
+ghost use Rattle.erd_meaning.specs.Words.{◌≡◌, ◌<◌, length, map, replicate, slice_get, IfOk, AllByRecursion, rising_list, places_put};
 ghost use Rattle.erd_meaning.specs.code.KeyOrders.{AreDistinct, IsOrder, keys_seen, lent_key_cmp, positioned, seen_keys};
-ghost use Rattle.erd_meaning.specs.Places.{places_put};
 
 use crate::keys::key::Key;
 use std::alloc::{AllocError, Global};

@@ -1,6 +1,4 @@
-ghost use Rattle.std.specs.Prelude.{◌≡◌, [], OnOk};
-ghost use Rattle.erd_tables.specs.Classes.{family_number};
-ghost use Rattle.erd_tables.specs.declared.class.Family.{Family};
+ghost use Rattle.erd_meaning.specs.Words.{◌≡◌, [], OnOk, family_number, Family};
 ghost use Rattle.erd_meaning.specs.code.ObjectIndexes.{HasRoom, list_of, with_place};
 
 use erd_tables::Family;

@@ -1,12 +1,7 @@
-ghost use Rattle.std.specs.Prelude.{◌≡◌, true, map, option_and_then, option_map, if◌then◌else◌, slice_get, None, Some, IfOk};
-ghost use Rattle.serde_json.specs.Find.{as_str};
-ghost use Rattle.serde_json.specs.View.{view};
-ghost use Rattle.erd_tables.specs.Families.{entry_of};
-ghost use Rattle.erd_meaning.specs.Keys.{has_keys};
+ghost use Rattle.erd_meaning.specs.Words.{◌≡◌, true, map, option_and_then, option_map, if◌then◌else◌, slice_get, None, Some, IfOk, as_str, view, entry_of, has_keys, family_chosen};
 ghost use Rattle.erd_meaning.specs.code.KeyOrders.{HaveDistinctKeys, IsOrder, family_keys, positioned, rising_positions, seen_keys};
 ghost use Rattle.erd_meaning.specs.code.ObjectLookups.{key_among, those_of};
 ghost use Rattle.erd_meaning.specs.code.RanksAmong.{is_key_among, key_at_among, rank_among, ranked_key, rising_keys_among};
-ghost use Rattle.erd_meaning.specs.RankedNames.{family_chosen};
 ghost use Rattle.erd_meaning.specs.code.Shown.{shown};
 
 use crate::keys::key::Key;
@@ -27,12 +22,9 @@ pub(crate) struct RankedObjects<'a> {
 }
 
 impl<'a> Model for RankedObjects<'a> {
-    ghost use Rattle.std.specs.Prelude.{◌≡◌, List, map, true};
+    ghost use Rattle.erd_meaning.specs.Words.{◌≡◌, List, map, true, entry_of, Family, has_keys};
     ghost use Rattle.std.specs.Coded.{codes};
     ghost use Rattle.serde_json.specs.contracts.value.Value as tree_value;
-    ghost use Rattle.erd_tables.specs.Families.{entry_of};
-    ghost use Rattle.erd_tables.specs.declared.class.Family.{Family};
-    ghost use Rattle.erd_meaning.specs.Keys.{has_keys};
     ghost use Rattle.erd_meaning.specs.declared.objects.table.Object.{Object};
     ghost use Rattle.erd_meaning.specs.code.KeyOrders.{IsOrder, family_keys};
     ghost use Rattle.erd_meaning.specs.code.Shown.{shown};

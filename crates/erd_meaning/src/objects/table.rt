@@ -1,15 +1,10 @@
-ghost use Rattle.std.specs.Prelude.{◌≡◌, ◌==◌, ◌<◌, ◌+◌, ◌++◌, ◌∷◌, ℕ, List, [], length, map, option_and_then, option_map, slice_get, is_some, bytes_eq, false, true, OnOk, OnErr, IfOk, IfSome, if◌then◌else◌, Some, None, vec_len, vec_capacity};
-ghost use Rattle.std.specs.Option.{option_copied, option_map_or, option_or};
-ghost use Rattle.indexmap.specs.IndexMap.{get_by, spare};
+ghost use Rattle.erd_meaning.specs.Words.{◌≡◌, ◌==◌, ◌<◌, ◌+◌, ◌++◌, ◌∷◌, ℕ, List, [], length, map, option_and_then, option_map, slice_get, is_some, bytes_eq, false, true, OnOk, OnErr, IfOk, IfSome, if◌then◌else◌, Some, None, vec_len, vec_capacity, option_copied, option_map_or, option_or, get_by, spare, Family, list_any, Key};
 ghost use Rattle.erd_meaning.specs.code.ObjectIndexes.{IsStart, contests_before, contests_noted, is_in_contest, number_among, number_of_id, number_of_key};
-ghost use Rattle.erd_tables.specs.declared.class.Family.{Family};
 ghost use Rattle.erd_meaning.specs.code.Indexed.{is_salted_id, is_salted_owned, same_owned};
-ghost use Rattle.std.specs.List.{list_any};
 ghost use Rattle.erd_meaning.specs.code.ObjectLookups.{those_of};
 ghost use Rattle.erd_meaning.specs.code.ReferenceReasons.{is_known};
 ghost use Rattle.erd_meaning.specs.code.ObjectWalk.{has_same_id, has_same_key, same_id};
 ghost use Rattle.erd_meaning.specs.code.Shown.{shown};
-ghost use Rattle.erd_meaning.specs.declared.keys.key.Key.{Key};
 
 use crate::keys::key::Key;
 use crate::keys::shared_key::SharedKey;
@@ -55,8 +50,7 @@ pub(crate) struct ObjectTable<'a> {
 }
 
 impl<'a> Model for ObjectTable<'a> {
-    ghost use Rattle.std.specs.Prelude.{List, map};
-    ghost use Rattle.indexmap.specs.IndexMap.{get_by};
+    ghost use Rattle.erd_meaning.specs.Words.{List, map, get_by};
     ghost use Rattle.std.specs.Coded.{codes};
     ghost use Rattle.serde_json.specs.contracts.value.Value as tree_value;
     ghost use Rattle.erd_meaning.specs.declared.objects.table.Object.{Object};

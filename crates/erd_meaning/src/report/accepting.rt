@@ -1,11 +1,5 @@
 //! Reports in which all is judged with as few walks as there can be.
-ghost use Rattle.std.specs.Prelude.{◌≡◌, map, option_copied, IfOk, IfErr, IfSome};
-ghost use Rattle.serde_json.specs.View.{view};
-ghost use Rattle.erd_check.specs.Refusals.{RefusedFor};
-ghost use Rattle.erd_check.specs.Shapes.{IsFaultless};
-ghost use Rattle.erd_check.specs.Trees.{IsShallow};
-ghost use Rattle.erd_check.specs.declared.error.CheckError.TheVariants.{Memory};
-ghost use Rattle.erd_meaning.specs.Accepted.{IsAccepted, IsFault};
+ghost use Rattle.erd_meaning.specs.Words.{◌≡◌, map, option_copied, IfOk, IfErr, IfSome, view, RefusedFor, IsFaultless, IsShallow, Memory, IsAccepted, IsFault};
 ghost use Rattle.erd_meaning.specs.code.ObjectWalk.{election_keys, kept_objects};
 ghost use Rattle.erd_meaning.specs.code.Resolved.{IsIdentified, IsReferred};
 ghost use Rattle.erd_meaning.specs.code.Shown.{shown};

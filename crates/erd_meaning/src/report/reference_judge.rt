@@ -1,15 +1,8 @@
-ghost use Rattle.std.specs.Prelude.{◌≡◌, ◌++◌, map, option_to_list, IfOk, IfSome};
-ghost use Rattle.serde_json.specs.View.{view};
-ghost use Rattle.erd_tables.specs.Faults.{ListsAll};
-ghost use Rattle.erd_check.specs.Shapes.{IsFaultless};
-ghost use Rattle.erd_check.specs.Trees.{IsShallow, IsTree};
-ghost use Rattle.erd_check.specs.Paths.{steps_of};
-ghost use Rattle.erd_check.specs.Visits.{faults_of};
-ghost use Rattle.erd_meaning.specs.LaterFaults.{ReferenceFault};
+ghost use Rattle.erd_meaning.specs.Words.{◌≡◌, ◌++◌, map, option_to_list, IfOk, IfSome, view, ListsAll, IsFaultless, IsShallow, IsTree, steps_of, faults_of, ReferenceFault, false, ⊤};
 ghost use Rattle.erd_meaning.specs.code.ObjectWalk.{kept_objects};
 ghost use Rattle.erd_meaning.specs.code.OwnIds.{HaveOwnIds};
 ghost use Rattle.erd_meaning.specs.code.Resolved.{IsIdentified, IsReferred};
-ghost use Rattle.erd_meaning.specs.code.ReferenceReasons.{id_reasons, leads_to_references};
+ghost use Rattle.erd_meaning.specs.code.ReferenceReasons.{id_reasons, leads_to_references, reference_reasons_told};
 ghost use Rattle.erd_meaning.specs.code.Shown.{shown};
 
 use crate::keys::key_rule::KeyRule;
@@ -71,10 +64,6 @@ pub(crate) struct ReferenceJudge<'b, 'a> {
 }
 
 impl<'b, 'a> Visitor for ReferenceJudge<'b, 'a> {
-    ghost use Rattle.std.specs.Prelude.{false, map, ⊤};
-    ghost use Rattle.erd_meaning.specs.code.ReferenceReasons.{reference_reasons_told};
-    ghost use Rattle.erd_meaning.specs.code.Shown.{shown};
-
     ghost tells = { λ j. reference_reasons_told (map shown j.objects.now) };
 
     ghost Known = { λ _ _ _. ⊤ };

@@ -1,11 +1,4 @@
-ghost use Rattle.std.specs.Prelude.{◌≡◌, false, map, option_copied, None, IfOk, IfErr};
-ghost use Rattle.serde_json.specs.View.{view};
-ghost use Rattle.serde_json.specs.Written.{has_float};
-ghost use Rattle.erd_check.specs.Refusals.{RefusedFor};
-ghost use Rattle.erd_check.specs.Shapes.{IsFaultless};
-ghost use Rattle.erd_check.specs.Trees.{IsTree};
-ghost use Rattle.erd_meaning.specs.Accepted.{IsAccepted, IsFault};
-ghost use Rattle.erd_meaning.specs.LaterFaults.{IdentityFault, ReferenceFault, SelectionFault};
+ghost use Rattle.erd_meaning.specs.Words.{◌≡◌, false, map, option_copied, None, IfOk, IfErr, view, has_float, RefusedFor, IsFaultless, IsTree, IsAccepted, IsFault, IdentityFault, ReferenceFault, SelectionFault};
 ghost use Rattle.erd_meaning.specs.code.ObjectWalk.{election_keys, kept_objects};
 ghost use Rattle.erd_meaning.specs.code.RanksAmong.{AllAreRanked, names_of};
 ghost use Rattle.erd_meaning.specs.code.Resolved.{AreNames, IsIdentified, IsReferred, IsResolved, IsToldApart};

@@ -1,11 +1,4 @@
-ghost use Rattle.std.specs.Prelude.{◌≡◌, ◌++◌, ◌<◌, Some, false, length, option_map, slice_get, OnOk};
-ghost use Rattle.serde_json.specs.View.{items_of, view};
-ghost use Rattle.serde_json.specs.Written.{has_float};
-ghost use Rattle.erd_check.specs.Wants.{class_of_object};
-ghost use Rattle.erd_meaning.specs.Objects.{contests};
-ghost use Rattle.erd_meaning.specs.SelectionNames.{selection_role};
-ghost use Rattle.erd_text.specs.Tokens.{items_tokens, value_tokens};
-ghost use Rattle.erd_normal.specs.Canonical.{canonical_selection_id};
+ghost use Rattle.erd_normal.specs.Words.{◌≡◌, ◌++◌, ◌<◌, Some, false, length, option_map, slice_get, OnOk, items_of, view, has_float, class_of_object, contests, selection_role, items_tokens, value_tokens, canonical_selection_id};
 ghost use Rattle.erd_normal.specs.code.NormalTree.{array_of, normal_object_with, normal_value, with_id};
 ghost use Rattle.erd_normal.specs.code.WrittenTree.{written_in_contest, written_selections};
 
@@ -28,9 +21,6 @@ struct SelectionMembers<'a> {
 }
 
 impl<'a> MemberRule for SelectionMembers<'a> {
-    ghost use Rattle.serde_json.specs.View.{view};
-    ghost use Rattle.erd_normal.specs.code.NormalTree.{normal_value};
-
     ghost value_of = { λ rule name kind d. normal_value rule.writer.now.prefer (view rule.writer.now.tree) kind d };
 
     fn keeps(&self, _name: &str, kind: MemberKind, member: &Value) -> bool {

@@ -1,7 +1,4 @@
-ghost use Rattle.std.specs.Prelude.{◌≡◌, ◌++◌, false, OnOk};
-ghost use Rattle.serde_json.specs.View.{view};
-ghost use Rattle.serde_json.specs.Written.{has_float};
-ghost use Rattle.erd_text.specs.Tokens.{value_tokens};
+ghost use Rattle.erd_normal.specs.Words.{◌≡◌, ◌++◌, false, OnOk, view, has_float, value_tokens, Some};
 ghost use Rattle.erd_normal.specs.code.Building.{put_in};
 ghost use Rattle.erd_normal.specs.code.DueMembers.{AreDue, due_list};
 
@@ -17,8 +14,6 @@ use std::alloc::AllocError;
 struct CopiedMembers;
 
 impl MemberRule for CopiedMembers {
-    ghost use Rattle.std.specs.Prelude.{Some};
-
     ghost value_of = { λ rule name kind d. Some d };
 
     fn keeps(&self, _name: &str, _kind: MemberKind, _member: &Value) -> bool {

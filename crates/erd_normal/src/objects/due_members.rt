@@ -1,7 +1,4 @@
-ghost use Rattle.std.specs.Prelude.{◌≡◌, ◌++◌, ◌∷◌, drop, IfOk, OnOk};
-ghost use Rattle.json.specs.Token.{key};
-ghost use Rattle.serde_json.specs.Data.{no_members};
-ghost use Rattle.erd_text.specs.Tokens.{members_tokens, value_tokens};
+ghost use Rattle.erd_normal.specs.Words.{◌≡◌, ◌++◌, ◌∷◌, drop, IfOk, OnOk, key, no_members, members_tokens, value_tokens};
 ghost use Rattle.erd_normal.specs.code.Building.{put_all};
 ghost use Rattle.erd_normal.specs.code.DueMembers.{AreDue, WritesThrough, due_list, due_value};
 

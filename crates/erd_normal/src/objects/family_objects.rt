@@ -1,12 +1,6 @@
-ghost use Rattle.std.specs.Prelude.{◌≡◌, ◌++◌, ◌<◌, Some, false, true, length, option_map, slice_get, OnOk};
-ghost use Rattle.serde_json.specs.View.{view};
-ghost use Rattle.serde_json.specs.Written.{has_float};
+ghost use Rattle.erd_normal.specs.Words.{◌≡◌, ◌++◌, ◌<◌, Some, false, true, length, option_map, slice_get, OnOk, view, has_float, class_of_object, has_keys, Placed, objects, value_tokens};
 ghost use Rattle.erd_normal.specs.code.NormalTree.{array_of, normal_object_with, with_id};
-ghost use Rattle.erd_check.specs.Wants.{class_of_object};
-ghost use Rattle.erd_meaning.specs.Keys.{has_keys};
-ghost use Rattle.erd_meaning.specs.Objects.{Placed, objects};
-ghost use Rattle.erd_text.specs.Tokens.{value_tokens};
-ghost use Rattle.erd_normal.specs.code.WrittenTree.{holds_parts, written_object, written_objects};
+ghost use Rattle.erd_normal.specs.code.WrittenTree.{holds_parts, written_object, written_objects, written_object_value};
 
 use crate::objects::contest_selections::write_selections;
 use crate::objects::due_members::{DueMember, DueValue};
@@ -30,9 +24,6 @@ struct ObjectMembers<'a> {
 }
 
 impl<'a> MemberRule for ObjectMembers<'a> {
-    ghost use Rattle.serde_json.specs.View.{view};
-    ghost use Rattle.erd_normal.specs.code.WrittenTree.{written_object_value};
-
     ghost value_of = { λ rule name kind d. written_object_value rule.writer.now.prefer (view rule.writer.now.tree) rule.position kind d };
 
     fn keeps(&self, _name: &str, kind: MemberKind, member: &Value) -> bool {

@@ -1,9 +1,4 @@
-ghost use Rattle.std.specs.Prelude.{◌≡◌, ◌++◌, ℕ, List, Option, Some, false, is_some, drop, IfOk, OnOk};
-ghost use Rattle.serde_json.specs.Data.{Data, Members, object};
-ghost use Rattle.serde_json.specs.View.{view, members_view};
-ghost use Rattle.serde_json.specs.Written.{has_float, members_have_float};
-ghost use Rattle.erd_tables.specs.declared.member.MemberKind.{MemberKind as Asked};
-ghost use Rattle.erd_text.specs.Tokens.{members_tokens, value_tokens};
+ghost use Rattle.erd_normal.specs.Words.{◌≡◌, ◌++◌, ℕ, List, Option, Some, false, is_some, drop, IfOk, OnOk, Data, Members, object, view, members_view, has_float, members_have_float, MemberKind as Asked, members_tokens, value_tokens};
 ghost use Rattle.erd_normal.specs.code.Building.{first_if, put_all};
 ghost use Rattle.erd_normal.specs.code.DueMembers.{AreDue, due_list};
 ghost use Rattle.erd_normal.specs.code.NormalTree.{normal_members};

@@ -1,8 +1,4 @@
-ghost use Rattle.std.specs.Prelude.{◌≡◌, ◌++◌, Some, false, OnOk};
-ghost use Rattle.serde_json.specs.View.{view};
-ghost use Rattle.serde_json.specs.Written.{has_float};
-ghost use Rattle.erd_check.specs.Wants.{class_of_object};
-ghost use Rattle.erd_text.specs.Tokens.{value_tokens};
+ghost use Rattle.erd_normal.specs.Words.{◌≡◌, ◌++◌, Some, false, OnOk, view, has_float, class_of_object, value_tokens};
 ghost use Rattle.erd_normal.specs.code.Building.{put_in};
 ghost use Rattle.erd_normal.specs.code.DueMembers.{AreDue, due_list};
 ghost use Rattle.erd_normal.specs.code.NormalTree.{normal_object_with};

@@ -1,10 +1,4 @@
-ghost use Rattle.std.specs.Prelude.{◌≡◌, false, IfOk};
-ghost use Rattle.serde_json.specs.Data.{Data};
-ghost use Rattle.serde_json.specs.View.{view};
-ghost use Rattle.serde_json.specs.Written.{has_float};
-ghost use Rattle.erd_check.specs.Trees.{IsNoDeeper, IsTree};
-ghost use Rattle.erd_normal.specs.Canonical.{IsCanonicalFormOf};
-ghost use Rattle.erd_normal.specs.CanonicalText.{IsCanonicalText};
+ghost use Rattle.erd_normal.specs.Words.{◌≡◌, false, IfOk, Data, view, has_float, IsNoDeeper, IsTree, IsCanonicalFormOf, IsCanonicalText};
 
 use crate::report::report_text::write_report;
 use crate::writer::{Writer, orders_of};

@@ -1,9 +1,6 @@
-ghost use Rattle.std.specs.Prelude.{◌≡◌, ◌++◌, ◌<◌, Some, length, slice_get, OnOk};
-ghost use Rattle.serde_json.specs.View.{view};
-ghost use Rattle.erd_meaning.specs.Objects.{Placed, elections};
-ghost use Rattle.erd_text.specs.Tokens.{value_tokens};
+ghost use Rattle.erd_normal.specs.Words.{◌≡◌, ◌++◌, ◌<◌, Some, length, slice_get, OnOk, view, Placed, elections, value_tokens};
 ghost use Rattle.erd_normal.specs.code.NormalTree.{array_of};
-ghost use Rattle.erd_normal.specs.code.WrittenTree.{written_election, written_elections};
+ghost use Rattle.erd_normal.specs.code.WrittenTree.{written_election, written_elections, written_election_value};
 
 use crate::objects::family_objects::write_family;
 use crate::objects::members::MemberRule;
@@ -24,9 +21,6 @@ struct ElectionMembers<'a> {
 }
 
 impl<'a> MemberRule for ElectionMembers<'a> {
-    ghost use Rattle.serde_json.specs.View.{view};
-    ghost use Rattle.erd_normal.specs.code.WrittenTree.{written_election_value};
-
     ghost value_of = { λ rule name kind d. written_election_value rule.writer.now.prefer (view rule.writer.now.tree) rule.part kind d };
 
     fn keeps(&self, _name: &str, kind: MemberKind, member: &Value) -> bool {

@@ -1,7 +1,6 @@
-ghost use Rattle.std.specs.Prelude.{◌≡◌, ◌++◌, OnOk};
-ghost use Rattle.serde_json.specs.View.{view};
-ghost use Rattle.erd_text.specs.Tokens.{value_tokens};
+ghost use Rattle.erd_normal.specs.Words.{◌≡◌, ◌++◌, OnOk, view, value_tokens};
 ghost use Rattle.erd_normal.specs.code.NormalTree.{normal_tree};
+ghost use Rattle.erd_normal.specs.code.WrittenTree.{written_report_value};
 
 use crate::objects::due_members::{DueMember, DueValue};
 use crate::objects::family_objects::write_family;
@@ -23,9 +22,6 @@ struct ReportMembers<'a> {
 }
 
 impl<'a> MemberRule for ReportMembers<'a> {
-    ghost use Rattle.serde_json.specs.View.{view};
-    ghost use Rattle.erd_normal.specs.code.WrittenTree.{written_report_value};
-
     ghost value_of = { λ rule name kind d. written_report_value rule.writer.now.prefer (view rule.writer.now.tree) name kind d };
 
     fn keeps(&self, name: &str, kind: MemberKind, member: &Value) -> bool {

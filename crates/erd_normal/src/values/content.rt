@@ -1,10 +1,4 @@
-ghost use Rattle.std.specs.Prelude.{◌≡◌, ◌++◌, Some, false, option_map, is_some, OnOk};
-ghost use Rattle.serde_json.specs.Data.{Data};
-ghost use Rattle.serde_json.specs.View.{view, items_view, members_view};
-ghost use Rattle.serde_json.specs.Written.{has_float, items_have_float, members_have_float};
-ghost use Rattle.erd_tables.specs.Table.{kind_of_member};
-ghost use Rattle.erd_meaning.specs.Keys.{Preference};
-ghost use Rattle.erd_text.specs.Tokens.{items_tokens, members_tokens, value_tokens};
+ghost use Rattle.erd_normal.specs.Words.{◌≡◌, ◌++◌, Some, false, option_map, is_some, OnOk, Data, view, items_view, members_view, has_float, items_have_float, members_have_float, kind_of_member, Preference, items_tokens, members_tokens, value_tokens};
 ghost use Rattle.erd_normal.specs.code.NormalTree.{normal_content, normal_node, normal_node_members, normal_node_value, normal_nodes};
 ghost use Rattle.erd_normal.specs.code.Building.{member_tokens};
 

@@ -1,7 +1,4 @@
-ghost use Rattle.std.specs.Prelude.{◌≡◌, ◌++◌, OnOk};
-ghost use Rattle.serde_json.specs.Data.{string};
-ghost use Rattle.serde_json.specs.View.{view};
-ghost use Rattle.erd_text.specs.Tokens.{value_tokens};
+ghost use Rattle.erd_normal.specs.Words.{◌≡◌, ◌++◌, OnOk, string, view, value_tokens};
 ghost use Rattle.erd_normal.specs.code.Building.{id_of_rank};
 ghost use Rattle.erd_normal.specs.code.NormalTree.{normal_reference, normal_selection_reference};
 

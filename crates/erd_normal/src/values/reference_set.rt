@@ -1,9 +1,4 @@
-ghost use Rattle.std.specs.Prelude.{◌≡◌, ◌++◌, map, IfOk, OnOk};
-ghost use Rattle.serde_json.specs.Data.{string};
-ghost use Rattle.serde_json.specs.View.{view};
-ghost use Rattle.erd_check.specs.Values.{text_of};
-ghost use Rattle.erd_text.specs.RisingLists.{rising_list};
-ghost use Rattle.erd_text.specs.Tokens.{value_tokens};
+ghost use Rattle.erd_normal.specs.Words.{◌≡◌, ◌++◌, map, IfOk, OnOk, string, view, text_of, rising_list, value_tokens};
 ghost use Rattle.erd_normal.specs.code.Building.{id_of_rank};
 ghost use Rattle.erd_normal.specs.code.NormalTree.{array_of, normal_reference, normal_selection_reference, reference_cmp};
 ghost use Rattle.erd_normal.specs.code.Orders.{rank_named};

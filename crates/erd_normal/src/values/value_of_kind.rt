@@ -1,9 +1,4 @@
-ghost use Rattle.std.specs.Prelude.{◌≡◌, ◌++◌, Some, false, is_some, OnOk};
-ghost use Rattle.serde_json.specs.Data.{Data};
-ghost use Rattle.serde_json.specs.View.{view};
-ghost use Rattle.serde_json.specs.Written.{has_float};
-ghost use Rattle.erd_meaning.specs.Keys.{Preference};
-ghost use Rattle.erd_text.specs.Tokens.{value_tokens};
+ghost use Rattle.erd_normal.specs.Words.{◌≡◌, ◌++◌, Some, false, is_some, OnOk, Data, view, has_float, Preference, value_tokens};
 ghost use Rattle.erd_normal.specs.code.NormalTree.{normal_value};
 
 use crate::values::reference::write_reference;

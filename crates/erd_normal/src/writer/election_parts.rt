@@ -1,9 +1,4 @@
-ghost use Rattle.std.specs.Prelude.{◌≡◌, ℕ, ◌<◌, ◌∷◌, ◌++◌, [], true, length, IfOk, OnOk};
-ghost use Rattle.serde_json.specs.View.{view};
-ghost use Rattle.erd_tables.specs.Families.{entry_of};
-ghost use Rattle.erd_tables.specs.declared.class.Family.{Family};
-ghost use Rattle.erd_meaning.specs.Accepted.{IsAccepted};
-ghost use Rattle.erd_meaning.specs.Keys.{has_keys};
+ghost use Rattle.erd_normal.specs.Words.{◌≡◌, ℕ, ◌<◌, ◌∷◌, ◌++◌, [], true, length, IfOk, OnOk, view, entry_of, Family, IsAccepted, has_keys};
 ghost use Rattle.erd_normal.specs.code.ElectionParts.{part_at, part_seen, positions_in_part};
 
 use erd_meaning::{PerFamily, Report};

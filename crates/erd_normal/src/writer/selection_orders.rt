@@ -1,12 +1,4 @@
-ghost use Rattle.std.specs.Prelude.{◌≡◌, ◌+◌, ◌<◌, ◌^◌, [], codes, length, map, option_map, slice_get, IfOk};
-ghost use Rattle.std.specs.Option.{option_cmp, option_copied, option_map_or};
-ghost use Rattle.erd_check.specs.Values.{entries_at};
-ghost use Rattle.serde_json.specs.View.{view};
-ghost use Rattle.erd_meaning.specs.Accepted.{IsAccepted};
-ghost use Rattle.erd_meaning.specs.Objects.{contests};
-ghost use Rattle.erd_meaning.specs.SelectionNames.{name_cmp, name_of};
-ghost use Rattle.erd_text.specs.RisingLists.{rising_list};
-ghost use Rattle.erd_meaning.specs.RankedNames.{ranked_name};
+ghost use Rattle.erd_normal.specs.Words.{◌≡◌, ◌+◌, ◌<◌, ◌^◌, [], codes, length, map, option_map, slice_get, IfOk, option_cmp, option_copied, option_map_or, entries_at, view, IsAccepted, contests, name_cmp, name_of, rising_list, ranked_name};
 ghost use Rattle.erd_meaning.specs.code.KeyOrders.{positioned, positions_by};
 ghost use Rattle.erd_normal.specs.code.SelectionOrders.{AreNamedFrom, AreSelectionRanks, lent_name_cmp, name_in, rising_selections};
 
