@@ -5,7 +5,8 @@ each `Lib.antt`. What a comment ends with in brackets is its source. With `--wri
 what else stands on the page is written by hand.
 
 A reader may skip `specs/code/`: no clause of a public function or trait cites a definition from there, and no other
-definition in `specs/` does.
+definition in `specs/` does. What a source imports from `specs/Words.antt` is passed on from other files of `specs/`, so that
+file may not name `specs/code/` either: a source then imports from there by lines of its own, which are read here.
 """
 
 import pathlib
@@ -163,7 +164,7 @@ def made_anew(page):
     return page
 
 
-CODE_IMPORT = re.compile(r'^\s*(?:ghost )?use Rattle\.\w+\.specs\.code\.\w+(?:\.\{([^}]*)\})?', re.M)
+CODE_IMPORT = re.compile(r'^\s*(?:(?:ghost|pub|unfoldable pub) )?use Rattle\.\w+\.specs\.code\.\w+(?:\.\{([^}]*)\})?', re.M)
 PUBLIC = re.compile(r'^(?: {4})?pub (?:fn|trait) (\w+)(.*?)\n(?: {4})?(?:\{|\}|\{\})$', re.M | re.S)
 
 
