@@ -28,7 +28,7 @@ pub use Rattle.erd_meaning.specs.code.ObjectLookups.{is_of_family, those_of, is_
 pub use Rattle.erd_meaning.specs.code.ObjectWalk.{Kept, kept, Met, an_object, an_election, Located, located_one, located_election, located, contest_located, inside_election, election_located, shared_located, all_located, object_met, election_met, objects_among, elections_among, all_met, kept_objects, election_keys, same_key, same_id, has_same_key, has_same_id, fault_if, faults_told, is_keyless, are_twins, are_named_alike, faults_after, ObjectsMet, met_one, met_all}
 pub use Rattle.erd_meaning.specs.code.Orders.{key_cmp_total, key_cmp_exact, classes_exact, name_cmp_total, name_cmp_exact}
 pub use Rattle.erd_meaning.specs.code.RanksAmong.{rank_among, AreRanks, key_at_among, rising_keys_among, ranked_key, is_key_among, fed_rank, name_among, ranked_parts, ranked_name_among, HasKeysIn, has_keys_among, names_of, are_ranks_of, is_sought, AllAreRanked, IsKeyIn, IsRanked}
-pub use Rattle.erd_meaning.specs.code.ReferenceReasons.{leads_to_references, is_known, owner_among, is_of_others, is_selection_family, is_selection_elsewhere, is_elsewhere, reason_if, id_reasons, reference_reasons_told, AreClear, IsClear}
+pub use Rattle.erd_meaning.specs.code.ReferenceReasons.{leads_to_references, is_known, owner_among, is_of_others, is_selection_family, is_selection_elsewhere, is_elsewhere, reason_if, id_reasons, reference_reasons_told, AreClear, IsClear, IsHome}
 pub use Rattle.erd_meaning.specs.code.Resolved.{IsIdentified, IsReferred, IsToldApart, AreNames, IsResolved}
 pub use Rattle.erd_meaning.specs.code.RisingNumbers.{IsRisingFrom}
 pub use Rattle.erd_meaning.specs.code.SelectionWalk.{NumberedName, is_selection_named, is_taken, numbered_from, NamesMet, added_name, with_name, named_one, named_all, if_of_contest, StandFrom}

@@ -61,6 +61,10 @@ abbrev pub is_selection_elsewhere : List Kept → Data → ℕ → Bool
 is_selection_elsewhere ks d selection =
     option_map_or (λ contest. not (is_in_contest ks contest selection)) (number_among ks family.Contest (text_at (codes "ContestId") d)) false
 
+-- No selection of the contest at this position is elsewhere.
+abbrev pub IsHome : List Kept → Data → ℕ → Type 0
+IsHome ks d contest = (selection : ℕ) → is_in_contest ks contest selection ≡ true → is_selection_elsewhere ks d selection ≡ false
+
 -- True if a selection has this `@id`, the object names a contest, and the selection is not in that contest.
 abbrev pub is_elsewhere : List Kept → Data → List ℕ → Bool
 is_elsewhere ks d id = option_map_or (is_selection_elsewhere ks d) (number_among ks family.Selection id) false

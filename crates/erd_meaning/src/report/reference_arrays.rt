@@ -1,8 +1,8 @@
 //! Which object a reference names, and arrays of references that have no fault.
-ghost use Rattle.erd_meaning.specs.Words.{◌≡◌, ◌==◌, ◌&&◌, true, false, not, map, IfOk, IfSome, IsTrue, IsDistinct, option_map_or, view, items_view};
+ghost use Rattle.erd_meaning.specs.Words.{◌≡◌, Some, ◌==◌, ◌&&◌, true, false, not, map, IfOk, IfSome, IsTrue, IsDistinct, option_map_or, view, items_view};
 ghost use Rattle.erd_tables.specs.declared.class.Family.TheVariants as family;
 ghost use Rattle.erd_meaning.specs.code.ObjectIndexes.{is_in_contest, number_among};
-ghost use Rattle.erd_meaning.specs.code.ReferenceReasons.{AreClear, IsClear, is_selection_elsewhere, is_selection_family};
+ghost use Rattle.erd_meaning.specs.code.ReferenceReasons.{AreClear, IsClear, is_selection_elsewhere, is_selection_family, IsHome};
 ghost use Rattle.erd_meaning.specs.code.RisingNumbers.{IsRisingFrom};
 ghost use Rattle.erd_meaning.specs.code.Shown.{shown};
 
@@ -28,8 +28,10 @@ impl<'b, 'a> ReferenceJudge<'b, 'a> {
     {
         let mut positions = Vec::new(alloc);
         let mut row = Row::of(items.len());
+        let mut home = None;
         for item in items {
-            let Some(position) = self.clear_position(family, &mut row, object, item) else {
+            let Some(position) = self.clear_position(family, &mut row, &mut home, object, item)
+            else {
                 return Ok(false);
             };
             if is_set {
@@ -40,22 +42,54 @@ impl<'b, 'a> ReferenceJudge<'b, 'a> {
     }
 
     /// Returns the position of the object that a reference of an array names, if the reference has no fault but that it may be
-    /// repeated.
+    /// repeated. `home` is as in `is_away`.
     fn clear_position(
         &self,
         family: Family,
         row: &mut Row,
+        home: &mut Option<usize>,
         object: &Value,
         item: &Value,
     ) -> Option<usize>
-        ensures { IfSome result (IsClear (map shown self.now.objects.now) (view object.now) family (view item.now)) }
+        requires home { IfSome home.old (IsHome (map shown self.now.objects.now) (view object.now)) }
+        ensures clear { IfSome result (IsClear (map shown self.now.objects.now) (view object.now) family (view item.now)) }
+        ensures home { IfSome home.new (IsHome (map shown self.now.objects.now) (view object.now)) }
     {
         let id = item.as_str()?;
         let (own, position) = self.objects.position_in_row(family, row, id)?;
-        if own != family || self.is_elsewhere(family, position, object) {
+        if own != family || self.is_away(family, position, home, object) {
             return None;
         }
         Some(position)
+    }
+
+    /// Returns what `is_elsewhere` does. `home` is a contest none of whose selections is elsewhere, if one is known: most arrays
+    /// name selections of one contest, so what the object names is looked up for the first alone.
+    fn is_away(
+        &self,
+        family: Family,
+        index: usize,
+        home: &mut Option<usize>,
+        object: &Value,
+    ) -> bool
+        requires home { IfSome home.old (IsHome (map shown self.now.objects.now) (view object.now)) }
+        ensures away { result ≡ (is_selection_family family && is_selection_elsewhere (map shown self.now.objects.now) (view object.now) index) }
+        ensures home { IfSome home.new (IsHome (map shown self.now.objects.now) (view object.now)) }
+    {
+        if family != Family::Selection {
+            return false;
+        }
+        let Some(contest) = self.objects.contest_of(index) else {
+            return self.is_elsewhere(family, index, object);
+        };
+        if is_known(*home, contest) {
+            return false;
+        }
+        if self.is_elsewhere(family, index, object) {
+            return true;
+        }
+        *home = Some(contest);
+        false
     }
 
     /// Returns whether the object at this position of the family is a selection of another contest than the one that
@@ -86,6 +120,16 @@ impl<'b, 'a> ReferenceJudge<'b, 'a> {
             Some(contest) => self.objects.has_id_at(Family::Contest, contest, id),
             None => false,
         }
+    }
+}
+
+/// Returns whether the number is the one that is known.
+fn is_known(known: Option<usize>, number: usize) -> bool
+    ensures { result ≡ true → known ≡ Some number }
+{
+    match known {
+        Some(known) => known == number,
+        None => false,
     }
 }
 

@@ -3,8 +3,8 @@ use Rattle.erd_meaning.proofs.finding.Pushed.{families_same}
 use Rattle.erd_meaning.proofs.references.SilentWalks.{among_family, clear_of_family, text_read}
 use Rattle.erd_meaning.proofs.report.reference_judge.ReferenceJudge.clear_position.Goals as goal
 
-pub returns : goal.returns
-returns c =
+pub returns-clause-clear : goal.returns-clause-clear
+returns-clause-clear c =
     let ks = map shown c.args.self.now.objects.now in
     let id = c.in_ok-id.id.now in
     let own = c.in_ok-own.own in
@@ -15,5 +15,5 @@ returns c =
       text = id;
       is = text_read (view c.args.item.now) id (sym c.as_str.ensures ∙ ap (option_map (λ (s : Bor (List ℕ)). s.now)) c.in_ok-id.was);
       named = among_family ks c.args.family own id position found same;
-      clear = clear_of_family ks (view c.args.object.now) c.args.family own id position found same (sym c.is_elsewhere.ensures ∙ c.if-is_elsewhere.false);
+      clear = clear_of_family ks (view c.args.object.now) c.args.family own id position found same (sym c.is_away.ensures.away ∙ c.if-is_away.false);
     }
