@@ -1,6 +1,6 @@
 -- Names of selections with the ranks of their keys. The rank of a key is the number of objects of its family that have lesser
 -- keys. Names of one report are compared by these ranks in no more time if keys are long.
-use Rattle.std.specs.Prelude.{◌≡◌, ℕ, List, Option, Some, map, option_map}
+use Rattle.std.specs.Prelude.{◌≡◌, ℕ, Option, Some, map, option_map}
 use Rattle.std.specs.Hash.{HashWrites}
 use Rattle.std.specs.declared.cmp.Ordering.{Ordering}
 use Rattle.serde_json.specs.Data.{Data}

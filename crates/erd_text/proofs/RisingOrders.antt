@@ -1,8 +1,7 @@
 -- Lists in rising order: they have the same entries, they rise, and the position of an entry is its rank.
-use Rattle.erd_text.proofs.Common.{◌≡◌, ℕ, zero, suc, ◌<◌, Bool, cond, List, [], ◌∷◌, ◌++◌, length, get_or, slice_set, Some, None, filter, Option, option_to_list, swap, flat_map, filter_map, IsPermutation, is_lt, Ordering, sym, refl, ap, ◌∙◌, append_assoc, arith, AllByRecursion, cons_option, IsPermutation-refl, IsPermutation-cons, IsPermutation-swap, IsPermutation-sym, IsPermutation-trans, with_inserted, rising_list, IsPermutation-append_left, IsPermutation-append_right, IsPermutation-append_comm, IsPermutation-keeps, sum_by-IsPermutation, cond_both, ◌≤◌, true, false, map, inl, inr, In, ◌⊎◌, subst, length_permutation, slice_get, is_eq, is_gt, Less, Equal, Greater, tied_itself, tied_back, on_total, CmpEqualImpliesEq, IsTotalOrder, IsDistinct, IsStrictlySortedBy, eq_by_cmp, ordering_reverse, ⊤, less, all_from_In, In-all, all_weakened, nat_cmp, nat_cmp_total, option_cmp, in_at, compact_cmp, compact_text, nat_list_cmp_total}
+use Rattle.erd_text.proofs.Common.{◌≡◌, ℕ, zero, suc, ◌<◌, Bool, cond, List, [], ◌∷◌, ◌++◌, length, get_or, slice_set, Some, None, filter, Option, option_to_list, swap, flat_map, filter_map, IsPermutation, is_lt, Ordering, sym, refl, ap, ◌∙◌, append_assoc, arith, AllByRecursion, cons_option, IsPermutation-refl, IsPermutation-cons, IsPermutation-swap, IsPermutation-sym, IsPermutation-trans, with_inserted, rising_list, IsPermutation-append_left, IsPermutation-append_right, IsPermutation-append_comm, IsPermutation-keeps, sum_by-IsPermutation, cond_both, ◌≤◌, true, false, map, inl, inr, In, ◌⊎◌, subst, length_permutation, slice_get, is_eq, is_gt, Less, Equal, Greater, tied_itself, tied_back, on_total, CmpEqualImpliesEq, IsTotalOrder, IsDistinct, IsStrictlySortedBy, eq_by_cmp, ordering_reverse, ⊤, less, all_from_In, In-all, all_weakened, in_at, compact_cmp, compact_text, nat_list_cmp_total}
 use Rattle.std.proofs.lemmas.List.Sums.{length-filter}
 use Rattle.erd_text.proofs.RisingLists.{Rises, list_rises}
-use Rattle.erd_check.proofs.Steps.{at_less}
 
 -- the first two entries change places
 pub two_exchanged : {A : Type 0} {x y : A} {xs : List A} → IsPermutation (x ∷ (y ∷ xs)) (y ∷ (x ∷ xs))

@@ -1,8 +1,7 @@
 -- Meeting selections, some and then more.
-use Rattle.erd_meaning.proofs.Common.{◌≡◌, ℕ, ◌+◌, ◌<◌, ◌≤◌, List, [], ◌∷◌, ◌++◌, map, length, get_or, drop, codes, Option, flat_map, sym, refl, ap, ◌∙◌, ap₂, arith, length-append, at_drop_more, at_drop_all, Data, view, Value, Step, Name, entries_at, NameParts, Placed, placed_from, placed_entries, contests, numbered_selections_of, numbered_from, NamesMet, named_one, named_all, zero, suc, false, Some, None, subst, or_parts, AllByRecursion, option_map_or, array, object, Items, no_items, item, Members, no_members, member, get_member, get, has_float, items_have_float, members_have_float, list_of_items, entries_of}
+use Rattle.erd_meaning.proofs.Common.{◌≡◌, ℕ, ◌+◌, ◌<◌, ◌≤◌, List, [], ◌∷◌, ◌++◌, map, length, get_or, drop, codes, Option, flat_map, sym, refl, ap, ◌∙◌, ap₂, arith, length-append, at_drop_more, at_drop_all, Data, view, Value, Step, Name, entries_at, NameParts, Placed, placed_from, placed_entries, contests, numbered_selections_of, numbered_from, NamesMet, named_one, named_all}
 use Rattle.erd_meaning.proofs.identity.MetObjects.{entry}
 use Rattle.erd_meaning.proofs.selections.ContestSelections.{numbered_from-append}
-use Rattle.erd_check.proofs.Shapes.{found_cases}
 
 pub named_all_append : (name : Data → Option NameParts) (m : NamesMet) (xs ys : List (ℕ × Placed)) → named_all name m (xs ++ ys) ≡ named_all name (named_all name m xs) ys
 named_all_append name m [] ys = refl

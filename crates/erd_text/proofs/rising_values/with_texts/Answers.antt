@@ -1,4 +1,4 @@
-use Rattle.erd_text.proofs.Common.{map, ap, ◌∙◌, view, true}
+use Rattle.erd_text.proofs.Common.{map, ap, ◌∙◌, view}
 use Rattle.erd_text.proofs.OneByOne.{one_more}
 use Rattle.erd_text.proofs.WholeValues.{whole_item}
 use Rattle.erd_text.specs.code.Writing.{beside, beside_compact_text}

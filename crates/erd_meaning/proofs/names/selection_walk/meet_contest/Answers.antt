@@ -1,4 +1,4 @@
-use Rattle.erd_meaning.proofs.Common.{codes, view, true}
+use Rattle.erd_meaning.proofs.Common.{codes, view}
 use Rattle.erd_text.proofs.WholeValues.{whole_entry}
 use Rattle.erd_meaning.proofs.names.selection_walk.meet_contest.Goals as goal
 

@@ -1,4 +1,4 @@
-use Rattle.erd_meaning.proofs.Common.{◌≡◌, ◌+◌, ◌^◌, ◌<◌, [], ◌∷◌, ◌++◌, map, length, codes, ap, ◌∙◌, arith, view, Name, steps_of, placed_from, placed_entries, name_among, numbered_from, named_all, shown, placed_at, names_met, false, true}
+use Rattle.erd_meaning.proofs.Common.{◌≡◌, ◌+◌, ◌^◌, ◌<◌, [], ◌∷◌, ◌++◌, map, length, codes, ap, ◌∙◌, arith, view, Name, steps_of, placed_from, placed_entries, name_among, numbered_from, named_all, shown, placed_at, names_met}
 use Rattle.erd_meaning.proofs.finding.ElectionsHeld.{as_many}
 use Rattle.erd_meaning.proofs.selections.MetSelections.{all_named, named_inside}
 use Rattle.erd_text.proofs.WholeValues.{whole_entry}

@@ -1,4 +1,4 @@
-use Rattle.erd_meaning.proofs.Common.{◌≡◌, List, [], ◌∷◌, map, length, codes, ap, ◌∙◌, arith, view, Contest, Step, Name, contests, name_among, numbered_from, named_all, shown, names_met, false, true}
+use Rattle.erd_meaning.proofs.Common.{◌≡◌, List, [], ◌∷◌, map, length, codes, ap, ◌∙◌, arith, view, Contest, Step, Name, contests, name_among, numbered_from, named_all, shown, names_met}
 use Rattle.erd_meaning.proofs.finding.OneObject.{counted_kept}
 use Rattle.erd_meaning.proofs.selections.MetSelections.{all_left, contests_are, contests_from, election_left, none_left, within_all}
 use Rattle.erd_text.proofs.WholeValues.{whole_entry}

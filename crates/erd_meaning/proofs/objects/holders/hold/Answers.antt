@@ -1,6 +1,5 @@
 use Rattle.erd_meaning.proofs.finding.HeldLists.{all_held, one_held}
 use Rattle.erd_meaning.proofs.objects.holders.hold.Goals as goal
-use Rattle.erd_meaning.proofs.Common.{false, true}
 
 pub loop-entry-preserved : goal.loop-entry-preserved
 loop-entry-preserved c =

@@ -1,4 +1,4 @@
-use Rattle.erd_meaning.proofs.Common.{ℕ, List, ◌++◌, map, ap, ◌∙◌, view, held_from, false, true}
+use Rattle.erd_meaning.proofs.Common.{ℕ, List, ◌++◌, map, ap, ◌∙◌, view, held_from}
 use Rattle.erd_meaning.proofs.finding.HeldLists.{election_held, elections_held}
 use Rattle.erd_meaning.proofs.objects.holders.holders_of.Goals as goal
 

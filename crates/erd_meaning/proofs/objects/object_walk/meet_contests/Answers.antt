@@ -1,4 +1,4 @@
-use Rattle.erd_meaning.proofs.Common.{contest_located, met_of, true}
+use Rattle.erd_meaning.proofs.Common.{contest_located, met_of}
 use Rattle.erd_meaning.proofs.identity.MetObjects.{contest_met, met_inside}
 use Rattle.erd_meaning.proofs.objects.object_walk.meet_contests.Goals as goal
 

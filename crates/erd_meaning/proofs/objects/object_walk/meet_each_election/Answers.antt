@@ -1,4 +1,4 @@
-use Rattle.erd_meaning.proofs.Common.{[], ◌∷◌, ◌++◌, codes, Name, steps_of, election_located, met_of, true}
+use Rattle.erd_meaning.proofs.Common.{[], ◌∷◌, ◌++◌, codes, Name, steps_of, election_located, met_of}
 use Rattle.erd_meaning.proofs.identity.MetObjects.{election_met, entry, met_inside}
 use Rattle.erd_meaning.proofs.objects.object_walk.meet_each_election.Goals as goal
 

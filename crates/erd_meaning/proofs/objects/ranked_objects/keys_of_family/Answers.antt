@@ -1,4 +1,4 @@
-use Rattle.erd_meaning.proofs.Common.{◌<◌, ◌≤◌, List, map, length, sym, ap, ◌∙◌, subst, take_all, length-map, positioned, seen_keys, family_keys, those_of, Kept, shown, false, true}
+use Rattle.erd_meaning.proofs.Common.{◌<◌, ◌≤◌, List, map, length, sym, ap, ◌∙◌, subst, take_all, length-map, positioned, seen_keys, family_keys, those_of, Kept, shown}
 use Rattle.erd_meaning.proofs.selections.PositionedKeys.{KeyEntry, key_of_those, one_positioned}
 use Rattle.erd_meaning.proofs.objects.ranked_objects.keys_of_family.Goals as goal
 

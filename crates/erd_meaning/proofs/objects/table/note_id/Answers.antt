@@ -1,4 +1,4 @@
-use Rattle.erd_meaning.proofs.Common.{ℕ, cond, ◌&&◌, List, is_some, ◌==◌, Some, None, bytes_eq, sym, ap, ◌∙◌, Bor, bytes_decides, lookup, option_or, get_by, is_salted_id, text_number, Salted, false, true}
+use Rattle.erd_meaning.proofs.Common.{ℕ, cond, ◌&&◌, List, is_some, ◌==◌, Some, None, bytes_eq, sym, ap, ◌∙◌, Bor, bytes_decides, lookup, option_or, get_by, is_salted_id, text_number, Salted}
 use Rattle.indexmap.proofs.CallerLemmas.{insert_entry-new}
 use Rattle.erd_meaning.proofs.finding.Pushed.{lookup_push, none_found}
 use Rattle.erd_index.proofs.NumberedKeys.{number_implied}

@@ -1,4 +1,4 @@
-use Rattle.erd_meaning.proofs.Common.{◌≡◌, Bool, true, cond, is_some, Some, None, sym, ap, ◌∙◌, ap₂, lookup, option_or, get_by, Family, key_writes, same_owned, is_salted_owned, salted_number, Key, Salted, false}
+use Rattle.erd_meaning.proofs.Common.{◌≡◌, Bool, true, cond, is_some, Some, None, sym, ap, ◌∙◌, ap₂, lookup, option_or, get_by, Family, key_writes, same_owned, is_salted_owned, salted_number, Key, Salted}
 use Rattle.indexmap.proofs.CallerLemmas.{insert_entry-new}
 use Rattle.erd_meaning.proofs.finding.Pushed.{owned_asked, owned_exact, lookup_push, none_found, or_known}
 use Rattle.erd_index.proofs.NumberedKeys.{number_implied}

@@ -1,4 +1,4 @@
-use Rattle.erd_meaning.proofs.Common.{sym, ◌∙◌, view, none_from_empty, ReferenceFault, true}
+use Rattle.erd_meaning.proofs.Common.{sym, ◌∙◌, view, none_from_empty, ReferenceFault}
 use Rattle.erd_meaning.proofs.report.resolving.check_references.Goals as goal
 
 pub returns-then-len-eq0-clause-referred : goal.returns-then-len-eq0-clause-referred

@@ -1,4 +1,4 @@
-use Rattle.erd_meaning.proofs.Common.{◌≡◌, ◌≢◌, map, length, sym, ap, ◌∙◌, view, shown, rules, [], false, true}
+use Rattle.erd_meaning.proofs.Common.{◌≡◌, ◌≢◌, map, length, sym, ap, ◌∙◌, view, shown, rules, []}
 use Rattle.erd_meaning.specs.declared.names.selection_walk.SelectionWalk.{SelectionWalk}
 use Rattle.erd_meaning.proofs.selections.WalkedNames.{NamesWalked, names_left, no_twin_left, twins_left}
 use Rattle.erd_meaning.proofs.report.resolving.names_told_apart.Goals as goal

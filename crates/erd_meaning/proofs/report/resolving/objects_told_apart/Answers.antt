@@ -1,4 +1,4 @@
-use Rattle.erd_meaning.proofs.Common.{◌≡◌, ◌≢◌, length, sym, ap, ◌∙◌, view, [], false, true}
+use Rattle.erd_meaning.proofs.Common.{◌≡◌, ◌≢◌, length, sym, ap, ◌∙◌, view, []}
 use Rattle.erd_meaning.specs.declared.objects.object_walk.ObjectWalk.{ObjectWalk}
 use Rattle.erd_meaning.proofs.identity.MetLists.{Walked, all_told, none_told, walked_elections, walked_objects}
 use Rattle.erd_meaning.proofs.report.resolving.objects_told_apart.Goals as goal

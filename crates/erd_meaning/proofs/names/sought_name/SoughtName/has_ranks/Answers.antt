@@ -1,4 +1,4 @@
-use Rattle.erd_meaning.proofs.Common.{◌≡◌, ◌&&◌, List, map, length, get_or, ◌==◌, Some, sym, ap, ◌∙◌, NameParts, family_chosen, rank_among, is_key_among, are_ranks_of, shown, Key, false, true}
+use Rattle.erd_meaning.proofs.Common.{◌≡◌, ◌&&◌, List, map, length, get_or, ◌==◌, Some, sym, ap, ◌∙◌, NameParts, family_chosen, rank_among, is_key_among, are_ranks_of, shown, Key}
 use Rattle.erd_meaning.proofs.selections.RankedTests.{all_pass_at, lengths_differ, next_left, one_fails}
 use Rattle.erd_meaning.proofs.names.sought_name.SoughtName.has_ranks.Goals as goal
 

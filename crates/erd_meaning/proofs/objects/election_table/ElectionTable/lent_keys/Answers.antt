@@ -1,4 +1,4 @@
-use Rattle.erd_meaning.proofs.Common.{◌<◌, ◌≤◌, List, length, ap, ◌∙◌, subst, take_all, positioned, seen_keys, false, true}
+use Rattle.erd_meaning.proofs.Common.{◌<◌, ◌≤◌, List, length, ap, ◌∙◌, subst, take_all, positioned, seen_keys}
 use Rattle.erd_meaning.proofs.selections.PositionedKeys.{KeyEntry, one_positioned}
 use Rattle.erd_meaning.proofs.objects.election_table.ElectionTable.lent_keys.Goals as goal
 

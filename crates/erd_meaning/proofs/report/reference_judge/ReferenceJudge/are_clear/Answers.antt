@@ -1,4 +1,4 @@
-use Rattle.erd_meaning.proofs.Common.{ℕ, true, List, [], ◌∷◌, ◌++◌, map, ◌==◌, vec_items, sym, ap, ◌∙◌, subst, true≢false, append_assoc, append-nil, IsDistinct, view, shown, false}
+use Rattle.erd_meaning.proofs.Common.{ℕ, List, [], ◌∷◌, ◌++◌, map, ◌==◌, vec_items, sym, ap, ◌∙◌, subst, true≢false, append_assoc, append-nil, IsDistinct, view, shown}
 use Rattle.erd_meaning.proofs.references.ClearArrays.{clear_array, none_left, placed_left}
 use Rattle.erd_meaning.proofs.report.reference_judge.ReferenceJudge.are_clear.Goals.{then-is_set+in_ok-push, else-is_set}
 use Rattle.erd_meaning.proofs.report.reference_judge.ReferenceJudge.are_clear.Goals as goal

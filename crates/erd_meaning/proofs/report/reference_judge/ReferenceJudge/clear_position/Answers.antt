@@ -1,4 +1,4 @@
-use Rattle.erd_meaning.proofs.Common.{ℕ, List, map, option_map, sym, ap, ◌∙◌, Bor, view, shown, not-false, false}
+use Rattle.erd_meaning.proofs.Common.{ℕ, List, map, option_map, sym, ap, ◌∙◌, Bor, view, shown, not-false}
 use Rattle.erd_meaning.proofs.finding.Pushed.{families_same}
 use Rattle.erd_meaning.proofs.references.SilentWalks.{among_family, clear_of_family, text_read}
 use Rattle.erd_meaning.proofs.report.reference_judge.ReferenceJudge.clear_position.Goals as goal
