@@ -3,6 +3,7 @@ use crate::tests::vectors::{
     ONE_UNIT, ONE_UNIT_CANONICAL, OTHER_ENVELOPE, OTHER_VENDOR, SMALL_BALLOT,
     SMALL_BALLOT_CANONICAL,
 };
+use serde_json::Value;
 use std::alloc::{AllocError, Global};
 use std::test::Fail;
 
@@ -33,6 +34,11 @@ impl Base {
             Base::Text(text) => text,
         }
     }
+}
+
+// The value of this text.
+pub fn value_of(alloc: Global, text: &str) -> Result<Value, Fail> {
+    Ok(Value::from_str(alloc, text)?)
 }
 
 // A text, and edits of it.

@@ -1,12 +1,12 @@
 //! The names of selections: their order, and the selections that they find.
 use crate::tests::answers::{Answer, right_if};
 use crate::tests::edits::{Base, Edited, made};
+use crate::tests::orders::numbers_in_order;
 use crate::tests::report_calls::{Asked, on_report};
 use crate::tests::runs::PLAIN;
 use crate::tests::vectors::{SMALL_BALLOT, SMALL_BALLOT_CANONICAL};
 use erd_canon::Refusal;
 use erd_meaning::{Report, SelectionName};
-use erd_normal::in_order;
 use erd_tables::Family;
 use std::alloc::{AllocError, Global};
 use std::process::Abort;
@@ -269,7 +269,7 @@ fn is_ranked(report: &Report, index: usize, rank: usize, ranked: Ranked) -> bool
 }
 
 // Calls `then` on the accepted report of this text, without a preference.
-pub fn on_text<F: Fn(&Report) -> Answer>(
+pub fn on_text<F: FnOnce(&Report) -> Answer>(
     alloc: Global,
     text: &str,
     then: F,
@@ -307,19 +307,23 @@ fn names_of_selections(rt: HostRuntime) -> Result<(), Fail> {
     all_are_ranked(&rt, rt.alloc(), NAMES)
 }
 
-// The positions of the selections in the order of their names.
-fn positions_in_order(alloc: Global, report: &Report) -> Result<Vec<usize>, AllocError> {
+// The names of the selections with their positions.
+fn numbered_names(
+    alloc: Global,
+    report: &Report,
+) -> Result<Vec<(SelectionName, usize)>, AllocError> {
     let mut pairs = Vec::new(alloc);
     for index in 0..report.count(Family::Selection) {
         if let Some((_, name)) = report.selection_at(index) {
             pairs.push((name.try_clone(alloc)?, index))?;
         }
     }
-    let mut positions = Vec::new(alloc);
-    for pair in in_order(alloc, pairs)?.iter() {
-        positions.push(pair.1)?;
-    }
-    Ok(positions)
+    Ok(pairs)
+}
+
+// The positions of the selections in the order of their names.
+fn positions_in_order(alloc: Global, report: &Report) -> Result<Vec<usize>, AllocError> {
+    numbers_in_order(alloc, numbered_names(alloc, report)?)
 }
 
 fn are_in_order(alloc: Global, report: &Report, wanted: &[usize]) -> Answer {

@@ -1,23 +1,41 @@
 //! The order of keys and of compact texts.
+use crate::tests::edits::value_of;
 use crate::tests::keys::{Identifier, key};
+use erd_meaning::Key;
 use erd_normal::{CompactText, SetOrder, in_order};
-use serde_json::Value;
 use std::alloc::{AllocError, Global};
 use std::process::Abort;
 use std::test::Fail;
 
+// The numbers of these pairs in the order of their first parts.
+pub fn numbers_in_order<K: SetOrder + Drop>(
+    alloc: Global,
+    pairs: Vec<(K, usize)>,
+) -> Result<Vec<usize>, AllocError> {
+    let mut numbers = Vec::new(alloc);
+    for pair in in_order(alloc, pairs)?.iter() {
+        numbers.push(pair.1)?;
+    }
+    Ok(numbers)
+}
+
+// A copy of the key of this identifier.
+fn copied_key(alloc: Global, (kind, other, value): Identifier) -> Result<Key, AllocError> {
+    key(alloc, kind, other, value)?.try_clone(alloc)
+}
+
+// These keys with their positions.
+fn numbered_keys(alloc: Global, keys: &[Identifier]) -> Result<Vec<(Key, usize)>, AllocError> {
+    let mut pairs = Vec::new(alloc);
+    for (index, identifier) in keys.iter().enumerate() {
+        pairs.push((copied_key(alloc, *identifier)?, index))?;
+    }
+    Ok(pairs)
+}
+
 // The positions of these keys in their order.
 fn positions_in_order(alloc: Global, keys: &[Identifier]) -> Result<Vec<usize>, AllocError> {
-    let mut pairs = Vec::new(alloc);
-    for (index, (kind, other, value)) in keys.iter().enumerate() {
-        let key = key(alloc, kind, other, value)?;
-        pairs.push((key.try_clone(alloc)?, index))?;
-    }
-    let mut positions = Vec::new(alloc);
-    for pair in in_order(alloc, pairs)?.iter() {
-        positions.push(pair.1)?;
-    }
-    Ok(positions)
+    numbers_in_order(alloc, numbered_keys(alloc, keys)?)
 }
 
 // Keys, and their positions in their order.
@@ -75,8 +93,7 @@ const RISING: [&str; 13] = [
 ];
 
 fn compact(alloc: Global, text: &str) -> Result<CompactText, Fail> {
-    let value = Value::from_str(alloc, text)?;
-    Ok(CompactText::of(alloc, &value)?)
+    Ok(CompactText::of(alloc, &value_of(alloc, text)?)?)
 }
 
 // Compares the text at this position with each one.

@@ -1,12 +1,14 @@
 //! Calls on parts of reports, with each request for memory refused in turn.
 use crate::tests::answers::{Answer, has_text, right_if};
+use crate::tests::edits::value_of;
 use crate::tests::keys::key;
+use crate::tests::orders::numbers_in_order;
 use crate::tests::refusing::each_refused;
 use crate::tests::vectors::SMALL_BALLOT;
 use erd_check::ValueSet;
 use erd_check::path::{Path, push_fault};
 use erd_meaning::{Key, key_of};
-use erd_normal::{CompactText, in_order};
+use erd_normal::CompactText;
 use erd_tables::{Place, Reason, Step, Text, pointer};
 use serde_json::Value;
 use std::alloc::{AllocError, Global};
@@ -58,24 +60,39 @@ fn keyed(alloc: Global, object: &Value, wanted: &Key) -> Answer {
 #[test]
 fn refused_keys(rt: HostRuntime) -> Result<(), Fail> {
     let alloc = rt.alloc();
-    let object = Value::from_str(
+    let object = value_of(
         alloc,
         r#"{"ExternalIdentifier":[{"Type":"b","OtherType":"","Value":"1"}]}"#,
     )?;
     let wanted = key(alloc, "b", "", "1")?;
-    each_refused(alloc, "try_clone", |alloc| copied(alloc, &wanted))?;
-    each_refused(alloc, "key_of", |alloc| keyed(alloc, &object, &wanted))
+    refused_key(alloc, &object, &wanted)
+}
+
+fn refused_key(alloc: Global, object: &Value, wanted: &Key) -> Result<(), Fail> {
+    each_refused(alloc, "try_clone", |alloc| copied(alloc, wanted))?;
+    each_refused(alloc, "key_of", |alloc| keyed(alloc, object, wanted))
+}
+
+// The keys, two of which are equal, with numbers.
+fn numbered(alloc: Global, low: &Key, high: &Key) -> Result<Vec<(Key, usize)>, AllocError> {
+    let mut pairs = Vec::new(alloc);
+    for (key, number) in [(high, 1), (low, 2), (high, 3)] {
+        pairs.push((key.try_clone(alloc)?, number))?;
+    }
+    Ok(pairs)
+}
+
+// The numbers of the keys in their order.
+fn sorted(alloc: Global, low: &Key, high: &Key) -> Result<Vec<usize>, AllocError> {
+    numbers_in_order(alloc, numbered(alloc, low, high)?)
 }
 
 // Whether the keys are sorted, each with its number.
-fn sorted(alloc: Global, low: &Key, high: &Key) -> Result<bool, AllocError> {
-    let mut pairs = Vec::new(alloc);
-    pairs.push((high.try_clone(alloc)?, 1usize))?;
-    pairs.push((low.try_clone(alloc)?, 2))?;
-    pairs.push((high.try_clone(alloc)?, 3))?;
-    let pairs = in_order(alloc, pairs)?;
-    let numbers = [2usize, 1, 3];
-    Ok(pairs.iter().map(|it| it.1).eq(numbers.iter().copied()))
+fn are_sorted(alloc: Global, low: &Key, high: &Key) -> Answer {
+    match sorted(alloc, low, high) {
+        Ok(numbers) => right_if(numbers.as_slice() == [2, 1, 3].as_slice()),
+        Err(_) => Answer::WantsMemory,
+    }
 }
 
 #[test]
@@ -83,14 +100,11 @@ fn refused_order(rt: HostRuntime) -> Result<(), Fail> {
     let alloc = rt.alloc();
     let low = key(alloc, "a", "", "2")?;
     let high = key(alloc, "b", "", "1")?;
-    each_refused(
-        alloc,
-        "in_order",
-        |alloc| match sorted(alloc, &low, &high) {
-            Ok(is_right) => right_if(is_right),
-            Err(_) => Answer::WantsMemory,
-        },
-    )
+    refused_orders(alloc, &low, &high)
+}
+
+fn refused_orders(alloc: Global, low: &Key, high: &Key) -> Result<(), Fail> {
+    each_refused(alloc, "in_order", |alloc| are_sorted(alloc, low, high))
 }
 
 // Whether the set of the entries has the entry, which is one of them.
@@ -122,8 +136,8 @@ fn compact(alloc: Global, value: &Value, wanted: &CompactText) -> Answer {
 // The value 1, and the value of this text.
 fn two_entries(alloc: Global, text: &str) -> Result<Vec<Value>, Fail> {
     let mut entries = Vec::new(alloc);
-    entries.push(Value::from_str(alloc, "1")?)?;
-    entries.push(Value::from_str(alloc, text)?)?;
+    entries.push(value_of(alloc, "1")?)?;
+    entries.push(value_of(alloc, text)?)?;
     Ok(entries)
 }
 
@@ -149,7 +163,7 @@ fn refused_texts(alloc: Global, value: &Value) -> Result<(), Fail> {
 fn refused_values(rt: HostRuntime) -> Result<(), Fail> {
     let alloc = rt.alloc();
     let entries = two_entries(alloc, SMALL_BALLOT)?;
-    let value = Value::from_str(alloc, SMALL_BALLOT)?;
+    let value = value_of(alloc, SMALL_BALLOT)?;
     refused_sets(alloc, entries.as_slice(), &value)?;
     refused_texts(alloc, &value)
 }

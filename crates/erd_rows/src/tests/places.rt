@@ -1,4 +1,5 @@
 //! Places, JSON Pointers and equality.
+use crate::tests::edits::value_of;
 use erd_check::same_json;
 use erd_tables::{Fault, Place, Reason, Step, Text, pointer};
 use serde_json::Value;
@@ -55,11 +56,15 @@ const EQUAL: &[(&str, &str, bool)] = &[
     ("null", "[]", false),
 ];
 
+fn is_equal_both_ways(one: &Value, other: &Value, wanted: bool) -> bool {
+    same_json(one, other) == wanted && same_json(other, one) == wanted
+}
+
 // Whether the values are equal, and equal the other way round, or neither.
 fn is_equal(alloc: Global, (left, right, wanted): (&str, &str, bool)) -> Result<bool, Fail> {
-    let one = Value::from_str(alloc, left)?;
-    let other = Value::from_str(alloc, right)?;
-    Ok(same_json(&one, &other) == wanted && same_json(&other, &one) == wanted)
+    let one = value_of(alloc, left)?;
+    let other = value_of(alloc, right)?;
+    Ok(is_equal_both_ways(&one, &other, wanted))
 }
 
 fn all_are_equal(rt: &impl Abort, alloc: Global, table: &[(&str, &str, bool)]) -> Result<(), Fail> {

@@ -138,7 +138,7 @@ fn by_faults(alloc: Global, asked: &Asked) -> Answer {
 }
 
 // Calls `then` on the report of these bytes.
-pub fn on_report<F: Fn(&Report) -> Answer>(
+pub fn on_report<F: FnOnce(&Report) -> Answer>(
     alloc: Global,
     asked: &Asked,
     then: F,
