@@ -31,6 +31,11 @@ fn accepted(rt: HostRuntime) {
     let alloc = rt.alloc();
     let one = REPORT.as_bytes();
     assert!(rt; check_bytes(alloc, one).is_ok());
+}
+
+#[test]
+fn accepted_under_a_preference(rt: HostRuntime) {
+    let (alloc, one) = (rt.alloc(), REPORT.as_bytes());
     assert!(rt; check_bytes_with(alloc, one, Some("fips")).is_ok());
 }
 

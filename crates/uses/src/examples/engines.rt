@@ -7,6 +7,7 @@ use erd_canon::{
 };
 use std::alloc::{AllocError, Global};
 use std::mem;
+use std::process::Abort;
 use std::test::Fail;
 
 #[test]
@@ -29,8 +30,12 @@ fn canon(rt: HostRuntime) -> Result<(), Fail> {
     let outcome = run_canon(alloc, &mut reader, &mut out, &mut err)?;
     assert_eq!(rt; outcome.status(), 0);
     assert_eq!(rt; out.writer.as_slice(), CANONICAL.as_bytes());
-    assert!(rt; !reader.failed() && !out.failed());
+    went_well(&rt, &reader, &out);
     Ok(())
+}
+
+fn went_well(rt: &impl Abort, reader: &ReadFrom<&[u8]>, out: &WriteTo<Vec<u8>>) {
+    assert!(rt; !reader.failed() && !out.failed());
 }
 
 #[test]
@@ -41,11 +46,12 @@ fn compare(rt: HostRuntime) -> Result<(), Fail> {
     let mut out = WriteTo::of(Vec::new(alloc));
     let outcome = run_compare(alloc, &mut left, &mut right, &mut out)?;
     assert_eq!(rt; outcome.status(), 1);
-    assert_eq!(rt;
-        out.writer.as_slice(),
-        "election: member \"Name\"\n".as_bytes()
-    );
+    wrote(&rt, &out, "election: member \"Name\"\n");
     Ok(())
+}
+
+fn wrote(rt: &impl Abort, out: &WriteTo<Vec<u8>>, wanted: &str) {
+    assert!(rt; out.writer.as_slice() == wanted.as_bytes());
 }
 
 #[test]
@@ -152,8 +158,12 @@ fn sinks(rt: HostRuntime) {
 }
 
 #[test]
-fn faults_of_runs(rt: HostRuntime) {
+fn statuses_of_faults(rt: HostRuntime) {
     assert_eq!(rt; RunFault::Memory.status(), 4);
+}
+
+#[test]
+fn words_of_faults(rt: HostRuntime) {
     assert_eq!(rt; RunFault::Memory.words(), "no memory");
 }
 

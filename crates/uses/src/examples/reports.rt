@@ -1,5 +1,5 @@
 //! Examples of `erd_meaning`, `erd_normal` and `erd_compare`.
-use crate::report_of;
+use crate::callers::report_of;
 use erd_check::{same_json, shape};
 use erd_compare::first_difference;
 use erd_meaning::{
@@ -9,7 +9,7 @@ use erd_meaning::{
 use erd_normal::{CompactText, SetOrder, in_order, normal_text, normal_tree};
 use erd_tables::{Family, Text};
 use serde_json::Value;
-use std::alloc::Global;
+use std::alloc::{AllocError, Global};
 use std::cmp::Ordering;
 use std::process::Abort;
 use std::test::Fail;
@@ -19,7 +19,7 @@ const BALLOT: &str =
     r#"{"@type":"ElectionResults.ElectionReport","Status":"pre-election","GpUnit":[{"@id":"u7","@type":"ElectionResults.ReportingUnit","Type":"county","ExternalIdentifier":[{"@type":"ElectionResults.ExternalIdentifier","Type":"local-level","Value":"U1"},{"@type":"ElectionResults.ExternalIdentifier","Type":"fips","Value":"20"}]}],"Election":[{"@type":"ElectionResults.Election","Name":"Test","Type":"general","StartDate":"2026-11-03","EndDate":"2026-11-03","ElectionScopeId":"u7","Candidate":[{"@id":"k1","@type":"ElectionResults.Candidate","BallotName":"Ann","ExternalIdentifier":[{"@type":"ElectionResults.ExternalIdentifier","Type":"local-level","Value":"K1"}]}],"Contest":[{"@id":"c1","@type":"ElectionResults.CandidateContest","Name":"Mayor","ElectionDistrictId":"u7","VotesAllowed":1,"ExternalIdentifier":[{"@type":"ElectionResults.ExternalIdentifier","Type":"local-level","Value":"C1"}],"ContestSelection":[{"@id":"s1","@type":"ElectionResults.CandidateSelection","CandidateIds":["k1"]},{"@id":"s2","@type":"ElectionResults.CandidateSelection","IsWriteIn":true}]}]}]}"#;
 
 // The key with these texts, which has no `OtherType`.
-fn key(alloc: Global, kind: &str, value: &str) -> Result<Key, Fail> {
+fn key(alloc: Global, kind: &str, value: &str) -> Result<Key, AllocError> {
     Ok(Key {
         kind: Text::of(String::from_str(alloc, kind)?),
         other: Text::of(String::new(alloc)),
@@ -27,44 +27,92 @@ fn key(alloc: Global, kind: &str, value: &str) -> Result<Key, Fail> {
     })
 }
 
-// What the report has, by position.
-fn positions(rt: &impl Abort, tree: &Value, report: &Report) -> Result<(), Fail> {
+fn tree_of_report(rt: &impl Abort, tree: &Value, report: &Report) {
     assert!(rt; same_json(report.tree(), tree));
+}
+
+fn preference(rt: &impl Abort, report: &Report) {
     assert!(rt; report.preference().is_none());
+}
+
+fn count_of_elections(rt: &impl Abort, report: &Report) {
     assert_eq!(rt; report.election_count(), 1);
+}
+
+fn election(rt: &impl Abort, report: &Report) -> Result<(), Fail> {
     assert!(rt;
         same_json(
             report.election(),
             report.election_at(0).ok_or("no election")?
         )
     );
-    assert!(rt; report.election_key(0).is_none());
     Ok(())
 }
 
-// What the report has of the objects of a family.
-fn objects(rt: &impl Abort, report: &Report) {
+fn key_of_election(rt: &impl Abort, report: &Report) {
+    assert!(rt; report.election_key(0).is_none());
+}
+
+fn election_of_candidate(rt: &impl Abort, report: &Report) {
     assert_eq!(rt; report.election_of(Family::Candidate, 0), Some(0));
+}
+
+fn count_of_selections(rt: &impl Abort, report: &Report) {
     assert_eq!(rt; report.count(Family::Selection), 2);
+}
+
+fn candidates(rt: &impl Abort, report: &Report) {
     assert!(rt; report.object(Family::Candidate, 0).is_some());
     assert!(rt; report.object(Family::Candidate, 1).is_none());
+}
+
+fn target(rt: &impl Abort, report: &Report) {
     assert_eq!(rt; report.target("k1"), Some((Family::Candidate, 0)));
+}
+
+fn target_in_row(rt: &impl Abort, report: &Report) {
     let mut row = Row::of(1);
     assert_eq!(rt;
         report.target_in_row(Family::Contest, &mut row, "k1"),
         Some((Family::Candidate, 0))
     );
+}
+
+fn first_selection(rt: &impl Abort, report: &Report) {
     assert_eq!(rt; report.first_selection(0), 0);
 }
 
-// What the report finds by keys.
-fn keys(rt: &impl Abort, alloc: Global, report: &Report) -> Result<(), Fail> {
+// What the report has, by position.
+fn positions(rt: &impl Abort, tree: &Value, report: &Report) -> Result<(), Fail> {
+    tree_of_report(rt, tree, report);
+    preference(rt, report);
+    count_of_elections(rt, report);
+    key_of_election(rt, report);
+    election_of_candidate(rt, report);
+    count_of_selections(rt, report);
+    candidates(rt, report);
+    target(rt, report);
+    target_in_row(rt, report);
+    first_selection(rt, report);
+    election(rt, report)
+}
+
+fn sorted_places(rt: &impl Abort, alloc: Global) -> Result<(), Fail> {
     assert_eq!(rt;
         places_in(alloc, &[2, 0, 1])?.as_slice(),
         [1, 2, 0].as_slice()
     );
+    Ok(())
+}
+
+fn key_of_unit(rt: &impl Abort, alloc: Global, report: &Report) -> Result<(), Fail> {
     let county = key(alloc, "fips", "20")?;
     assert_eq!(rt; report.key_at(Family::Unit, 0), Some(&county));
+    Ok(())
+}
+
+fn unit_of_key(rt: &impl Abort, alloc: Global, report: &Report) -> Result<(), Fail> {
+    let county = key(alloc, "fips", "20")?;
     assert_eq!(rt; report.find(Family::Unit, &county), Some(0));
     Ok(())
 }
@@ -74,39 +122,83 @@ fn rising_keys(rt: &impl Abort, alloc: Global, report: &Report) -> Result<(), Fa
     Ok(())
 }
 
+fn rising_units(rt: &impl Abort, report: &Report) {
+    assert_eq!(rt; report.rising(Family::Unit).first(), Some(&0));
+}
+
+fn rank_of_candidate(rt: &impl Abort, report: &Report) {
+    assert_eq!(rt; report.rank_at(Family::Candidate, 0), Some(0));
+}
+
+fn rising_elections(rt: &impl Abort, report: &Report) {
+    assert_eq!(rt; report.rising_elections().first(), Some(&0));
+}
+
+fn rank_of_election(rt: &impl Abort, report: &Report) {
+    assert_eq!(rt; report.election_rank_at(0), Some(0));
+}
+
 // The positions of objects and elections in the order of their keys.
 fn places(rt: &impl Abort, report: &Report) {
-    assert_eq!(rt; report.rising(Family::Unit).first(), Some(&0));
-    assert_eq!(rt; report.rank_at(Family::Candidate, 0), Some(0));
-    assert_eq!(rt; report.rising_elections().first(), Some(&0));
-    assert_eq!(rt; report.election_rank_at(0), Some(0));
+    rising_units(rt, report);
+    rank_of_candidate(rt, report);
+    rising_elections(rt, report);
+    rank_of_election(rt, report);
 }
 
 // What the report finds by names.
 fn names(rt: &impl Abort, alloc: Global, report: &Report) -> Result<(), Fail> {
     let (contest, name) = report.selection_at(1).ok_or("no write-in line")?;
     assert_eq!(rt; contest, 0);
-    assert_eq!(rt; report.find_selection(contest, name), Some(1));
-    copies(rt, alloc, name)
+    selection_of_name(rt, report, contest, name);
+    lent_name(rt, alloc, name);
+    copied_name(rt, alloc, name)
 }
 
-fn copies(rt: &impl Abort, alloc: Global, name: &SelectionName) -> Result<(), Fail> {
+fn selection_of_name(rt: &impl Abort, report: &Report, contest: usize, name: &SelectionName) {
+    assert_eq!(rt; report.find_selection(contest, name), Some(1));
+}
+
+fn copied_name(rt: &impl Abort, alloc: Global, name: &SelectionName) -> Result<(), Fail> {
     assert!(rt; name.try_clone(alloc)? == *name);
+    Ok(())
+}
+
+fn lent_name(rt: &impl Abort, alloc: Global, name: &SelectionName) {
     let lent = RankedName::of(name, Vec::new(alloc));
     assert!(rt; lent == RankedName::of(name, Vec::new(alloc)));
     assert!(rt; Named::name(name) == name);
-    Ok(())
 }
 
 // The names with the ranks of the keys in them.
 fn ranks(rt: &impl Abort, report: &Report) -> Result<(), Fail> {
     let (_, ranked) = report.ranked_name_at(0).ok_or("no selection")?;
     assert_eq!(rt; ranked.family(), Family::Candidate);
+    rank_of_name(rt, ranked);
+    write_in_line(rt, report, ranked)
+}
+
+fn rank_of_name(rt: &impl Abort, ranked: &RankedName<SelectionName>) {
     assert_eq!(rt; ranked.ranks().first(), Some(&0));
+}
+
+fn write_in_line(
+    rt: &impl Abort,
+    report: &Report,
+    ranked: &RankedName<SelectionName>,
+) -> Result<(), Fail> {
     let (_, write_in) = report.ranked_name_at(1).ok_or("no write-in line")?;
+    assert_eq!(rt; write_in.compare(ranked), Ordering::Less);
+    name_of_line(rt, report, write_in)
+}
+
+fn name_of_line(
+    rt: &impl Abort,
+    report: &Report,
+    write_in: &RankedName<SelectionName>,
+) -> Result<(), Fail> {
     let (_, name) = report.selection_at(1).ok_or("no write-in line")?;
     assert!(rt; write_in.name() == name);
-    assert_eq!(rt; write_in.compare(ranked), Ordering::Less);
     Ok(())
 }
 
@@ -120,13 +212,18 @@ fn numbers(rt: &impl Abort, alloc: Global, report: &Report) -> Result<(), Fail> 
 
 fn look_ups(rt: &impl Abort, alloc: Global, tree: &Value, report: &Report) -> Result<(), Fail> {
     positions(rt, tree, report)?;
-    objects(rt, report);
     places(rt, report);
-    keys(rt, alloc, report)?;
+    key_of_unit(rt, alloc, report)?;
+    unit_of_key(rt, alloc, report)?;
     rising_keys(rt, alloc, report)?;
     names(rt, alloc, report)?;
     numbers(rt, alloc, report)?;
     ranks(rt, report)
+}
+
+#[test]
+fn places_of_positions(rt: HostRuntime) -> Result<(), Fail> {
+    sorted_places(&rt, rt.alloc())
 }
 
 #[test]
@@ -161,12 +258,13 @@ fn differences(rt: HostRuntime) -> Result<(), Fail> {
 
 // The key that a preference gives the unit, and the one that it has without it.
 fn preferred_key(rt: &impl Abort, alloc: Global, report: &Report) -> Result<(), Fail> {
-    assert_eq!(rt;
-        report.key_at(Family::Unit, 0),
-        Some(&key(alloc, "local-level", "U1")?)
-    );
+    has_key(rt, report, &key(alloc, "local-level", "U1")?);
     let county = report.object(Family::Unit, 0).ok_or("no unit")?;
     least_key(rt, alloc, county)
+}
+
+fn has_key(rt: &impl Abort, report: &Report, wanted: &Key) {
+    assert!(rt; report.key_at(Family::Unit, 0) == Some(wanted));
 }
 
 fn least_key(rt: &impl Abort, alloc: Global, county: &Value) -> Result<(), Fail> {

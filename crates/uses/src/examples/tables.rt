@@ -12,10 +12,26 @@ use std::test::Fail;
 fn classes(rt: HostRuntime) {
     assert_eq!(rt; class_of("ElectionResults.Party"), Some(Class::Party));
     assert_eq!(rt; class_of("Party"), None);
+}
+
+#[test]
+fn texts_of_classes(rt: HostRuntime) {
     assert_eq!(rt; type_text(Class::Party), "ElectionResults.Party");
+}
+
+#[test]
+fn roles(rt: HostRuntime) {
     assert_eq!(rt; role_of(Class::Coalition), Role::OfFamily(Family::Party));
+}
+
+#[test]
+fn families(rt: HostRuntime) {
     assert_eq!(rt; family_of(Class::Coalition), Some(Family::Party));
     assert_eq!(rt; family_of(Class::Election), None);
+}
+
+#[test]
+fn classes_in_roles(rt: HostRuntime) {
     let candidate = Role::OfFamily(Family::Candidate);
     assert_eq!(rt;
         class_in(candidate, "ElectionResults.Candidate"),
@@ -42,10 +58,18 @@ fn members(rt: HostRuntime) {
         member_kind(Class::Candidate, "Nickname"),
         MemberKind::Carried
     );
+}
+
+#[test]
+fn names_of_members(rt: HostRuntime) {
     assert!(rt; is_envelope("Issuer"));
     assert!(rt; !is_envelope("Status"));
     assert!(rt; is_reference_form("PartyIds"));
     assert!(rt; !is_reference_form("PartyID"));
+}
+
+#[test]
+fn required_members(rt: HostRuntime) {
     assert!(rt; required(Class::LanguageString).contains(&"Content"));
     assert!(rt; is_required_member(Class::Header, "Name"));
     assert!(rt; !is_required_member(Class::Header, "Color"));
@@ -77,9 +101,22 @@ fn place_of_unit(alloc: Global) -> Result<Place, AllocError> {
 // What the place has.
 fn steps(rt: &impl Abort, place: &Place) {
     assert_eq!(rt; place.len(), 2);
+    steps_in_turn(rt, place);
+    last_step(rt, place);
+}
+
+fn steps_in_turn(rt: &impl Abort, place: &Place) {
+    assert_eq!(rt; place.iter().count(), 2);
+}
+
+fn last_step(rt: &impl Abort, place: &Place) {
     assert!(rt; !place.is_empty());
     assert!(rt; matches!(place.step(1), Some(Step::At(10))));
-    assert_eq!(rt; place.iter().count(), 2);
+}
+
+fn pointer_of(rt: &impl Abort, alloc: Global, place: &Place) -> Result<(), Fail> {
+    assert_eq!(rt; pointer(alloc, &place)?.as_str(), "/GpUnit/10");
+    Ok(())
 }
 
 #[test]
@@ -87,8 +124,7 @@ fn places(rt: HostRuntime) -> Result<(), Fail> {
     let alloc = rt.alloc();
     let place = place_of_unit(alloc)?;
     steps(&rt, &place);
-    assert_eq!(rt; pointer(alloc, &place)?.as_str(), "/GpUnit/10");
-    Ok(())
+    pointer_of(&rt, alloc, &place)
 }
 
 // One fault, whose place has two steps.
@@ -100,8 +136,12 @@ fn fault_of_unit(alloc: Global) -> Result<Fault, AllocError> {
 }
 
 #[test]
-fn reasons(rt: HostRuntime) {
+fn words_of_reasons(rt: HostRuntime) {
     assert_eq!(rt; Reason::DuplicateId.words(), "@id used twice");
+}
+
+#[test]
+fn missing_members(rt: HostRuntime) {
     assert_eq!(rt; Reason::DuplicateId.missing_member(), "");
 }
 
@@ -115,9 +155,17 @@ fn fault_lines(rt: HostRuntime) -> Result<(), Fail> {
 
 // What the list of one fault has.
 fn faults(rt: &impl Abort, list: &FaultList) {
-    assert_eq!(rt; list.len(), 1);
     assert!(rt; !list.is_empty());
     assert!(rt; list.get(1).is_none());
+    count_of_faults(rt, list);
+    faults_in_turn(rt, list);
+}
+
+fn count_of_faults(rt: &impl Abort, list: &FaultList) {
+    assert_eq!(rt; list.len(), 1);
+}
+
+fn faults_in_turn(rt: &impl Abort, list: &FaultList) {
     for fault in list.iter() {
         assert_eq!(rt; fault.place.len(), 2);
     }

@@ -1,7 +1,7 @@
 use Rattle.std.proofs.Common.{◌≡◌, ◌∙◌, ap₂, sym}
 use Rattle.std.proofs.lemmas.Slice.Eq.{bytes_eq-Decides}
 use Rattle.std.specs.Str.{bytes_eq}
-use Rattle.uses.proofs.is_same.Goals as goal
+use Rattle.uses.proofs.callers.is_same.Goals as goal
 
 pub returns-clause-same : goal.returns-clause-same
 returns-clause-same c t u is is_other =
