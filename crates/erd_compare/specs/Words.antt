@@ -1,7 +1,6 @@
 -- The words that the contracts of this crate cite, passed on from one place. Declares nothing.
-pub use Rattle.erd_meaning.specs.Words.{◌==◌, ◌≡◌, as_str, codes, family_number, has_keys, map, objects, option_and_then, option_copied, option_map, slice_get, true, view, AllByRecursion, Data, IfOk, IfSome, IsBounded, IsTree, Option, Preference, Some}
+pub use Rattle.erd_meaning.specs.Words.{as_str, codes, family_number, has_keys, objects, view, AllByRecursion, Data, IsBounded, IsTree, Preference}
 pub use Rattle.std.specs.List.{filter_map, list_all, position_or_len}
-pub use Rattle.std.specs.Prelude.{string_bytes, MatchOption, Ok}
 pub use Rattle.indexmap.specs.IndexSet.{insert_all}
 pub use Rattle.serde_json.specs.Data.{member, no_members, object, string}
 pub use Rattle.serde_json.specs.Find.{get}

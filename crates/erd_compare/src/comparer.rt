@@ -1,5 +1,6 @@
 //! The two reports that are compared, and what they have in common.
-ghost use Rattle.erd_compare.specs.Words.{◌≡◌, true, option_and_then, option_map, slice_get, view, Election, IsBounded, objects};
+ghost use Rattle.std.specs.Prelude.{◌≡◌, true, option_and_then, option_map, slice_get};
+ghost use Rattle.erd_compare.specs.Words.{view, Election, IsBounded, objects};
 ghost use Rattle.erd_tables.specs.declared.class.Family.TheVariants as family;
 ghost use Rattle.erd_compare.specs.code.CommonNames.{AreNameNumbers, number_of_selection};
 ghost use Rattle.erd_compare.specs.code.CommonRanks.{AreAllCommonRanks, AreCommonRanks, rank_of_key};
@@ -26,7 +27,7 @@ pub(crate) struct Comparer<'a> {
 }
 
 impl<'a> Model for Comparer<'a> {
-    ghost use Rattle.std.specs.Coded.{codes};
+    ghost use Rattle.erd_compare.specs.Words.{codes};
     ghost use Rattle.serde_json.specs.contracts.value.Value as tree_value;
     ghost use Rattle.erd_compare.specs.code.Compared.{AreInCommon, Compared};
 

@@ -1,6 +1,7 @@
 //! Differences between reports, and the lines that describe them.
 
-ghost use Rattle.erd_compare.specs.Words.{◌≡◌, string_bytes, option_copied, IfOk, string, view, Member, difference_line, how_text, key_as_json, key_text, part_text};
+ghost use Rattle.std.specs.Prelude.{◌≡◌, string_bytes, option_copied, IfOk};
+ghost use Rattle.erd_compare.specs.Words.{string, view, Member, difference_line, how_text, key_as_json, key_text, part_text};
 
 use erd_meaning::Key;
 use erd_tables::Text;

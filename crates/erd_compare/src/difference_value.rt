@@ -1,4 +1,5 @@
-ghost use Rattle.erd_compare.specs.Words.{◌≡◌, codes, option_copied, IfOk, string, object, member, no_members, view, difference_data, key_data};
+ghost use Rattle.std.specs.Prelude.{◌≡◌, codes, option_copied, IfOk};
+ghost use Rattle.erd_compare.specs.Words.{string, object, member, no_members, view, difference_data, key_data};
 
 use crate::difference::{Difference, How, key_value, part_words};
 use erd_meaning::Key;

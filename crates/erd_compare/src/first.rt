@@ -1,4 +1,5 @@
-ghost use Rattle.erd_compare.specs.Words.{◌≡◌, option_copied, IfOk, view, meaning, IsDifference};
+ghost use Rattle.std.specs.Prelude.{◌≡◌, option_copied, IfOk};
+ghost use Rattle.erd_compare.specs.Words.{view, meaning, IsDifference};
 ghost use Rattle.erd_compare.specs.code.Comparing.{TellsPart};
 
 mod tables;

@@ -1,10 +1,10 @@
 -- The words that the contracts of this crate cite, passed on from one place. Declares nothing.
 pub use Rattle.std.specs.Cmp.{eq_by_cmp_equiv, partial_equiv_from_equiv, partial_order_from_total}
+pub use Rattle.std.specs.Coded.{codes}
 pub use Rattle.std.specs.Hash.DefaultHasher.{write}
 pub use Rattle.std.specs.List.{list_any, AllByRecursion, IsDistinct}
 pub use Rattle.std.specs.Option.{option_map_or, option_or}
 pub use Rattle.std.specs.Ordering.{as_partial_cmp, eq_by_cmp, is_lt, nat_cmp}
-pub use Rattle.std.specs.Prelude.{[], ⊤, ◌&&◌, ◌++◌, ◌+◌, ◌<◌, ◌==◌, ◌^◌, ◌∷◌, ◌≡◌, bytes_eq, codes, false, flat_map, fold, if◌then◌else◌, is_some, length, map, nat_lt, not, option_and_then, option_copied, option_map, option_to_list, refl, replicate, slice_get, true, vec_capacity, vec_len, IfErr, IfOk, IfSome, IsTrue, List, None, OnErr, OnOk, Option, Some, ℕ}
 pub use Rattle.indexmap.specs.IndexMap.{get_by, spare}
 pub use Rattle.serde_json.specs.Data.{Data}
 pub use Rattle.serde_json.specs.Find.{as_str}

@@ -1,4 +1,5 @@
-ghost use Rattle.erd_meaning.specs.Words.{◌≡◌, false, List, Some, length, map, option_copied, option_map, slice_get, IfOk, view, has_float, HasFittingNumbers, IsShallow, IsTree, IsAccepted, FindsId, FindsKey, FindsSelection, election_in, election_key_in, key_in, rising_keys, selection_in, selections_before, IsBounded, elections, objects, ranked_selection_in};
+ghost use Rattle.std.specs.Prelude.{◌≡◌, false, List, Some, length, map, option_copied, option_map, slice_get, IfOk};
+ghost use Rattle.erd_meaning.specs.Words.{view, has_float, HasFittingNumbers, IsShallow, IsTree, IsAccepted, FindsId, FindsKey, FindsSelection, election_in, election_key_in, key_in, rising_keys, selection_in, selections_before, IsBounded, elections, objects, ranked_selection_in};
 ghost use Rattle.erd_meaning.specs.code.RanksAmong.{AllAreRanked, names_of};
 ghost use Rattle.erd_meaning.specs.code.Resolved.{IsResolved};
 ghost use Rattle.erd_meaning.specs.code.ResolvedElections.{AreElections};
@@ -61,8 +62,7 @@ pub(crate) struct Elections<'a> {
 }
 
 impl<'a> Model for Report<'a> {
-    ghost use Rattle.erd_meaning.specs.Words.{Judged};
-    ghost use Rattle.std.specs.Coded.{codes};
+    ghost use Rattle.erd_meaning.specs.Words.{Judged, codes};
     ghost use Rattle.serde_json.specs.contracts.value.Value as tree_value;
     ghost use Rattle.erd_meaning.specs.code.ResolvedIndexes.{AreResolved};
 

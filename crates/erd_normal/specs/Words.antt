@@ -1,7 +1,6 @@
 -- The words that the contracts of this crate cite, passed on from one place. Declares nothing.
-pub use Rattle.erd_meaning.specs.Words.{[], ◌++◌, ◌+◌, ◌<◌, ◌==◌, ◌^◌, ◌∷◌, ◌≡◌, codes, elections, entries_at, entry_of, false, family_number, has_float, has_keys, is_some, items_view, key_in, length, map, name_cmp, objects, option_copied, option_map, option_map_or, rank_of, rising_list, slice_get, true, view, Data, Family, FindsId, IfOk, IfSome, IsAccepted, IsTree, Judged, List, OnOk, Option, Preference, Some, ℕ}
+pub use Rattle.erd_meaning.specs.Words.{codes, elections, entries_at, entry_of, family_number, has_float, has_keys, items_view, key_in, name_cmp, objects, option_map_or, rank_of, rising_list, view, Data, Family, FindsId, IsAccepted, IsTree, Judged, Preference}
 pub use Rattle.std.specs.Option.{option_cmp}
-pub use Rattle.std.specs.Prelude.{◌≤◌, decimal, drop}
 pub use Rattle.arrayvec.specs.ArrayString.{array_string_len}
 pub use Rattle.json.specs.Token.{key}
 pub use Rattle.serde_json.specs.Data.{no_members, object, string, Members}

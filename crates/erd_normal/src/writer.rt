@@ -1,5 +1,6 @@
 //! What the canonical form of a report is written from: the report, and the orders of its parts.
-ghost use Rattle.erd_normal.specs.Words.{◌≡◌, ◌==◌, ℕ, List, [], Some, true, false, map, option_map, slice_get, IfOk, option_map_or, string, Value, view, has_float, family_number, IsAccepted, has_keys, FindsId, id_in, key_in, rank_of, contests, elections, objects, canonical_selection_id};
+ghost use Rattle.std.specs.Prelude.{◌≡◌, ◌==◌, ℕ, List, [], Some, true, false, map, option_map, slice_get, IfOk};
+ghost use Rattle.erd_normal.specs.Words.{option_map_or, string, Value, view, has_float, family_number, IsAccepted, has_keys, FindsId, id_in, key_in, rank_of, contests, elections, objects, canonical_selection_id};
 ghost use denote.Ref.{Bor};
 ghost use Rattle.erd_tables.specs.declared.class.Family.TheVariants as family;
 ghost use Rattle.erd_normal.specs.code.ElectionParts.{objects_in_part, part_seen};
@@ -37,8 +38,7 @@ pub(crate) struct Writer<'a> {
 }
 
 impl<'a> Model for Writer<'a> {
-    ghost use Rattle.erd_normal.specs.Words.{view as data_of, Judged};
-    ghost use Rattle.std.specs.Coded.{codes};
+    ghost use Rattle.erd_normal.specs.Words.{view as data_of, Judged, codes};
     ghost use Rattle.serde_json.specs.contracts.value.Value as tree_value;
     ghost use Rattle.erd_normal.specs.code.Orders.{AreOrders};
 

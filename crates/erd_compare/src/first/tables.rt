@@ -1,4 +1,5 @@
-ghost use Rattle.erd_compare.specs.Words.{◌≡◌, true, slice_get, option_copied, IfOk, view, meaning, record_at, OnlyLeft, OnlyRight};
+ghost use Rattle.std.specs.Prelude.{◌≡◌, true, slice_get, option_copied, IfOk};
+ghost use Rattle.erd_compare.specs.Words.{view, meaning, record_at, OnlyLeft, OnlyRight};
 ghost use Rattle.erd_compare.specs.code.RisingParts.{AreRising};
 ghost use Rattle.erd_compare.specs.code.KeyedDifferences.{TellsAtPositions, TellsLeast, TellsNext, is_ranked, rising_in_role, shared_at};
 

@@ -1,4 +1,5 @@
-ghost use Rattle.erd_compare.specs.Words.{◌≡◌, IfOk, Option, view, Key as key};
+ghost use Rattle.std.specs.Prelude.{◌≡◌, IfOk, Option};
+ghost use Rattle.erd_compare.specs.Words.{view, Key as key};
 ghost use Rattle.erd_compare.specs.code.Comparing.{Decides};
 ghost use Rattle.erd_compare.specs.code.HeldDifferences.{TellsHeld, is_before_election};
 ghost use Rattle.erd_compare.specs.code.KeyedDifferences.{holder_key_in};

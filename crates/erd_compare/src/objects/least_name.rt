@@ -1,4 +1,5 @@
-ghost use Rattle.erd_compare.specs.Words.{option_map, IfOk, Ok, view, IsTree};
+ghost use Rattle.std.specs.Prelude.{option_map, IfOk, Ok};
+ghost use Rattle.erd_compare.specs.Words.{view, IsTree};
 ghost use Rattle.erd_compare.specs.code.LeastNames.{IsObject, MemberMap, TellsLeastName};
 ghost use Rattle.erd_compare.specs.code.MemberPairs.{DecideNames, IsMapOf, IsPairOf};
 

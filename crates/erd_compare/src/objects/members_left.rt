@@ -1,4 +1,5 @@
-ghost use Rattle.erd_compare.specs.Words.{◌≡◌, option_map, Data, get, members_view, view};
+ghost use Rattle.std.specs.Prelude.{◌≡◌, option_map};
+ghost use Rattle.erd_compare.specs.Words.{Data, get, members_view, view};
 ghost use Rattle.erd_compare.specs.code.LeastNames.{lesser_name};
 ghost use Rattle.erd_compare.specs.code.NamesInStep.{AreMembersOf, first_of, members_from, members_left, names_left, names_past};
 

@@ -1,4 +1,5 @@
-ghost use Rattle.erd_compare.specs.Words.{◌≡◌, option_map, IfOk, IfSome, view, entries_of, is_in_envelope, json_set, plain_value};
+ghost use Rattle.std.specs.Prelude.{◌≡◌, option_map, IfOk, IfSome};
+ghost use Rattle.erd_compare.specs.Words.{view, entries_of, is_in_envelope, json_set, plain_value};
 ghost use Rattle.erd_compare.specs.code.Comparing.{Decides, IsWholeTree, NamesKeys};
 ghost use Rattle.erd_compare.specs.code.PlainParts.{means_nothing, meant_value, plain_found};
 

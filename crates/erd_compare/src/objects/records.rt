@@ -1,4 +1,5 @@
-ghost use Rattle.erd_compare.specs.Words.{◌≡◌, option_map, true, IfOk, IfSome, Some, view, role_of_class, kind_of_member, object_record};
+ghost use Rattle.std.specs.Prelude.{◌≡◌, option_map, true, IfOk, IfSome, Some};
+ghost use Rattle.erd_compare.specs.Words.{view, role_of_class, kind_of_member, object_record};
 ghost use Rattle.erd_compare.specs.code.Comparing.{IsWholeTree, TellsHow, Decides};
 ghost use Rattle.erd_compare.specs.code.LeastNames.{IsObject, record_of_class};
 ghost use Rattle.erd_compare.specs.code.PlacedObjects.{AreSelectionsAt, IsPlaced};

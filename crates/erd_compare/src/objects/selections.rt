@@ -1,4 +1,5 @@
-ghost use Rattle.erd_compare.specs.Words.{◌≡◌, map, option_map, IfOk, IfSome, AllByRecursion, view, plain_member, selection_map, selection_record};
+ghost use Rattle.std.specs.Prelude.{◌≡◌, map, option_map, IfOk, IfSome};
+ghost use Rattle.erd_compare.specs.Words.{AllByRecursion, view, plain_member, selection_map, selection_record};
 ghost use Rattle.erd_compare.specs.code.Comparing.{Decides, IsWholeTree};
 ghost use Rattle.erd_compare.specs.code.LeastNames.{IsObject};
 ghost use Rattle.erd_compare.specs.code.RankedSides.{on_side};

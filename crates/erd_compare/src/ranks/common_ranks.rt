@@ -1,4 +1,5 @@
-ghost use Rattle.erd_compare.specs.Words.{◌≡◌, true, IfOk, view, OfFamily, has_keys};
+ghost use Rattle.std.specs.Prelude.{◌≡◌, true, IfOk};
+ghost use Rattle.erd_compare.specs.Words.{view, OfFamily, has_keys};
 ghost use Rattle.erd_compare.specs.code.CommonRanks.{AreAllCommonRanks, AreCommonRanks, common_rank_of, common_ranks_in};
 ghost use Rattle.erd_compare.specs.code.KeyedDifferences.{IsComparable};
 ghost use Rattle.erd_compare.specs.code.RankedSides.{AreCommonByRank};

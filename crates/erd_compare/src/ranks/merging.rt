@@ -1,5 +1,6 @@
 //! The rising keys of two reports, merged.
-ghost use Rattle.erd_compare.specs.Words.{◌≡◌, true, slice_get, IfOk, view};
+ghost use Rattle.std.specs.Prelude.{◌≡◌, true, slice_get, IfOk};
+ghost use Rattle.erd_compare.specs.Words.{view};
 ghost use Rattle.erd_compare.specs.code.CommonRanks.{AreCommonRanks, next_cmp};
 ghost use Rattle.erd_compare.specs.code.KeyedDifferences.{IsComparable, is_ranked, rising_in_role};
 

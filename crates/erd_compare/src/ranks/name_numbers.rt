@@ -1,6 +1,7 @@
 //! Numbers in place of the names of selections. Each name is hashed once. From then on numbers are compared, so it takes no
 //! longer if names are long.
-ghost use Rattle.erd_compare.specs.Words.{◌≡◌, map, option_and_then, option_map, slice_get, IfOk, filter_map, position_or_len, view, insert_all, objects, with_ranks};
+ghost use Rattle.std.specs.Prelude.{◌≡◌, map, option_and_then, option_map, slice_get, IfOk};
+ghost use Rattle.erd_compare.specs.Words.{filter_map, position_or_len, view, insert_all, objects, with_ranks};
 ghost use Rattle.erd_tables.specs.declared.class.Family.TheVariants as family;
 ghost use Rattle.erd_compare.specs.code.CommonNames.{AreNameNumbers, name_eq, name_told, ranks_told};
 ghost use Rattle.erd_compare.specs.code.CommonRanks.{common_rank_of};

@@ -1,6 +1,7 @@
 //! What a report has of the objects with a role. The roles that are compared are those of the families with keys, that of the
 //! elections, and that of the report itself.
-ghost use Rattle.erd_compare.specs.Words.{◌≡◌, true, Some, option_copied, option_map, slice_get, view};
+ghost use Rattle.std.specs.Prelude.{◌≡◌, true, Some, option_copied, option_map, slice_get};
+ghost use Rattle.erd_compare.specs.Words.{view};
 ghost use Rattle.erd_meaning.specs.code.KeyOrders.{rank_in_keys, rising_positions};
 ghost use Rattle.erd_compare.specs.code.KeyedDifferences.{holder_in, is_ranked, key_in_role, keys_in_role, objects_in, rising_in_role, role_of_part};
 

@@ -1,4 +1,5 @@
-ghost use Rattle.erd_compare.specs.Words.{◌≡◌, MatchOption, string_bytes, member, no_members, view, members_view, are_same_members, carried_members};
+ghost use Rattle.std.specs.Prelude.{◌≡◌, MatchOption, string_bytes};
+ghost use Rattle.erd_compare.specs.Words.{member, no_members, view, members_view, are_same_members, carried_members};
 ghost use Rattle.erd_compare.specs.code.Choices.{takes_name, chosen_in, chosen_members};
 ghost use Rattle.erd_compare.specs.code.Comparing.{Decides, IsWholeTree};
 

@@ -1,4 +1,5 @@
-ghost use Rattle.erd_compare.specs.Words.{◌≡◌, true, map, option_and_then, AllByRecursion, Data, as_str, view, Preference, has_keys, text_at, no_content, content_of, node_of, contest_node, header_node, class_of_node, is_header_class, key_named, name_named};
+ghost use Rattle.std.specs.Prelude.{◌≡◌, true, map, option_and_then};
+ghost use Rattle.erd_compare.specs.Words.{AllByRecursion, Data, as_str, view, Preference, has_keys, text_at, no_content, content_of, node_of, contest_node, header_node, class_of_node, is_header_class, key_named, name_named};
 ghost use Rattle.erd_compare.specs.code.Comparing.{Decides, IsWholeTree};
 ghost use Rattle.erd_compare.specs.code.ContentParts.{content_within};
 

@@ -1,4 +1,5 @@
-ghost use Rattle.erd_compare.specs.Words.{IfOk, view, label_of};
+ghost use Rattle.std.specs.Prelude.{IfOk};
+ghost use Rattle.erd_compare.specs.Words.{view, label_of};
 ghost use Rattle.erd_compare.specs.code.Choices.{translated_label};
 ghost use Rattle.erd_compare.specs.code.Comparing.{Decides, IsWholeTree};
 

@@ -1,4 +1,5 @@
-ghost use Rattle.erd_compare.specs.Words.{◌≡◌, ◌==◌, true, filter_map, map, option_and_then, option_map, IfOk, as_str, view, has_keys, family_number, key_set, key_named, keys_named, name_named};
+ghost use Rattle.std.specs.Prelude.{◌≡◌, ◌==◌, true, map, option_and_then, option_map, IfOk};
+ghost use Rattle.erd_compare.specs.Words.{filter_map, as_str, view, has_keys, family_number, key_set, key_named, keys_named, name_named};
 ghost use Rattle.erd_compare.specs.code.CommonNames.{number_of_name};
 ghost use Rattle.erd_compare.specs.code.Comparing.{Decides};
 ghost use Rattle.erd_compare.specs.code.RankedSides.{IsRankSet, rank_with_id, on_side};

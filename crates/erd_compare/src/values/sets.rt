@@ -1,4 +1,5 @@
-ghost use Rattle.erd_compare.specs.Words.{◌≡◌, map, IfOk, AllByRecursion, list_all, view, values_in, json_set};
+ghost use Rattle.std.specs.Prelude.{◌≡◌, map, IfOk};
+ghost use Rattle.erd_compare.specs.Words.{AllByRecursion, list_all, view, values_in, json_set};
 ghost use Rattle.erd_compare.specs.code.Comparing.{Decides, IsWholeTree};
 
 use erd_check::{FEW_VALUES, ValueSet, is_among, same_json};

@@ -1,5 +1,6 @@
 //! The key of an object or of an election.
-ghost use Rattle.erd_meaning.specs.Words.{◌≡◌, IfOk, key_cmp};
+ghost use Rattle.std.specs.Prelude.{◌≡◌, IfOk};
+ghost use Rattle.erd_meaning.specs.Words.{key_cmp};
 
 use erd_tables::Text;
 use erd_text::SetOrder;

@@ -1,5 +1,6 @@
 //! The choice of the key of an object among its external identifiers.
-ghost use Rattle.erd_meaning.specs.Words.{◌≡◌, option_copied, IfOk, view, key_of};
+ghost use Rattle.std.specs.Prelude.{◌≡◌, option_copied, IfOk};
+ghost use Rattle.erd_meaning.specs.Words.{view, key_of};
 
 use crate::keys::key::Key;
 use crate::keys::triple::Triple;

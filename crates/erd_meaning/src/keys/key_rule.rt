@@ -1,4 +1,5 @@
-ghost use Rattle.erd_meaning.specs.Words.{◌≡◌, IfOk, view, key_of};
+ghost use Rattle.std.specs.Prelude.{◌≡◌, IfOk};
+ghost use Rattle.erd_meaning.specs.Words.{view, key_of};
 
 use crate::keys::key::Key;
 use crate::keys::key_of::{chosen_triple, key_of};
@@ -15,7 +16,8 @@ pub(crate) struct KeyRule<'p> {
 }
 
 impl<'p> Model for KeyRule<'p> {
-    ghost use Rattle.erd_meaning.specs.Words.{option_copied, Preference};
+    ghost use Rattle.std.specs.Prelude.{option_copied};
+    ghost use Rattle.erd_meaning.specs.Words.{Preference};
 
     ghost Value = { Preference };
 

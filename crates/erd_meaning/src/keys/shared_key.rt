@@ -1,4 +1,5 @@
-ghost use Rattle.erd_meaning.specs.Words.{◌≡◌, IfOk, eq_by_cmp_equiv, partial_equiv_from_equiv, eq_by_cmp, key_cmp, partial_order_from_total, as_partial_cmp, refl, key_writes};
+ghost use Rattle.std.specs.Prelude.{◌≡◌, IfOk, refl};
+ghost use Rattle.erd_meaning.specs.Words.{eq_by_cmp_equiv, partial_equiv_from_equiv, eq_by_cmp, key_cmp, partial_order_from_total, as_partial_cmp, key_writes};
 ghost use Rattle.erd_meaning.specs.code.Orders.{key_cmp_total, equal_keys_alike};
 
 use crate::keys::key::Key;

@@ -1,4 +1,5 @@
-ghost use Rattle.erd_meaning.specs.Words.{◌≡◌, option_copied, IfOk, is_lt, view, key_cmp, triple_of, eq_by_cmp_equiv, partial_equiv_from_equiv, eq_by_cmp, key_writes};
+ghost use Rattle.std.specs.Prelude.{◌≡◌, option_copied, IfOk};
+ghost use Rattle.erd_meaning.specs.Words.{is_lt, view, key_cmp, triple_of, eq_by_cmp_equiv, partial_equiv_from_equiv, eq_by_cmp, key_writes};
 ghost use Rattle.erd_meaning.specs.code.ChosenKeys.{choice_cmp, is_preferred};
 ghost use Rattle.erd_meaning.specs.code.Orders.{key_cmp_total, equal_keys_alike};
 

@@ -1,4 +1,5 @@
-ghost use Rattle.erd_meaning.specs.Words.{◌≡◌, ◌+◌, ◌<◌, ◌^◌, codes, false, length, map, List, IfOk, view, has_float, steps_of, numbered_selections, numbered_selections_of, placed_entries};
+ghost use Rattle.std.specs.Prelude.{◌≡◌, ◌+◌, ◌<◌, ◌^◌, codes, false, length, map, List, IfOk};
+ghost use Rattle.erd_meaning.specs.Words.{view, has_float, steps_of, numbered_selections, numbered_selections_of, placed_entries};
 ghost use Rattle.erd_meaning.specs.code.ObjectWalk.{Kept, kept_objects};
 ghost use Rattle.erd_meaning.specs.code.RanksAmong.{AllAreRanked, IsRanked, name_among};
 ghost use Rattle.erd_meaning.specs.code.SelectionWalk.{named_all, named_one, numbered_from, with_name};

@@ -1,5 +1,6 @@
-ghost use Rattle.erd_meaning.specs.Words.{◌≡◌, ◌&&◌, ◌==◌, flat_map, fold, map, Some, write, eq_by_cmp, family_chosen, ranked_name_cmp};
+ghost use Rattle.erd_meaning.specs.Words.{write, eq_by_cmp, family_chosen, ranked_name_cmp};
 ghost use Rattle.std.specs.Hash as fed;
+ghost use Rattle.std.specs.Prelude.{◌≡◌, ◌&&◌, ◌==◌, flat_map, fold, map, Some};
 ghost use Rattle.erd_meaning.specs.code.RanksAmong.{are_ranks_of, fed_rank, has_keys_among, is_key_among, rank_among, ranked_parts, is_sought};
 ghost use Rattle.erd_meaning.specs.code.Shown.{shown};
 ghost use Rattle.erd_meaning.specs.code.RankedOrders.{sought_equal};

@@ -1,4 +1,5 @@
-ghost use Rattle.erd_meaning.specs.Words.{◌≡◌, ◌++◌, ◌∷◌, [], length, option_and_then, option_copied, IfOk, OnErr, OnOk, list_any, slice_get};
+ghost use Rattle.std.specs.Prelude.{◌≡◌, ◌++◌, ◌∷◌, [], length, option_and_then, option_copied, IfOk, OnErr, OnOk, slice_get};
+ghost use Rattle.erd_meaning.specs.Words.{list_any};
 ghost use Rattle.erd_meaning.specs.code.ElectionKeys.{is_seen, seen_with};
 ghost use Rattle.erd_meaning.specs.code.KeyOrders.{AreDistinct, IsOrder, positioned, seen_keys};
 ghost use Rattle.erd_meaning.specs.code.ObjectWalk.{same_key};
@@ -21,8 +22,8 @@ pub(crate) struct ElectionTable<'a> {
 }
 
 impl<'a> Model for ElectionTable<'a> {
-    ghost use Rattle.erd_meaning.specs.Words.{List, Option, Key};
-    ghost use Rattle.std.specs.Coded.{codes};
+    ghost use Rattle.std.specs.Prelude.{List, Option};
+    ghost use Rattle.erd_meaning.specs.Words.{Key, codes};
     ghost use Rattle.erd_meaning.specs.code.ElectionKeys.{AreSeen};
 
     ghost Value = { List (Option Key) };

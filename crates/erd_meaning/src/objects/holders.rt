@@ -1,4 +1,5 @@
-ghost use Rattle.erd_meaning.specs.Words.{◌≡◌, ◌++◌, codes, length, replicate, slice_get, IfOk, view, entries_at};
+ghost use Rattle.std.specs.Prelude.{◌≡◌, ◌++◌, codes, length, replicate, slice_get, IfOk};
+ghost use Rattle.erd_meaning.specs.Words.{view, entries_at};
 ghost use Rattle.erd_meaning.specs.code.ElectionKeys.{held_from};
 ghost use Rattle.erd_meaning.specs.code.Holding.{AreHeld, held};
 

@@ -1,4 +1,5 @@
-ghost use Rattle.erd_meaning.specs.Words.{◌≡◌, ◌++◌, codes, flat_map, length, nat_lt, IfOk, view, steps_of, key_of_family_object, id_of, placed_entries};
+ghost use Rattle.std.specs.Prelude.{◌≡◌, ◌++◌, codes, flat_map, length, nat_lt, IfOk};
+ghost use Rattle.erd_meaning.specs.Words.{view, steps_of, key_of_family_object, id_of, placed_entries};
 ghost use Rattle.erd_meaning.specs.code.ObjectWalk.{faults_told, located, located_election, located_one, contest_located, election_located, inside_election, all_located, met_one, met_all};
 ghost use Rattle.erd_meaning.specs.code.Shown.{shown, placed_at};
 ghost use Rattle.erd_meaning.specs.code.ShownWalks.{met_of};

@@ -1,5 +1,6 @@
 //! The order of the objects of a family, or of the elections, by their keys.
-ghost use Rattle.erd_meaning.specs.Words.{◌≡◌, ◌<◌, length, map, replicate, slice_get, IfOk, AllByRecursion, rising_list, places_put};
+ghost use Rattle.std.specs.Prelude.{◌≡◌, ◌<◌, length, map, replicate, slice_get, IfOk};
+ghost use Rattle.erd_meaning.specs.Words.{AllByRecursion, rising_list, places_put};
 ghost use Rattle.erd_meaning.specs.code.KeyOrders.{AreDistinct, IsOrder, keys_seen, lent_key_cmp, positioned, seen_keys};
 
 use crate::keys::key::Key;

@@ -1,4 +1,5 @@
-ghost use Rattle.erd_meaning.specs.Words.{◌≡◌, [], OnOk, family_number, Family};
+ghost use Rattle.std.specs.Prelude.{◌≡◌, [], OnOk};
+ghost use Rattle.erd_meaning.specs.Words.{family_number, Family};
 ghost use Rattle.erd_meaning.specs.code.ObjectIndexes.{HasRoom, list_of, with_place};
 
 use erd_tables::Family;

@@ -1,4 +1,5 @@
-ghost use Rattle.erd_meaning.specs.Words.{◌≡◌, true, map, option_and_then, option_map, if◌then◌else◌, slice_get, None, Some, IfOk, as_str, view, entry_of, has_keys, family_chosen};
+ghost use Rattle.std.specs.Prelude.{◌≡◌, true, map, option_and_then, option_map, if◌then◌else◌, slice_get, None, Some, IfOk};
+ghost use Rattle.erd_meaning.specs.Words.{as_str, view, entry_of, has_keys, family_chosen};
 ghost use Rattle.erd_meaning.specs.code.KeyOrders.{HaveDistinctKeys, IsOrder, family_keys, positioned, rising_positions, seen_keys};
 ghost use Rattle.erd_meaning.specs.code.ObjectLookups.{key_among, those_of};
 ghost use Rattle.erd_meaning.specs.code.RanksAmong.{is_key_among, key_at_among, rank_among, ranked_key, rising_keys_among};
@@ -22,8 +23,8 @@ pub(crate) struct RankedObjects<'a> {
 }
 
 impl<'a> Model for RankedObjects<'a> {
-    ghost use Rattle.erd_meaning.specs.Words.{◌≡◌, List, map, true, entry_of, Family, has_keys};
-    ghost use Rattle.std.specs.Coded.{codes};
+    ghost use Rattle.std.specs.Prelude.{◌≡◌, List, map, true};
+    ghost use Rattle.erd_meaning.specs.Words.{entry_of, Family, has_keys, codes};
     ghost use Rattle.serde_json.specs.contracts.value.Value as tree_value;
     ghost use Rattle.erd_meaning.specs.declared.objects.table.Object.{Object};
     ghost use Rattle.erd_meaning.specs.code.KeyOrders.{IsOrder, family_keys};

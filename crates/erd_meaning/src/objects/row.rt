@@ -1,5 +1,5 @@
 //! Look-ups of objects by `@id` for the references of an array, which often name objects in a row.
-ghost use Rattle.erd_meaning.specs.Words.{◌≡◌, true, map, Some};
+ghost use Rattle.std.specs.Prelude.{◌≡◌, true, map, Some};
 ghost use Rattle.erd_meaning.specs.code.ObjectIndexes.{number_of_id};
 ghost use Rattle.erd_meaning.specs.code.OwnIds.{HaveOwnIds};
 ghost use Rattle.erd_meaning.specs.code.Shown.{shown};

@@ -1,4 +1,5 @@
-ghost use Rattle.erd_meaning.specs.Words.{◌≡◌, ◌==◌, ◌<◌, ◌+◌, ◌++◌, ◌∷◌, ℕ, List, [], length, map, option_and_then, option_map, slice_get, is_some, bytes_eq, false, true, OnOk, OnErr, IfOk, IfSome, if◌then◌else◌, Some, None, vec_len, vec_capacity, option_copied, option_map_or, option_or, get_by, spare, Family, list_any, Key};
+ghost use Rattle.std.specs.Prelude.{◌≡◌, ◌==◌, ◌<◌, ◌+◌, ◌++◌, ◌∷◌, ℕ, List, [], length, map, option_and_then, option_map, slice_get, is_some, bytes_eq, false, true, OnOk, OnErr, IfOk, IfSome, if◌then◌else◌, Some, None, vec_len, vec_capacity, option_copied};
+ghost use Rattle.erd_meaning.specs.Words.{option_map_or, option_or, get_by, spare, Family, list_any, Key};
 ghost use Rattle.erd_meaning.specs.code.ObjectIndexes.{IsStart, contests_before, contests_noted, is_in_contest, number_among, number_of_id, number_of_key};
 ghost use Rattle.erd_meaning.specs.code.Indexed.{is_salted_id, is_salted_owned, same_owned};
 ghost use Rattle.erd_meaning.specs.code.ObjectLookups.{those_of};
@@ -50,8 +51,8 @@ pub(crate) struct ObjectTable<'a> {
 }
 
 impl<'a> Model for ObjectTable<'a> {
-    ghost use Rattle.erd_meaning.specs.Words.{List, map, get_by};
-    ghost use Rattle.std.specs.Coded.{codes};
+    ghost use Rattle.std.specs.Prelude.{List, map};
+    ghost use Rattle.erd_meaning.specs.Words.{get_by, codes};
     ghost use Rattle.serde_json.specs.contracts.value.Value as tree_value;
     ghost use Rattle.erd_meaning.specs.declared.objects.table.Object.{Object};
     ghost use Rattle.erd_meaning.specs.code.Indexed.{IsIndexed, is_salted_id, is_salted_owned};

@@ -1,5 +1,6 @@
 //! Reports in which all is judged with as few walks as there can be.
-ghost use Rattle.erd_meaning.specs.Words.{◌≡◌, map, option_copied, IfOk, IfErr, IfSome, view, RefusedFor, IsFaultless, IsShallow, Memory, IsAccepted, IsFault};
+ghost use Rattle.std.specs.Prelude.{◌≡◌, map, option_copied, IfOk, IfErr, IfSome};
+ghost use Rattle.erd_meaning.specs.Words.{view, RefusedFor, IsFaultless, IsShallow, Memory, IsAccepted, IsFault};
 ghost use Rattle.erd_meaning.specs.code.ObjectWalk.{election_keys, kept_objects};
 ghost use Rattle.erd_meaning.specs.code.Resolved.{IsIdentified, IsReferred};
 ghost use Rattle.erd_meaning.specs.code.Shown.{shown};

@@ -1,5 +1,6 @@
 //! What a report lends of its orders by keys: the positions in rising order, and the ranks.
-ghost use Rattle.erd_meaning.specs.Words.{◌≡◌, true, Some, map, option_map, slice_get, view, has_keys, key_of, election_rank_of, key_in, rank_of, rising_election_keys, rising_keys, elections};
+ghost use Rattle.std.specs.Prelude.{◌≡◌, true, Some, map, option_map, slice_get};
+ghost use Rattle.erd_meaning.specs.Words.{view, has_keys, key_of, election_rank_of, key_in, rank_of, rising_election_keys, rising_keys, elections};
 
 use crate::report::Report;
 use erd_tables::Family;

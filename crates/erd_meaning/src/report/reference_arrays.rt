@@ -1,5 +1,6 @@
 //! Which object a reference names, and arrays of references that have no fault.
-ghost use Rattle.erd_meaning.specs.Words.{◌≡◌, Some, ◌==◌, ◌&&◌, true, false, not, map, IfOk, IfSome, IsTrue, IsDistinct, option_map_or, view, items_view};
+ghost use Rattle.std.specs.Prelude.{◌≡◌, Some, ◌==◌, ◌&&◌, true, false, not, map, IfOk, IfSome, IsTrue};
+ghost use Rattle.erd_meaning.specs.Words.{IsDistinct, option_map_or, view, items_view};
 ghost use Rattle.erd_tables.specs.declared.class.Family.TheVariants as family;
 ghost use Rattle.erd_meaning.specs.code.ObjectIndexes.{is_in_contest, number_among};
 ghost use Rattle.erd_meaning.specs.code.ReferenceReasons.{AreClear, IsClear, is_selection_elsewhere, is_selection_family, IsHome};

@@ -1,4 +1,5 @@
-ghost use Rattle.erd_meaning.specs.Words.{◌≡◌, ◌++◌, map, option_to_list, IfOk, IfSome, view, ListsAll, IsFaultless, IsShallow, IsTree, steps_of, faults_of, ReferenceFault, false, ⊤};
+ghost use Rattle.std.specs.Prelude.{◌≡◌, ◌++◌, map, option_to_list, IfOk, IfSome, false, ⊤};
+ghost use Rattle.erd_meaning.specs.Words.{view, ListsAll, IsFaultless, IsShallow, IsTree, steps_of, faults_of, ReferenceFault};
 ghost use Rattle.erd_meaning.specs.code.ObjectWalk.{kept_objects};
 ghost use Rattle.erd_meaning.specs.code.OwnIds.{HaveOwnIds};
 ghost use Rattle.erd_meaning.specs.code.Resolved.{IsIdentified, IsReferred};

@@ -1,4 +1,5 @@
-ghost use Rattle.erd_meaning.specs.Words.{◌≡◌, false, map, option_copied, None, IfOk, IfErr, view, has_float, RefusedFor, IsFaultless, IsTree, IsAccepted, IsFault, IdentityFault, ReferenceFault, SelectionFault};
+ghost use Rattle.std.specs.Prelude.{◌≡◌, false, map, option_copied, None, IfOk, IfErr};
+ghost use Rattle.erd_meaning.specs.Words.{view, has_float, RefusedFor, IsFaultless, IsTree, IsAccepted, IsFault, IdentityFault, ReferenceFault, SelectionFault};
 ghost use Rattle.erd_meaning.specs.code.ObjectWalk.{election_keys, kept_objects};
 ghost use Rattle.erd_meaning.specs.code.RanksAmong.{AllAreRanked, names_of};
 ghost use Rattle.erd_meaning.specs.code.Resolved.{AreNames, IsIdentified, IsReferred, IsResolved, IsToldApart};

@@ -1,4 +1,5 @@
-ghost use Rattle.erd_normal.specs.Words.{◌≡◌, ◌++◌, ◌<◌, Some, false, length, option_map, slice_get, OnOk, items_of, view, has_float, class_of_object, contests, selection_role, items_tokens, value_tokens, canonical_selection_id};
+ghost use Rattle.std.specs.Prelude.{◌≡◌, ◌++◌, ◌<◌, Some, false, length, option_map, slice_get, OnOk};
+ghost use Rattle.erd_normal.specs.Words.{items_of, view, has_float, class_of_object, contests, selection_role, items_tokens, value_tokens, canonical_selection_id};
 ghost use Rattle.erd_normal.specs.code.NormalTree.{array_of, normal_object_with, normal_value, with_id};
 ghost use Rattle.erd_normal.specs.code.WrittenTree.{written_in_contest, written_selections};
 

@@ -1,4 +1,5 @@
-ghost use Rattle.erd_normal.specs.Words.{◌≡◌, ◌++◌, false, OnOk, view, has_float, value_tokens, Some};
+ghost use Rattle.std.specs.Prelude.{◌≡◌, ◌++◌, false, OnOk, Some};
+ghost use Rattle.erd_normal.specs.Words.{view, has_float, value_tokens};
 ghost use Rattle.erd_normal.specs.code.Building.{put_in};
 ghost use Rattle.erd_normal.specs.code.DueMembers.{AreDue, due_list};
 

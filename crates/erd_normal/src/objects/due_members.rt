@@ -1,4 +1,5 @@
-ghost use Rattle.erd_normal.specs.Words.{◌≡◌, ◌++◌, ◌∷◌, drop, IfOk, OnOk, key, no_members, members_tokens, value_tokens};
+ghost use Rattle.std.specs.Prelude.{◌≡◌, ◌++◌, ◌∷◌, drop, IfOk, OnOk};
+ghost use Rattle.erd_normal.specs.Words.{key, no_members, members_tokens, value_tokens};
 ghost use Rattle.erd_normal.specs.code.Building.{put_all};
 ghost use Rattle.erd_normal.specs.code.DueMembers.{AreDue, WritesThrough, due_list, due_value};
 

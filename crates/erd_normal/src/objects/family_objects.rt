@@ -1,4 +1,5 @@
-ghost use Rattle.erd_normal.specs.Words.{◌≡◌, ◌++◌, ◌<◌, Some, false, true, length, option_map, slice_get, OnOk, view, has_float, class_of_object, has_keys, Placed, objects, value_tokens};
+ghost use Rattle.std.specs.Prelude.{◌≡◌, ◌++◌, ◌<◌, Some, false, true, length, option_map, slice_get, OnOk};
+ghost use Rattle.erd_normal.specs.Words.{view, has_float, class_of_object, has_keys, Placed, objects, value_tokens};
 ghost use Rattle.erd_normal.specs.code.NormalTree.{array_of, normal_object_with, with_id};
 ghost use Rattle.erd_normal.specs.code.WrittenTree.{holds_parts, written_object, written_objects, written_object_value};
 

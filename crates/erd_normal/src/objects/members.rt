@@ -1,4 +1,5 @@
-ghost use Rattle.erd_normal.specs.Words.{◌≡◌, ◌++◌, ℕ, List, Option, Some, false, is_some, drop, IfOk, OnOk, Data, Members, object, view, members_view, has_float, members_have_float, MemberKind as Asked, members_tokens, value_tokens};
+ghost use Rattle.std.specs.Prelude.{◌≡◌, ◌++◌, ℕ, List, Option, Some, false, is_some, drop, IfOk, OnOk};
+ghost use Rattle.erd_normal.specs.Words.{Data, Members, object, view, members_view, has_float, members_have_float, MemberKind as Asked, members_tokens, value_tokens};
 ghost use Rattle.erd_normal.specs.code.Building.{first_if, put_all};
 ghost use Rattle.erd_normal.specs.code.DueMembers.{AreDue, due_list};
 ghost use Rattle.erd_normal.specs.code.NormalTree.{normal_members};

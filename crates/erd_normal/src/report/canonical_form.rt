@@ -1,4 +1,5 @@
-ghost use Rattle.erd_normal.specs.Words.{◌≡◌, false, IfOk, Data, view, has_float, IsNoDeeper, IsTree, IsCanonicalFormOf, IsCanonicalText};
+ghost use Rattle.std.specs.Prelude.{◌≡◌, false, IfOk};
+ghost use Rattle.erd_normal.specs.Words.{Data, view, has_float, IsNoDeeper, IsTree, IsCanonicalFormOf, IsCanonicalText};
 
 use crate::report::report_text::write_report;
 use crate::writer::{Writer, orders_of};

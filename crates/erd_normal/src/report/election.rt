@@ -1,4 +1,5 @@
-ghost use Rattle.erd_normal.specs.Words.{◌≡◌, ◌++◌, ◌<◌, Some, length, slice_get, OnOk, view, Placed, elections, value_tokens};
+ghost use Rattle.std.specs.Prelude.{◌≡◌, ◌++◌, ◌<◌, Some, length, slice_get, OnOk};
+ghost use Rattle.erd_normal.specs.Words.{view, Placed, elections, value_tokens};
 ghost use Rattle.erd_normal.specs.code.NormalTree.{array_of};
 ghost use Rattle.erd_normal.specs.code.WrittenTree.{written_election, written_elections, written_election_value};
 

@@ -1,4 +1,5 @@
-ghost use Rattle.erd_normal.specs.Words.{◌≡◌, ◌++◌, OnOk, view, value_tokens};
+ghost use Rattle.std.specs.Prelude.{◌≡◌, ◌++◌, OnOk};
+ghost use Rattle.erd_normal.specs.Words.{view, value_tokens};
 ghost use Rattle.erd_normal.specs.code.NormalTree.{normal_tree};
 ghost use Rattle.erd_normal.specs.code.WrittenTree.{written_report_value};
 

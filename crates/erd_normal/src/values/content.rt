@@ -1,4 +1,5 @@
-ghost use Rattle.erd_normal.specs.Words.{◌≡◌, ◌++◌, Some, false, option_map, is_some, OnOk, Data, view, items_view, members_view, has_float, items_have_float, members_have_float, kind_of_member, Preference, items_tokens, members_tokens, value_tokens};
+ghost use Rattle.std.specs.Prelude.{◌≡◌, ◌++◌, Some, false, option_map, is_some, OnOk};
+ghost use Rattle.erd_normal.specs.Words.{Data, view, items_view, members_view, has_float, items_have_float, members_have_float, kind_of_member, Preference, items_tokens, members_tokens, value_tokens};
 ghost use Rattle.erd_normal.specs.code.NormalTree.{normal_content, normal_node, normal_node_members, normal_node_value, normal_nodes};
 ghost use Rattle.erd_normal.specs.code.Building.{member_tokens};
 

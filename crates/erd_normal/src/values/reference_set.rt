@@ -1,4 +1,5 @@
-ghost use Rattle.erd_normal.specs.Words.{◌≡◌, ◌++◌, map, IfOk, OnOk, string, view, text_of, rising_list, value_tokens};
+ghost use Rattle.std.specs.Prelude.{◌≡◌, ◌++◌, map, IfOk, OnOk};
+ghost use Rattle.erd_normal.specs.Words.{string, view, text_of, rising_list, value_tokens};
 ghost use Rattle.erd_normal.specs.code.Building.{id_of_rank};
 ghost use Rattle.erd_normal.specs.code.NormalTree.{array_of, normal_reference, normal_selection_reference, reference_cmp};
 ghost use Rattle.erd_normal.specs.code.Orders.{rank_named};

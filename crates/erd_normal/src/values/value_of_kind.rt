@@ -1,4 +1,5 @@
-ghost use Rattle.erd_normal.specs.Words.{◌≡◌, ◌++◌, Some, false, is_some, OnOk, Data, view, has_float, Preference, value_tokens};
+ghost use Rattle.std.specs.Prelude.{◌≡◌, ◌++◌, Some, false, is_some, OnOk};
+ghost use Rattle.erd_normal.specs.Words.{Data, view, has_float, Preference, value_tokens};
 ghost use Rattle.erd_normal.specs.code.NormalTree.{normal_value};
 
 use crate::values::reference::write_reference;

@@ -1,4 +1,5 @@
-ghost use Rattle.erd_normal.specs.Words.{◌≡◌, ℕ, ◌<◌, ◌∷◌, ◌++◌, [], true, length, IfOk, OnOk, view, entry_of, Family, IsAccepted, has_keys};
+ghost use Rattle.std.specs.Prelude.{◌≡◌, ℕ, ◌<◌, ◌∷◌, ◌++◌, [], true, length, IfOk, OnOk};
+ghost use Rattle.erd_normal.specs.Words.{view, entry_of, Family, IsAccepted, has_keys};
 ghost use Rattle.erd_normal.specs.code.ElectionParts.{part_at, part_seen, positions_in_part};
 
 use erd_meaning::{PerFamily, Report};

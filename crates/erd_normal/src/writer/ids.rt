@@ -1,4 +1,5 @@
-ghost use Rattle.erd_normal.specs.Words.{◌≡◌, ◌+◌, ◌≤◌, ◌++◌, length, decimal, option_map, IfOk, IfSome, array_string_len, canonical_id, canonical_selection_id, id_prefix};
+ghost use Rattle.std.specs.Prelude.{◌≡◌, ◌+◌, ◌≤◌, ◌++◌, length, decimal, option_map, IfOk, IfSome};
+ghost use Rattle.erd_normal.specs.Words.{array_string_len, canonical_id, canonical_selection_id, id_prefix};
 ghost use Rattle.erd_normal.specs.code.Building.{id_of_rank};
 
 use arrayvec::ArrayString;

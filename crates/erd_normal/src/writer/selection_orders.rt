@@ -1,4 +1,5 @@
-ghost use Rattle.erd_normal.specs.Words.{◌≡◌, ◌+◌, ◌<◌, ◌^◌, [], codes, length, map, option_map, slice_get, IfOk, option_cmp, option_copied, option_map_or, entries_at, view, IsAccepted, contests, name_cmp, name_of, rising_list, ranked_name};
+ghost use Rattle.std.specs.Prelude.{◌≡◌, ◌+◌, ◌<◌, ◌^◌, [], codes, length, map, option_map, slice_get, IfOk, option_copied};
+ghost use Rattle.erd_normal.specs.Words.{option_cmp, option_map_or, entries_at, view, IsAccepted, contests, name_cmp, name_of, rising_list, ranked_name};
 ghost use Rattle.erd_meaning.specs.code.KeyOrders.{positioned, positions_by};
 ghost use Rattle.erd_normal.specs.code.SelectionOrders.{AreNamedFrom, AreSelectionRanks, lent_name_cmp, name_in, rising_selections};
 
