@@ -28,6 +28,8 @@ TOP = os.path.dirname(os.path.dirname(os.path.abspath(__file__)))
 EDITS = f"{TOP}/tests/edits"
 # What `main` does with files is tested, and not proved.
 UNPROVED = ("erd",)
+# What is proved with the tests alone.
+TESTED = ("uses",)
 
 Edit = collections.namedtuple("Edit", "name text")
 Group = collections.namedtuple("Group", "edits texts functions changed")
@@ -68,6 +70,7 @@ def words_of(name):
     doc = subprocess.run(["rt", "doc"], stdout=subprocess.PIPE, text=True, check=True).stdout
     kit = os.path.dirname(doc)
     words = [f"{kit}/bin/rattle", "check", *made.stdout.splitlines(), "--logic-built", f"{kit}/logic_built", "--jobs", "1"]
+    words += ["--test"] if name in TESTED else []
     return words, re.findall(rf"^\w+=({TOP}/crates/\w+)/out/rlib/", made.stdout, re.M)
 
 
