@@ -82,6 +82,9 @@ def spared(path, text, kept):
         body = BODY.search(text, head.start())
         if head.start() < done or not body or body[0].endswith(";"):
             continue
+        # an edit may have put a body beside its head, and then the next one found is that of another function
+        if re.search(f"^{FUNCTION.pattern}", text[head.end():body.start()], re.M):
+            continue
         name = function_at(path, text, body.end())
         end = text.index(f"\n{head[1] or ''}}}\n", body.end())
         recurs = re.search(rf"\b{head[2]}\(", text[body.end():end]) or "+" in cycle_of(text, module_of(path), name)

@@ -91,6 +91,12 @@ def spared(*kept):
     return edit_files.spared("src/a/b.rt", SOURCE, kept)
 
 
+# A method whose body an edit has put beside its head, and a function after it.
+BESIDE = (
+    "impl A {\n    fn one(&self) -> u8 { if true { return 1; }\n        2\n    }\n}\n\n"
+    "fn two() -> Result<u8, AllocError>\n{\n    three()\n}\n"
+)
+
 CASES = [
     ("a function", lambda: function_with("    text.len()"), "a::b::counts"),
     ("a line after a block", lambda: function_with("return 0;"), "a::b::counts"),
@@ -109,6 +115,7 @@ CASES = [
     ("a spared function", lambda: spared()[1], ["a::b::copied"]),
     ("its body", lambda: spared()[0], SOURCE.replace("String::from_str(alloc, text)", "Err(AllocError)")),
     ("a changed function is not spared", lambda: spared("a::b::copied"), (SOURCE, [])),
+    ("a body beside its head", lambda: edit_files.spared("src/a/b.rt", BESIDE, ())[1], ["a::b::two"]),
     ("an open goal", lambda: judged(LINE, GOAL), "yes"),
     ("an answer of another type", lambda: judged(LINE, TYPE), "yes"),
     ("a function that calls itself", lambda: judged(ITSELF, TYPE.replace("counts", "+pushed"), function="a::b::pushed"), "yes"),
