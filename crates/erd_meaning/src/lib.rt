@@ -14,7 +14,6 @@ pub use keys::key_of::key_of;
 pub use names::ranked_name::{Named, RankedName};
 pub use names::selection_name::SelectionName;
 pub use objects::order::places_in;
-pub use objects::row::Row;
 pub use report::Report;
 pub use report::accepting::accept_with;
 pub use report::resolving::{resolve, resolve_with};

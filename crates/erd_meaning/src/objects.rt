@@ -6,5 +6,5 @@ pub(crate) mod object_walk;
 pub(crate) mod order;
 pub(crate) mod places;
 pub(crate) mod ranked_objects;
-pub(crate) mod row;
 pub(crate) mod table;
+pub(crate) mod trail;

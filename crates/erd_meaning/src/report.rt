@@ -20,7 +20,6 @@ use crate::objects::election_table::ElectionTable;
 use crate::objects::holders::Holders;
 use crate::objects::order::Order;
 use crate::objects::ranked_objects::RankedObjects;
-use crate::objects::row::Row;
 use crate::objects::table::ObjectTable;
 use erd_check::values::entries_at;
 use erd_index::{Salt, SaltedSet};
@@ -306,16 +305,16 @@ impl<'a> Report<'a> {
         self.objects().position_of_id(id)
     }
 
-    /// Returns what `target` does, for a reference of an array. It looks first at the objects of a family where the row says.
+    /// Returns what `target` does, for a reference to an object of the family. References often name objects in the order of
+    /// earlier references, so it looks first at the two objects of the family that were named last after the one before.
     ///
     /// ```
-    /// let mut row = Row::of(1);
-    /// assert_eq!(rt; report.target_in_row(Family::Contest, &mut row, "k1"), Some((Family::Candidate, 0)));
+    /// assert_eq!(rt; report.target_of(Family::Contest, "k1"), Some((Family::Candidate, 0)));
     /// ```
-    pub fn target_in_row(&self, family: Family, row: &mut Row, id: &str) -> Option<(Family, usize)>
+    pub fn target_of(&self, family: Family, id: &str) -> Option<(Family, usize)>
         ensures { FindsId (view self.now.tree) id.now result }
     {
-        self.objects().position_in_row(family, row, id)
+        self.objects().position_on_trail(family, id)
     }
 
     /// Returns the position of the contest of the selection at the position, and the name of the selection. Returns

@@ -14,7 +14,7 @@ pub(crate) mod selection_orders;
 
 use crate::writer::election_parts::election_parts;
 use crate::writer::selection_orders::{SelectionOrders, selection_orders};
-use erd_meaning::{PerFamily, Report, Row};
+use erd_meaning::{PerFamily, Report};
 use erd_tables::Family;
 use serde_json::Value;
 use std::alloc::{AllocError, Global};
@@ -126,17 +126,7 @@ impl<'a> Writer<'a> {
     {
         match family {
             Family::Selection => 0,
-            _ => self.rank_of(family, self.report.target(id)),
-        }
-    }
-
-    /// Returns what `rank_named` does, for a reference of an array.
-    pub(crate) fn rank_in_row(&self, family: Family, row: &mut Row, id: &str) -> usize
-        ensures { result ≡ rank_named self.now.prefer (view self.now.tree) family id.now }
-    {
-        match family {
-            Family::Selection => 0,
-            _ => self.rank_of(family, self.report.target_in_row(family, row, id)),
+            _ => self.rank_of(family, self.report.target_of(family, id)),
         }
     }
 
@@ -166,11 +156,11 @@ impl<'a> Writer<'a> {
     }
 
     /// Returns the rank of the contest of the selection that has the `@id`, and the rank of the selection there. Returns `None` if
-    /// no selection has it. The `@id` is a reference of an array.
-    pub(crate) fn selection_ranks(&self, row: &mut Row, id: &str) -> Option<(usize, usize)>
+    /// no selection has it.
+    pub(crate) fn selection_ranks(&self, id: &str) -> Option<(usize, usize)>
         ensures { string (option_map_or (λ r. canonical_selection_id r.0 r.1) result []) ≡ normal_selection_reference self.now.prefer (view self.now.tree) (string id.now) }
     {
-        match self.report.target_in_row(Family::Selection, row, id) {
+        match self.report.target_of(Family::Selection, id) {
             Some((found, position)) => {
                 if is_same(found, Family::Selection) {
                     self.ranks_at(position)

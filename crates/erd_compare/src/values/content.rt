@@ -8,7 +8,6 @@ use crate::ranks::common_ranks::Side;
 use crate::values::chosen_members::is_same_carried;
 use crate::values::references::{number_of_name_named, rank_with_id};
 use erd_check::values::{class_of_object, entries_at, entries_of, text_at};
-use erd_meaning::Row;
 use erd_tables::{Class, Family, Role};
 use serde_json::Value;
 
@@ -130,33 +129,25 @@ fn are_same_names(comparer: &Comparer, ones: &[Value], others: &[Value]) -> bool
     ensures { Decides result (map (λ v. option_and_then (name_named comparer.now.left.prefer (view comparer.now.left.tree)) (as_str (view v))) ones.now)
         (map (λ v. option_and_then (name_named comparer.now.right.prefer (view comparer.now.right.tree)) (as_str (view v))) others.now) }
 {
-    let mut row = Row::of(ones.len());
-    let mut other_row = Row::of(others.len());
     let mut rest = others.iter();
     for one in ones {
         let Some(other) = rest.next() else {
             return false;
         };
-        if !is_same_name(comparer, &mut row, one, &mut other_row, other) {
+        if !is_same_name(comparer, one, other) {
             return false;
         }
     }
     rest.next().is_none()
 }
 
-/// Returns whether two references, each of an array, name selections with the same name.
-fn is_same_name(
-    comparer: &Comparer,
-    row: &mut Row,
-    one: &Value,
-    other_row: &mut Row,
-    other: &Value,
-) -> bool
+/// Returns whether two references name selections with the same name.
+fn is_same_name(comparer: &Comparer, one: &Value, other: &Value) -> bool
     ensures { Decides result (option_and_then (name_named comparer.now.left.prefer (view comparer.now.left.tree)) (as_str (view one.now)))
         (option_and_then (name_named comparer.now.right.prefer (view comparer.now.right.tree)) (as_str (view other.now))) }
 {
-    number_of_name_named(comparer, Side::Left, row, one)
-        == number_of_name_named(comparer, Side::Right, other_row, other)
+    number_of_name_named(comparer, Side::Left, one)
+        == number_of_name_named(comparer, Side::Right, other)
 }
 
 /// Returns whether the members with this name refer to objects of the family with the same key.
@@ -171,19 +162,8 @@ fn is_same_owner(
     ensures { Decides result (key_named comparer.now.left.prefer (view comparer.now.left.tree) family (text_at name.now (view one.now)))
         (key_named comparer.now.right.prefer (view comparer.now.right.tree) family (text_at name.now (view other.now))) }
 {
-    rank_with_id(
-        comparer,
-        Side::Left,
-        family,
-        &mut Row::of(0),
-        text_at(one, name),
-    ) == rank_with_id(
-        comparer,
-        Side::Right,
-        family,
-        &mut Row::of(0),
-        text_at(other, name),
-    )
+    rank_with_id(comparer, Side::Left, family, text_at(one, name))
+        == rank_with_id(comparer, Side::Right, family, text_at(other, name))
 }
 
 /// Returns whether the class is that of a header in the contents of a ballot.

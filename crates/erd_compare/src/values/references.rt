@@ -6,24 +6,18 @@ ghost use Rattle.erd_compare.specs.code.RankedSides.{IsRankSet, rank_with_id, on
 
 use crate::comparer::Comparer;
 use crate::ranks::common_ranks::Side;
-use erd_meaning::Row;
 use erd_tables::{Family, Role};
 use serde_json::Value;
 use std::alloc::AllocError;
 
-/// Returns the number of the name of the selection that a reference of an array names, if there is one.
-pub(crate) fn number_of_name_named(
-    comparer: &Comparer,
-    side: Side,
-    row: &mut Row,
-    value: &Value,
-) -> Option<usize>
+/// Returns the number of the name of the selection that a reference names, if there is one.
+pub(crate) fn number_of_name_named(comparer: &Comparer, side: Side, value: &Value) -> Option<usize>
     ensures { result ≡ option_map (number_of_name comparer.now.left comparer.now.right)
         (option_and_then (name_named (on_side side comparer.now.left comparer.now.right).prefer (view (on_side side comparer.now.left comparer.now.right).tree)) (as_str (view value.now))) }
 {
     let id = value.as_str()?;
     let report = comparer.on(side);
-    let (found, position) = report.target_in_row(Family::Selection, row, id)?;
+    let (found, position) = report.target_of(Family::Selection, id)?;
     if is_same_family(found, Family::Selection) {
         comparer.name_number_at(side, position)
     } else {
@@ -43,13 +37,12 @@ pub(crate) fn rank_named(
     comparer: &Comparer,
     side: Side,
     family: Family,
-    row: &mut Row,
     value: &Value,
 ) -> Option<usize>
     requires keyed { has_keys family ≡ true }
     ensures { result ≡ option_and_then (rank_with_id comparer.now.left comparer.now.right side family) (as_str (view value.now)) }
 {
-    rank_with_id(comparer, side, family, row, value.as_str()?)
+    rank_with_id(comparer, side, family, value.as_str()?)
 }
 
 /// Returns the common rank of the object of a family with this `@id`, if there is one.
@@ -57,14 +50,13 @@ pub(crate) fn rank_with_id(
     comparer: &Comparer,
     side: Side,
     family: Family,
-    row: &mut Row,
     id: &str,
 ) -> Option<usize>
     requires keyed { has_keys family ≡ true }
     ensures { result ≡ rank_with_id comparer.now.left comparer.now.right side family id.now }
 {
     let report = comparer.on(side);
-    let (found, position) = report.target_in_row(family, row, id)?;
+    let (found, position) = report.target_of(family, id)?;
     if is_same_family(found, family) {
         comparer.rank_at(side, Role::OfFamily(family), position)
     } else {
@@ -83,8 +75,8 @@ pub(crate) fn is_same_reference(
     ensures { Decides result (option_and_then (key_named comparer.now.left.prefer (view comparer.now.left.tree) family) (as_str (view one.now)))
         (option_and_then (key_named comparer.now.right.prefer (view comparer.now.right.tree) family) (as_str (view other.now))) }
 {
-    rank_named(comparer, Side::Left, family, &mut Row::of(0), one)
-        == rank_named(comparer, Side::Right, family, &mut Row::of(0), other)
+    rank_named(comparer, Side::Left, family, one)
+        == rank_named(comparer, Side::Right, family, other)
 }
 
 /// Returns whether two lists of references to objects of a family name objects with the same set of keys.
@@ -115,9 +107,8 @@ fn ranks_named(
         ≡ filter_map (λ v. option_and_then (rank_with_id comparer.now.left comparer.now.right side family) (as_str (view v))) values.now) }
 {
     let mut ranks = Vec::with_capacity(comparer.alloc, values.len())?;
-    let mut row = Row::of(values.len());
     for value in values {
-        if let Some(rank) = rank_named(comparer, side, family, &mut row, value) {
+        if let Some(rank) = rank_named(comparer, side, family, value) {
             ranks.push(rank)?;
         }
     }

@@ -55,7 +55,8 @@ impl FamilyPlaces {
     }
 }
 
-fn number_of(family: Family) -> usize
+/// Returns the position of the family in a list of all families.
+pub(crate) fn number_of(family: Family) -> usize
     ensures { result ≡ family_number family }
 {
     match family {

@@ -7,7 +7,6 @@ ghost use Rattle.erd_meaning.specs.code.ReferenceReasons.{AreClear, IsClear, is_
 ghost use Rattle.erd_meaning.specs.code.RisingNumbers.{IsRisingFrom};
 ghost use Rattle.erd_meaning.specs.code.Shown.{shown};
 
-use crate::objects::row::Row;
 use crate::report::reference_judge::ReferenceJudge;
 use erd_check::values::text_at;
 use erd_tables::Family;
@@ -28,11 +27,9 @@ impl<'b, 'a> ReferenceJudge<'b, 'a> {
         ensures { IfOk result (λ clear. IsTrue clear → AreClear (map shown self.now.objects.now) (view object.now) family is_set (items_view items.now)) }
     {
         let mut positions = Vec::new(alloc);
-        let mut row = Row::of(items.len());
         let mut home = None;
         for item in items {
-            let Some(position) = self.clear_position(family, &mut row, &mut home, object, item)
-            else {
+            let Some(position) = self.clear_position(family, &mut home, object, item) else {
                 return Ok(false);
             };
             if is_set {
@@ -47,7 +44,6 @@ impl<'b, 'a> ReferenceJudge<'b, 'a> {
     fn clear_position(
         &self,
         family: Family,
-        row: &mut Row,
         home: &mut Option<usize>,
         object: &Value,
         item: &Value,
@@ -57,7 +53,7 @@ impl<'b, 'a> ReferenceJudge<'b, 'a> {
         ensures home { IfSome home.new (IsHome (map shown self.now.objects.now) (view object.now)) }
     {
         let id = item.as_str()?;
-        let (own, position) = self.objects.position_in_row(family, row, id)?;
+        let (own, position) = self.objects.position_on_trail(family, id)?;
         if own != family || self.is_away(family, position, home, object) {
             return None;
         }

@@ -150,7 +150,7 @@ impl<'b, 'a> ReferenceJudge<'b, 'a> {
     fn id_reason(&self, family: Family, id: &str, object: &Value) -> Option<Reason>
         ensures { option_to_list result ≡ id_reasons (map shown self.now.objects.now) (view object.now) family id.now }
     {
-        let Some((own, index)) = self.objects.position_of_id(id) else {
+        let Some((own, index)) = self.objects.position_on_trail(family, id) else {
             return Some(Reason::Unresolved);
         };
         if own != family {

@@ -6,7 +6,6 @@ ghost use Rattle.erd_normal.specs.code.NormalTree.{normal_reference, normal_sele
 use crate::writer::Writer;
 use crate::writer::ids::{id_text, selection_id_text};
 use erd_check::values::text_of;
-use erd_meaning::Row;
 use erd_tables::Family;
 use erd_text::Output;
 use serde_json::Value;
@@ -37,16 +36,15 @@ pub(crate) fn write_reference_to(
     out.string(id.as_str())
 }
 
-/// Writes the canonical reference for a reference to a selection, in an array of such references.
+/// Writes the canonical reference for a reference to a selection.
 pub(crate) fn write_selection_reference(
     writer: &Writer,
-    row: &mut Row,
     value: &Value,
     out: &mut Output,
 ) -> Result<(), AllocError>
     ensures { OnOk result (out.new ≡ out.old ++ value_tokens (normal_selection_reference writer.now.prefer (view writer.now.tree) (view value.now))) }
 {
-    match writer.selection_ranks(row, text_of(value)) {
+    match writer.selection_ranks(text_of(value)) {
         Some((contest, rank)) => {
             let id = selection_id_text(contest, rank)?;
             out.string(id.as_str())

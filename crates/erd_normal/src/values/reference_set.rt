@@ -7,7 +7,6 @@ ghost use Rattle.erd_normal.specs.code.Orders.{rank_named};
 use crate::values::reference::{write_reference_to, write_selection_reference};
 use crate::writer::Writer;
 use erd_check::values::text_of;
-use erd_meaning::Row;
 use erd_tables::Family;
 use erd_text::Output;
 use serde_json::Value;
@@ -35,9 +34,8 @@ fn ranks_named(writer: &Writer, family: Family, values: &[Value]) -> Result<Vec<
         ≡ map (λ v. rank_named writer.now.prefer (view writer.now.tree) family (text_of (view v))) values.now) }
 {
     let mut ranks = Vec::with_capacity(writer.alloc, values.len())?;
-    let mut row = Row::of(values.len());
     for value in values {
-        ranks.push(writer.rank_in_row(family, &mut row, text_of(value)))?;
+        ranks.push(writer.rank_named(family, text_of(value)))?;
     }
     Ok(ranks)
 }
@@ -62,9 +60,8 @@ pub(crate) fn write_selection_references(
     ensures { OnOk result (out.new ≡ out.old ++ value_tokens (array_of (map (λ v. normal_selection_reference writer.now.prefer (view writer.now.tree) (view v)) values.now))) }
 {
     out.begin_array()?;
-    let mut row = Row::of(values.len());
     for value in values {
-        write_selection_reference(writer, &mut row, value, out)?;
+        write_selection_reference(writer, value, out)?;
     }
     out.end_array()
 }

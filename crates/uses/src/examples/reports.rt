@@ -3,7 +3,7 @@ use crate::callers::report_of;
 use erd_check::{same_json, shape};
 use erd_compare::first_difference;
 use erd_meaning::{
-    Key, Named, RankedName, Report, Row, SaltedSet, SelectionName, accept_with, key_of, places_in,
+    Key, Named, RankedName, Report, SaltedSet, SelectionName, accept_with, key_of, places_in,
     resolve, resolve_with,
 };
 use erd_normal::{CompactText, SetOrder, in_order, normal_text, normal_tree};
@@ -70,10 +70,9 @@ fn target(rt: &impl Abort, report: &Report) {
     assert_eq!(rt; report.target("k1"), Some((Family::Candidate, 0)));
 }
 
-fn target_in_row(rt: &impl Abort, report: &Report) {
-    let mut row = Row::of(1);
+fn target_of(rt: &impl Abort, report: &Report) {
     assert_eq!(rt;
-        report.target_in_row(Family::Contest, &mut row, "k1"),
+        report.target_of(Family::Contest, "k1"),
         Some((Family::Candidate, 0))
     );
 }
@@ -92,7 +91,7 @@ fn positions(rt: &impl Abort, tree: &Value, report: &Report) -> Result<(), Fail>
     count_of_selections(rt, report);
     candidates(rt, report);
     target(rt, report);
-    target_in_row(rt, report);
+    target_of(rt, report);
     first_selection(rt, report);
     election(rt, report)
 }

@@ -9,5 +9,5 @@ loop-value-preserved c =
     ∙ one_value (λ v. rank (text_of (view v))) c.loop-value.ranks.items c.args.values.now c.loop-value.value-index c.value-item.result _
     c.loop-value-test.true
     c.value-item.is
-    (c.rank_in_row.ensures ∙ ap rank c.text_of.ensures)
+    (c.rank_named.ensures ∙ ap rank c.text_of.ensures)
     c.loop-value.invariant

@@ -9,7 +9,7 @@ returns-clause-clear c =
     let id = c.in_ok-id.id.now in
     let own = c.in_ok-own.own in
     let position = c.in_ok-own.position in
-    let found = sym (c.position_in_row.ensures c.args.self.now.told_apart) ∙ c.in_ok-own.was in
+    let found = sym (c.position_on_trail.ensures c.args.self.now.told_apart) ∙ c.in_ok-own.was in
     let same = sym (families_same own c.args.family) ∙ not-false _ (sym c.if-ne.ensures) in
     record {
       text = id;
