@@ -1,5 +1,5 @@
 -- What stands at the places of a report whose shape has no fault: members, entries, objects and their kinds.
-use Rattle.erd_check.proofs.Common.{◌≡◌, ℕ, zero, suc, true, ◌⊎◌, List, [], Some, Option, refl, ap, subst, ap₂, inl, inr, ⊎_elim, option_map_or, Data, string, array, object, Items, no_items, item, Members, get_item, is_text, is_array, is_object, IsTree, AreTrees, list_of_items, entries_of, ◌≤◌, None, Ordering, Less, Equal, Greater, sym, ◌∙◌, arith, tied_itself, nat_list_cmp_total, exact_bytes, match_ordering, ordering_reverse, no_members, member, depth, members_depth, get_member, text_cmp, IsBeforeFirst, AreMembers, Bool, false, not, ◌&&◌, ◌∷◌, ◌++◌, is_none, IsSomeAnd, IsTrue, codes, option_map, option_and_then, bytes_eq, append_assoc, not-false, and_from, false_from_ne_true, list_any, get, text_of_class, role_of_class, class_in_role, Class, Role, role, Reason, reason, kind, Step, At, Name, has_wanted_kind, names_wanted, is_reference, is_shape_fault, ShapeFault, NoneOf, class_of_object, scope_inside, member_want, want_of_name, entry_want, is_compared_set, Asked, asked, is_repeated, asked_inside, asked_from, asked_at, Want, ClassText, Member, Object, cond, unwrap_or, and_parts, list_all, Row, rows_of_class, kind_in_rows, is_reference_name, kind_of_identity, kind_of_unlisted, kind_of_member, is_required, class, MemberKind, want_of_kind, is_report_class, cases_Bool, Family, is_empty_array}
+use Rattle.erd_check.proofs.Common.{◌≡◌, ℕ, zero, suc, true, List, [], Some, Option, refl, ap, subst, ap₂, inl, inr, ⊎_elim, option_map_or, Data, string, array, object, Items, no_items, item, Members, get_item, is_text, is_array, is_object, IsTree, AreTrees, list_of_items, entries_of, ◌≤◌, None, Ordering, Less, Equal, Greater, sym, ◌∙◌, arith, tied_itself, nat_list_cmp_total, exact_bytes, match_ordering, ordering_reverse, no_members, member, depth, members_depth, get_member, text_cmp, IsBeforeFirst, AreMembers, Bool, false, not, ◌&&◌, ◌∷◌, ◌++◌, is_none, IsSomeAnd, IsTrue, codes, option_map, option_and_then, bytes_eq, append_assoc, not-false, and_from, false_from_ne_true, list_any, get, text_of_class, role_of_class, class_in_role, Class, Role, role, Reason, reason, kind, Step, At, Name, has_wanted_kind, names_wanted, is_reference, is_shape_fault, ShapeFault, NoneOf, class_of_object, scope_inside, member_want, want_of_name, entry_want, is_compared_set, Asked, asked, is_repeated, asked_inside, asked_from, asked_at, Want, ClassText, Member, Object, cond, unwrap_or, and_parts, list_all, Row, rows_of_class, kind_in_rows, is_reference_name, kind_of_identity, kind_of_unlisted, kind_of_member, is_required, class, MemberKind, want_of_kind, is_report_class, cases_Bool, Family, is_empty_array}
 use Rattle.std.proofs.lemmas.Option.{same_Some}
 use Rattle.erd_tables.proofs.Roles.{class_in_role_named}
 use Rattle.erd_check.proofs.Exact.{text_exact}
@@ -380,12 +380,11 @@ pub data MayBeArray (P : Items → Type 0) : Option Data → Type 0 where
 
 -- a keyed array of an object
 pub keyed_list : (t : Data) → NoneOf (ShapeFault t) → (w : Want) (q : Role) (c : Class) (ms : Members) → ObjectAt t w q c ms → (f : Family) (name : List ℕ) → bytes_eq name (codes "@type") ≡ false
-    → kind_of_member c name ≡ kind.Keyed f → (o : Option Data) → get_member name ms ≡ o → MayBeArray (λ ds. Within t (asked (Member (kind.Keyed f) (is_required c name)) (array ds))) o
+    → kind_of_member c name ≡ kind.Keyed f → (o : Option Data) → get_member name ms ≡ o → MayBeArray (λ ds. Within t (asked (Member (kind.Keyed f) false) (array ds))) o
 keyed_list t clean w q c ms a f name other keyed None e = is_absent
 keyed_list t clean w q c ms a f name other keyed (Some v) e =
-    let r : Bool = is_required c name in
-    let inside : Within t (asked (Member (kind.Keyed f) r) v) =
+    let inside : Within t (asked (Member (kind.Keyed f) false) v) =
     subst (λ x. Within t (asked x v)) (want_by_kind c name (kind.Keyed f) keyed refl) (member_within t clean w q ms c name v a.asks a.among other a.inside e) in
-    let ds = array_from v (wanted_within t clean (asked (Member (kind.Keyed f) r) v) inside) in
-    subst (λ x. MayBeArray (λ ds. Within t (asked (Member (kind.Keyed f) r) (array ds))) (Some x)) (sym ds.1)
-    (is_filled_array (subst (λ x. Within t (asked (Member (kind.Keyed f) r) x)) ds.1 inside))
+    let ds = array_from v (wanted_within t clean (asked (Member (kind.Keyed f) false) v) inside) in
+    subst (λ x. MayBeArray (λ ds. Within t (asked (Member (kind.Keyed f) false) (array ds))) (Some x)) (sym ds.1)
+    (is_filled_array (subst (λ x. Within t (asked (Member (kind.Keyed f) false) x)) ds.1 inside))

@@ -59,9 +59,9 @@ module _ (t : Data) (clean : NoneOf (ShapeFault t)) where
         (and_from _ _ (carried_itself d tree.1 (each k d (get_member-first k d ms))) (carried_members ms tree.2 (λ q v e. each q v (get_member-later k q d v ms tree e))))
 
   simple_itself : (k : MemberKind) (r : Bool) (v : Data) → is_simple k ≡ true → IsTree v → Within t (asked (want_of_kind k r) v) → is_same_json v v ≡ true
-  simple_itself kind.Word r v h tree w = let s = string_from_text v (wanted_within t clean (asked (Member kind.Word r) v) w) in subst (λ x. is_same_json x x ≡ true) (sym s.1) (text_itself s.0)
-  simple_itself kind.StrangeReference r v h tree w = absurd (no_unknown v r w)
-  simple_itself kind.StrangeIdentity r v h tree w = absurd (no_strange v r w)
+  simple_itself kind.Word r v h tree w = let s = string_from_text v (wanted_within t clean (asked (Member kind.Word false) v) w) in subst (λ x. is_same_json x x ≡ true) (sym s.1) (text_itself s.0)
+  simple_itself kind.StrangeReference r v h tree w = absurd (no_unknown v false w)
+  simple_itself kind.StrangeIdentity r v h tree w = absurd (no_strange v false w)
   simple_itself kind.Carried r v h tree w = carried_itself v tree w
   simple_itself _ r v h tree w = cc
 

@@ -14,7 +14,7 @@ unfolding serde_json_on_literals
 at_the_top = refl
 
 inside_an_identifier : wants_at small_ballot ((Name (codes "Party") ∷ At 0 ∷ Name (codes "ExternalIdentifier") ∷ At 0 ∷ []) ∷ (Name (codes "Party") ∷ At 0 ∷ Name (codes "ExternalIdentifier") ∷ At 0 ∷ Name (codes "@type") ∷ []) ∷ (Name (codes "Party") ∷ At 0 ∷ Name (codes "ExternalIdentifier") ∷ At 0 ∷ Name (codes "Value") ∷ []) ∷ (Name (codes "Party") ∷ At 0 ∷ Name (codes "@id") ∷ []) ∷ (Name (codes "Party") ∷ At 0 ∷ Name (codes "@type") ∷ []) ∷ [])
-    ≡ Some (Object role.Identifier) ∷ Some (ClassText role.Identifier) ∷ Some (Member kind.Word true) ∷ Some (Member kind.Identity false)
+    ≡ Some (Object role.Identifier) ∷ Some (ClassText role.Identifier) ∷ Some (Member kind.Word false) ∷ Some (Member kind.Identity false)
     ∷ Some (ClassText (role.OfFamily family.Party)) ∷ []
 unfolding serde_json_on_literals
 inside_an_identifier = refl
@@ -24,8 +24,8 @@ inside_a_label : wants_at small_ballot ((Name (codes "Election") ∷ At 0 ∷ Na
     ∷ (Name (codes "Election") ∷ At 0 ∷ Name (codes "Contest") ∷ At 1 ∷ Name (codes "ContestSelection") ∷ At 0 ∷ Name (codes "Selection") ∷ []) ∷ (Name (codes "Election") ∷ At 0 ∷ Name (codes "Contest") ∷ At 1 ∷ Name (codes "ContestSelection") ∷ At 0 ∷ Name (codes "Selection") ∷ Name (codes "@type") ∷ [])
     ∷ (Name (codes "Election") ∷ At 0 ∷ Name (codes "Contest") ∷ At 1 ∷ Name (codes "ContestSelection") ∷ At 0 ∷ Name (codes "Selection") ∷ Name (codes "Text") ∷ []) ∷ (Name (codes "Election") ∷ At 0 ∷ Name (codes "Contest") ∷ At 1 ∷ Name (codes "ContestSelection") ∷ At 0 ∷ Name (codes "Selection") ∷ Name (codes "Text") ∷ At 1 ∷ [])
     ∷ (Name (codes "Election") ∷ At 0 ∷ Name (codes "Contest") ∷ At 1 ∷ Name (codes "ContestSelection") ∷ At 0 ∷ Name (codes "Selection") ∷ Name (codes "Text") ∷ At 1 ∷ Name (codes "Content") ∷ []) ∷ [])
-    ≡ Some (Member kind.Label true) ∷ None ∷ Some (Member kind.Label true) ∷ Some (ClassText role.Label) ∷ Some (Member kind.Languages true)
-    ∷ Some (Object role.Language) ∷ Some (Member kind.Word true) ∷ []
+    ≡ Some (Member kind.Label false) ∷ None ∷ Some (Member kind.Label false) ∷ Some (ClassText role.Label) ∷ Some (Member kind.Languages true)
+    ∷ Some (Object role.Language) ∷ Some (Member kind.Word false) ∷ []
 unfolding serde_json_on_literals
 inside_a_label = refl
 

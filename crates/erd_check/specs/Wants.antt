@@ -41,11 +41,17 @@ abbrev pub scope_inside : Want → Data → Scope
 scope_inside w (object ms) = scope_of_object w (object ms)
 scope_inside w d = scope.Nothing
 
+-- True for a set of references or translations, which must have an entry where its object must have the set.
+abbrev pub may_need_entry : MemberKind → Bool
+may_need_entry (kind.Many f) = true
+may_need_entry kind.Languages = true
+may_need_entry k = false
+
 -- What is asked of a member of this kind. The flag says whether its object must have the member.
 abbrev pub want_of_kind : MemberKind → Bool → Want
 want_of_kind (kind.One f) required = Reference f
 want_of_kind kind.Carried required = Carried
-want_of_kind k required = Member k required
+want_of_kind k required = Member k (may_need_entry k && required)
 
 -- True for the class ElectionReport.
 abbrev pub is_report_class : Class → Bool

@@ -188,15 +188,15 @@ fn other_reason(want: Want, value: &Value) -> Option<Reason>
             Some(text) if text != "pre-election" => Some(Reason::NotPreElection),
             _ => None,
         },
-        Want::Member(kind, is_required) => member_reason(kind, is_required, value),
+        Want::Member(kind, needs_entry) => member_reason(kind, needs_entry, value),
         Want::Carried if is_float(value) => Some(Reason::NotWhole),
         Want::Carried => None,
     }
 }
 
-fn member_reason(kind: MemberKind, is_required: bool, value: &Value) -> Option<Reason>
-    ensures value { option_to_list result ≡ other_reasons (Want.Member kind is_required) (view value.now) }
-    ensures in_range { IsAskedInRange (Want.Member kind is_required) (view value.now) }
+fn member_reason(kind: MemberKind, needs_entry: bool, value: &Value) -> Option<Reason>
+    ensures value { option_to_list result ≡ other_reasons (Want.Member kind needs_entry) (view value.now) }
+    ensures in_range { IsAskedInRange (Want.Member kind needs_entry) (view value.now) }
 {
     match kind {
         MemberKind::Whole if is_float(value) => Some(Reason::NotWhole),
@@ -204,7 +204,7 @@ fn member_reason(kind: MemberKind, is_required: bool, value: &Value) -> Option<R
         MemberKind::StrangeReference => Some(Reason::UnknownReference),
         MemberKind::StrangeIdentity => Some(Reason::CarriedIdentity),
         MemberKind::Elections if is_empty_array(value) => Some(Reason::ElectionCount),
-        MemberKind::Many(_) | MemberKind::Languages if is_required && is_empty_array(value) => {
+        MemberKind::Many(_) | MemberKind::Languages if needs_entry && is_empty_array(value) => {
             Some(Reason::EmptyArray)
         }
         _ => None,

@@ -1,7 +1,7 @@
 //! What the member table (docs/PROFILE.md) asks of a value.
 ghost use Rattle.std.specs.Prelude.{◌≡◌};
 ghost use Rattle.serde_json.specs.View.{view};
-ghost use Rattle.erd_check.specs.Wants.{scope_inside, want_of_name, member_want, carried_want, entry_want, is_compared_set};
+ghost use Rattle.erd_check.specs.Wants.{scope_inside, want_of_name, may_need_entry, member_want, carried_want, entry_want, is_compared_set};
 
 use crate::values::class_of_object;
 use erd_tables::class::{Class, Family, Role};
@@ -19,7 +19,7 @@ pub enum Want {
     Reference(Family),
     /// The `Status` of the report.
     Status,
-    /// Any other member: its kind, and whether its object must have it.
+    /// Any other member: its kind, and whether it is an array that must have an entry.
     Member(MemberKind, bool),
     /// A carried member, or a value inside one.
     Carried,
@@ -83,9 +83,20 @@ fn want_of_member(class: Class, name: &str) -> Want
         _ => match member_kind(class, name) {
             MemberKind::One(family) => Want::Reference(family),
             MemberKind::Carried => Want::Carried,
-            kind => Want::Member(kind, is_required_member(class, name)),
+            kind => Want::Member(
+                kind,
+                may_need_entry(kind) && is_required_member(class, name),
+            ),
         },
     }
+}
+
+/// Returns whether the table asks for a set of references or translations. Where an object must have such a set, it must have
+/// an entry.
+fn may_need_entry(kind: MemberKind) -> bool
+    ensures { result ≡ may_need_entry kind }
+{
+    matches!(kind, MemberKind::Many(_) | MemberKind::Languages)
 }
 
 /// Nothing inside a carried value may be an identity or a reference.

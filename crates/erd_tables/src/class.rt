@@ -232,10 +232,37 @@ pub fn family_of(class: Class) -> Option<Family>
 pub fn class_in(role: Role, text: &str) -> Option<Class>
     ensures { result ≡ class_in_role role text.now }
 {
+    let usual = usual_class(role);
+    if text == type_text(usual) {
+        return Some(usual);
+    }
     let class = class_of(text)?;
     if role_of(class) == role {
         Some(class)
     } else {
         None
+    }
+}
+
+/// Returns the class that most objects with the role have, so its text is compared first.
+fn usual_class(role: Role) -> Class
+    ensures { role_of_class result ≡ role }
+{
+    match role {
+        Role::Report => Class::ElectionReport,
+        Role::Election => Class::Election,
+        Role::OfFamily(Family::Unit) => Class::ReportingUnit,
+        Role::OfFamily(Family::Party) => Class::Party,
+        Role::OfFamily(Family::Person) => Class::Person,
+        Role::OfFamily(Family::Office) => Class::Office,
+        Role::OfFamily(Family::Header) => Class::Header,
+        Role::OfFamily(Family::Candidate) => Class::Candidate,
+        Role::OfFamily(Family::Contest) => Class::CandidateContest,
+        Role::OfFamily(Family::Style) => Class::BallotStyle,
+        Role::OfFamily(Family::Selection) => Class::CandidateSelection,
+        Role::Content => Class::OrderedContest,
+        Role::Identifier => Class::ExternalIdentifier,
+        Role::Label => Class::InternationalizedText,
+        Role::Language => Class::LanguageString,
     }
 }

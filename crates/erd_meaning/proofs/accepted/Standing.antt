@@ -99,7 +99,7 @@ pub record Skeleton (t : Data) : Type 0 where
   pub report : ObjectAt t (Object role.Report) role.Report class.ElectionReport ms
   pub es : Items
   pub listed : get_member (codes "Election") ms ≡ Some (array es)
-  pub inside : Within t (asked (Member kind.Elections true) (array es))
+  pub inside : Within t (asked (Member kind.Elections false) (array es))
   pub filled : ¬ (es ≡ no_items)
 
 pub skeleton_of_shape : (t : Data) → NoneOf (ShapeFault t) → Skeleton t
@@ -114,9 +114,9 @@ skeleton_of_shape t none = at (get_member (codes "Election") ms) refl
     at : (o : Option Data) → get_member (codes "Election") ms ≡ o → Skeleton t
     at None e = absurd (lacks_none t none (asked (Object role.Report) (object ms)) (codes "Election") top.2.inside (rw top.2.typed refl) e)
     at (Some v) e =
-        let inside : Within t (asked (Member kind.Elections true) v) = member_within t none (Object role.Report) role.Report ms class.ElectionReport (codes "Election") v of_role top.2.among refl top.2.inside e in
-        let ds = array_from v (wanted_within t none (asked (Member kind.Elections true) v) inside) in
-        let inside' : Within t (asked (Member kind.Elections true) (array ds.0)) = subst (λ x. Within t (asked (Member kind.Elections true) x)) ds.1 inside in
+        let inside : Within t (asked (Member kind.Elections false) v) = member_within t none (Object role.Report) role.Report ms class.ElectionReport (codes "Election") v of_role top.2.among refl top.2.inside e in
+        let ds = array_from v (wanted_within t none (asked (Member kind.Elections false) v) inside) in
+        let inside' : Within t (asked (Member kind.Elections false) (array ds.0)) = subst (λ x. Within t (asked (Member kind.Elections false) x)) ds.1 inside in
         record {
           ms = ms;
           is_object = top.1;
@@ -124,7 +124,7 @@ skeleton_of_shape t none = at (get_member (codes "Election") ms) refl
           es = ds.0;
           listed = e ∙ ap Some ds.1;
           inside = inside';
-          filled = not_empty ds.0 (faultless t none (asked (Member kind.Elections true) (array ds.0)) reason.ElectionCount inside');
+          filled = not_empty ds.0 (faultless t none (asked (Member kind.Elections false) (array ds.0)) reason.ElectionCount inside');
         }
 
 pub skeleton : (π : Preference) (t : Data) → IsAccepted π t → Skeleton t
@@ -178,9 +178,9 @@ election_stands t s e h =
     let j = placed_index (Name (codes "Election") ∷ []) 0 s.es e (subst (λ os. In e os) (elections_placed t s) h) in
     let same : 0 + j.0 ≡ j.0 = omega arith in
     ap (asked_at t) (j.1 ∙ ap (λ n. Name (codes "Election") ∷ At n ∷ []) same)
-    ∙ asked_at-step t (Name (codes "Election") ∷ []) (asked (Member kind.Elections true) (array s.es)) (asked (Object role.Election) e.value) (At j.0)
-    (asked_at-step t [] (asked (Object role.Report) t) (asked (Member kind.Elections true) (array s.es)) (Name (codes "Election")) refl
-    (subst (λ x. asked_inside (Object role.Report) x (Name (codes "Election")) ≡ Some (asked (Member kind.Elections true) (array s.es))) (sym s.is_object)
+    ∙ asked_at-step t (Name (codes "Election") ∷ []) (asked (Member kind.Elections false) (array s.es)) (asked (Object role.Election) e.value) (At j.0)
+    (asked_at-step t [] (asked (Object role.Report) t) (asked (Member kind.Elections false) (array s.es)) (Name (codes "Election")) refl
+    (subst (λ x. asked_inside (Object role.Report) x (Name (codes "Election")) ≡ Some (asked (Member kind.Elections false) (array s.es))) (sym s.is_object)
     (asked_inside_object (Object role.Report) role.Report s.ms class.ElectionReport (codes "Election") (array s.es) s.report.asks s.report.among refl s.listed)))
     (rw j.2)
 
@@ -188,7 +188,7 @@ election_stands t s e h =
 pub election_within : (t : Data) (s : Skeleton t) (d : Data) → In d (list_of_items s.es) → Within t (asked (Object role.Election) d)
 election_within t s d h =
     let p = list_of_items-place s.es d h in
-    Within-step t (asked (Member kind.Elections true) (array s.es)) (asked (Object role.Election) d) (At p.0) s.inside (rw p.1)
+    Within-step t (asked (Member kind.Elections false) (array s.es)) (asked (Object role.Election) d) (At p.0) s.inside (rw p.1)
 
 -- and is an object of the class of elections
 pub election_object : (t : Data) → NoneOf (ShapeFault t) → (d : Data) → Within t (asked (Object role.Election) d) → (ms : Members) × (d ≡ object ms) × ObjectAt t (Object role.Election) role.Election class.Election ms
@@ -199,17 +199,17 @@ election_object t none d w = object_at t none role.Election class.Election elect
 -- the objects in an array stand at their places
 entries_found : (t : Data) (parent : Placed) (w : Want) (q : Role) (c : Class) (ms : Members) → parent.value ≡ object ms → ObjectAt t w q c ms → asked_at t parent.place ≡ Some (asked w (object ms))
     → (f : Family) (name : List ℕ) → bytes_eq name (codes "@type") ≡ false → kind_of_member c name ≡ kind.Keyed f
-    → (found_at : Option Data) → get_member name ms ≡ found_at → MayBeArray (λ ds. Within t (asked (Member (kind.Keyed f) (is_required c name)) (array ds))) found_at
+    → (found_at : Option Data) → get_member name ms ≡ found_at → MayBeArray (λ ds. Within t (asked (Member (kind.Keyed f) false) (array ds))) found_at
     → (o : Placed) → In o (placed_from (parent.place ++ Name name ∷ []) 0 (entries_in found_at)) → asked_at t o.place ≡ Some (asked (Object (role.OfFamily f)) o.value)
 entries_found t parent w q c ms is a stands f name other keyed found_at e is_absent o h = elim h [ ]
 entries_found t parent w q c ms is a stands f name other keyed found_at e (is_filled_array {ds = ds} inside) o h =
     let j = placed_index (parent.place ++ Name name ∷ []) 0 ds o h in
-    let above : asked_at t (parent.place ++ Name name ∷ []) ≡ Some (asked (Member (kind.Keyed f) (is_required c name)) (array ds)) =
-    asked_at-step t parent.place (asked w (object ms)) (asked (Member (kind.Keyed f) (is_required c name)) (array ds)) (Name name) stands
+    let above : asked_at t (parent.place ++ Name name ∷ []) ≡ Some (asked (Member (kind.Keyed f) false) (array ds)) =
+    asked_at-step t parent.place (asked w (object ms)) (asked (Member (kind.Keyed f) false) (array ds)) (Name name) stands
     (asked_inside_object w q ms c name (array ds) a.asks a.among other e ∙ ap (λ x. Some (asked x (array ds))) (want_by_kind c name (kind.Keyed f) keyed refl)) in
     let s : 0 + j.0 ≡ j.0 = omega arith in
     ap (asked_at t) (j.1 ∙ ap (λ n. (parent.place ++ Name name ∷ []) ++ At n ∷ []) s)
-    ∙ asked_at-step t (parent.place ++ Name name ∷ []) (asked (Member (kind.Keyed f) (is_required c name)) (array ds)) (asked (Object (role.OfFamily f)) o.value) (At j.0) above (rw j.2)
+    ∙ asked_at-step t (parent.place ++ Name name ∷ []) (asked (Member (kind.Keyed f) false) (array ds)) (asked (Object (role.OfFamily f)) o.value) (At j.0) above (rw j.2)
 
 pub placed_found : (t : Data) → NoneOf (ShapeFault t) → (parent : Placed) (w : Want) (q : Role) (c : Class) (ms : Members) → parent.value ≡ object ms → ObjectAt t w q c ms → asked_at t parent.place ≡ Some (asked w (object ms))
     → (f : Family) (name : List ℕ) → bytes_eq name (codes "@type") ≡ false → kind_of_member c name ≡ kind.Keyed f

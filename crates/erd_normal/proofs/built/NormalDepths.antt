@@ -54,7 +54,7 @@ module _ (π : Preference) (t : Data) (clean : NoneOf (ShapeFault t)) (tree : Is
   label_depth r d w = omega arith
 
   pub normal_value-depth : (k : MemberKind) (d : Data) → AskedAs t k d → NoneDeeper d (normal_value π t k d)
-  normal_value-depth kind.Label d a = label_depth a.0 d a.1
+  normal_value-depth kind.Label d a = label_depth false d a.1
   normal_value-depth (kind.One f) d a = omega arith
   normal_value-depth (kind.Many f) d a =
       let es : List Data = rising_list (reference_cmp π t f) (entries_of d) in
@@ -62,13 +62,13 @@ module _ (π : Preference) (t : Data) (clean : NoneOf (ShapeFault t)) (tree : Is
       (texts_depth d (normal_reference π t f) es (wanted_within t clean (asked (Member (kind.Many f) a.0) d) a.1) (λ e. refl))
   normal_value-depth kind.Identifiers d a =
       unless_no_entry-holds (λ v. IsNoDeeper v d) d (array_of (rising_list compact_cmp (entries_of d)))
-      (rising_depth compact_cmp d (wanted_within t clean (asked (Member kind.Identifiers a.0) d) a.1))
+      (rising_depth compact_cmp d (wanted_within t clean (asked (Member kind.Identifiers false) d) a.1))
   normal_value-depth kind.Languages d a =
       unless_no_entry-holds (λ v. IsNoDeeper v d) d (array_of (rising_list compact_cmp (entries_of d)))
       (rising_depth compact_cmp d (wanted_within t clean (asked (Member kind.Languages a.0) d) a.1))
   normal_value-depth kind.Ordered d a =
       unless_no_entry-holds (λ v. IsNoDeeper v d) d (array_of (map (normal_selection_reference π t) (entries_of d)))
-      (texts_depth d (normal_selection_reference π t) (entries_of d) (wanted_within t clean (asked (Member kind.Ordered a.0) d) a.1) (λ e. refl))
+      (texts_depth d (normal_selection_reference π t) (entries_of d) (wanted_within t clean (asked (Member kind.Ordered false) d) a.1) (λ e. refl))
   normal_value-depth kind.Identity d a = tt
   normal_value-depth kind.Outside d a = tt
   normal_value-depth k d a = omega arith
@@ -108,7 +108,7 @@ module _ (π : Preference) (t : Data) (clean : NoneOf (ShapeFault t)) (tree : Is
   IsNodeMember (Some c) name d = AskedAs t (kind_of_member c name) d
 
   node_value_depth : (k : MemberKind) (d inside : Data) → AskedAs t k d → ((r : Bool) → Within t (asked (Member kind.Content r) d) → IsNoDeeper inside d) → NoneDeeper d (normal_node_value π t (Some k) d inside)
-  node_value_depth kind.Content d inside a content = unless_no_entry-holds (λ v. IsNoDeeper v d) d inside (content a.0 a.1)
+  node_value_depth kind.Content d inside a content = unless_no_entry-holds (λ v. IsNoDeeper v d) d inside (content false a.1)
   node_value_depth k d inside a content = normal_value-depth k d a
 
   node_member_depth : (c : Option Class) (name : List ℕ) (d inside : Data) → IsNodeMember c name d → ((r : Bool) → Within t (asked (Member kind.Content r) d) → IsNoDeeper inside d)
@@ -157,9 +157,9 @@ module _ (π : Preference) (t : Data) (clean : NoneOf (ShapeFault t)) (tree : Is
   pub normal_object_value-depth : (o : Data) (k : MemberKind) (d : Data) → AskedAs t k d → NoneDeeper d (normal_object_value π t o k d)
   normal_object_value-depth o (kind.Keyed family.Selection) d a =
       unless_no_entry-holds (λ v. IsNoDeeper v d) d (array_of (map (normal_selection π t o) (rising_list (by_name π t) (entries_of d))))
-      (built_depth d (Member (kind.Keyed family.Selection) a.0) (Object selection_role) (wanted_within t clean (asked (Member (kind.Keyed family.Selection) a.0) d) a.1) refl refl a.1
+      (built_depth d (Member (kind.Keyed family.Selection) false) (Object selection_role) (wanted_within t clean (asked (Member (kind.Keyed family.Selection) false) d) a.1) refl refl a.1
       (by_name π t) (normal_selection π t o) (normal_selection-depth o))
-  normal_object_value-depth o kind.Content d a = unless_no_entry-holds (λ v. IsNoDeeper v d) d (normal_content π t d) (normal_content-depth d a.0 a.1)
+  normal_object_value-depth o kind.Content d a = unless_no_entry-holds (λ v. IsNoDeeper v d) d (normal_content π t d) (normal_content-depth d false a.1)
   normal_object_value-depth o k d a = normal_value-depth k d a
 
   pub normal_object-depth : (f : Family) (d : Data) → Within t (asked (Object (role.OfFamily f)) d) → IsNoDeeper (normal_object π t f d) d
@@ -170,7 +170,7 @@ module _ (π : Preference) (t : Data) (clean : NoneOf (ShapeFault t)) (tree : Is
   keyed_depth : (f : Family) (d : Data) → AskedAs t (kind.Keyed f) d → NoneDeeper d (unless_no_entry d (normal_objects π t f (entries_of d)))
   keyed_depth f d a =
       unless_no_entry-holds (λ v. IsNoDeeper v d) d (normal_objects π t f (entries_of d))
-      (built_depth d (Member (kind.Keyed f) a.0) (Object (role.OfFamily f)) (wanted_within t clean (asked (Member (kind.Keyed f) a.0) d) a.1) refl refl a.1 (by_key π) (normal_object π t f) (normal_object-depth f))
+      (built_depth d (Member (kind.Keyed f) false) (Object (role.OfFamily f)) (wanted_within t clean (asked (Member (kind.Keyed f) false) d) a.1) refl refl a.1 (by_key π) (normal_object π t f) (normal_object-depth f))
 
   -- ---- the election and the report
 
@@ -185,7 +185,7 @@ module _ (π : Preference) (t : Data) (clean : NoneOf (ShapeFault t)) (tree : Is
   pub normal_report_value-depth : (name : List ℕ) (k : MemberKind) (d : Data) → AskedAs t k d → NoneDeeper d (normal_report_value π t name k d)
   normal_report_value-depth name (kind.Keyed f) d a = keyed_depth f d a
   normal_report_value-depth name kind.Elections d a =
-      built_depth d (Member kind.Elections a.0) (Object role.Election) (wanted_within t clean (asked (Member kind.Elections a.0) d) a.1) refl refl a.1
+      built_depth d (Member kind.Elections false) (Object role.Election) (wanted_within t clean (asked (Member kind.Elections false) d) a.1) refl refl a.1
       (by_key π) (normal_election π t) normal_election-depth
   normal_report_value-depth name k d a = elim (is_envelope_name name) as (λ b. NoneDeeper d (if b then None else normal_value π t k d)) [ true ↦ tt | false ↦ normal_value-depth k d a ]
 

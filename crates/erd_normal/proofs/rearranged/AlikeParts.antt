@@ -1,5 +1,5 @@
 -- What stands in values that are alike, part by part, and the objects of reports that are alike.
-use Rattle.erd_normal.proofs.Common.{◌≡◌, ℕ, Bool, true, false, List, [], ◌∷◌, Some, None, Option, sym, subst, Data, null, boolean, number, string, array, object, Items, no_items, item, Members, no_members, member, get_member, IsBeforeFirst, IsTree, AreTrees, AreMembers, list_of_items, scope_inside, want_of_name, entry_want, is_table_set, Scope, Want, if◌then◌else◌, codes, option_map, bytes_eq, refl, ap, ◌∙◌, option_map_or, get, as_str, kind_of_member, is_required, Class, Family, Role, role, kind, At, list_of_items-place, ObjectAt, ObjectIn, Within-step, AsksObject, of_role, of_label, member_within, Within, want_by_kind, ShapeFault, NoneOf, entries_of, entries_at, class_of_object, member_want, is_compared_set, asked, scope, Member, Object, is_id_text, option_and_then, class, object_in, report_class, Within-root, id_of, IsPermutation, IsPermutation-refl, IsPermutation-sym, In, inl, inr, reordered-In}
+use Rattle.erd_normal.proofs.Common.{◌≡◌, ℕ, Bool, true, false, List, [], ◌∷◌, Some, None, Option, sym, subst, Data, null, boolean, number, string, array, object, Items, no_items, item, Members, no_members, member, get_member, IsBeforeFirst, IsTree, AreTrees, AreMembers, list_of_items, scope_inside, want_of_name, entry_want, is_table_set, Scope, Want, if◌then◌else◌, codes, option_map, bytes_eq, refl, ap, ◌∙◌, option_map_or, get, as_str, kind_of_member, Class, Family, Role, role, kind, At, list_of_items-place, ObjectAt, ObjectIn, Within-step, AsksObject, of_role, of_label, member_within, Within, want_by_kind, ShapeFault, NoneOf, entries_of, entries_at, class_of_object, member_want, is_compared_set, asked, scope, Member, Object, is_id_text, option_and_then, object_in, report_class, Within-root, id_of, IsPermutation, IsPermutation-refl, IsPermutation-sym, In, inl, inr, reordered-In}
 use Rattle.erd_normal.proofs.lists.Matched.{Both, both, neither, Matched, Paired, none, more, matched_none, matched_within}
 use Rattle.erd_normal.proofs.rearranged.AlikeChanges.{Alike, AlikeMembers, AreAlike, IsArranged}
 use Rattle.erd_normal.proofs.same.Lookups.{get_both, asked_of_name}
@@ -149,7 +149,7 @@ module _ (ρ : List ℕ → List ℕ) (t : Data) where
     pub related_array : (r : Role) (d e : Data) (o : ObjectIn t r d) → Related ρ t (Object r) d e → (f : Family) (name : List ℕ) → bytes_eq name (codes "@type") ≡ false
         → kind_of_member o.class name ≡ kind.Keyed f → Matched (Related ρ t (Object (role.OfFamily f))) (entries_at name d) (entries_at name e)
     related_array r d e o related f name other keyed =
-        related_listed (Member (kind.Keyed f) (is_required o.class name)) (Object (role.OfFamily f)) (get name d) (get name e) refl refl
+        related_listed (Member (kind.Keyed f) false) (Object (role.OfFamily f)) (get name d) (get name e) refl refl
         (subst (λ x. Both (Related ρ t x) (get name d) (get name e)) (want_by_kind o.class name (kind.Keyed f) keyed refl) (related_in r d e o related name other))
 
 -- ---- texts of `@id`s and references
@@ -175,7 +175,7 @@ module _ (ρ : List ℕ → List ℕ) (t : Data) (clean : NoneOf (ShapeFault t))
   id_became f d e r =
       let o : ObjectIn t (role.OfFamily f) d = object_in t clean (role.OfFamily f) d r.inside in
       let name = codes "@id" in
-      ids_found (is_required o.class name) (get name d) (get name e)
+      ids_found false (get name d) (get name e)
       (subst (λ w. Both (Related ρ t w) (get name d) (get name e)) (want_by_kind o.class name kind.Identity (kind_of_family_id o.class f o.role) refl)
       (related_in ρ t clean (role.OfFamily f) d e o r name refl))
 
@@ -188,7 +188,7 @@ module _ (ρ : List ℕ → List ℕ) (t : Data) (clean : NoneOf (ShapeFault t))
     top : ObjectIn t role.Report t
     top = object_in t clean role.Report t (Within-root t)
 
-    elections_both : Both (Related ρ t (Member kind.Elections (is_required top.class (codes "Election")))) (get (codes "Election") t) (get (codes "Election") u)
+    elections_both : Both (Related ρ t (Member kind.Elections false)) (get (codes "Election") t) (get (codes "Election") u)
     elections_both =
         let name = codes "Election" in
         let listed : kind_of_member top.class name ≡ kind.Elections = ap (λ c. kind_of_member c name) (report_class top.class top.role) in
@@ -197,4 +197,4 @@ module _ (ρ : List ℕ → List ℕ) (t : Data) (clean : NoneOf (ShapeFault t))
     pub family_matched : (f : Family) → Matched (RelatedIn (role.OfFamily f)) (family_values f t) (family_values f u)
     family_matched =
         families_matched t u RelatedIn (λ r d e k f name other known. let o = object_in t clean r d k.inside in related_array ρ t clean r d e o k f name other (known o.class o.role).0) report
-        (related_listed ρ t (Member kind.Elections (is_required top.class (codes "Election"))) (Object role.Election) (get (codes "Election") t) (get (codes "Election") u) refl refl elections_both)
+        (related_listed ρ t (Member kind.Elections false) (Object role.Election) (get (codes "Election") t) (get (codes "Election") u) refl refl elections_both)

@@ -1,5 +1,5 @@
 -- A rearranged report is a tree, is accepted as it was, says the same and so means the same: by each change, and so by all.
-use Rattle.erd_normal.proofs.Common.{◌≡◌, ℕ, true, false, ◌⊎◌, List, [], ◌∷◌, Some, None, Option, sym, refl, ap, ◌∙◌, subst, Data, object, get_member, is_envelope_name, role, Reason, Step, Name, object_in, report_class, ObjectIn, Within-step, Within-root, within-tree, Within, is_shape_fault, IsTree, scope_inside, want_of_name, Asked, asked, asked_of_member, asked_inside, asked_from, Scope, scope, Want, Object, no_shape_fault, IsAccepted, Preference, RearrangedMeansTheSame, Renaming, replaced_text, renamed, exchanged, Change, a_renaming, an_exchange, IsAllowed, changed, IsRearrangement, IsRenaming, RearrangedSaysTheSame, HasSoundEnvelope, Sides, is_envelope, SaysTheSame, ⊎_elim, and_then-Some}
+use Rattle.erd_normal.proofs.Common.{◌≡◌, ℕ, true, false, List, [], ◌∷◌, Some, None, Option, sym, refl, ap, ◌∙◌, subst, Data, object, get_member, is_envelope_name, role, Reason, Step, Name, object_in, report_class, ObjectIn, Within-step, Within-root, within-tree, Within, is_shape_fault, IsTree, scope_inside, want_of_name, Asked, asked, asked_of_member, asked_inside, asked_from, Scope, scope, Want, Object, no_shape_fault, IsAccepted, Preference, RearrangedMeansTheSame, Renaming, replaced_text, renamed, exchanged, Change, a_renaming, an_exchange, IsAllowed, changed, IsRearrangement, IsRenaming, RearrangedSaysTheSame, HasSoundEnvelope, Sides, is_envelope, SaysTheSame, ⊎_elim, and_then-Some}
 use Rattle.erd_normal.proofs.lists.Matched.{Both, both}
 use Rattle.erd_normal.proofs.rearranged.AlikeChanges.{Alike, as_it_is, exchanged_alike, renamed_alike}
 use Rattle.erd_normal.proofs.rearranged.AlikeParts.{alike_member, alike_tree}

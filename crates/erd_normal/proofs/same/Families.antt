@@ -1,5 +1,5 @@
 -- The objects of two reports that say the same: those of each family are matched, and matched ones have one key.
-use Rattle.erd_normal.proofs.Common.{◌≡◌, ℕ, Bool, false, true, List, Some, codes, bytes_eq, sym, refl, ap, ◌∙◌, subst, Data, get, role_of_class, is_required, Class, class, Family, family, Role, role, MemberKind, kind, is_word, report_class, election_class, want_by_kind, ShapeFault, NoneOf, IsTree, entries_at, want_of_kind, entry_want, Want, Object, Preference, key_of, Sides, is_array_kind}
+use Rattle.erd_normal.proofs.Common.{◌≡◌, ℕ, Bool, false, true, List, Some, codes, bytes_eq, sym, refl, ap, ◌∙◌, subst, Data, get, role_of_class, is_required, Class, Family, family, Role, role, MemberKind, kind, is_word, report_class, election_class, want_by_kind, ShapeFault, NoneOf, IsTree, entries_at, want_of_kind, entry_want, Want, Object, Preference, key_of, Sides, is_array_kind}
 use Rattle.erd_normal.proofs.built.LeastKeys.{key_of_identifiers-reordered, kind_of_identifiers}
 use Rattle.erd_normal.proofs.lists.Matched.{Matched, matched_equal}
 use Rattle.erd_normal.proofs.same.FamilyValues.{family_values, IsOfKind, outside, chosen_matched, families_matched}

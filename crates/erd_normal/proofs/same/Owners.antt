@@ -1,5 +1,5 @@
 -- What an `@id` names in a report, and what the text that it stands for names in one that says the same.
-use Rattle.erd_normal.proofs.Common.{◌≡◌, ℕ, Bool, true, false, List, Some, None, codes, Option, find, option_and_then, bytes_eq, sym, refl, ap, ◌∙◌, subst, false_from_ne_true, both_ways, option_map_or, Data, as_str, is_required, Family, role, kind, text_exact, text_itself, Within-root, want_by_kind, IsTree, want_of_name, Scope, scope, Member, Object, no_shape_fault, has_id-Some, IsAccepted, Preference, key_of, id_of, has_id, owner, key_named, ReferencesNameTheSame, IsUsed, Sides, StandsFor, IsUnused, is_array_kind, is_envelope, an_empty_array, of_the_envelope, an_unused_id, a_text, an_id, MayBeAbsent, Same, get}
+use Rattle.erd_normal.proofs.Common.{◌≡◌, ℕ, Bool, true, false, List, Some, None, codes, Option, find, option_and_then, bytes_eq, sym, refl, ap, ◌∙◌, subst, false_from_ne_true, both_ways, option_map_or, Data, as_str, Family, role, kind, text_exact, text_itself, Within-root, want_by_kind, IsTree, want_of_name, Scope, scope, Member, Object, no_shape_fault, has_id-Some, IsAccepted, Preference, key_of, id_of, has_id, owner, key_named, ReferencesNameTheSame, IsUsed, Sides, StandsFor, IsUnused, is_array_kind, is_envelope, an_empty_array, of_the_envelope, an_unused_id, a_text, an_id, MayBeAbsent, Same, get}
 use Rattle.erd_normal.proofs.built.NormalGets.{kind_of_family_id}
 use Rattle.erd_normal.proofs.lists.Matched.{AtMostOne, Both, apart_distinct, matched_find, one_if_apart, said_same}
 use Rattle.erd_normal.proofs.same.FamilyValues.{family_values, outside}
@@ -54,7 +54,7 @@ module _ (m : Sides) (left_tree : IsTree m.left) (right_tree : IsTree m.right) (
   pub ids_alike : (f : Family) (d e : Data) → Related m (Object (role.OfFamily f)) d e → IdsAlike m d e
   ids_alike f d e r =
       let o : BothObjects m (role.OfFamily f) d e = both_objects m left_tree right_tree (no_shape_fault π m.left accepted) (role.OfFamily f) d e r in
-      ids_found m (scope.Members (role.OfFamily f) (Some o.class)) (is_required o.class (codes "@id")) (get (codes "@id") d) (get (codes "@id") e)
+      ids_found m (scope.Members (role.OfFamily f) (Some o.class)) false (get (codes "@id") d) (get (codes "@id") e)
       (asked_of_name (role.OfFamily f) o.class (codes "@id") refl ∙ ap Some (want_by_kind o.class (codes "@id") kind.Identity (kind_of_family_id o.class f o.role) refl))
       (envelope_is (role.OfFamily f) o.class (codes "@id") ∙ outside (role.OfFamily f) o.class (codes "@id") o.role (λ x. cc)) (o.aligned (codes "@id")) d e refl refl
 

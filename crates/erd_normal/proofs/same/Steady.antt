@@ -1,5 +1,5 @@
 -- Identifiers, translations and carried values that say the same are equal: nothing may be absent in them.
-use Rattle.erd_normal.proofs.Common.{◌≡◌, ℕ, Bool, true, false, not, List, Some, Option, sym, refl, ap, ◌∙◌, subst, ap₂, true≢false, not-true, Data, array, object, Items, item, Members, member, Class, class, Role, role, MemberKind, kind, class_of_object, scope_inside, want_of_kind, want_of_name, entry_want, is_table_set, Scope, scope, Want, Carried, Member, Object, Reference, class_role, is_id_text, Sides, is_array_kind, is_envelope, an_empty_array, of_the_envelope, an_unused_id, an_id, a_list, a_set, an_object, no_entry, one_entry, no_member, in_both, left_only, right_only, MayBeAbsent, Same, SameEntries, SameMembers, option_map_or, false_from_ne_true, is_envelope_name}
+use Rattle.erd_normal.proofs.Common.{◌≡◌, ℕ, Bool, true, false, not, List, Some, Option, sym, refl, ap, ◌∙◌, subst, ap₂, true≢false, not-true, Data, array, object, Items, item, Members, member, Class, class, Role, role, MemberKind, kind, class_of_object, scope_inside, want_of_kind, want_of_name, entry_want, is_table_set, Scope, scope, Want, Member, Object, Reference, class_role, is_id_text, Sides, is_array_kind, is_envelope, an_empty_array, of_the_envelope, an_unused_id, an_id, a_list, a_set, an_object, no_entry, one_entry, no_member, in_both, left_only, right_only, MayBeAbsent, Same, SameEntries, SameMembers, option_map_or, false_from_ne_true, is_envelope_name}
 use Rattle.erd_normal.proofs.throughout.InsideValues.{closed_names, is_apart_role, is_closed}
 
 -- ---- what is plain

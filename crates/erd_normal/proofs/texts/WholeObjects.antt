@@ -1,5 +1,5 @@
 -- What stands in a report that has no fraction has none.
-use Rattle.erd_normal.proofs.Common.{◌≡◌, ℕ, false, List, slice_get, Some, option_map, sym, ap, ◌∙◌, Data, array, object, get_item, has_float, items_have_float, Family, role, Within, list_of_items, entries_at, Asked, asked, IsAccepted, Preference, Placed, elections, objects, all_at, within-holds, Object, option_map-Some, skeleton, election_stands, stands, in_at}
+use Rattle.erd_normal.proofs.Common.{◌≡◌, ℕ, false, List, slice_get, Some, option_map, sym, ap, ◌∙◌, Data, object, get_item, has_float, items_have_float, Family, role, Within, list_of_items, entries_at, Asked, asked, IsAccepted, Preference, Placed, elections, objects, all_at, within-holds, Object, option_map-Some, skeleton, election_stands, stands, in_at}
 use Rattle.erd_normal.proofs.lists.BuiltLists.{entry_holds, items_again}
 use Rattle.erd_text.proofs.WholeValues.{whole_entries, whole_get}
 use Rattle.erd_text.proofs.WholeValues.{all_whole}

@@ -152,19 +152,19 @@ module _ (π : Preference) (t : Data) (clean : NoneOf (ShapeFault t)) (tree : Is
   -- all that is asked inside what is built of a member without objects
   pub throughout_value : (k : MemberKind) (required : Bool) (d v : Data) → is_plain_kind k ≡ true → Within t (asked (want_of_kind k required) d) → normal_value π t k d ≡ Some v
       → Throughout P (asked (want_of_kind k required) v)
-  throughout_value kind.Label required d v plain w given = let same : with_rising_text d ≡ v = cc in subst (λ x. Throughout P (asked (Member kind.Label required) x)) same (label required d w)
+  throughout_value kind.Label required d v plain w given = let same : with_rising_text d ≡ v = cc in subst (λ x. Throughout P (asked (Member kind.Label false) x)) same (label false d w)
   throughout_value (kind.One f) required d v plain w given =
       let same : normal_reference π t f d ≡ v = cc in
       subst (λ x. Throughout P (asked (Reference f) x)) same (throughout_text P (Reference f) (normal_reference π t f d) false refl (holds.one f plain d w))
   throughout_value (kind.Many f) required d v plain w given = throughout_unless P (Member (kind.Many f) required) d _ v given (λ filled. references f plain required d filled w)
   throughout_value kind.Identifiers required d v plain w given =
-      throughout_unless P (Member kind.Identifiers required) d _ v given (λ filled.
-      rising_set (Member kind.Identifiers required) (Object role.Identifier) d (wanted_within t clean (asked (Member kind.Identifiers required) d) w) refl refl refl refl w (holds.identifiers required d w filled))
+      throughout_unless P (Member kind.Identifiers false) d _ v given (λ filled.
+      rising_set (Member kind.Identifiers false) (Object role.Identifier) d (wanted_within t clean (asked (Member kind.Identifiers false) d) w) refl refl refl refl w (holds.identifiers false d w filled))
   throughout_value kind.Languages required d v plain w given = throughout_unless P (Member kind.Languages required) d _ v given (λ filled. languages required d filled w)
   throughout_value kind.Ordered required d v plain w given =
-      throughout_unless P (Member kind.Ordered required) d _ v given (λ filled.
-      throughout_built_list t P (Member kind.Ordered required) (Reference family.Selection) d (wanted_within t clean (asked (Member kind.Ordered required) d) w) refl refl w (λ xs. xs) (λ Q xs all. all)
-      (normal_selection_reference π t) (λ e within h. throughout_text P (Reference family.Selection) (normal_selection_reference π t e) false refl (holds.ordered_entry e within)) (holds.ordered required d w filled))
+      throughout_unless P (Member kind.Ordered false) d _ v given (λ filled.
+      throughout_built_list t P (Member kind.Ordered false) (Reference family.Selection) d (wanted_within t clean (asked (Member kind.Ordered false) d) w) refl refl w (λ xs. xs) (λ Q xs all. all)
+      (normal_selection_reference π t) (λ e within h. throughout_text P (Reference family.Selection) (normal_selection_reference π t e) false refl (holds.ordered_entry e within)) (holds.ordered false d w filled))
   throughout_value k required d v plain w given =
       let same : d ≡ v = cc in
       subst (λ x. Throughout P (asked (want_of_kind k required) x)) same (throughout_kept t P holds.kept (asked (want_of_kind k required) d) w cc)

@@ -1,5 +1,5 @@
 -- What holds of all that is asked inside the order of a ballot, a selection and an object of a family that are built.
-use Rattle.erd_normal.proofs.Common.{◌≡◌, ℕ, zero, suc, Bool, true, false, List, map, Some, codes, bytes_eq, sym, refl, ap, ◌∙◌, subst, inl, inr, Data, string, array, object, Items, no_items, item, Members, no_members, member, get_member, get_item, get, role_of_class, kind_of_member, is_required, Class, class, Family, family, Role, role, MemberKind, kind, text_exact, found_cases, object_in, ObjectAt, ObjectIn, wanted_within, Within, kind_of_class, want_by_kind, is_array, is_empty_array, ShapeFault, NoneOf, IsTree, entries_of, want_of_kind, member_want, Asked, asked, Member, Object, Status, all_rising, Preference, Placed, objects, rising_list, selection_role, id_of_selection, array_of, normal_value, normal_node_value, normal_content, normal_nodes, normal_node, normal_selection, by_key, by_name, normal_object_value, normal_object, normal_objects, same_Some, Option, In, In-map_from}
+use Rattle.erd_normal.proofs.Common.{◌≡◌, ℕ, zero, suc, Bool, true, false, List, map, Some, codes, bytes_eq, sym, refl, ap, ◌∙◌, subst, inl, inr, Data, string, array, object, Items, no_items, item, Members, no_members, member, get_member, get_item, get, role_of_class, kind_of_member, Class, class, Family, family, Role, role, MemberKind, kind, text_exact, found_cases, object_in, ObjectAt, ObjectIn, wanted_within, Within, kind_of_class, want_by_kind, is_array, is_empty_array, ShapeFault, NoneOf, IsTree, entries_of, want_of_kind, member_want, Asked, asked, Member, Object, Status, all_rising, Preference, Placed, objects, rising_list, selection_role, id_of_selection, array_of, normal_value, normal_node_value, normal_content, normal_nodes, normal_node, normal_selection, by_key, by_name, normal_object_value, normal_object, normal_objects, same_Some, Option, In, In-map_from}
 use Rattle.erd_normal.proofs.built.AskedMembers.{entry_asked}
 use Rattle.erd_normal.proofs.built.BuiltFrom.{Builder, BuiltFrom, BuiltObject, inside_built, member_holds}
 use Rattle.erd_normal.proofs.lists.Lists.{IsPart, part_has}
@@ -90,7 +90,7 @@ module _ (π : Preference) (t : Data) (clean : NoneOf (ShapeFault t)) (tree : Is
 
   node_member : (k : MemberKind) (required : Bool) (d v : Data) → is_node_kind k ≡ true → IsContent d → Within t (asked (want_of_kind k required) d)
       → normal_node_value π t (Some k) d (normal_content π t d) ≡ Some v → Throughout P (asked (want_of_kind k required) v)
-  node_member kind.Content required d v is content w given = throughout_unless P (Member kind.Content required) d (normal_content π t d) v given (λ filled. content required filled w)
+  node_member kind.Content required d v is content w given = throughout_unless P (Member kind.Content false) d (normal_content π t d) v given (λ filled. content false filled w)
   node_member k required d v is content w given = throughout_value π t clean tree P holds.members k required d v is w given
 
   node_with : (ms : Members) → Within t (asked (Object role.Content) (object ms)) → ((name : List ℕ) (d : Data) → get_member name ms ≡ Some d → IsContent d)
@@ -136,10 +136,9 @@ module _ (π : Preference) (t : Data) (clean : NoneOf (ShapeFault t)) (tree : Is
 
   throughout_id : (c : Class) (f : Family) → role_of_class c ≡ role.OfFamily f → (id name : List ℕ) (v : Data) → is_id name ≡ true → v ≡ string id → Throughout P (asked (member_want c name) v)
   throughout_id c f is id name v named same =
-      let r : Bool = is_required c (codes "@id") in
-      let want : member_want c name ≡ Member kind.Identity r = ap (member_want c) (text_exact name (codes "@id") named) ∙ want_by_kind c (codes "@id") kind.Identity (kind_of_family_id c f is) refl in
-      let new : Throughout P (asked (Member kind.Identity r) (string id)) = throughout_text P (Member kind.Identity r) (string id) false refl (holds.identity r id) in
-      subst (λ w. Throughout P (asked w v)) (sym want) (subst (λ x. Throughout P (asked (Member kind.Identity r) x)) (sym same) new)
+      let want : member_want c name ≡ Member kind.Identity false = ap (member_want c) (text_exact name (codes "@id") named) ∙ want_by_kind c (codes "@id") kind.Identity (kind_of_family_id c f is) refl in
+      let new : Throughout P (asked (Member kind.Identity false) (string id)) = throughout_text P (Member kind.Identity false) (string id) false refl (holds.identity false id) in
+      subst (λ w. Throughout P (asked w v)) (sym want) (subst (λ x. Throughout P (asked (Member kind.Identity false) x)) (sym same) new)
 
   pub throughout_selection : (contest d : Data) → Within t (asked (Object selection_role) d) → Throughout P (asked (Object selection_role) (normal_selection π t contest d))
   throughout_selection contest d w =
@@ -156,11 +155,11 @@ module _ (π : Preference) (t : Data) (clean : NoneOf (ShapeFault t)) (tree : Is
   object_member : (o : Placed) (k : MemberKind) (required : Bool) (d v : Data) → is_object_kind k ≡ true → (k ≡ kind.Keyed family.Selection → IsOfContest t o d) → Within t (asked (want_of_kind k required) d)
       → normal_object_value π t o.value k d ≡ Some v → Throughout P (asked (want_of_kind k required) v)
   object_member o (kind.Keyed family.Selection) required d v is contest w given =
-      throughout_unless P (Member (kind.Keyed family.Selection) required) d _ v given (λ filled.
-      throughout_built_list t P (Member (kind.Keyed family.Selection) required) (Object selection_role) d (wanted_within t clean (asked (Member (kind.Keyed family.Selection) required) d) w) refl refl w
+      throughout_unless P (Member (kind.Keyed family.Selection) false) d _ v given (λ filled.
+      throughout_built_list t P (Member (kind.Keyed family.Selection) false) (Object selection_role) d (wanted_within t clean (asked (Member (kind.Keyed family.Selection) false) d) w) refl refl w
       (rising_list (by_name π t)) (λ Q xs all. all_rising Q (by_name π t) xs all) (normal_selection π t o.value) (λ e within h. throughout_selection o.value e within)
-      (holds.selections o required d (contest refl).0 (contest refl).1 w filled))
-  object_member o kind.Content required d v is contest w given = throughout_unless P (Member kind.Content required) d (normal_content π t d) v given (λ filled. throughout_content d required filled w)
+      (holds.selections o false d (contest refl).0 (contest refl).1 w filled))
+  object_member o kind.Content required d v is contest w given = throughout_unless P (Member kind.Content false) d (normal_content π t d) v given (λ filled. throughout_content d false filled w)
   object_member o (kind.Keyed f) required d v is contest w given = cc
   object_member o k required d v is contest w given = throughout_value π t clean tree P holds.members k required d v is w given
 

@@ -85,7 +85,7 @@ module _ (π : Preference) (t : Data) (clean : NoneOf (ShapeFault t)) (tree : Is
   election_member : (k : MemberKind) (required : Bool) (d v : Data) → is_election_kind k ≡ true → ((f : Family) → k ≡ kind.Keyed f → IsPart (entries_of d) (map (λ o. o.value) (objects f t)))
       → Within t (asked (want_of_kind k required) d) → normal_election_value π t k d ≡ Some v → Throughout P (asked (want_of_kind k required) v)
   election_member (kind.Keyed f) required d v is held w given =
-      throughout_unless P (Member (kind.Keyed f) required) d _ v given (λ filled. throughout_objects π t clean tree P holds.parts f required d (held f refl) w (holds.keyed f is required d w (held f refl) filled))
+      throughout_unless P (Member (kind.Keyed f) false) d _ v given (λ filled. throughout_objects π t clean tree P holds.parts f false d (held f refl) w (holds.keyed f is false d w (held f refl) filled))
   election_member k required d v is held w given = throughout_value π t clean tree P plain k required d v is w given
 
   throughout_election : (es : Members) → ObjectAt t (Object role.Election) role.Election class.Election es
@@ -156,10 +156,10 @@ module _ (π : Preference) (t : Data) (clean : NoneOf (ShapeFault t)) (tree : Is
       → (k ≡ kind.Elections → d ≡ array s.es) → Within t (asked (want_of_kind k required) d) → normal_report_value π t name k d ≡ Some v
       → Throughout P (asked (want_of_kind k required) v)
   report_member name (kind.Keyed f) required d v is held listed w given =
-      throughout_unless P (Member (kind.Keyed f) required) d _ v given (λ filled. throughout_objects π t clean tree P holds.parts f required d (held f refl) w (holds.keyed f is required d w (held f refl) filled))
+      throughout_unless P (Member (kind.Keyed f) false) d _ v given (λ filled. throughout_objects π t clean tree P holds.parts f false d (held f refl) w (holds.keyed f is false d w (held f refl) filled))
   report_member name kind.Elections required d v is held listed w given =
       let same : array_of (map (normal_election π t) (rising_list (by_key π) (entries_of d))) ≡ v = cc in
-      subst (λ x. Throughout P (asked (Member kind.Elections required) x)) same (throughout_elections throughout_each required d (listed refl) w)
+      subst (λ x. Throughout P (asked (Member kind.Elections false) x)) same (throughout_elections throughout_each false d (listed refl) w)
   report_member name k required d v is held listed w given = other_member k required d v is w (is_envelope_name name) given
 
   throughout_report : Throughout P (asked (Object role.Report) (normal_tree π t))

@@ -1,5 +1,5 @@
 -- Counterparts in canonical reports that mean the same have one `@id`, and so a text names one key in both.
-use Rattle.erd_normal.proofs.Common.{◌≡◌, ℕ, zero, suc, true, false, List, [], map, slice_get, Some, None, codes, Option, option_map, find, filter_map, option_and_then, bytes_eq, is_lt, Ordering, sym, refl, ap, ◌∙◌, subst, options_total, IsStrictlySortedBy, option_cmp, option_map_or, Data, get_member, as_str, is_required, Class, class, Family, family, role, kind, object_in, ObjectIn, position_of, member_within, Within, want_by_kind, entries_of, entries_at, class_of_object, asked, Member, Object, no_shape_fault, values-placed_entries, stands, contest_selections, one_named, has_id-Some, has_keys, key_cmp, Preference, key_of, rank_of, Placed, selections_of_contest, objects, id_of, has_id, rising_list, key_named, keys_named, keys_of_selection, is_write_in, order_of_selection, label_of_selection, selection_role, name_of, name_cmp, name_cmp_total, Key, canonical_id, canonical_selection_id, IsCanonical, Bool, ◌∷◌, flat_map, same_Some, null, string, array, object, Items, no_items, item, no_members, member, items_of, text_of_class, families, At, Name, list_of_items-place, text_exact, text_itself, list_of_items-items_of, list_of_items, is_repeated, Reference, Sides, StandsFor, IsUnused, In, In-flat_map, In-from_contains, In-map, contains_from_In, in_at}
+use Rattle.erd_normal.proofs.Common.{◌≡◌, ℕ, zero, suc, true, false, List, [], map, slice_get, Some, None, codes, Option, option_map, find, filter_map, option_and_then, bytes_eq, is_lt, Ordering, sym, refl, ap, ◌∙◌, subst, options_total, IsStrictlySortedBy, option_cmp, option_map_or, Data, get_member, as_str, Class, class, Family, family, role, kind, object_in, ObjectIn, position_of, member_within, Within, want_by_kind, entries_of, entries_at, class_of_object, asked, Member, Object, no_shape_fault, values-placed_entries, stands, contest_selections, one_named, has_id-Some, has_keys, key_cmp, Preference, key_of, rank_of, Placed, selections_of_contest, objects, id_of, has_id, rising_list, key_named, keys_named, keys_of_selection, is_write_in, order_of_selection, label_of_selection, selection_role, name_of, name_cmp, name_cmp_total, Key, canonical_id, canonical_selection_id, IsCanonical, Bool, ◌∷◌, flat_map, same_Some, null, string, array, object, Items, no_items, item, no_members, member, items_of, text_of_class, families, At, Name, list_of_items-place, text_exact, text_itself, list_of_items-items_of, list_of_items, is_repeated, Reference, Sides, StandsFor, IsUnused, In, In-flat_map, In-from_contains, In-map, contains_from_In, in_at}
 use Rattle.std.proofs.lemmas.Simd.{map-map}
 use Rattle.erd_normal.proofs.lists.Matched.{AtMostOne, Matched, apart_distinct, matched_count, matched_find, matched_mapped, one_if_apart, said_same, matched_rising, Paired, none, more}
 use Rattle.erd_normal.proofs.same.FamilyValues.{family_values, object_values}
@@ -10,7 +10,6 @@ use Rattle.erd_normal.proofs.same.complete.Texts.{Counterpart, by_key, by_name, 
 use Rattle.erd_normal.proofs.same.complete.Sets.{MeanOne}
 use Rattle.erd_normal.proofs.lists.Lists.{is_family}
 use Rattle.erd_normal.proofs.same.complete.Objects.{AloneUnused}
-use Rattle.erd_tables.specs.declared.class.Family.TheVariants as family
 
 -- the fellow of an entry of a paired list
 fellow_at : {A B : Type 0} (R : A → B → Type 0) {xs : List A} {ys : List B} → Paired R xs ys → (i : ℕ) (x : A) → slice_get xs i ≡ Some x → (y : B) × (slice_get ys i ≡ Some y) × R x y
@@ -35,11 +34,10 @@ names_rise π t canonical c h =
     at : (x : Option Data) → get_member (codes "ContestSelection") o.ms ≡ x → IsStrictlySortedBy (option_cmp name_cmp) (map (name_of π t) (option_map_or entries_of x []))
     at None e = nothing_rises (option_cmp name_cmp)
     at (Some v) e =
-        let r = is_required o.class (codes "ContestSelection") in
-        let w : Within t (asked (Member (kind.Keyed family.Selection) r) v) =
+        let w : Within t (asked (Member (kind.Keyed family.Selection) false) v) =
         subst (λ x. Within t (asked x v)) (want_by_kind o.class (codes "ContestSelection") (kind.Keyed family.Selection) (contest_selections o.class o.role) refl)
         (member_within t (no_shape_fault π t canonical.accepted) (Object (role.OfFamily family.Contest)) (role.OfFamily family.Contest) o.ms o.class (codes "ContestSelection") v o.at.asks o.at.among refl o.at.inside e) in
-        canonical.in_order w.place (asked (Member (kind.Keyed family.Selection) r) v) (kind.Keyed family.Selection) w.is refl
+        canonical.in_order w.place (asked (Member (kind.Keyed family.Selection) false) v) (kind.Keyed family.Selection) w.is refl
 
 module _ (π : Preference) (t u : Data) (canonical : IsCanonical π t) (canonical' : IsCanonical π u) (both : MeanOne π t u) where
   -- a key has one rank in both

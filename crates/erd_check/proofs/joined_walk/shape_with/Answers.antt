@@ -1,4 +1,4 @@
-use Rattle.erd_check.proofs.Common.{◌≡◌, [], length, sym, refl, ap, ◌∙◌, view, Telling, both_tell, told_of_report, reasons, true}
+use Rattle.erd_check.proofs.Common.{◌≡◌, [], length, sym, refl, ap, ◌∙◌, view, Telling, both_tell, told_of_report, reasons}
 use Rattle.std.proofs.lemmas.List.{nil_from_length}
 use Rattle.erd_check.proofs.Walks.{shape_walk_lists}
 use Rattle.erd_check.proofs.ShapedReports.{shaped_by}

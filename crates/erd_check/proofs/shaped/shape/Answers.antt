@@ -1,4 +1,4 @@
-use Rattle.erd_check.proofs.Common.{sym, ◌∙◌, view, true}
+use Rattle.erd_check.proofs.Common.{sym, ◌∙◌, view}
 use Rattle.erd_check.proofs.Deciding.{no_fault_from_empty}
 use Rattle.erd_check.proofs.ShapedReports.{shaped_by}
 use Rattle.erd_check.proofs.shaped.shape.Goals as goal

@@ -1,5 +1,5 @@
 -- A report that says the same as an accepted one has no fault of shape, where its envelope has none.
-use Rattle.erd_normal.proofs.Common.{◌≡◌, ℕ, Bool, true, false, not, ◌&&◌, ◌⊎◌, List, length, is_none, ◌==◌, Some, codes, Option, bytes_eq, sym, refl, ap, ◌∙◌, subst, list_any, option_map_or, Data, string, array, object, Members, get_member, as_number, is_float, class_in_role, role, Reason, reason, MemberKind, kind, faultless, within-tree, Within, is_empty_array, lacks, has_kind, has_wanted_kind, names_wanted, is_wrong_class, wants_whole, is_outside, is_other_status, wants_entry, is_reference, is_shape_fault, ShapeFault, NoneOf, IsTree, list_of_items, scope_inside, is_elections, Asked, Want, ClassText, Member, Object, Status, no_shape_fault, IsAccepted, Preference, HasSoundEnvelope, Sides, an_id, a_list, a_set, an_object, Same, SameMembers, ⊎_elim}
+use Rattle.erd_normal.proofs.Common.{◌≡◌, ℕ, Bool, true, false, not, ◌&&◌, List, length, is_none, ◌==◌, Some, codes, Option, bytes_eq, sym, refl, ap, ◌∙◌, subst, list_any, option_map_or, Data, string, array, object, Members, get_member, as_number, is_float, class_in_role, role, Reason, reason, MemberKind, kind, faultless, within-tree, Within, is_empty_array, lacks, has_kind, has_wanted_kind, names_wanted, is_wrong_class, wants_whole, is_outside, is_other_status, wants_entry, is_reference, is_shape_fault, ShapeFault, NoneOf, IsTree, list_of_items, scope_inside, is_elections, Asked, Want, ClassText, Member, Object, Status, no_shape_fault, IsAccepted, Preference, HasSoundEnvelope, Sides, an_id, a_list, a_set, an_object, Same, SameMembers, ⊎_elim}
 use Rattle.erd_normal.proofs.lists.Matched.{matched_length}
 use Rattle.erd_normal.proofs.same.Lookups.{Aligned, both_there, not_both, MayLack, lookups, scope_same, text_same}
 use Rattle.erd_normal.proofs.same.Related.{entries_matched}

@@ -1,4 +1,6 @@
 -- A member that an object must have is none that may be absent, in a report without a fault of shape.
+use Rattle.std.proofs.Math.Bool.{and-true}
+use Rattle.erd_check.specs.Wants.{may_need_entry}
 use Rattle.erd_normal.proofs.Common.{◌≡◌, ℕ, Bool, true, false, cond, not, ◌&&◌, ◌||◌, List, Some, None, codes, Option, bytes_eq, sym, refl, ap, ◌∙◌, subst, true≢false, and_parts, list_all, list_any, Data, array, object, no_items, Members, get_member, get, Row, rows_of_class, is_envelope_name, kind_of_identity, kind_of_member, required_names, is_required, Class, class, Role, reason, MemberKind, kind, Name, text_exact, text_itself, Within-step, faultless, lacks_none, Within, kind_of_name, kind_of_id, want_unless_status, names_wanted, ShapeFault, NoneOf, scope_inside, want_of_kind, is_report_class, member_want, want_of_name, Asked, asked, Scope, scope, Want, ClassText, Member, Status, is_array_kind, is_envelope, an_empty_array, of_the_envelope, an_unused_id, MayBeAbsent, [], ◌∷◌, string, role, Reason, Step, is_shape_fault, carried_want, asked_from, Carried, Object, Reference, has_kind, In-any, any_at, each_holds}
 use Rattle.erd_normal.proofs.same.Lookups.{MayLack, type_stays}
 use Rattle.erd_normal.proofs.same.CameFrom.{is_quiet, nothing_after, nothing_empty}
@@ -73,7 +75,7 @@ elections_required c n no_type is = at (bytes_eq n (codes "@id")) refl
 
 -- ---- what is asked of a member
 
-want_parts : (q : MemberKind) (b : Bool) (k : MemberKind) (required : Bool) → want_of_kind q b ≡ Member k required → (q ≡ k) × (b ≡ required)
+want_parts : (q : MemberKind) (b : Bool) (k : MemberKind) (required : Bool) → want_of_kind q b ≡ Member k required → (q ≡ k) × ((may_need_entry k && b) ≡ required)
 want_parts kind.Carried b k required e = cc
 want_parts q b k required e = (cc, cc)
 
@@ -81,7 +83,7 @@ want_parts q b k required e = (cc, cc)
 pub record MemberOf (c : Class) (n : List ℕ) (k : MemberKind) (required : Bool) : Type 0 where
   pub no_type : bytes_eq n (codes "@type") ≡ false
   pub kind_is : kind_of_member c n ≡ k
-  pub required_is : is_required c n ≡ required
+  pub required_is : (may_need_entry k && is_required c n) ≡ required
 
 pub member_of : (r : Role) (c : Class) (n : List ℕ) (k : MemberKind) (required : Bool) → want_of_name (scope.Members r (Some c)) n ≡ Some (Member k required) → MemberOf c n k required
 member_of r c n k required asks = at (bytes_eq n (codes "@type")) refl (is_report_class c && bytes_eq n (codes "Status")) refl
@@ -101,10 +103,10 @@ member_of r c n k required asks = at (bytes_eq n (codes "@type")) refl (is_repor
 -- ---- no required member may be absent
 
 module _ (t : Data) (clean : NoneOf (ShapeFault t)) where
-  refused : (k : MemberKind) → refuses_empty k ≡ true → Within t (asked (Member k true) (array no_items)) → ⊥
+  refused : (k : MemberKind) → refuses_empty k ≡ true → Within t (asked (Member k (may_need_entry k)) (array no_items)) → ⊥
   refused (kind.Many f) h inside = true≢false (faultless t clean (asked (Member (kind.Many f) true) (array no_items)) reason.EmptyArray inside)
   refused kind.Languages h inside = true≢false (faultless t clean (asked (Member kind.Languages true) (array no_items)) reason.EmptyArray inside)
-  refused kind.Elections h inside = true≢false (faultless t clean (asked (Member kind.Elections true) (array no_items)) reason.ElectionCount inside)
+  refused kind.Elections h inside = true≢false (faultless t clean (asked (Member kind.Elections false) (array no_items)) reason.ElectionCount inside)
   refused k h inside = cc
 
   due_array : (k : MemberKind) → is_due_kind k ≡ true → is_array_kind k ≡ true → refuses_empty k ≡ true
@@ -119,9 +121,9 @@ module _ (t : Data) (clean : NoneOf (ShapeFault t)) where
       → ((v : Want) → want_of_name (scope.Members r (Some c)) n ≡ Some v → Within t (asked v d)) → MayBeAbsent t (scope.Members r (Some c)) n d → ⊥
   stays_in_class r c n d named inside (an_empty_array k required asks is empty) =
       let m = member_of r c n k required asks in
-      let must : required ≡ true = sym m.required_is ∙ required_if_named c n named in
+      let must : required ≡ may_need_entry k = sym m.required_is ∙ ap (λ b. may_need_entry k && b) (required_if_named c n named) ∙ and-true (may_need_entry k) in
       refused k (due_array k (subst (λ x. is_due_kind x ≡ true) m.kind_is (due c n named).0) is)
-      (subst (λ x. Within t (asked (Member k true) x)) empty (subst (λ x. Within t (asked (Member k x) d)) must (inside (Member k required) asks)))
+      (subst (λ x. Within t (asked (Member k (may_need_entry k)) x)) empty (subst (λ x. Within t (asked (Member k x) d)) must (inside (Member k required) asks)))
   stays_in_class r c n d named inside (of_the_envelope h) = in_envelope r c n h (due c n named).1
   stays_in_class r c n d named inside (an_unused_id id required asks is unused) =
       let m = member_of r c n kind.Identity required asks in
@@ -188,7 +190,7 @@ spare : (s : Scope) (n : List ℕ) (k : MemberKind) (required : Bool) → is_arr
 spare (scope.Members r (Some c)) n k required is_array asks none =
     let m = member_of r c n k required asks in
     record {
-      optional = λ e. none (named_if_required c n (m.required_is ∙ e));
+      optional = λ e. none (named_if_required c n (and_parts (may_need_entry k) (is_required c n) (m.required_is ∙ e)).1);
       other = λ e. none (named_if_required c n (elections_required c n m.no_type (m.kind_is ∙ e)));
     }
 spare (scope.Members r None) n k required is_array asks none = at (bytes_eq n (codes "@type")) asks

@@ -1,5 +1,5 @@
 -- The contests and headers of the ballots of an accepted report: what they refer to, and the arrays inside them.
-use Rattle.erd_normal.proofs.Common.{◌≡◌, ℕ, true, false, ◌⊎◌, List, Some, None, codes, Option, bytes_eq, sym, refl, ap, ◌∙◌, subst, inl, inr, Data, string, array, object, Items, Members, get_member, role_of_class, Class, class, family, role, kind, string_from_text, array_from, object_in, is_absent, is_filled_array, MayBeArray, ObjectAt, ObjectIn, of_role, wanted_within, lacks_none, member_within, Within, has_wanted_kind, entries_at, text_of, member_want, asked, Want, Member, Object, Reference, no_shape_fault, IsAccepted, Preference, is_selection_in, Content, owner, In, In-all}
+use Rattle.erd_normal.proofs.Common.{◌≡◌, ℕ, true, false, ◌⊎◌, List, Some, None, codes, Option, bytes_eq, sym, refl, ap, ◌∙◌, subst, inl, inr, Data, string, array, object, Items, Members, get_member, role_of_class, Class, class, family, role, kind, string_from_text, array_from, object_in, is_absent, is_filled_array, MayBeArray, ObjectAt, ObjectIn, of_role, wanted_within, lacks_none, member_within, Within, has_wanted_kind, entries_at, text_of, member_want, asked, Want, Member, Object, Reference, no_shape_fault, IsAccepted, Preference, is_selection_in, owner, In, In-all}
 use Rattle.erd_normal.proofs.canonical.ChosenEntries.{IsChosen, contest_named, entries_chosen, list_name}
 
 abbrev pub inner_name : List ℕ

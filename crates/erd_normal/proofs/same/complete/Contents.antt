@@ -57,11 +57,11 @@ rest_same : (π : Preference) (t u : Data) → IsAccepted π t → IsAccepted π
     → ((v : Data) → o ≡ Some v → Within t (asked (want_of_kind k r) v)) → ((v : Data) → p ≡ Some v → Within u (asked (want_of_kind k r) v)) → if_carried k o ≡ if_carried k p → o ≡ p
 rest_same π t u accepted accepted' kind.Carried r o p rest inside inside' same = same
 rest_same π t u accepted accepted' kind.StrangeReference r None None rest inside inside' same = refl
-rest_same π t u accepted accepted' kind.StrangeReference r (Some v) p rest inside inside' same = absurd (no_unknown t (no_shape_fault π t accepted) v r (inside v refl))
-rest_same π t u accepted accepted' kind.StrangeReference r None (Some w) rest inside inside' same = absurd (no_unknown u (no_shape_fault π u accepted') w r (inside' w refl))
+rest_same π t u accepted accepted' kind.StrangeReference r (Some v) p rest inside inside' same = absurd (no_unknown t (no_shape_fault π t accepted) v false (inside v refl))
+rest_same π t u accepted accepted' kind.StrangeReference r None (Some w) rest inside inside' same = absurd (no_unknown u (no_shape_fault π u accepted') w false (inside' w refl))
 rest_same π t u accepted accepted' kind.StrangeIdentity r None None rest inside inside' same = refl
-rest_same π t u accepted accepted' kind.StrangeIdentity r (Some v) p rest inside inside' same = absurd (no_strange t (no_shape_fault π t accepted) v r (inside v refl))
-rest_same π t u accepted accepted' kind.StrangeIdentity r None (Some w) rest inside inside' same = absurd (no_strange u (no_shape_fault π u accepted') w r (inside' w refl))
+rest_same π t u accepted accepted' kind.StrangeIdentity r (Some v) p rest inside inside' same = absurd (no_strange t (no_shape_fault π t accepted) v false (inside v refl))
+rest_same π t u accepted accepted' kind.StrangeIdentity r None (Some w) rest inside inside' same = absurd (no_strange u (no_shape_fault π u accepted') w false (inside' w refl))
 rest_same π t u accepted accepted' k r o p rest inside inside' same = cc
 
 abbrev node_key : Node → Option Key

@@ -13,8 +13,8 @@ use Rattle.erd_normal.proofs.meaning.AlikeRecords.{class_of_record, members_in}
 use Rattle.erd_normal.proofs.same.FamilyValues.{InElections, InReport}
 
 id_text : (π : Preference) (t : Data) → IsAccepted π t → (b : Bool) (r : Bool) (v : Data) → Within t (asked (want_of_kind (if b then kind.Identity else kind.StrangeIdentity) r) v) → Some v ≡ option_map string (as_str v)
-id_text π t accepted true r v w = let s = string_from_text v (wanted_within t (no_shape_fault π t accepted) (asked (Member kind.Identity r) v) w) in rw s.1
-id_text π t accepted false r v w = absurd (no_strange t (no_shape_fault π t accepted) v r w)
+id_text π t accepted true r v w = let s = string_from_text v (wanted_within t (no_shape_fault π t accepted) (asked (Member kind.Identity false) v) w) in rw s.1
+id_text π t accepted false r v w = absurd (no_strange t (no_shape_fault π t accepted) v false w)
 
 identity_no_word : (b : Bool) → is_word (if b then kind.Identity else kind.StrangeIdentity) ≡ false
 identity_no_word true = refl
@@ -43,7 +43,7 @@ no_id π t accepted w q c ms a h = at (get_member (codes "@id") ms) refl
     at None e = ap (option_and_then as_str) e
     at (Some v) e =
         let strange : kind_of_identity c ≡ kind.StrangeIdentity = rw h in
-        absurd (no_strange t (no_shape_fault π t accepted) v (is_required c (codes "@id")) (subst (λ k. Within t (asked (want_of_kind k (is_required c (codes "@id"))) v)) strange (id_within π t accepted w q c ms a v e)))
+        absurd (no_strange t (no_shape_fault π t accepted) v false (subst (λ k. Within t (asked (want_of_kind k (is_required c (codes "@id"))) v)) strange (id_within π t accepted w q c ms a v e)))
 
 -- two objects of one class
 pub record Two (t u : Data) (q : Role) (d e : Data) : Type 0 where
@@ -78,7 +78,7 @@ module _ (π : Preference) (t u : Data) (both : MeanOne π t u) (default : List 
 
   -- ---- `@id`s
 
-  id_asked : (f : Family) (c : Class) → role_of_class c ≡ role.OfFamily f → want_of_name (scope.Members (role.OfFamily f) (Some c)) (codes "@id") ≡ Some (Member kind.Identity (is_required c (codes "@id")))
+  id_asked : (f : Family) (c : Class) → role_of_class c ≡ role.OfFamily f → want_of_name (scope.Members (role.OfFamily f) (Some c)) (codes "@id") ≡ Some (Member kind.Identity false)
   id_asked f c role = ap Some (want_by_kind c (codes "@id") kind.Identity (kind_of_family_id c f role) refl)
 
   ids_aligned : (f : Family) (c : Class) (o p : Placed) → role_of_class c ≡ role.OfFamily f → In o (objects f t) → In p (objects f u) → Counterpart π t u f o p
@@ -91,9 +91,9 @@ module _ (π : Preference) (t u : Data) (both : MeanOne π t u) (default : List 
       at : (x y : Option (List ℕ)) → id_of o.value ≡ x → id_of p.value ≡ y → Aligned m s (codes "@id") (option_map string x) (option_map string y)
       at (Some a) (Some b) is is' = both_there (subst (λ w. Same m w (string a) (string b)) (sym (id_asked f c plays)) (an_id refl (ids_stand π t u both default l r f o p a b h k related is is')))
       at (Some a) None is is' =
-          not_both (lacks_one l s (codes "@id") (string a) (an_unused_id a (is_required c (codes "@id")) (id_asked f c plays) refl (alone.left f o p a h k related is is'))) (lacks_none r s (codes "@id"))
+          not_both (lacks_one l s (codes "@id") (string a) (an_unused_id a false (id_asked f c plays) refl (alone.left f o p a h k related is is'))) (lacks_none r s (codes "@id"))
       at None (Some b) is is' =
-          not_both (lacks_none l s (codes "@id")) (lacks_one r s (codes "@id") (string b) (an_unused_id b (is_required c (codes "@id")) (id_asked f c plays) refl (alone.right f o p b h k related is is')))
+          not_both (lacks_none l s (codes "@id")) (lacks_one r s (codes "@id") (string b) (an_unused_id b false (id_asked f c plays) refl (alone.right f o p b h k related is is')))
       at None None is is' = not_both (lacks_none l s (codes "@id")) (lacks_none r s (codes "@id"))
 
   pub within_t : (f : Family) (o : Placed) → In o (objects f t) → Within t (asked (Object (role.OfFamily f)) o.value)
@@ -149,7 +149,7 @@ module _ (π : Preference) (t u : Data) (both : MeanOne π t u) (default : List 
   keyed_aligned : (q : Role) (c : Class) (ms ns : Members) → ObjectAt t (Object q) q c ms → ObjectAt u (Object q) q c ns → (f : Family) (name : List ℕ) → bytes_eq name (codes "@type") ≡ false → kind_of_member c name ≡ kind.Keyed f
       → (d e : Placed) → d.value ≡ object ms → e.value ≡ object ns → Matched (λ o p. Same m (Some (Object (role.OfFamily f))) o.value p.value) (placed_entries name d) (placed_entries name e) → AlignedIn q c ms ns name
   keyed_aligned q c ms ns a b f name other keyed d e is is' matched =
-      sets_aligned m (scope.Members q (Some c)) name (kind.Keyed f) (is_required c name) (asked_of_name q c name other ∙ ap Some (want_by_kind c name (kind.Keyed f) keyed refl)) refl _ _ (get_member name ms) (get_member name ns) refl
+      sets_aligned m (scope.Members q (Some c)) name (kind.Keyed f) false (asked_of_name q c name other ∙ ap Some (want_by_kind c name (kind.Keyed f) keyed refl)) refl _ _ (get_member name ms) (get_member name ns) refl
       (keyed_list t (no_shape_fault π t both.left) (Object q) q c ms a f name other keyed (get_member name ms) refl)
       (keyed_list u (no_shape_fault π u both.right) (Object q) q c ns b f name other keyed (get_member name ns) refl)
       (subst (λ xs. Matched (Same m (Some (Object (role.OfFamily f)))) xs (entries_in (get_member name ns))) (values-placed_entries name d ∙ ap (entries_at name) is)
@@ -240,10 +240,10 @@ module _ (π : Preference) (t u : Data) (both : MeanOne π t u) (default : List 
 
     elections_listed : InReportAligned (codes "Election")
     elections_listed =
-        sets_aligned m (scope.Members role.Report (Some class.ElectionReport)) (codes "Election") kind.Elections true refl refl (λ ds. Within t (asked (Member kind.Elections true) (array ds))) (λ ds. Within u (asked (Member kind.Elections true) (array ds)))
+        sets_aligned m (scope.Members role.Report (Some class.ElectionReport)) (codes "Election") kind.Elections false refl refl (λ ds. Within t (asked (Member kind.Elections false) (array ds))) (λ ds. Within u (asked (Member kind.Elections false) (array ds)))
         (get_member (codes "Election") a.ms) (get_member (codes "Election") b.ms) refl
-        (subst (MayBeArray (λ ds. Within t (asked (Member kind.Elections true) (array ds)))) (sym a.listed) (is_filled_array a.inside))
-        (subst (MayBeArray (λ ds. Within u (asked (Member kind.Elections true) (array ds)))) (sym b.listed) (is_filled_array b.inside))
+        (subst (MayBeArray (λ ds. Within t (asked (Member kind.Elections false) (array ds)))) (sym a.listed) (is_filled_array a.inside))
+        (subst (MayBeArray (λ ds. Within u (asked (Member kind.Elections false) (array ds)))) (sym b.listed) (is_filled_array b.inside))
         (subst (λ xs. Matched (Same m (Some (Object role.Election))) xs (entries_in (get_member (codes "Election") b.ms))) (values-placed_entries (codes "Election") (report_of t) ∙ ap (entries_at (codes "Election")) a.is_object)
         (subst (Matched (Same m (Some (Object role.Election))) (map (λ (o : Placed). o.value) (elections t))) (values-placed_entries (codes "Election") (report_of u) ∙ ap (entries_at (codes "Election")) b.is_object)
         (matched_mapped (λ (o : Placed). o.value) (λ (o : Placed). o.value) (λ x y h. h)

@@ -1,5 +1,6 @@
 -- Members that mean the same by themselves say the same.
-use Rattle.erd_normal.proofs.Common.{◌≡◌, ℕ, suc, Bool, true, false, not, ◌||◌, List, [], length, ◌==◌, Some, None, codes, Option, option_and_then, sym, refl, ap, ◌∙◌, subst, arith, Data, string, array, object, Items, no_items, item, Members, get_member, text_of_class, role_of_class, Class, class, Family, role, reason, MemberKind, kind, array_from, get_member-tree, of_label, faultless, wanted_within, lacks_none, classed, member_within, Classed, Within, is_simple_class, no_strange, no_unknown, is_text, is_array, is_object, is_empty_array, IsTree, AreTrees, AreMembers, list_of_items, class_of_object, want_of_kind, want_of_name, asked, Scope, scope, Want, Carried, Member, Object, Reference, no_shape_fault, IsAccepted, has_keys, Preference, Label, untranslated, Content, no_content, PlainValue, a_label, a_json_set, a_key, a_key_set, a_content, label_of, unless_empty, plain_value, Key, Sides, is_array_kind, a_text, an_object, no_entry, Same, SameEntries, SameMembers, IsPermutation}
+use Rattle.erd_check.specs.Wants.{may_need_entry}
+use Rattle.erd_normal.proofs.Common.{◌&&◌, ◌≡◌, ℕ, suc, Bool, true, false, not, ◌||◌, List, [], length, ◌==◌, Some, None, codes, Option, option_and_then, sym, refl, ap, ◌∙◌, subst, arith, Data, string, array, object, Items, no_items, item, Members, get_member, text_of_class, role_of_class, Class, class, Family, role, reason, MemberKind, kind, array_from, get_member-tree, of_label, faultless, wanted_within, lacks_none, classed, member_within, Classed, Within, is_simple_class, no_strange, no_unknown, is_text, is_array, is_object, is_empty_array, IsTree, AreTrees, AreMembers, list_of_items, class_of_object, want_of_kind, want_of_name, asked, Scope, scope, Want, Member, Object, Reference, no_shape_fault, IsAccepted, has_keys, Preference, Label, untranslated, Content, no_content, PlainValue, a_label, a_json_set, a_key, a_key_set, a_content, label_of, unless_empty, plain_value, Key, Sides, is_array_kind, a_text, an_object, no_entry, Same, SameEntries, SameMembers, IsPermutation}
 use Rattle.erd_normal.proofs.lists.Matched.{Matched, matched_none}
 use Rattle.erd_normal.proofs.same.Back.{entries_paired, set_says, list_says}
 use Rattle.erd_normal.proofs.same.Labels.{Translations, labels_say, plain_self}
@@ -129,16 +130,16 @@ all_plain o w e h = subst AllPlain (sym e) h
 record Nothing (k : MemberKind) (r : Bool) (v : Data) : Type 0 where
   array_kind : is_array_kind k ≡ true
   empty : v ≡ array no_items
-  wanted : want_of_kind k r ≡ Member k r
+  wanted : want_of_kind k r ≡ Member k (may_need_entry k && r)
 
 means_nothing : (π : Preference) (t : Data) → IsAccepted π t → (k : MemberKind) (r : Bool) (v : Data) → means_itself k ≡ true → Within t (asked (want_of_kind k r) v) → plain_value π t k v ≡ None → Nothing k r v
 means_nothing π t accepted (kind.Many f) r v h w e = record { array_kind = refl; empty = unless_none _ v e; wanted = refl }
 means_nothing π t accepted kind.Identifiers r v h w e = record { array_kind = refl; empty = unless_none _ v e; wanted = refl }
 means_nothing π t accepted kind.Content r v h w e = record { array_kind = refl; empty = unless_none _ v e; wanted = refl }
 means_nothing π t accepted kind.Outside r v h w e =
-    record { array_kind = refl; empty = empty_array v (faultless t (no_shape_fault π t accepted) (asked (Member kind.Outside r) v) reason.OutsideProfile w); wanted = refl }
-means_nothing π t accepted kind.StrangeReference r v h w e = absurd (no_unknown t (no_shape_fault π t accepted) v r w)
-means_nothing π t accepted kind.StrangeIdentity r v h w e = absurd (no_strange t (no_shape_fault π t accepted) v r w)
+    record { array_kind = refl; empty = empty_array v (faultless t (no_shape_fault π t accepted) (asked (Member kind.Outside false) v) reason.OutsideProfile w); wanted = refl }
+means_nothing π t accepted kind.StrangeReference r v h w e = absurd (no_unknown t (no_shape_fault π t accepted) v false w)
+means_nothing π t accepted kind.StrangeIdentity r v h w e = absurd (no_strange t (no_shape_fault π t accepted) v false w)
 means_nothing π t accepted k r v h w e = cc
 
 module _ (π : Preference) (t u : Data) (m : Sides) (accepted : IsAccepted π t) (accepted' : IsAccepted π u) (tied : TextsTied π t u m) where
@@ -190,7 +191,7 @@ module _ (π : Preference) (t u : Data) (m : Sides) (accepted : IsAccepted π t)
   same_value : (k : MemberKind) (r : Bool) (v w : Data) → means_itself k ≡ true → IsTree v → IsTree w → Within t (asked (want_of_kind k r) v) → Within u (asked (want_of_kind k r) w)
       → plain_value π t k v ≡ plain_value π u k w → Same m (Some (want_of_kind k r)) v w
   same_value kind.Label r v w h tree tree' inside inside' same =
-      same_label r r v w (label_view v (wanted_within t (no_shape_fault π t accepted) (asked (Member kind.Label r) v) inside)) (label_view w (wanted_within u (no_shape_fault π u accepted') (asked (Member kind.Label r) w) inside'))
+      same_label false false v w (label_view v (wanted_within t (no_shape_fault π t accepted) (asked (Member kind.Label false) v) inside)) (label_view w (wanted_within u (no_shape_fault π u accepted') (asked (Member kind.Label false) w) inside'))
       tree tree' inside inside' (ap label_in same)
   same_value (kind.One f) r v w h tree tree' inside inside' same =
       reference_says π t u m accepted accepted' tied f h v w (named_by π t accepted f h v inside) (named_by π u accepted' f h w inside') (one_key (entry_key π t f v) (entry_key π u f w) same)
@@ -201,17 +202,17 @@ module _ (π : Preference) (t u : Data) (m : Sides) (accepted : IsAccepted π t)
       same_array (kind.Many f) r v w (wanted_within t (no_shape_fault π t accepted) (asked (Member (kind.Many f) r) v) inside) (wanted_within u (no_shape_fault π u accepted') (asked (Member (kind.Many f) r) w) inside') tree tree' inside inside'
       (λ ds es trees trees' i i' e. same_references f r ds es h i i' e) same
   same_value kind.Identifiers r v w h tree tree' inside inside' same =
-      same_array kind.Identifiers r v w (wanted_within t (no_shape_fault π t accepted) (asked (Member kind.Identifiers r) v) inside) (wanted_within u (no_shape_fault π u accepted') (asked (Member kind.Identifiers r) w) inside') tree tree' inside inside'
-      (same_identifiers r) same
+      same_array kind.Identifiers false v w (wanted_within t (no_shape_fault π t accepted) (asked (Member kind.Identifiers false) v) inside) (wanted_within u (no_shape_fault π u accepted') (asked (Member kind.Identifiers false) w) inside') tree tree' inside inside'
+      (same_identifiers false) same
   same_value kind.Content r v w h tree tree' inside inside' same =
-      same_array kind.Content r v w (wanted_within t (no_shape_fault π t accepted) (asked (Member kind.Content r) v) inside) (wanted_within u (no_shape_fault π u accepted') (asked (Member kind.Content r) w) inside') tree tree' inside inside'
-      (same_content r) same
+      same_array kind.Content false v w (wanted_within t (no_shape_fault π t accepted) (asked (Member kind.Content false) v) inside) (wanted_within u (no_shape_fault π u accepted') (asked (Member kind.Content false) w) inside') tree tree' inside inside'
+      (same_content false) same
   same_value kind.Outside r v w h tree tree' inside inside' same =
       let a = means_nothing π t accepted kind.Outside r v refl inside refl in
       let b = means_nothing π u accepted' kind.Outside r w refl inside' refl in
-      subst (Same m (Some (Member kind.Outside r)) v) (a.empty ∙ sym b.empty) (plain_self m _ v (all_plain _ (Member kind.Outside r) refl refl))
-  same_value kind.StrangeReference r v w h tree tree' inside inside' same = absurd (no_unknown t (no_shape_fault π t accepted) v r inside)
-  same_value kind.StrangeIdentity r v w h tree tree' inside inside' same = absurd (no_strange t (no_shape_fault π t accepted) v r inside)
+      subst (Same m (Some (Member kind.Outside false)) v) (a.empty ∙ sym b.empty) (plain_self m _ v (all_plain _ (Member kind.Outside false) refl refl))
+  same_value kind.StrangeReference r v w h tree tree' inside inside' same = absurd (no_unknown t (no_shape_fault π t accepted) v false inside)
+  same_value kind.StrangeIdentity r v w h tree tree' inside inside' same = absurd (no_strange t (no_shape_fault π t accepted) v false inside)
   same_value k r v w h tree tree' inside inside' same = let one : v ≡ w = cc in subst (Same m (Some (want_of_kind k r)) v) one (plain_self m (Some (want_of_kind k r)) v cc)
 
   -- members that mean the same by themselves
@@ -221,8 +222,8 @@ module _ (π : Preference) (t u : Data) (m : Sides) (accepted : IsAccepted π t)
       → option_and_then (plain_value π t k) o ≡ option_and_then (plain_value π u k) p → Aligned m s n o p
   plain_aligned s n k r None None asks h tree tree' inside inside' same = not_both (lacks_nothing m.left s n) (lacks_nothing m.right s n)
   plain_aligned s n k r None (Some w) asks h tree tree' inside inside' same =
-      let x = means_nothing π u accepted' k r w h (inside' w refl) (sym same) in right_empty m s n k r (asks ∙ ap Some x.wanted) x.array_kind (Some w) (ap Some x.empty)
+      let x = means_nothing π u accepted' k r w h (inside' w refl) (sym same) in right_empty m s n k (may_need_entry k && r) (asks ∙ ap Some x.wanted) x.array_kind (Some w) (ap Some x.empty)
   plain_aligned s n k r (Some v) None asks h tree tree' inside inside' same =
-      let x = means_nothing π t accepted k r v h (inside v refl) same in left_empty m s n k r (asks ∙ ap Some x.wanted) x.array_kind (Some v) (ap Some x.empty)
+      let x = means_nothing π t accepted k r v h (inside v refl) same in left_empty m s n k (may_need_entry k && r) (asks ∙ ap Some x.wanted) x.array_kind (Some v) (ap Some x.empty)
   plain_aligned s n k r (Some v) (Some w) asks h tree tree' inside inside' same =
       both_there (subst (λ x. Same m x v w) (sym asks) (same_value k r v w h (tree v refl) (tree' w refl) (inside v refl) (inside' w refl) same))

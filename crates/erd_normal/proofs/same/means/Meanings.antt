@@ -1,5 +1,5 @@
 -- A report that says the same as an accepted one means the same.
-use Rattle.erd_normal.proofs.Common.{◌≡◌, ℕ, Bool, true, false, List, Some, None, codes, Option, find, option_and_then, is_eq, sym, refl, ap, ◌∙◌, subst, option_cmp, eq_by_cmp, Data, get, role_of_class, kind_of_member, Class, class, Family, family, Role, role, kind, entries_in, report_class, election_class, Within-root, ShapeFault, NoneOf, IsTree, entries_of, entries_at, Object, no_shape_fault, is_selections, selections_kind, selections_name, selections_family, IsAccepted, has_keys, Preference, a_selection_map, NameParts, objects, meaning, unless_empty, is_in_envelope, plain_member, selection_record, selection_map, member_value, member_of_class, object_record, name_cmp, Sides, SaysTheSame, by_name, fun_ext, ap₂, tied_itself, on_total, options_total, IsDistinct, reason, Step, values-placed_entries, distinct_one, SelectionFault, RepeatsName, contests, selections_of_contest, name_of, name_cmp_total, In, In-from_contains, In-map_from}
+use Rattle.erd_normal.proofs.Common.{◌≡◌, ℕ, Bool, true, false, List, Some, None, codes, Option, find, option_and_then, is_eq, sym, refl, ap, ◌∙◌, subst, option_cmp, eq_by_cmp, Data, get, role_of_class, kind_of_member, Class, Family, family, Role, role, kind, entries_in, report_class, election_class, Within-root, ShapeFault, NoneOf, IsTree, entries_of, entries_at, Object, no_shape_fault, is_selections, selections_kind, selections_name, selections_family, IsAccepted, has_keys, Preference, a_selection_map, NameParts, objects, meaning, unless_empty, is_in_envelope, plain_member, selection_record, selection_map, member_value, member_of_class, object_record, name_cmp, Sides, SaysTheSame, by_name, fun_ext, ap₂, tied_itself, on_total, options_total, IsDistinct, reason, Step, values-placed_entries, distinct_one, SelectionFault, RepeatsName, contests, selections_of_contest, name_of, name_cmp_total, In, In-from_contains, In-map_from}
 use Rattle.erd_meaning.proofs.meanings.HeldValues.{Held, held_of, held_values}
 use Rattle.erd_normal.specs.MeansTheSame.{SayingTheSameMeansTheSame}
 use Rattle.erd_normal.proofs.lists.Matched.{AtMostOne, Matched, apart_distinct, matched_find, matched_within, one_if_apart, said_same, distinct_matched, even_order, matched_back}

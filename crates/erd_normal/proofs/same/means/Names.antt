@@ -46,7 +46,7 @@ module _ (m : Sides) (π : Preference) (g : TwoReports m π) where
       ap (λ o. option_and_then as_integer (option_and_then as_number o)) (told_plain m c name (get name d) (get name e) (plain_order c) (steady_order c) (order_inside c) (h name refl))
 
   text_same : (o p : Option Data) → Told m class.BallotMeasureSelection (codes "Selection") o p → option_map (λ v. compact_text (with_rising_text v)) o ≡ option_map (λ v. compact_text (with_rising_text v)) p
-  text_same (Some d) (Some e) (both_told r) = ap Some (label_text_alike m π g true d e r)
+  text_same (Some d) (Some e) (both_told r) = ap Some (label_text_alike m π g false d e r)
   text_same o p (none_told k l) =
       let c = class.BallotMeasureSelection in
       ap (option_map (λ v. compact_text (with_rising_text v))) (steady_nothing c (codes "Selection") o refl refl k ∙ sym (steady_nothing c (codes "Selection") p refl refl l))

@@ -1,5 +1,5 @@
 -- Objects that say the same have one record.
-use Rattle.erd_normal.proofs.Common.{◌≡◌, ℕ, Bool, true, false, cond, ◌&&◌, List, Some, None, codes, Option, option_and_then, bytes_eq, sym, refl, ap, ◌∙◌, subst, Data, array, no_items, get, kind_of_member, is_required, Class, family, role, MemberKind, kind, text_exact, want_unless_status, entries_of, want_of_kind, is_report_class, member_want, Want, Carried, Member, Object, Reference, Status, no_shape_fault, kind_of_type, Preference, a_json, a_label, a_json_set, a_key, a_key_set, a_content, plain_value, is_in_envelope, plain_member, selection_record, selection_role, Sides, is_array_kind}
+use Rattle.erd_normal.proofs.Common.{◌≡◌, ℕ, Bool, true, false, cond, ◌&&◌, List, Some, None, codes, Option, option_and_then, bytes_eq, sym, refl, ap, ◌∙◌, subst, Data, array, no_items, get, kind_of_member, is_required, Class, family, role, MemberKind, kind, text_exact, want_unless_status, entries_of, want_of_kind, is_report_class, member_want, Want, Member, Object, Reference, Status, no_shape_fault, kind_of_type, Preference, a_json, a_label, a_json_set, a_key, a_key_set, a_content, plain_value, is_in_envelope, plain_member, selection_record, selection_role, Sides, is_array_kind}
 use Rattle.erd_normal.proofs.lists.Matched.{matched_equal}
 use Rattle.erd_normal.proofs.meaning.AlikeRecords.{nothing_of, record_alike, json_set-reordered}
 use Rattle.erd_normal.proofs.same.Related.{Related}
@@ -28,20 +28,20 @@ module _ (m : Sides) (π : Preference) (g : TwoReports m π) where
   value_same kind.Flag required d e r = ap (λ x. Some (a_json x)) (steady_same m r.same refl)
   value_same kind.Whole required d e r = ap (λ x. Some (a_json x)) (steady_same m r.same refl)
   value_same kind.Carried required d e r = ap (λ x. Some (a_json x)) (steady_same m r.same refl)
-  value_same kind.Label required d e r = ap (λ x. Some (a_label x)) (label_alike m π g required d e r)
+  value_same kind.Label required d e r = ap (λ x. Some (a_label x)) (label_alike m π g false d e r)
   value_same (kind.One f) required d e r = ap (λ x. Some (a_key x)) (key_alike m π g f d e r)
   value_same (kind.Many f) required d e r =
       let w : Want = Member (kind.Many f) required in
       unless_empty_same m w _ _ d e r.same (ap a_key_set (keys_set_alike m π g f (entries_of d) (entries_of e) (related_entries_of m w (Reference f) d e refl r)))
   value_same kind.Identifiers required d e r =
-      let w : Want = Member kind.Identifiers required in
+      let w : Want = Member kind.Identifiers false in
       unless_empty_same m w _ _ d e r.same
       (ap a_json_set (json_set-reordered (matched_equal (λ x y h. steady_same m h.same refl) (related_entries_of m w (Object role.Identifier) d e refl r))))
   value_same kind.Languages required d e r =
       let w : Want = Member kind.Languages required in
       unless_empty_same m w _ _ d e r.same
       (ap a_json_set (json_set-reordered (matched_equal (λ x y h. steady_same m h.same refl) (related_entries_of m w (Object role.Language) d e refl r))))
-  value_same kind.Content required d e r = unless_empty_same m (Member kind.Content required) _ _ d e r.same (ap a_content (content_alike m π g required d e r))
+  value_same kind.Content required d e r = unless_empty_same m (Member kind.Content false) _ _ d e r.same (ap a_content (content_alike m π g false d e r))
   value_same k required d e r = refl
 
   -- ---- members

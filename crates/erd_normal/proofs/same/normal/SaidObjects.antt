@@ -1,5 +1,5 @@
 -- What is built of the order of a ballot, a selection and an object of a family says what they say.
-use Rattle.erd_normal.proofs.Common.{◌≡◌, ℕ, zero, suc, Bool, true, false, List, map, Some, None, codes, Option, option_map, option_and_then, bytes_eq, sym, refl, ap, ◌∙◌, subst, Data, string, array, object, Items, no_items, item, Members, no_members, member, get_member, get_item, get, as_str, text_of_class, role_of_class, kind_of_member, is_required, Class, class, Family, family, Role, role, MemberKind, kind, entries_in, object_from, string_from_text, array_from, text_exact, found_cases, object_in, ObjectAt, ObjectIn, of_role, wanted_within, member_within, within-tree, Within, kind_of_class, kind_of_name, want_by_kind, is_array, ShapeFault, NoneOf, IsTree, list_of_items, entries_of, class_of_object, want_of_kind, member_want, want_of_name, asked, Scope, scope, Member, Object, no_shape_fault, stands, kind_of_type, IsAccepted, has_keys, Preference, key_of, Placed, contests, selections_of_contest, objects, id_of, IsBounded, rising_list, selection_role, canonical_id, Sides, an_unused_id, a_text, an_id, a_list, an_object, no_entry, one_entry, Same, SameEntries, SameMembers, id_of_key, id_of_selection, array_of, normal_node_value, normal_content, normal_nodes, normal_node, normal_selection, by_key, by_name, normal_object_value, normal_object, normal_objects, normal_tree, In, In-flat_map, In-map_from}
+use Rattle.erd_normal.proofs.Common.{◌≡◌, ℕ, zero, suc, Bool, true, false, List, map, Some, None, codes, Option, option_map, option_and_then, bytes_eq, sym, refl, ap, ◌∙◌, subst, Data, string, array, object, Items, no_items, item, Members, no_members, member, get_member, get_item, get, as_str, text_of_class, role_of_class, kind_of_member, Class, class, Family, family, Role, role, MemberKind, kind, entries_in, object_from, string_from_text, array_from, text_exact, found_cases, object_in, ObjectAt, ObjectIn, of_role, wanted_within, member_within, within-tree, Within, kind_of_class, kind_of_name, want_by_kind, is_array, ShapeFault, NoneOf, IsTree, list_of_items, entries_of, class_of_object, want_of_kind, member_want, want_of_name, asked, Scope, scope, Member, Object, no_shape_fault, stands, kind_of_type, IsAccepted, has_keys, Preference, key_of, Placed, contests, selections_of_contest, objects, id_of, IsBounded, rising_list, selection_role, canonical_id, Sides, an_unused_id, a_text, an_id, a_list, an_object, no_entry, one_entry, Same, SameEntries, SameMembers, id_of_key, id_of_selection, array_of, normal_node_value, normal_content, normal_nodes, normal_node, normal_selection, by_key, by_name, normal_object_value, normal_object, normal_objects, normal_tree, In, In-flat_map, In-map_from}
 use Rattle.erd_normal.proofs.built.AskedMembers.{entry_asked}
 use Rattle.erd_normal.proofs.built.BuiltFrom.{Builder, BuiltObject}
 use Rattle.erd_normal.proofs.built.BuiltObjects.{built_node, built_object, built_selection, is_id, no_name, node_builder, object_builder, plain_builder}
@@ -108,22 +108,22 @@ module _ (π : Preference) (t : Data) (accepted : IsAccepted π t) (tree : IsTre
   -- ---- `@id`
 
   module _ (r : Role) (c : Class) (f : Family) (of_class : role_of_class c ≡ role.OfFamily f) where
-    wants_id : want_of_name (in_class r c) (codes "@id") ≡ Some (Member kind.Identity (is_required c (codes "@id")))
+    wants_id : want_of_name (in_class r c) (codes "@id") ≡ Some (Member kind.Identity false)
     wants_id = want_in_class r c (codes "@id") refl ∙ ap Some (want_by_kind c (codes "@id") kind.Identity (kind_of_family_id c f of_class) refl)
 
     -- the `@id` of an object is a text
     id_text : (ms : Members) (v : Data) → ObjectAt t (Object r) r c ms → get_member (codes "@id") ms ≡ Some v → (s : List ℕ) × (v ≡ string s)
     id_text ms v at found =
         let inside : Within t (asked (member_want c (codes "@id")) v) = member_within t clean (Object r) r ms c (codes "@id") v of_role at.among refl at.inside found in
-        let want : member_want c (codes "@id") ≡ Member kind.Identity (is_required c (codes "@id")) = want_by_kind c (codes "@id") kind.Identity (kind_of_family_id c f of_class) refl in
-        string_from_text v (wanted_within t clean (asked (Member kind.Identity (is_required c (codes "@id"))) v) (subst (λ x. Within t (asked x v)) want inside))
+        let want : member_want c (codes "@id") ≡ Member kind.Identity false = want_by_kind c (codes "@id") kind.Identity (kind_of_family_id c f of_class) refl in
+        string_from_text v (wanted_within t clean (asked (Member kind.Identity false) v) (subst (λ x. Within t (asked x v)) want inside))
 
     -- an object that gets a canonical `@id`
     id_given : (o : Placed) (id : List ℕ) (found : Option Data) → NewId π t f o id → id_of o.value ≡ option_and_then as_str found → ((v : Data) → found ≡ Some v → (s : List ℕ) × (v ≡ string s))
         → Aligned m (in_class r c) (codes "@id") found (Some (string id))
     id_given o id None new own texts =
         not_both (lacks_none t (in_class r c) (codes "@id"))
-        (lacks_one (normal_tree π t) (in_class r c) (codes "@id") (string id) (an_unused_id id (is_required c (codes "@id")) wants_id refl (new_unused π t accepted tree bounded f o id new own)))
+        (lacks_one (normal_tree π t) (in_class r c) (codes "@id") (string id) (an_unused_id id false wants_id refl (new_unused π t accepted tree bounded f o id new own)))
     id_given o id (Some v) new own texts =
         let s = texts v refl in
         let own' : id_of o.value ≡ Some s.0 = own ∙ ap as_str s.1 in
@@ -138,7 +138,7 @@ module _ (π : Preference) (t : Data) (accepted : IsAccepted π t) (tree : IsTre
         let s = texts v refl in
         let own' : id_of o.value ≡ Some s.0 = own ∙ ap as_str s.1 in
         not_both
-        (lacks_one t (in_class r c) (codes "@id") v (an_unused_id s.0 (is_required c (codes "@id")) wants_id s.1 (style_unused π t accepted o s.0 (subst (λ g. In o (objects g t)) style h) own')))
+        (lacks_one t (in_class r c) (codes "@id") v (an_unused_id s.0 false wants_id s.1 (style_unused π t accepted o s.0 (subst (λ g. In o (objects g t)) style h) own')))
         (lacks_none (normal_tree π t) (in_class r c) (codes "@id"))
 
     id_aligned : (o : Placed) (k : Option (List ℕ)) (found given : Option Data) → has_keys f ≡ true → In o (objects f t) → id_of_key π t f (key_of π o.value) ≡ k → given ≡ option_map string k
@@ -182,7 +182,7 @@ module _ (π : Preference) (t : Data) (accepted : IsAccepted π t) (tree : IsTre
 
   node_member : (k : MemberKind) (required : Bool) (d : Data) → is_node_kind k ≡ true → IsContentSaid d → Within t (asked (want_of_kind k required) d)
       → Said m (want_of_kind k required) d (normal_node_value π t (Some k) d (normal_content π t d))
-  node_member kind.Content required d is content w = said_unless m kind.Content required d (normal_content π t d) refl (content required w)
+  node_member kind.Content required d is content w = said_unless m kind.Content false d (normal_content π t d) refl (content false w)
   node_member k required d is content w = said_value π t accepted tree bounded k required d is w
 
   node_with : (ms : Members) → Within t (asked (Object role.Content) (object ms)) → ((name : List ℕ) (d : Data) → get_member name ms ≡ Some d → IsContentSaid d)
@@ -232,8 +232,8 @@ module _ (π : Preference) (t : Data) (accepted : IsAccepted π t) (tree : IsTre
 
   object_member : (o : Placed) (k : MemberKind) (required : Bool) (d : Data) → is_object_kind k ≡ true → (k ≡ kind.Keyed family.Selection → IsOfContest t o d) → Within t (asked (want_of_kind k required) d)
       → Said m (want_of_kind k required) d (normal_object_value π t o.value k d)
-  object_member o (kind.Keyed family.Selection) required d is contest w = said_unless m (kind.Keyed family.Selection) required d _ refl (selections_said o required d (contest refl) w)
-  object_member o kind.Content required d is contest w = said_unless m kind.Content required d (normal_content π t d) refl (content_said d required w)
+  object_member o (kind.Keyed family.Selection) required d is contest w = said_unless m (kind.Keyed family.Selection) false d _ refl (selections_said o false d (contest refl) w)
+  object_member o kind.Content required d is contest w = said_unless m kind.Content false d (normal_content π t d) refl (content_said d false w)
   object_member o (kind.Keyed f) required d is contest w = cc
   object_member o k required d is contest w = said_value π t accepted tree bounded k required d is w
 

@@ -38,7 +38,7 @@ module _ (π : Preference) (t : Data) (accepted : IsAccepted π t) (tree : IsTre
 
   election_member : (k : MemberKind) (required : Bool) (d : Data) → is_election_kind k ≡ true → ((f : Family) → k ≡ kind.Keyed f → IsPart (entries_of d) (map (λ o. o.value) (objects f t)))
       → Within t (asked (want_of_kind k required) d) → Said m (want_of_kind k required) d (normal_election_value π t k d)
-  election_member (kind.Keyed f) required d is held w = said_unless m (kind.Keyed f) required d _ refl (objects_said π t accepted tree bounded f is required d (held f refl) w)
+  election_member (kind.Keyed f) required d is held w = said_unless m (kind.Keyed f) false d _ refl (objects_said π t accepted tree bounded f is false d (held f refl) w)
   election_member k required d is held w = said_value π t accepted tree bounded k required d is w
 
   election_with : (d : Data) → In d (list_of_items s.es) → (this : (ms : Members) × (d ≡ object ms) × ObjectAt t (Object role.Election) role.Election class.Election ms)
@@ -68,8 +68,8 @@ module _ (π : Preference) (t : Data) (accepted : IsAccepted π t) (tree : IsTre
   report_member : (name : List ℕ) (k : MemberKind) (required : Bool) (d : Data) → is_report_kind k ≡ true → is_envelope_name name ≡ false
       → ((f : Family) → k ≡ kind.Keyed f → IsPart (entries_of d) (map (λ o. o.value) (objects f t))) → (k ≡ kind.Elections → d ≡ array s.es)
       → Within t (asked (want_of_kind k required) d) → Said m (want_of_kind k required) d (normal_report_value π t name k d)
-  report_member name (kind.Keyed f) required d is other held are w = said_unless m (kind.Keyed f) required d _ refl (objects_said π t accepted tree bounded f is required d (held f refl) w)
-  report_member name kind.Elections required d is other held are w = kept (elections_said required d (are refl))
+  report_member name (kind.Keyed f) required d is other held are w = said_unless m (kind.Keyed f) false d _ refl (objects_said π t accepted tree bounded f is false d (held f refl) w)
+  report_member name kind.Elections required d is other held are w = kept (elections_said false d (are refl))
   report_member name k required d is other held are w = outside name k required d is (is_envelope_name name) other w
 
   word_stays : (name : List ℕ) (d : Data) → is_envelope_name name ≡ false → normal_report_value π t name kind.Word d ≡ Some d

@@ -157,18 +157,18 @@ module _ (π : Preference) (t : Data) (accepted : IsAccepted π t) (tree : IsTre
   ordered required d is w = cc
 
   pub said_value : (k : MemberKind) (required : Bool) (d : Data) → is_simple_kind k ≡ true → Within t (asked (want_of_kind k required) d) → Said m (want_of_kind k required) d (normal_value π t k d)
-  said_value kind.Label required d simple w = kept (label required d w)
+  said_value kind.Label required d simple w = kept (label false d w)
   said_value (kind.One f) required d simple w = kept (reference_said f simple d (reference_refers π t accepted f d w))
   said_value (kind.Many f) required d simple w = said_unless m (kind.Many f) required d _ refl
       (references f simple required d (wanted_within t (no_shape_fault π t accepted) (asked (Member (kind.Many f) required) d) w) w)
-  said_value kind.Identifiers required d simple w = said_unless m kind.Identifiers required d _ refl (rising_said (Member kind.Identifiers required) d (wanted_within t (no_shape_fault π t accepted) (asked (Member kind.Identifiers required) d) w) refl refl)
+  said_value kind.Identifiers required d simple w = said_unless m kind.Identifiers false d _ refl (rising_said (Member kind.Identifiers false) d (wanted_within t (no_shape_fault π t accepted) (asked (Member kind.Identifiers false) d) w) refl refl)
   said_value kind.Languages required d simple w = said_unless m kind.Languages required d _ refl (rising_said (Member kind.Languages required) d (wanted_within t (no_shape_fault π t accepted) (asked (Member kind.Languages required) d) w) refl refl)
-  said_value kind.Ordered required d simple w = said_unless m kind.Ordered required d _ refl (ordered required d (wanted_within t (no_shape_fault π t accepted) (asked (Member kind.Ordered required) d) w) w)
+  said_value kind.Ordered required d simple w = said_unless m kind.Ordered false d _ refl (ordered false d (wanted_within t (no_shape_fault π t accepted) (asked (Member kind.Ordered false) d) w) w)
   said_value kind.Identity required d simple w = cc
-  said_value kind.Outside required d simple w = dropped kind.Outside required refl refl (empty_is d (not-false (is_empty_array d) (faultless t (no_shape_fault π t accepted) (asked (Member kind.Outside required) d) reason.OutsideProfile w)))
+  said_value kind.Outside required d simple w = dropped kind.Outside false refl refl (empty_is d (not-false (is_empty_array d) (faultless t (no_shape_fault π t accepted) (asked (Member kind.Outside false) d) reason.OutsideProfile w)))
   said_value (kind.Keyed f) required d simple w = cc
   said_value kind.Elections required d simple w = cc
   said_value kind.Content required d simple w = cc
   said_value kind.ClassText required d simple w = cc
   said_value kind.Carried required d simple w = kept (plain_self m (Some Carried) d refl)
-  said_value k required d simple w = kept (plain_self m (Some (Member k required)) d refl)
+  said_value k required d simple w = kept (plain_self m (Some (Member k false)) d refl)

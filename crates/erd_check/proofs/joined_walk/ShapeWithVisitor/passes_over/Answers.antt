@@ -1,4 +1,4 @@
-use Rattle.erd_check.proofs.Common.{view, items_view, reasons, true}
+use Rattle.erd_check.proofs.Common.{view, items_view, reasons}
 use Rattle.erd_check.proofs.TwoWalks.{entries_silent}
 use Rattle.erd_check.proofs.joined_walk.ShapeWithVisitor.passes_over.Goals as goal
 

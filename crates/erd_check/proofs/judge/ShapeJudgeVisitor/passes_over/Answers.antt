@@ -1,4 +1,4 @@
-use Rattle.erd_check.proofs.Common.{map, sym, ◌∙◌, view, true}
+use Rattle.erd_check.proofs.Common.{map, sym, ◌∙◌, view}
 use Rattle.erd_check.proofs.TextEntries.{are_texts_in_order, are_texts_known, texts_silent}
 use Rattle.erd_check.proofs.judge.ShapeJudgeVisitor.passes_over.Goals as goal
 

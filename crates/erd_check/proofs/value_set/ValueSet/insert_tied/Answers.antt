@@ -1,4 +1,4 @@
-use Rattle.erd_check.proofs.Common.{sym, ◌∙◌, view, true}
+use Rattle.erd_check.proofs.Common.{sym, ◌∙◌, view}
 use Rattle.erd_check.proofs.ValueSets.{new_untied, one_more}
 use Rattle.erd_check.proofs.value_set.ValueSet.insert_tied.Goals as goal
 

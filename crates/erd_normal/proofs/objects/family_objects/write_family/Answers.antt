@@ -1,4 +1,4 @@
-use Rattle.erd_normal.proofs.Common.{slice_get_within, view, objects, on_ok_weaker, objects_in_part, written_object, false, true}
+use Rattle.erd_normal.proofs.Common.{slice_get_within, view, objects, on_ok_weaker, objects_in_part, written_object}
 use Rattle.erd_normal.proofs.ranks.InOrder.{next}
 use Rattle.erd_normal.proofs.ranks.PartObjects.{in_part_there}
 use Rattle.erd_normal.proofs.texts.DueTokens.{entries_written, entry_written}

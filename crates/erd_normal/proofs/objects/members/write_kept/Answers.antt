@@ -1,4 +1,4 @@
-use Rattle.erd_normal.proofs.Common.{◌∙◌, true}
+use Rattle.erd_normal.proofs.Common.{◌∙◌}
 use Rattle.erd_text.proofs.WrittenTokens.{member_then}
 use Rattle.erd_normal.proofs.objects.members.write_kept.Goals as goal
 

@@ -1,4 +1,4 @@
-use Rattle.erd_normal.proofs.Common.{ap, ◌∙◌, view, text_of, rank_named, true}
+use Rattle.erd_normal.proofs.Common.{ap, ◌∙◌, view, text_of, rank_named}
 use Rattle.erd_text.proofs.OneByOne.{one_value}
 use Rattle.erd_normal.proofs.values.reference_set.ranks_named.Goals as goal
 

@@ -1,4 +1,4 @@
-use Rattle.erd_normal.proofs.Common.{sym, ◌∙◌, subst, view, FindsId, false, true}
+use Rattle.erd_normal.proofs.Common.{sym, ◌∙◌, subst, view, FindsId}
 use Rattle.erd_normal.proofs.ranks.RankedReferences.{elsewhere, named_here, nowhere, unnamed}
 use Rattle.erd_normal.proofs.writer.Writer.rank_of.Goals as goal
 

@@ -1,4 +1,4 @@
-use Rattle.erd_normal.proofs.Common.{◌≡◌, [], Some, sym, ◌∙◌, subst, string, view, family, Judged, id_in, normal_selection_reference, false, true}
+use Rattle.erd_normal.proofs.Common.{◌≡◌, [], Some, sym, ◌∙◌, subst, string, view, family, Judged, id_in, normal_selection_reference}
 use Rattle.erd_normal.proofs.ranks.SelectionReferences.{selection_found, unselected}
 use Rattle.erd_normal.proofs.ranks.RankedReferences.{elsewhere, nowhere}
 use Rattle.erd_normal.proofs.writer.Writer.selection_ranks.Goals as goal

@@ -1,4 +1,4 @@
-use Rattle.erd_normal.proofs.Common.{◌≡◌, ◌<◌, ◌≤◌, [], ◌∷◌, ◌++◌, map, length, slice_get, Some, Option, option_map, option_copied, ap, ◌∙◌, arith, take_all, map-append, length-map, slice_get-map, view, at_low, positioned, false, true}
+use Rattle.erd_normal.proofs.Common.{◌≡◌, ◌<◌, ◌≤◌, [], ◌∷◌, ◌++◌, map, length, slice_get, Some, Option, option_map, option_copied, ap, ◌∙◌, arith, take_all, map-append, length-map, slice_get-map, view, at_low, positioned}
 use Rattle.erd_meaning.specs.NumberedNames.{RankedParts}
 use Rattle.erd_meaning.specs.RankedNames.{ranked_name}
 use Rattle.erd_meaning.proofs.selections.RankedReports.{ranked_name_of}

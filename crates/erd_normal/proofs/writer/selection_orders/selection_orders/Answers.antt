@@ -1,4 +1,4 @@
-use Rattle.erd_normal.proofs.Common.{◌≡◌, ℕ, ◌+◌, ◌<◌, List, [], ◌++◌, map, length, take, replicate, slice_get, Some, option_map, flat_map, sym, ap, ◌∙◌, subst, ap₂, arith, length-map, slice_get-map, AllByRecursion, option_cmp, option_map_or, Data, view, Placed, contests, IsBounded, name_of, name_cmp, positions_by, take-length, at_low, rising_selections, in_at, true}
+use Rattle.erd_normal.proofs.Common.{◌≡◌, ℕ, ◌+◌, ◌<◌, List, [], ◌++◌, map, length, take, replicate, slice_get, Some, option_map, flat_map, sym, ap, ◌∙◌, subst, ap₂, arith, length-map, slice_get-map, AllByRecursion, option_cmp, option_map_or, Data, view, Placed, contests, IsBounded, name_of, name_cmp, positions_by, take-length, at_low, rising_selections, in_at}
 use Rattle.erd_meaning.specs.Places.{places_put}
 use Rattle.erd_text.proofs.OneByOne.{one_more}
 use Rattle.erd_text.proofs.StableRising.{map_after}

@@ -1,4 +1,4 @@
-use Rattle.erd_normal.proofs.Common.{is_some, sym, ap, ◌∙◌, view, true}
+use Rattle.erd_normal.proofs.Common.{is_some, sym, ap, ◌∙◌, view}
 use Rattle.erd_normal.proofs.texts.PutObjects.{other_report_value}
 use Rattle.erd_normal.proofs.report.report_text.ReportMembersMemberRule.keeps.Goals as goal
 
