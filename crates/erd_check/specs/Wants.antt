@@ -47,7 +47,8 @@ may_need_entry (kind.Many f) = true
 may_need_entry kind.Languages = true
 may_need_entry k = false
 
--- What is asked of a member of this kind. The flag says whether its object must have the member.
+-- What is asked of a member of this kind. The flag says whether its object must have the member: only of some sets it is kept,
+-- which then must have an entry.
 abbrev pub want_of_kind : MemberKind → Bool → Want
 want_of_kind (kind.One f) required = Reference f
 want_of_kind kind.Carried required = Carried
