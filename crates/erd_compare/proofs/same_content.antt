@@ -1,3 +1,4 @@
 pub mod SameContents
 pub mod NodeParts
+pub mod PlainNodes
 pub mod StepByStep

@@ -1,6 +1,6 @@
 pub mod Comparing  -- what an answer says of two meanings, and of which values it is asked; read this one first
 pub mod Choices  -- values: which members of an object are compared apart
-pub mod ContentParts  -- values: what stands inside a header
+pub mod ContentParts  -- values: what stands inside a header, and contests that carry no member
 pub mod PlainParts  -- objects: what a member means by itself
 pub mod SelectionMembers  -- objects: the selections of a contest, as a member of it
 pub mod CommonNames  -- ranks: which number stands for the name of a selection

@@ -3,5 +3,6 @@
 mod chosen_members;
 pub(crate) mod content;
 pub(crate) mod labels;
+pub(crate) mod plain_contest;
 pub(crate) mod references;
 pub(crate) mod sets;

@@ -1,5 +1,5 @@
 -- The chosen members of whole trees are the same, member by member, exactly if they are the same under each name.
-use Rattle.erd_compare.proofs.Common.{◌≡◌, ℕ, Bool, true, false, cond, List, Some, None, Option, Ordering, Equal, sym, refl, ap, ◌∙◌, subst, fun_ext, or_parts, or_from, nat_list_cmp_total, exact_bytes, match_ordering, Data, null, object, Members, no_members, member, get_member, get, has_float, members_have_float, text_cmp, IsBeforeFirst, AreMembers, are_same_members, are_same_members_exact, members_unique, JsonMap, takes_name, chosen_members, members_in, chosen_in, Decides, IsWholeTree}
+use Rattle.erd_compare.proofs.Common.{◌≡◌, ℕ, Bool, true, false, cond, List, Some, None, Option, Ordering, Equal, sym, refl, ap, ◌∙◌, subst, fun_ext, or_parts, or_from, nat_list_cmp_total, exact_bytes, match_ordering, Data, null, object, Members, no_members, member, get_member, get, has_float, members_have_float, text_cmp, IsBeforeFirst, AreMembers, are_same_members, are_same_members_exact, members_unique, JsonMap, kind_of_member, Class, MemberKind, kind, if_carried, carried_members, Carried, is_carried_kind, takes_name, chosen_members, members_in, chosen_in, Decides, IsWholeTree}
 use Rattle.erd_compare.specs.declared.values.chosen_members.Choice.{Choice}
 use Rattle.erd_compare.proofs.whole_trees.WholeTrees.{members_themselves}
 
@@ -42,6 +42,17 @@ get-members_in name e = refl
 -- the same of any value
 pub get_member-chosen_in : (name : List ℕ) (c : Choice) (d : Data) → get_member name (chosen_in c d) ≡ cond (takes_name c name) (get name d) None
 get_member-chosen_in name c d = get_member-chosen name c (members_in d) ∙ ap (λ o. cond (takes_name c name) o None) (sym (get-members_in name d))
+
+-- ---- carried members
+
+carried_kind : (k : MemberKind) (o : Option Data) → cond (is_carried_kind k) o None ≡ if_carried k o
+carried_kind kind.Carried o = refl
+carried_kind k o = refl
+
+-- the choice of carried members takes what an object carries
+pub carried_by_choice : (class : Option Class) (d : Data) (name : List ℕ) → cond (takes_name (Carried class) name) (get name d) None ≡ carried_members class d name
+carried_by_choice None d name = refl
+carried_by_choice (Some c) d name = carried_kind (kind_of_member c name) (get name d)
 
 -- ---- whole trees
 

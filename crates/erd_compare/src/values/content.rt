@@ -1,11 +1,12 @@
 ghost use Rattle.std.specs.Prelude.{◌≡◌, true, map, option_and_then};
 ghost use Rattle.erd_compare.specs.Words.{AllByRecursion, Data, as_str, view, Preference, has_keys, text_at, no_content, content_of, node_of, contest_node, header_node, class_of_node, is_header_class, key_named, name_named};
 ghost use Rattle.erd_compare.specs.code.Comparing.{Decides, IsWholeTree};
-ghost use Rattle.erd_compare.specs.code.ContentParts.{content_within};
+ghost use Rattle.erd_compare.specs.code.ContentParts.{content_within, plain_node};
 
 use crate::comparer::Comparer;
 use crate::ranks::common_ranks::Side;
 use crate::values::chosen_members::is_same_carried;
+use crate::values::plain_contest::{PlainContest, plain_contest};
 use crate::values::references::{number_of_name_named, rank_with_id};
 use erd_check::values::{class_of_object, entries_at, entries_of, text_at};
 use erd_tables::{Class, Family, Role};
@@ -51,6 +52,10 @@ fn is_same_node(comparer: &Comparer, one: &Value, other: &Value) -> bool
     requires other { IsWholeTree (view other.now) }
     ensures { Decides result (node_of comparer.now.left.prefer (view comparer.now.left.tree) (view one.now)) (node_of comparer.now.right.prefer (view comparer.now.right.tree) (view other.now)) }
 {
+    // nearly all nodes are contests with the members of the table alone, which are compared without looking a member up
+    if let (Some(one), Some(other)) = (plain_contest(one), plain_contest(other)) {
+        return is_same_plain_contest(comparer, one, other);
+    }
     let class = class_of_node(one);
     let other_class = class_of_node(other);
     match (is_header(class), is_header(other_class)) {
@@ -124,6 +129,18 @@ fn is_same_contest(
         && are_same_names(comparer, entries_at(one, name), entries_at(other, name))
 }
 
+/// Returns whether two contests in the contents of a ballot that have the members of the table and no other mean the same.
+fn is_same_plain_contest(
+    comparer: &Comparer,
+    one: PlainContest<'_>,
+    other: PlainContest<'_>,
+) -> bool
+    ensures { Decides result (plain_node comparer.now.left.prefer (view comparer.now.left.tree) one.entry) (plain_node comparer.now.right.prefer (view comparer.now.right.tree) other.entry) }
+{
+    is_same_target(comparer, Family::Contest, one.contest, other.contest)
+        && are_same_names(comparer, one.selections, other.selections)
+}
+
 /// Returns whether two lists of references name selections with the same names, in the same order.
 fn are_same_names(comparer: &Comparer, ones: &[Value], others: &[Value]) -> bool
     ensures { Decides result (map (λ v. option_and_then (name_named comparer.now.left.prefer (view comparer.now.left.tree)) (as_str (view v))) ones.now)
@@ -162,8 +179,17 @@ fn is_same_owner(
     ensures { Decides result (key_named comparer.now.left.prefer (view comparer.now.left.tree) family (text_at name.now (view one.now)))
         (key_named comparer.now.right.prefer (view comparer.now.right.tree) family (text_at name.now (view other.now))) }
 {
-    rank_with_id(comparer, Side::Left, family, text_at(one, name))
-        == rank_with_id(comparer, Side::Right, family, text_at(other, name))
+    is_same_target(comparer, family, text_at(one, name), text_at(other, name))
+}
+
+/// Returns whether two `@id`s name objects of the family with the same key.
+fn is_same_target(comparer: &Comparer, family: Family, one: &str, other: &str) -> bool
+    requires keyed { has_keys family ≡ true }
+    ensures { Decides result (key_named comparer.now.left.prefer (view comparer.now.left.tree) family one.now)
+        (key_named comparer.now.right.prefer (view comparer.now.right.tree) family other.now) }
+{
+    rank_with_id(comparer, Side::Left, family, one)
+        == rank_with_id(comparer, Side::Right, family, other)
 }
 
 /// Returns whether the class is that of a header in the contents of a ballot.

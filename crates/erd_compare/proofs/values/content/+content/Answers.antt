@@ -4,6 +4,7 @@ use Rattle.erd_compare.specs.code.ContentParts.{content_within}
 use Rattle.erd_check.proofs.Lists.{list_of_items-items_of}
 use Rattle.erd_compare.proofs.same_values.EqualOptions.{decides_as}
 use Rattle.erd_compare.proofs.same_content.NodeParts.{decides_swap, entry_depth, get_depth, node_contest, node_header, within_decides}
+use Rattle.erd_compare.proofs.same_content.PlainNodes.{plain_means}
 use Rattle.erd_compare.proofs.same_content.SameContents.{content-Decides, content_of-none, contest-header, header-contest, header-Decides}
 use Rattle.erd_compare.proofs.same_content.StepByStep.{differ_here, one_further}
 use Rattle.erd_compare.proofs.whole_trees.WholeTrees.{whole_tree-get, whole_value-index, whole_values-entries_of}
@@ -79,6 +80,11 @@ are_same_nodes-returns-then-not-is_same_node t c =
     (map f c.args.ones.now.items) (map g c.args.others.now) item.0 item.1 c.in-Some.ensures.steps
     (λ e. sym c.if-not-is_same_node.true ∙ c.is_same_node.ensures.1 e)
     c.loop-one.invariant.same
+
+pub is_same_node-returns-in-Some-Some : goal.is_same_node-returns-in-Some-Some
+is_same_node-returns-in-Some-Some t c =
+    decides_as refl (sym (plain_means c.args.comparer.now.left.prefer (view c.args.comparer.now.left.tree) (view c.args.one.now) c.in-Some-Some.one c.in-Some-Some.ensures)) (sym (plain_means c.args.comparer.now.right.prefer (view c.args.comparer.now.right.tree) (view c.args.other.now) c.in-Some-Some.other c.in-Some-Some.ensures'))
+    c.is_same_plain_contest.ensures
 
 pub is_same_node-returns-in-true-true : goal.is_same_node-returns-in-true-true
 is_same_node-returns-in-true-true t c =
