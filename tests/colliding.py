@@ -178,9 +178,6 @@ def object_words(value):
 
 def report_words(report):
     words = []
-    for name in ('GpUnit', 'Header', 'Office', 'Party', 'Person'):
-        for each in report.get(name, []):
-            words += object_words(each)
     for election in report['Election']:
         words += object_words(election)
         for name in ('BallotStyle', 'Candidate'):
@@ -190,6 +187,9 @@ def report_words(report):
             words += object_words(contest)
             for selection in contest.get('ContestSelection', []):
                 words += value_words(selection)
+    for name in ('GpUnit', 'Header', 'Office', 'Party', 'Person'):
+        for each in report.get(name, []):
+            words += object_words(each)
     return words
 
 

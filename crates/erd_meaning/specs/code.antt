@@ -3,6 +3,7 @@ pub mod Orders  -- the orders of keys and names are total, and tell unequal ones
 pub mod ChosenKeys  -- the order in which the program chooses among identifiers
 pub mod NumberedOrders  -- their order is total, tells unequal ones apart, and keeps the order of names if the numbers keep that of keys
 pub mod ObjectWalk  -- the elections and the objects in the order in which the program meets them, with the faults of identity
+pub mod Collected  -- the same as one walk collects them, and as they fill the tables
 pub mod ElectionKeys  -- what the program keeps of the elections: their keys, and which holds an object
 pub mod Holding  -- the elections that hold the objects of a report
 pub mod ObjectLookups  -- look-ups among the objects that are kept
@@ -17,6 +18,7 @@ pub mod RanksAmong  -- names with ranks among the objects that the program keeps
 pub mod RankedOrders  -- their order is total, and equal ones are hashed alike
 pub mod Shown  -- what the program's own structs stand for
 pub mod ShownWalks  -- what clauses see of the walks
+pub mod CollectedWalks  -- what clauses see of what is collected and filled
 pub mod Resolved  -- what holds of a report after each phase, and of an accepted one
 pub mod ResolvedElections  -- what holds of the elections that a report keeps
 pub mod ResolvedIndexes  -- what a report holds beside its tree

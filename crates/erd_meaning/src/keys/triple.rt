@@ -15,9 +15,9 @@ use std::marker::Model;
 /// The three texts of an identifier or of a key, borrowed. Contracts see them as a key.
 #[derive(Drop)]
 pub(crate) struct Triple<'a> {
-    kind: &'a str,
-    other: &'a str,
-    value: &'a str,
+    pub(crate) kind: &'a str,
+    pub(crate) other: &'a str,
+    pub(crate) value: &'a str,
 }
 
 impl<'a> Model for Triple<'a> {

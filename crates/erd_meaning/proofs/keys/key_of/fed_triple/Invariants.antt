@@ -1,5 +1,5 @@
 use Rattle.erd_meaning.proofs.Common.{◌≡◌, List, map, drop, option_copied, view, Value, triple_of, choice_of}
-use Rattle.erd_meaning.proofs.keys.key_of.chosen_triple.Given as goal
+use Rattle.erd_meaning.proofs.keys.key_of.fed_triple.Given as goal
 
 abbrev pub invariant-loop-identifier : goal.invariant-loop-identifier
 invariant-loop-identifier l =

@@ -2,7 +2,7 @@
 use Rattle.erd_meaning.proofs.Common.{◌≡◌, map, Some, codes, option_copied, sym, ◌∙◌, arith, view, entries_at, triple_of, choice}
 use Rattle.std.proofs.lemmas.Grind.{common_steps}
 use Rattle.erd_meaning.proofs.orders.ChoiceOrder.{key_is_choice}
-use Rattle.erd_meaning.proofs.keys.key_of.chosen_triple.Goals as goal
+use Rattle.erd_meaning.proofs.keys.key_of.fed_triple.Goals as goal
 
 pub returns-after-loop-identifier : goal.returns-after-loop-identifier
 returns-after-loop-identifier c =
