@@ -1,5 +1,5 @@
 -- What a walk over a report reports, in the order in which it visits the values, and what is known after it.
-use Rattle.std.specs.Prelude.{◌≡◌, List, [], ◌∷◌, ◌++◌, Bool, false, ◌&&◌, map, length, IfSome, ⊤}
+use Rattle.std.specs.Prelude.{◌≡◌, ℕ, List, [], ◌∷◌, ◌++◌, Bool, false, ◌&&◌, map, length, IfSome, ⊤}
 use Rattle.std.specs.List.{list_any}
 use Rattle.std.specs.List.Sorted.{IsStrictlySortedBy}
 use Rattle.std.specs.Option.{option_map_or}
@@ -104,6 +104,10 @@ IsSilent tells w = (outer owner : Data) (p : List Step) (repeated : Bool) (d : D
 -- What is told of a value of which this is asked does not depend on whether it equals an earlier entry of its set.
 abbrev pub IsOfValueAlone : Telling → Want → Type 0
 IsOfValueAlone tells w = (outer : Data) (one other : Bool) (d : Data) → tells outer w one d ≡ tells outer w other d
+
+-- Nothing is told of a text of which this is asked and that equals no earlier entry of a set.
+abbrev pub IsSilentText : Telling → Want → List ℕ → Type 0
+IsSilentText tells w s = (outer : Data) → tells outer w false (string s) ≡ []
 
 -- `Known` holds of any value of which this is asked, and of the values inside it.
 abbrev pub IsKnownOfAll : (Want → Data → Type 0) → Want → Type 0

@@ -42,6 +42,10 @@ impl<'v, V: Visitor> Visitor for ShapeWith<'v, V> {
         true
     }
 
+    fn passes_over_text(&self, want: Want, text: &str) -> bool {
+        ShapeJudge.passes_over_text(want, text) && self.visitor.passes_over_text(want, text)
+    }
+
     fn passes_over(
         &self,
         alloc: Global,

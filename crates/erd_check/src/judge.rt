@@ -1,11 +1,12 @@
-ghost use Rattle.std.specs.Prelude.{◌≡◌, ◌++◌, false, map, not, IfOk, IsTrue};
+ghost use Rattle.std.specs.Prelude.{◌≡◌, ◌++◌, [], false, true, map, not, IfOk, IsTrue};
+ghost use Rattle.serde_json.specs.Data.{string};
 ghost use Rattle.std.specs.List.{list_all};
 ghost use Rattle.std.specs.Option.{option_map_or, option_to_list};
 ghost use Rattle.serde_json.specs.Find.{is_float};
 ghost use Rattle.serde_json.specs.View.{view, number_view};
 ghost use Rattle.erd_check.specs.Faults.{has_kind, has_wanted_kind, names_wanted, is_not_whole, is_reference, is_text, lacks};
 ghost use Rattle.erd_check.specs.Numbers.{IsFittingNumber, IsInRange};
-ghost use Rattle.erd_check.specs.code.Walk.{IsAskedInRange, other_reasons, missing};
+ghost use Rattle.erd_check.specs.code.Walk.{IsAskedInRange, other_reasons, missing, reasons};
 ghost use Rattle.erd_check.specs.Visits.{faults_of};
 ghost use Rattle.erd_check.specs.Wants.{entry_want};
 ghost use Rattle.erd_check.specs.Paths.{steps_of};
@@ -40,6 +41,10 @@ impl Visitor for ShapeJudge {
 
     fn compares(&self, want: Want) -> bool {
         is_compared_here(want)
+    }
+
+    fn passes_over_text(&self, want: Want, text: &str) -> bool {
+        is_sound_text(want, text)
     }
 
     /// Of a reference, the shape asks only that it is a text.
@@ -93,6 +98,23 @@ fn has_references(want: Want) -> bool
         want,
         Want::Member(MemberKind::Many(_) | MemberKind::Ordered, _)
     )
+}
+
+/// Returns whether the shape asks for a text and no more than this one: a word, an `@id`, a label, a reference, or an `@type` that
+/// names a class with the role.
+fn is_sound_text(want: Want, text: &str) -> bool
+    ensures silent { result ≡ true → reasons want false (string text.now) ≡ [] }
+    ensures in_range { IsAskedInRange want (string text.now) }
+{
+    match want {
+        Want::Member(kind, _) => matches!(
+            kind,
+            MemberKind::Identity | MemberKind::Word | MemberKind::Label
+        ),
+        Want::ClassText(role) => class_in(role, text).is_some(),
+        Want::Reference(_) => true,
+        _ => false,
+    }
 }
 
 /// Returns whether each of the entries is a text.

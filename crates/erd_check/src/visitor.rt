@@ -1,13 +1,13 @@
 //! What a walk over a report does at each value.
-ghost use Rattle.std.specs.Prelude.{◌≡◌, ◌++◌, List, Bool, false, map, IfOk, IsTrue};
+ghost use Rattle.std.specs.Prelude.{◌≡◌, ◌++◌, List, Bool, false, true, map, IfOk, IsTrue};
 ghost use Rattle.std.specs.List.{list_any};
-ghost use Rattle.serde_json.specs.Data.{Data};
+ghost use Rattle.serde_json.specs.Data.{Data, string};
 ghost use Rattle.serde_json.specs.View.{view, items_view};
 ghost use Rattle.erd_tables.specs.declared.fault.Reason.{Reason};
 ghost use Rattle.erd_check.specs.Trees.{is_same_json};
 ghost use Rattle.erd_check.specs.Wants.{scope_inside};
 ghost use Rattle.erd_check.specs.Paths.{steps_of};
-ghost use Rattle.erd_check.specs.Visits.{faults_of, AreEntriesInOrder, AreEntriesKnown, AreEntriesSilent, IsKnownOfAll, IsOfValueAlone, IsSilent};
+ghost use Rattle.erd_check.specs.Visits.{faults_of, AreEntriesInOrder, AreEntriesKnown, AreEntriesSilent, IsKnownOfAll, IsOfValueAlone, IsSilent, IsSilentText};
 ghost use Rattle.erd_check.specs.declared.want.Want.{Want as Asked};
 
 use crate::path::Path;
@@ -62,6 +62,11 @@ pub trait Visitor {
     /// it tells of the entry does not depend on them, and the walk looks for no equal entry.
     fn compares(&self, want: Want) -> bool
         ensures { result ≡ false → IsOfValueAlone (tells self.now) want };
+
+    /// Returns `true` only if the walk may pass over a member whose value is this text: then the visitor has nothing to tell of it.
+    fn passes_over_text(&self, want: Want, text: &str) -> bool
+        ensures silent { result ≡ true → IsSilentText (tells self.now) want text.now }
+        ensures known { result ≡ true → Known self.now want (string text.now) };
 
     /// Returns `true` only if the walk may pass over the entries of an array: then the visitor has nothing to tell of them, nor
     /// of the values inside them. `want` is what is asked of the array, and `object` is the value that has it.

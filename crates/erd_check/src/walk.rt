@@ -1,5 +1,5 @@
 //! The walk over a report.
-ghost use Rattle.std.specs.Prelude.{◌≡◌, ◌++◌, ◌≤◌, ◌&&◌, List, [], map, take, length, IfOk, IsTrue};
+ghost use Rattle.std.specs.Prelude.{◌≡◌, ◌++◌, ◌≤◌, ◌&&◌, List, [], true, false, map, take, length, IfOk, IsTrue};
 ghost use Rattle.std.specs.List.{list_any};
 ghost use Rattle.std.specs.List.Sorted.{IsStrictlySortedBy};
 ghost use Rattle.std.specs.Option.{option_map_or};
@@ -155,7 +155,7 @@ fn walk_members<'a, V: Visitor>(
         let Some(want) = want_in(scope, name.as_str()) else {
             continue;
         };
-        if visitor.enters(want) {
+        if visitor.enters(want) && !is_passed_over(visitor, want, member) {
             let path = Path::Member(&*inside.path, name.as_str());
             let visit = Visit {
                 want,
@@ -169,4 +169,16 @@ fn walk_members<'a, V: Visitor>(
         }
     }
     Ok(())
+}
+
+/// Returns whether a member is a text that the walk may pass over.
+fn is_passed_over<V: Visitor>(visitor: &V, want: Want, member: &Value) -> bool
+    ensures silent { result ≡ true → (outer owner : Data) (p : List Step) → told_at (V.tells visitor.now) outer owner p want false (view member.now) ≡ [] }
+    ensures known { result ≡ true → IsKnown (V.Known visitor.now) want (view member.now) }
+    ensures in_order { result ≡ true → IsInOrder want (view member.now) }
+{
+    match member {
+        Value::String(text) => visitor.passes_over_text(want, text.as_str()),
+        _ => false,
+    }
 }

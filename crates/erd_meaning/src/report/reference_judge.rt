@@ -1,5 +1,5 @@
-ghost use Rattle.std.specs.Prelude.{◌≡◌, ◌++◌, map, option_to_list, IfOk, IfSome, false, ⊤};
-ghost use Rattle.erd_meaning.specs.Words.{view, ListsAll, IsFaultless, IsShallow, IsTree, steps_of, faults_of, ReferenceFault};
+ghost use Rattle.std.specs.Prelude.{◌≡◌, ◌++◌, [], map, option_to_list, IfOk, IfSome, true, false, ⊤};
+ghost use Rattle.erd_meaning.specs.Words.{Data, view, ListsAll, IsFaultless, IsShallow, IsTree, steps_of, faults_of, ReferenceFault};
 ghost use Rattle.erd_meaning.specs.code.ObjectWalk.{kept_objects};
 ghost use Rattle.erd_meaning.specs.code.OwnIds.{HaveOwnIds};
 ghost use Rattle.erd_meaning.specs.code.Resolved.{IsIdentified, IsReferred};
@@ -79,6 +79,13 @@ impl<'b, 'a> Visitor for ReferenceJudge<'b, 'a> {
         true
     }
 
+    fn passes_over_text(&self, want: Want, text: &str) -> bool {
+        match want {
+            Want::Reference(family) => self.is_clear_anywhere(family, text),
+            _ => true,
+        }
+    }
+
     fn passes_over(
         &self,
         alloc: Global,
@@ -145,6 +152,20 @@ fn may_have_references(want: Want) -> bool
 }
 
 impl<'b, 'a> ReferenceJudge<'b, 'a> {
+    /// Returns `true` only if a reference to the family with this text has no fault, whatever object has it. Of a selection this
+    /// depends on the object.
+    fn is_clear_anywhere(&self, family: Family, id: &str) -> bool
+        ensures { result ≡ true → (outer : Data) → id_reasons (map shown self.now.objects.now) outer family id.now ≡ [] }
+    {
+        if family == Family::Selection {
+            return false;
+        }
+        match self.objects.position_on_trail(family, id) {
+            Some((own, _)) => own == family,
+            None => false,
+        }
+    }
+
     /// Returns the reason for which a reference with this text is refused, if there is one, except that it is repeated. If
     /// the reference is an entry of a list, `object` is the object that has the list.
     fn id_reason(&self, family: Family, id: &str, object: &Value) -> Option<Reason>
