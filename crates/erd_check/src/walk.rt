@@ -24,8 +24,8 @@ use serde_json::{Map, Value};
 use std::alloc::{AllocError, Global};
 
 /// Walks a report, and returns the faults that the visitor finds. The walk visits the report and each value in it of which
-/// the member table asks something, except for the members that the visitor does not enter, the entries that it passes over,
-/// and what is inside them. It goes in the order of places: members by name, entries by position.
+/// the member table asks something, except for the members that the visitor does not enter, the texts and the entries that it
+/// passes over, and what is inside them. It goes in the order of places: members by name, entries by position.
 ///
 /// # Errors
 ///
