@@ -11,7 +11,7 @@ use crate::keys::key::Key;
 use crate::keys::shared_key::SharedKey;
 use crate::keys::triple::Triple;
 use crate::objects::places::FamilyPlaces;
-use crate::objects::trail::Trail;
+use crate::objects::trail::{Trail, Trails};
 use erd_index::{Salt, Salted};
 use erd_tables::Family;
 use indexmap::IndexMap;
@@ -46,7 +46,7 @@ pub(crate) struct ObjectTable<'a> {
     objects: Vec<Object<'a>>,
     places: FamilyPlaces,
     contests_before: Vec<usize>,
-    trail: Trail,
+    trails: Trails,
     salt: Salt,
     ids: IndexMap<Salted<&'a str>, (Family, usize)>,
     keys: IndexMap<Salted<(Family, Triple<'a>)>, usize>,
@@ -84,7 +84,7 @@ impl<'a> ObjectTable<'a> {
             objects: Vec::new(alloc),
             places: FamilyPlaces::new(alloc),
             contests_before: Vec::new(alloc),
-            trail: Trail::new(alloc),
+            trails: Trails::new(alloc),
             salt,
             ids: IndexMap::new(alloc),
             keys: IndexMap::new(alloc),
@@ -109,7 +109,7 @@ impl<'a> ObjectTable<'a> {
         self.keys.reserve(1)?;
         self.places.reserve(family)?;
         self.contests_before.reserve(1)?;
-        self.trail.push(number)?;
+        self.trails.push(family)?;
         let has_id = note_any_id(&mut self.ids, &self.salt, object.id, (family, number))?;
         let has_key = note_any_key(&mut self.keys, &self.salt, family, key, number);
         let contests = self.places.of(Family::Contest).len();
@@ -124,17 +124,9 @@ impl<'a> ObjectTable<'a> {
         self.salt
     }
 
-    /// Returns the trail of references through the objects.
-    pub(crate) fn trail(&self) -> &Trail {
-        &self.trail
-    }
-
-    /// Returns the place among all objects of the object of the family at the position, or a place without an object.
-    pub(crate) fn place_at(&self, family: Family, position: usize) -> usize {
-        match self.places.of(family).get(position) {
-            Some(place) => *place,
-            None => usize::MAX,
-        }
+    /// Returns the trail of references through the objects of the family.
+    pub(crate) fn trail(&self, family: Family) -> &Trail {
+        self.trails.of(family)
     }
 
     /// Returns the number of objects.

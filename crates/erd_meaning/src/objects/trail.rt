@@ -10,52 +10,37 @@ use erd_tables::Family;
 use std::alloc::{AllocError, Global};
 use std::cell::Cell;
 
-/// The way that references took through the objects of each family. The ballots of a report list the same contests and
-/// selections in much the same order, which may start anywhere, as with rotated candidates. So a look-up tries the two objects
-/// that were named last after the object that was named last. It is a guess alone: no answer depends on it.
+/// The way that references took through the objects of a family. The ballots of a report list the same contests and selections
+/// in much the same order, which may start anywhere, as with rotated candidates. So a look-up tries the two objects that were
+/// named last after the object that was named last. It is a guess alone: no answer depends on it.
 #[derive(Drop)]
 pub(crate) struct Trail {
-    // for each family, the position of the object that was named last
-    last: [Cell<usize>; 9],
-    // for each object by its place, the positions of the two objects of its family that were named after it, the latest first
+    // the position of the object that was named last
+    last: Cell<usize>,
+    // for each object, the positions of the two that were named last after it, the latest first
     after: Vec<Cell<(usize, usize)>>,
 }
 
 impl Trail {
     /// Returns the trail through no objects.
-    pub(crate) fn new(alloc: Global) -> Trail {
+    fn new(alloc: Global) -> Trail {
         Trail {
-            last: [
-                Cell::new(0),
-                Cell::new(0),
-                Cell::new(0),
-                Cell::new(0),
-                Cell::new(0),
-                Cell::new(0),
-                Cell::new(0),
-                Cell::new(0),
-                Cell::new(0),
-            ],
+            last: Cell::new(0),
             after: Vec::new(alloc),
         }
     }
 
-    /// Adds an object, which is at this position of its family. The next object of the family is expected after it, or itself
-    /// again.
-    pub(crate) fn push(&mut self, position: usize) -> Result<(), AllocError> {
+    /// Adds an object. After it, the next object is expected, or itself again.
+    fn push(&mut self) -> Result<(), AllocError> {
+        let position = self.after.len();
         self.after
             .push(Cell::new((position.wrapping_add(1), position)))?;
         Ok(())
     }
 
-    /// Returns the position of the object of the family that was named last.
-    fn last(&self, family: Family) -> usize {
-        self.last[number_of(family)].get()
-    }
-
-    /// Returns the positions at which the object is looked for that is named after the one at a place.
-    fn expected(&self, place: usize) -> [usize; 2] {
-        match self.after.get(place) {
+    /// Returns the positions at which the object is looked for that is named after the one at a position.
+    fn expected(&self, last: usize) -> [usize; 2] {
+        match self.after.get(last) {
             Some(after) => {
                 let (latest, earlier) = after.get();
                 [latest, earlier]
@@ -64,15 +49,50 @@ impl Trail {
         }
     }
 
-    /// Notes that the object of the family at the position was named after the one at a place.
-    fn follow(&self, place: usize, family: Family, position: usize) {
-        self.last[number_of(family)].set(position);
-        if let Some(after) = self.after.get(place) {
+    /// Notes that the object at a position was named after the one at `last`.
+    fn follow(&self, last: usize, position: usize) {
+        self.last.set(position);
+        if let Some(after) = self.after.get(last) {
             let (latest, _) = after.get();
             if latest != position {
                 after.set((position, latest));
             }
         }
+    }
+}
+
+/// The trail through the objects of each family.
+#[derive(Drop)]
+pub(crate) struct Trails {
+    each: [Trail; 9],
+}
+
+impl Trails {
+    /// Returns the trails through no objects.
+    pub(crate) fn new(alloc: Global) -> Trails {
+        Trails {
+            each: [
+                Trail::new(alloc),
+                Trail::new(alloc),
+                Trail::new(alloc),
+                Trail::new(alloc),
+                Trail::new(alloc),
+                Trail::new(alloc),
+                Trail::new(alloc),
+                Trail::new(alloc),
+                Trail::new(alloc),
+            ],
+        }
+    }
+
+    /// Returns the trail through the objects of the family.
+    pub(crate) fn of(&self, family: Family) -> &Trail {
+        &self.each[number_of(family)]
+    }
+
+    /// Adds an object of the family.
+    pub(crate) fn push(&mut self, family: Family) -> Result<(), AllocError> {
+        self.each[number_of(family)].push()
     }
 }
 
@@ -82,12 +102,12 @@ impl<'a> ObjectTable<'a> {
     pub(crate) fn position_on_trail(&self, family: Family, id: &str) -> Option<(Family, usize)>
         ensures { HaveOwnIds (map shown self.now) → result ≡ number_of_id (map shown self.now) id.now }
     {
-        let trail = self.trail();
-        let place = self.place_at(family, trail.last(family));
-        let found = self.position_near(family, &trail.expected(place), id);
+        let trail = self.trail(family);
+        let last = trail.last.get();
+        let found = self.position_near(family, &trail.expected(last), id);
         if let Some((own, position)) = found {
             if own == family {
-                trail.follow(place, family, position);
+                trail.follow(last, position);
             }
         }
         found
