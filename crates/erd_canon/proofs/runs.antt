@@ -1,5 +1,6 @@
 pub mod KnownBytes
 pub mod CheckTexts
 pub mod Comparisons
+pub mod Listings
 pub mod Agreement
 pub mod Moving

@@ -45,3 +45,7 @@ refused_data side why = object (member (codes "faults") why (member (codes "refu
 abbrev pub comparison_data : Option Difference → Data
 comparison_data None = null
 comparison_data (Some d) = difference_data d
+
+-- A list of differences as the array of their objects, in the same order.
+abbrev pub differences_data : List Difference → Data
+differences_data ds = array (items_of (map difference_data ds))

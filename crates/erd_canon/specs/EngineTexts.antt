@@ -8,7 +8,7 @@ use Rattle.erd_meaning.specs.Keys.{Preference}
 use Rattle.erd_meaning.specs.Accepted.{IsFault}
 use Rattle.erd_meaning.specs.Records.{meaning}
 use Rattle.erd_compare.specs.DifferenceLine.{difference_line}
-use Rattle.erd_compare.specs.Differences.{IsDifference}
+use Rattle.erd_compare.specs.Differences.{AreDifferences, IsDifference}
 use Rattle.erd_compare.specs.declared.difference.Difference.{Difference}
 use Rattle.erd_canon.specs.Bytes.{IsTreeOf, IsNotJson, IsAcceptedReport, IsCanonicalBytes}
 
@@ -56,6 +56,14 @@ pub record IsComparison (π : Preference) (left right : List ℕ) (found : Optio
   pub left_accepted : IsAcceptedReport π left left_tree
   pub right_accepted : IsAcceptedReport π right right_tree
   pub difference : IsDifference (meaning π left_tree) (meaning π right_tree) found
+
+-- Both inputs are accepted reports, and these are all differences of what they mean, in rising order.
+pub record AreCompared (π : Preference) (left right : List ℕ) (found : List Difference) : Type 0 where
+  pub left_tree : Data
+  pub right_tree : Data
+  pub left_accepted : IsAcceptedReport π left left_tree
+  pub right_accepted : IsAcceptedReport π right right_tree
+  pub differences : AreDifferences (meaning π left_tree) (meaning π right_tree) found
 
 -- The lines, each with the name of one side in front.
 abbrev pub lines_of_side : List ℕ → List (List ℕ) → List (List ℕ)

@@ -3,6 +3,7 @@
 pub(crate) mod acceptance;
 pub(crate) mod canonical;
 pub(crate) mod comparison;
+pub(crate) mod differences;
 pub(crate) mod disposal;
 pub(crate) mod laws;
 pub(crate) mod refusal;

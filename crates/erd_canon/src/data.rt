@@ -1,7 +1,8 @@
-//! The calls that answer data: the outcome of a check or a comparison with a JSON text.
+//! The calls that answer data: the outcome of a check, a comparison or a list of differences with a JSON text.
 
 pub(crate) mod check;
 pub(crate) mod compare;
+pub(crate) mod differences;
 mod fault_texts;
 mod fault_values;
 mod refusals;

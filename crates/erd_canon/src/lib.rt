@@ -20,6 +20,7 @@ pub use commands::request::{FileName, LineFault, Request};
 pub use commands::words::command_line;
 pub use data::check::{Answer, check_data, check_data_with};
 pub use data::compare::{compare_data, compare_data_with};
+pub use data::differences::{differences_data, differences_data_with};
 pub use devices::log::Log;
 pub use devices::read_from::ReadFrom;
 pub use devices::sink::{Sink, write_out};

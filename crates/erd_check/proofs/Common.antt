@@ -38,7 +38,7 @@ pub use Rattle.erd_check.specs.Paths.{steps_of, fault_at}
 pub use Rattle.erd_check.specs.Trees.{IsBeforeFirst, IsNumber, IsTree, AreTrees, AreMembers, IsShallow, same_flag, same_whole, same_number, is_same_json, are_same_items, are_same_members}
 pub use Rattle.erd_check.specs.ValueSets.{StandsFor}
 pub use Rattle.erd_check.specs.Values.{list_of_items, entries_of, names}
-pub use Rattle.erd_check.specs.Visits.{faults_of, Telling, both_tell, told_at, told_of_items, told_of_members, told_of_report, IsInOrder, AreItemsInOrder, AreMembersInOrder, IsKnown, AreItemsKnown, AreMembersKnown, IsOfValueAlone, AreEntriesSilent, AreEntriesKnown, AreEntriesInOrder}
+pub use Rattle.erd_check.specs.Visits.{faults_of, Telling, told_at, told_of_items, told_of_members, told_of_report, IsInOrder, AreItemsInOrder, AreMembersInOrder, IsKnown, AreItemsKnown, AreMembersKnown, IsSilentMember}
 pub use Rattle.erd_check.specs.Wants.{class_of_object, scope_inside, want_of_kind, is_report_class, member_want, carried_want, want_of_name, entry_want, is_compared_set, Asked, asked, is_repeated, asked_of_member, asked_of_entry, asked_inside, asked_from, asked_at}
 pub use Rattle.erd_check.specs.code.JsonOrder.{json_cmp, items_cmp, members_cmp}
 pub use Rattle.erd_check.specs.code.Walk.{asked_with, missing, other_reasons, reasons, IsAskedInRange}

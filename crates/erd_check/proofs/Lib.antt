@@ -5,7 +5,7 @@ pub mod Reasons
 pub mod Steps
 pub mod AskedInside
 pub mod Walks
-pub mod TwoWalks
+pub mod Silence
 pub mod TextEntries
 pub mod Deciding
 pub mod Reports
@@ -17,4 +17,5 @@ pub mod Whole
 pub mod ShapedReports
 pub mod ReadTrees
 pub mod WholeExamples
+mod SilenceExamples
 pub mod Positions

@@ -1,5 +1,5 @@
 -- Lists of entries and of members.
-use Rattle.erd_check.proofs.Common.{◌≡◌, suc, List, [], ◌∷◌, length, string_bytes, String, string_cmp, Less, Global, refl, ap, AllByRecursion, IsStrictlySortedBy, Data, items_of, items_view, members_view, Value, text_cmp, list_of_items, names}
+use Rattle.erd_check.proofs.Common.{◌≡◌, suc, List, [], ◌∷◌, ◌++◌, length, string_bytes, String, string_cmp, Less, Global, refl, ap, AllByRecursion, IsStrictlySortedBy, Data, items_of, items_view, members_view, Value, text_cmp, list_of_items, names}
 use Rattle.std.specs.Map.{keys_of}
 use Rattle.serde_json.proofs.Views.{Entry}
 
@@ -21,3 +21,7 @@ names_sorted (e ∷ es) h = (names_above e.0 es h.0, names_sorted es h.1)
 pub list_of_items-items_of : (ds : List Data) → list_of_items (items_of ds) ≡ ds
 list_of_items-items_of [] = refl
 list_of_items-items_of (d ∷ ds) = ap (λ es. d ∷ es) (list_of_items-items_of ds)
+
+pub both_empty : {A : Type 0} (xs ys : List A) → xs ++ ys ≡ [] → (xs ≡ []) × (ys ≡ [])
+both_empty [] ys e = (refl, e)
+both_empty (x ∷ xs) ys e = cc

@@ -1,23 +1,5 @@
--- Entries that the visitor does not compare with earlier ones: what is told of them is the same whether they are compared or not, and texts may be passed over.
-use Rattle.erd_check.proofs.Common.{◌≡◌, ℕ, Bool, true, false, ◌&&◌, List, [], ◌∷◌, ◌++◌, length, IfSome, Some, Option, refl, ap, ◌∙◌, ap₂, list_all, list_any, option_map_or, Data, string, array, object, Items, no_items, item, items_of, Family, Step, At, is_text, is_reference, is_same_json, faults_of, Telling, told_at, told_of_items, told_of_members, AreItemsInOrder, AreItemsKnown, IsOfValueAlone, AreEntriesSilent, AreEntriesKnown, AreEntriesInOrder, scope_inside, entry_want, is_compared_set, reasons, IsAskedInRange, Want, Reference}
-
-module _ (tells : Telling) (w : Want) (alone : IsOfValueAlone tells w) where
-  told_alone : (outer owner : Data) (p : List Step) (one other : Bool) (d : Data) → told_at tells outer owner p w one d ≡ told_at tells outer owner p w other d
-  told_alone outer owner p one other (array ds) =
-      ap (λ rs. faults_of p rs ++ option_map_or (λ v. told_of_items tells owner (array ds) p v (is_compared_set w) [] ds) (entry_want w) []) (alone outer one other (array ds))
-  told_alone outer owner p one other (object ms) =
-      ap (λ rs. faults_of p rs ++ told_of_members tells owner (object ms) p (scope_inside w (object ms)) ms) (alone outer one other (object ms))
-  told_alone outer owner p one other e = ap (faults_of p) (alone outer one other e)
-
-  pub items_alone : (outer owner : Data) (p : List Step) (one other : Bool) (earlier : List Data) (ds : Items) → told_of_items tells outer owner p w one earlier ds ≡ told_of_items tells outer owner p w other earlier ds
-  items_alone outer owner p one other earlier no_items = refl
-  items_alone outer owner p one other earlier (item d ds) =
-      let here = p ++ At (length earlier) ∷ [] in
-      let repeated = list_any (is_same_json d) earlier in
-      ap (λ fs. fs ++ told_of_items tells outer owner p w one (earlier ++ d ∷ []) ds) (told_alone outer owner here (one && repeated) (other && repeated) d)
-      ∙ ap (λ fs. told_at tells outer owner here w (other && repeated) d ++ fs) (items_alone outer owner p one other (earlier ++ d ∷ []) ds)
-
--- ---- the walk may pass over the entries of an array of references if they are all texts
+-- The walk may pass over an array of references that are all texts.
+use Rattle.erd_check.proofs.Common.{◌≡◌, ℕ, Bool, true, false, cond, ◌&&◌, List, [], ◌∷◌, ◌++◌, length, IfSome, Some, Option, refl, ap, ap₂, list_all, list_any, option_map_or, Data, string, array, Items, items_of, Family, kind, Step, At, is_text, is_empty_array, is_reference, is_same_json, faults_of, told_of_items, AreItemsInOrder, AreItemsKnown, IsInOrder, IsKnown, IsSilentMember, entry_want, is_compared_set, EmptyArray, reasons, IsAskedInRange, Want, Member, Reference}
 
 no_reason : (f : Family) (repeated : Bool) (s : List ℕ) → reasons (Reference f) repeated (string s) ≡ []
 no_reason f true s = refl
@@ -57,12 +39,20 @@ in_order_where : (o : Option Want) → option_map_or is_reference o false ≡ tr
 in_order_where (Some (Reference f)) e ds t = texts_in_order f ds t
 in_order_where _ e ds t = cc
 
+-- of the array itself, nothing is told if it has an entry
+none_of_array : (w : Want) → option_map_or is_reference (entry_want w) false ≡ true → (ds : Items) → is_empty_array (array ds) ≡ false → reasons w false (array ds) ≡ []
+none_of_array (Member (kind.Many f) true) e ds some = ap (λ b. cond b (EmptyArray ∷ []) [] ++ []) some
+none_of_array (Member (kind.Many f) false) e ds some = refl
+none_of_array (Member kind.Ordered required) e ds some = refl
+none_of_array w e ds some = cc
+
 module _ (w : Want) (references : option_map_or is_reference (entry_want w) false ≡ true) (ds : List Data) (texts : list_all is_text ds ≡ true) where
-  pub texts_silent : (outer : Data) → AreEntriesSilent (λ outer. reasons) outer w (items_of ds)
-  texts_silent outer owner p = told_where (entry_want w) references outer owner p (is_compared_set w) ds texts
+  pub texts_silent : is_empty_array (array (items_of ds)) ≡ false → (owner : Data) → IsSilentMember (λ outer. reasons) owner w (array (items_of ds))
+  texts_silent some owner outer p =
+      ap₂ ◌++◌ (ap (faults_of p) (none_of_array w references (items_of ds) some)) (told_where (entry_want w) references owner (array (items_of ds)) p (is_compared_set w) ds texts)
 
-  pub are_texts_known : AreEntriesKnown IsAskedInRange w (items_of ds)
-  are_texts_known = known_where (entry_want w) references ds texts
+  pub texts_are_known : IsKnown IsAskedInRange w (array (items_of ds))
+  texts_are_known = (λ h. cc, known_where (entry_want w) references ds texts)
 
-  pub are_texts_in_order : AreEntriesInOrder w (items_of ds)
-  are_texts_in_order = in_order_where (entry_want w) references ds texts
+  pub texts_are_in_order : IsInOrder w (array (items_of ds))
+  texts_are_in_order = in_order_where (entry_want w) references ds texts

@@ -1,5 +1,5 @@
 -- What a walk over a report reports, in the order in which it visits the values, and what is known after it.
-use Rattle.std.specs.Prelude.{◌≡◌, ℕ, List, [], ◌∷◌, ◌++◌, Bool, false, ◌&&◌, map, length, IfSome, ⊤}
+use Rattle.std.specs.Prelude.{◌≡◌, List, [], ◌∷◌, ◌++◌, Bool, false, ◌&&◌, map, length, IfSome, ⊤}
 use Rattle.std.specs.List.{list_any}
 use Rattle.std.specs.List.Sorted.{IsStrictlySortedBy}
 use Rattle.std.specs.Option.{option_map_or}
@@ -26,10 +26,6 @@ faults_of p = map (fault_at p)
 -- entry of its set, and the value itself.
 abbrev pub Telling : Type 0
 Telling = Data → Want → Bool → Data → List Reason
-
--- What two walks report of a value, one after the other.
-abbrev pub both_tell : Telling → Telling → Telling
-both_tell one other outer w repeated d = one outer w repeated d ++ other outer w repeated d
 
 -- What is reported of a value, or of entries or members, and of all values inside. Each is given the values two steps and
 -- one step above it. For the report itself and its members, these are the report.
@@ -97,27 +93,10 @@ abbrev mutual
   AreMembersKnown Known s no_members = ⊤
   AreMembersKnown Known s (member k d ms) = IfSome (want_of_name s k) (λ v. IsKnown Known v d) × AreMembersKnown Known s ms
 
--- Nothing is told of any value of which this is asked, nor of the values inside it.
-abbrev pub IsSilent : Telling → Want → Type 0
-IsSilent tells w = (outer owner : Data) (p : List Step) (repeated : Bool) (d : Data) → told_at tells outer owner p w repeated d ≡ []
-
--- What is told of a value of which this is asked does not depend on whether it equals an earlier entry of its set.
-abbrev pub IsOfValueAlone : Telling → Want → Type 0
-IsOfValueAlone tells w = (outer : Data) (one other : Bool) (d : Data) → tells outer w one d ≡ tells outer w other d
-
--- Nothing is told of a text of which this is asked and that equals no earlier entry of a set.
-abbrev pub IsSilentText : Telling → Want → List ℕ → Type 0
-IsSilentText tells w s = (outer : Data) → tells outer w false (string s) ≡ []
-
--- `Known` holds of any value of which this is asked, and of the values inside it.
-abbrev pub IsKnownOfAll : (Want → Data → Type 0) → Want → Type 0
-IsKnownOfAll Known w = (d : Data) → IsKnown Known w d
-
--- Of the entries of an array, and of the values inside them, nothing is told, wherever the array stands. What is asked of the
--- array and the value that has it are given.
-abbrev pub AreEntriesSilent : Telling → Data → Want → Items → Type 0
-AreEntriesSilent tells outer w ds =
-    (owner : Data) (p : List Step) → option_map_or (λ v. told_of_items tells outer owner p v (is_compared_set w) [] ds) (entry_want w) [] ≡ []
+-- Nothing is told of a member, nor of the values inside it, wherever its object stands. The object, what is asked of the member, and
+-- its value are given.
+abbrev pub IsSilentMember : Telling → Data → Want → Data → Type 0
+IsSilentMember tells owner w d = (outer : Data) (p : List Step) → told_at tells outer owner p w false d ≡ []
 
 -- `Known` holds of the entries of an array of which this is asked, and of the values inside them.
 abbrev pub AreEntriesKnown : (Want → Data → Type 0) → Want → Items → Type 0

@@ -1,13 +1,13 @@
 ghost use Rattle.std.specs.Prelude.{◌≡◌, ◌++◌, [], false, true, map, not, IfOk, IsTrue};
-ghost use Rattle.serde_json.specs.Data.{string};
+ghost use Rattle.serde_json.specs.Data.{Data, array, string};
 ghost use Rattle.std.specs.List.{list_all};
 ghost use Rattle.std.specs.Option.{option_map_or, option_to_list};
 ghost use Rattle.serde_json.specs.Find.{is_float};
-ghost use Rattle.serde_json.specs.View.{view, number_view};
+ghost use Rattle.serde_json.specs.View.{view, items_view, number_view};
 ghost use Rattle.erd_check.specs.Faults.{has_kind, has_wanted_kind, names_wanted, is_not_whole, is_reference, is_text, lacks};
 ghost use Rattle.erd_check.specs.Numbers.{IsFittingNumber, IsInRange};
 ghost use Rattle.erd_check.specs.code.Walk.{IsAskedInRange, other_reasons, missing, reasons};
-ghost use Rattle.erd_check.specs.Visits.{faults_of};
+ghost use Rattle.erd_check.specs.Visits.{faults_of, IsInOrder, IsKnown, IsSilentMember};
 ghost use Rattle.erd_check.specs.Wants.{entry_want};
 ghost use Rattle.erd_check.specs.Paths.{steps_of};
 
@@ -34,28 +34,20 @@ impl Visitor for ShapeJudge {
 
     ghost is_thorough = { λ _. true };
 
-    /// The shape is judged at each value.
-    fn enters(&self, want: Want) -> bool {
-        true
-    }
-
-    fn compares(&self, want: Want) -> bool {
-        is_compared_here(want)
-    }
-
-    fn passes_over_text(&self, want: Want, text: &str) -> bool {
-        is_sound_text(want, text)
-    }
-
-    /// Of a reference, the shape asks only that it is a text.
+    /// Most members are texts of which no more is asked, or arrays of references, of which the shape asks only that they are
+    /// texts.
     fn passes_over(
         &self,
         alloc: Global,
         want: Want,
-        object: &Value,
-        items: &[Value],
+        owner: &Value,
+        value: &Value,
     ) -> Result<bool, AllocError> {
-        Ok(has_references(want) && are_texts(items))
+        match value {
+            Value::String(text) => Ok(is_sound_text(want, text.as_str())),
+            Value::Array(items) => Ok(is_sound_array(want, items.as_slice())),
+            _ => Ok(false),
+        }
     }
 
     fn visit(
@@ -115,6 +107,19 @@ fn is_sound_text(want: Want, text: &str) -> bool
         Want::Reference(_) => true,
         _ => false,
     }
+}
+
+/// Returns `true` only if the shape asks for an array of references and no more than these entries: they are texts, and there is
+/// one at least.
+fn is_sound_array(want: Want, items: &[Value]) -> bool
+    ensures silent { result ≡ true → (owner : Data) → IsSilentMember (λ outer. reasons) owner want (array (items_view items.now)) }
+    ensures known { result ≡ true → IsKnown IsAskedInRange want (array (items_view items.now)) }
+    ensures in_order { result ≡ true → IsInOrder want (array (items_view items.now)) }
+{
+    if items.is_empty() {
+        return false;
+    }
+    has_references(want) && are_texts(items)
 }
 
 /// Returns whether each of the entries is a text.

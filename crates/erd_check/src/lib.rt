@@ -12,6 +12,7 @@ mod ordered_value;
 pub mod path;
 mod shape_faults;
 mod shaped;
+mod silent;
 pub mod value_set;
 pub mod values;
 pub mod visitor;

@@ -1,13 +1,13 @@
 //! What a walk over a report does at each value.
-ghost use Rattle.std.specs.Prelude.{◌≡◌, ◌++◌, List, Bool, false, true, map, IfOk, IsTrue};
+ghost use Rattle.std.specs.Prelude.{◌≡◌, ◌++◌, List, Bool, map, IfOk, IsTrue};
 ghost use Rattle.std.specs.List.{list_any};
-ghost use Rattle.serde_json.specs.Data.{Data, string};
-ghost use Rattle.serde_json.specs.View.{view, items_view};
+ghost use Rattle.serde_json.specs.Data.{Data};
+ghost use Rattle.serde_json.specs.View.{view};
 ghost use Rattle.erd_tables.specs.declared.fault.Reason.{Reason};
 ghost use Rattle.erd_check.specs.Trees.{is_same_json};
 ghost use Rattle.erd_check.specs.Wants.{scope_inside};
 ghost use Rattle.erd_check.specs.Paths.{steps_of};
-ghost use Rattle.erd_check.specs.Visits.{faults_of, AreEntriesInOrder, AreEntriesKnown, AreEntriesSilent, IsKnownOfAll, IsOfValueAlone, IsSilent, IsSilentText};
+ghost use Rattle.erd_check.specs.Visits.{faults_of, IsInOrder, IsKnown, IsSilentMember};
 ghost use Rattle.erd_check.specs.declared.want.Want.{Want as Asked};
 
 use crate::path::Path;
@@ -32,8 +32,8 @@ pub struct Position<'a> {
 pub struct Visit<'a> {
     /// What the member table asks of the value.
     pub want: Want,
-    /// Earlier entries of the set, if the value is an entry of a set whose entries the visitor compares. One of them is equal
-    /// to the value if and only if any earlier entry of the set is. For other values there are none.
+    /// Earlier entries of the set, if the value is an entry of a set. One of them is equal to the value if and only if any
+    /// earlier entry of the set is. For other values there are none.
     pub earlier: &'a [Value],
     /// Where the value is.
     pub position: Position<'a>,
@@ -48,28 +48,11 @@ pub trait Visitor {
     // What is known of a value after the visit. It depends on what is asked of the value.
     ghost Known: { Self → Asked → Data → Type 0 };
 
-    // True for a visitor that the walk takes to each value of which the table asks something.
+    // True for a visitor that passes over no object of which the table asks something, unless its members stand in order.
     ghost is_thorough: { Self → Bool };
 
-    /// Returns whether the walk goes to the members of which this is asked. If not, the visitor has nothing to tell of such
-    /// a member, nor of a value inside it.
-    fn enters(&self, want: Want) -> bool
-        ensures thorough { IsTrue (is_thorough self.now) → IsTrue result }
-        ensures silent { result ≡ false → IsSilent (tells self.now) want }
-        ensures known { result ≡ false → IsKnownOfAll (Known self.now) want };
-
-    /// Returns whether the visitor compares an entry of which this is asked with the earlier entries of its set. If not, what
-    /// it tells of the entry does not depend on them, and the walk looks for no equal entry.
-    fn compares(&self, want: Want) -> bool
-        ensures { result ≡ false → IsOfValueAlone (tells self.now) want };
-
-    /// Returns `true` only if the walk may pass over a member whose value is this text: then the visitor has nothing to tell of it.
-    fn passes_over_text(&self, want: Want, text: &str) -> bool
-        ensures silent { result ≡ true → IsSilentText (tells self.now) want text.now }
-        ensures known { result ≡ true → Known self.now want (string text.now) };
-
-    /// Returns `true` only if the walk may pass over the entries of an array: then the visitor has nothing to tell of them, nor
-    /// of the values inside them. `want` is what is asked of the array, and `object` is the value that has it.
+    /// Returns `true` only if the walk may pass over a member: then the visitor has nothing to tell of its value, nor of the values
+    /// inside it. `want` is what is asked of the member, and `owner` is the object that has it.
     ///
     /// # Errors
     ///
@@ -78,12 +61,12 @@ pub trait Visitor {
         &self,
         alloc: Global,
         want: Want,
-        object: &Value,
-        items: &[Value],
+        owner: &Value,
+        value: &Value,
     ) -> Result<bool, AllocError>
-        ensures silent { IfOk result (λ passes. IsTrue passes → AreEntriesSilent (tells self.now) (view object.now) want (items_view items.now)) }
-        ensures known { IfOk result (λ passes. IsTrue passes → AreEntriesKnown (Known self.now) want (items_view items.now)) }
-        ensures in_order { IfOk result (λ passes. IsTrue passes → IsTrue (is_thorough self.now) → AreEntriesInOrder want (items_view items.now)) };
+        ensures silent { IfOk result (λ passes. IsTrue passes → IsSilentMember (tells self.now) (view owner.now) want (view value.now)) }
+        ensures known { IfOk result (λ passes. IsTrue passes → IsKnown (Known self.now) want (view value.now)) }
+        ensures in_order { IfOk result (λ passes. IsTrue passes → IsTrue (is_thorough self.now) → IsInOrder want (view value.now)) };
 
     /// Adds the faults of the value to the end of the list, but not those of the values inside it. `scope` is that
     /// of the members of the value, as `scope_of` returns it.

@@ -31,16 +31,17 @@ pub use Rattle.erd_meaning.specs.RankedNames.{with_ranks}
 pub use Rattle.erd_meaning.specs.Records.{key_set, class_of_node, is_header_class, nodes_of, node_of, unless_empty}
 pub use Rattle.erd_meaning.specs.code.NumberedOrders.{numbered_name_cmp_total, numbered_name_cmp_exact}
 pub use Rattle.erd_meaning.specs.declared.keys.key.Key.{Key}
-pub use Rattle.erd_compare.specs.Differences.{part_number, part_cmp, record_with_key, record_without_key, record_at, Differ, IsDifference, DifferFirstAt, IsFirstDifference}
+pub use Rattle.erd_compare.specs.Differences.{part_number, part_cmp, record_with_key, record_without_key, record_at, Differ, IsDifference, DifferFirstAt, IsFirstDifference, first_of, Stands, DifferIn, AreDifferent, AgreeBut, member_of, difference_cmp, AreDifferences}
 pub use Rattle.erd_compare.specs.code.Choices.{is_carried_kind, takes_name, chosen_members, members_in, chosen_in, translated_label}
 pub use Rattle.erd_compare.specs.code.CommonNames.{role_of_name, ranks_in_name, name_by_ranks, name_by_ranks_of, ranks_told, name_told, name_eq, names_on, names_of_both, number_of_name, number_of_selection, numbers_on, AreNameNumbers}
 pub use Rattle.erd_compare.specs.code.CommonRanks.{place_of, common_rank, rank_of_key, AreCommonRanks, common_ranks_in, AreAllCommonRanks, common_rank_of, next_cmp}
-pub use Rattle.erd_compare.specs.code.Comparing.{NamesKeys, Decides, TellsHow, RecordMap, TellsPart, DifferAtKey, DifferAtPart, IsWholeTree}
-pub use Rattle.erd_compare.specs.code.HeldDifferences.{is_before_election, HasNoElectionId, TellsHeld}
-pub use Rattle.erd_compare.specs.code.KeyedDifferences.{role_of_part, objects_in, key_with_role, keys_in_role, key_in_role, holder_in, holder_key_in, is_ranked, rising_in_role, shared, shared_at, TellsAtPositions, TellsLeast, IsOnly, IsOnlyLesser, TellsNext, HasKeyAt, IsComparable}
+pub use Rattle.erd_compare.specs.code.Comparing.{NamesKeys, Decides, RecordMap, TellsPart, DifferAtKey, DifferAtPart, IsWholeTree}
+pub use Rattle.erd_compare.specs.code.DifferingWays.{hows_of, AreWays, DifferInNames}
+pub use Rattle.erd_compare.specs.code.HeldDifferences.{with_name, HasNoElectionId, TellsHeld}
+pub use Rattle.erd_compare.specs.code.KeyedDifferences.{role_of_part, objects_in, key_with_role, keys_in_role, key_in_role, holder_in, holder_key_in, is_ranked, rising_in_role, shared, map_of, TellsAtPositions, TellsLeast, HasKeyAt, IsComparable}
 pub use Rattle.erd_compare.specs.code.LeastNames.{MemberMap, record_of_class, TellsLeastName, lesser_name, DifferAtName}
 pub use Rattle.erd_compare.specs.code.MemberPairs.{IsMapOf, DecideNames, IsPairOf}
-pub use Rattle.erd_compare.specs.code.NamesInStep.{members_left, names_left, first_of, names_past, AreMembersOf}
+pub use Rattle.erd_compare.specs.code.NamesInStep.{members_left, names_left, names_past, AreMembersOf}
 pub use Rattle.erd_compare.specs.code.PlacedObjects.{IsPlaced, AreSelectionsAt, AreSelectionsIn}
 pub use Rattle.erd_compare.specs.code.PlainParts.{means_nothing, meant_value, plain_found, member_found}
 pub use Rattle.erd_compare.specs.code.RankedSides.{on_side, rank_with_id, list_of_ranks, rank_set, AreCommonByRank, IsRankSet}
@@ -51,6 +52,7 @@ pub use Rattle.erd_compare.specs.declared.difference.How.{How}
 pub use Rattle.erd_compare.specs.declared.difference.How.TheVariants.{Member, OnlyLeft, OnlyRight, OtherClass}
 pub use Rattle.erd_compare.specs.declared.difference.Part.{Part, Part as part}
 pub use Rattle.erd_compare.specs.declared.objects.least_name.MemberPair.{MemberPair}
+pub use Rattle.erd_compare.specs.declared.objects.ways.Ways.{Ways, Ways as ways}
 pub use Rattle.erd_compare.specs.declared.ranks.common_ranks.CommonRanks.{CommonRanks}
 pub use Rattle.erd_compare.specs.declared.ranks.common_ranks.Side.{Side}
 pub use Rattle.erd_compare.specs.declared.ranks.common_ranks.Side.TheVariants.{Left, Right}

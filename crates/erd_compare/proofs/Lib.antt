@@ -13,3 +13,5 @@ pub mod same_selections
 pub mod least_difference
 -- differences of small reports and edits of them, by computation
 pub mod examples
+-- what is told are all differences: each part, key and name
+pub mod differing

@@ -2,3 +2,4 @@ mod DifferenceExamples
 pub mod FirstDifferenceExamples
 mod BallotDifferenceExamples
 mod ElectionDifferenceExamples
+mod AllDifferenceExamples

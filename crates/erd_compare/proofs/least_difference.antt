@@ -1,9 +1,6 @@
 pub mod StepWalks
 pub mod NameWalks
 pub mod PairWalks
-pub mod HeldRecords
 pub mod KeyedRecords
 pub mod RisingKeys
-pub mod SharedRanks
-pub mod KeyWalks
 pub mod PartsInOrder

@@ -1,5 +1,7 @@
--- The first difference of two meanings. All of this is the profile's own.
-use Rattle.std.specs.Prelude.{ℕ, ◌≡◌, ◌≢◌, List, Option, Some, None}
+-- The first difference of two meanings, and the list of all. All of this is the profile's own.
+use Rattle.std.specs.Prelude.{ℕ, ◌≡◌, ◌≢◌, ◌⊎◌, List, [], ◌∷◌, Option, Some, None, ⊤}
+use Rattle.std.specs.List.{AllByRecursion}
+use Rattle.std.specs.List.Sorted.{IsStrictlySortedBy}
 use Rattle.std.specs.Option.{option_cmp}
 use Rattle.std.specs.Ordering.{nat_cmp, ordering_then}
 use Rattle.std.specs.declared.cmp.Ordering.{Ordering}
@@ -87,3 +89,53 @@ pub record IsFirstDifference (m n : Meaning) (d : Difference) : Type 0 where
 abbrev pub IsDifference : Meaning → Meaning → Option Difference → Type 0
 IsDifference m n None = m ≡ n
 IsDifference m n (Some d) = IsFirstDifference m n d
+
+-- ---- all differences
+
+-- The first of the list, if there is one.
+abbrev pub first_of : {A : Type 0} → List A → Option A
+first_of [] = None
+first_of (x ∷ xs) = Some x
+
+-- The value stands in the list.
+abbrev pub Stands : {A : Type 0} → A → List A → Type 0
+Stands x [] = ⊥
+Stands x (y ∷ ys) = (y ≡ x) ⊎ Stands x ys
+
+-- A way in which two records differ: only one side has a record; or the classes differ; or the classes are equal, and the
+-- members with this name differ.
+abbrev pub DifferIn : Option ObjectRecord → Option ObjectRecord → How → Type 0
+DifferIn None None how = ⊥
+DifferIn (Some a) None how = how ≡ OnlyLeft
+DifferIn None (Some b) how = how ≡ OnlyRight
+DifferIn (Some a) (Some b) OnlyLeft = ⊥
+DifferIn (Some a) (Some b) OnlyRight = ⊥
+DifferIn (Some a) (Some b) OtherClass = a.class ≢ b.class
+DifferIn (Some a) (Some b) (Member name) = (a.class ≡ b.class) × (a.members name ≢ b.members name)
+
+-- The two meanings differ at the part and the key of the difference, in its way.
+abbrev pub AreDifferent : Meaning → Meaning → Difference → Type 0
+AreDifferent m n d = DifferIn (record_at m d.part d.key) (record_at n d.part d.key) d.how
+
+-- Two records agree, but for the ways that are told.
+abbrev pub AgreeBut : (How → Type 0) → Option ObjectRecord → Option ObjectRecord → Type 0
+AgreeBut told None None = ⊤
+AgreeBut told (Some a) None = told OnlyLeft
+AgreeBut told None (Some b) = told OnlyRight
+AgreeBut told (Some a) (Some b) = told OtherClass ⊎ ((a.class ≡ b.class) × ((name : List ℕ) → (a.members name ≡ b.members name) ⊎ told (Member name)))
+
+-- The name of the member that differs, or none if the reports differ in another way.
+abbrev pub member_of : How → Option (List ℕ)
+member_of (Member name) = Some name
+member_of how = None
+
+-- Differences are compared by their parts, then by their keys, and then by the names of members.
+abbrev pub difference_cmp : Difference → Difference → Ordering
+difference_cmp d e = ordering_then (part_cmp d.part d.key e.part e.key) (option_cmp text_cmp (member_of d.how) (member_of e.how))
+
+-- These are all differences of the two meanings, in rising order: the meanings differ in each of them, and but for these they
+-- agree at every part and key.
+pub record AreDifferences (m n : Meaning) (ds : List Difference) : Type 0 where
+  pub rise : IsStrictlySortedBy difference_cmp ds
+  pub differ : AllByRecursion (AreDifferent m n) ds
+  pub all : (p : Part) (k : Option Key) → AgreeBut (λ how. Stands (record { part = p; key = k; how = how }) ds) (record_at m p k) (record_at n p k)

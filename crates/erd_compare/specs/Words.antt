@@ -18,5 +18,5 @@ pub use Rattle.erd_meaning.specs.SelectionNames.{key_named, keys_named, name_nam
 pub use Rattle.erd_meaning.specs.declared.keys.key.Key.{Key}
 pub use Rattle.erd_compare.specs.DifferenceData.{difference_data, key_data}
 pub use Rattle.erd_compare.specs.DifferenceLine.{difference_line, how_text, key_as_json, key_text, part_text}
-pub use Rattle.erd_compare.specs.Differences.{record_at, IsDifference}
+pub use Rattle.erd_compare.specs.Differences.{first_of, record_at, AreDifferences, AreDifferent, IsDifference, Stands}
 pub use Rattle.erd_compare.specs.declared.difference.How.TheVariants.{Member, OnlyLeft, OnlyRight}

@@ -8,7 +8,11 @@ pub mod SelectionsByName  -- objects: which selection has a name, and the select
 pub mod NamesInStep  -- objects: the members that are left, as those of two objects are walked in step by their names
 pub mod LeastNames  -- objects: the least name of a member at which two objects differ
 pub mod MemberPairs  -- objects: what two objects have under one name, and the answers that decide whether it is the same
-pub mod HeldDifferences  -- objects: how two objects differ with the keys of the elections that hold them
+pub mod DifferingNames  -- objects: all names at which two objects differ
+pub mod DifferingWays  -- objects: the ways in which two objects differ, all or the first
+pub mod DifferingParts  -- all differences in a part
+pub mod DifferingKeys  -- the keys of a part at which two reports differ
+pub mod HeldDifferences  -- objects: the ways in which two objects differ with the keys of the elections that hold them
 pub mod KeyedDifferences  -- the first difference: the least key at which two reports differ in a part
 pub mod CommonRanks  -- ranks: which rank stands for a key of either report
 pub mod RankedSides  -- ranks: the ranks of keys on either side

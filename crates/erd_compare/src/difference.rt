@@ -43,8 +43,8 @@ pub enum How {
     OnlyRight,
     /// The two objects have different classes.
     OtherClass,
-    /// The objects have the same class and differ in a member. This is the least name of such a member. If the keys of the
-    /// elections that hold them differ, `ElectionId` is such a name.
+    /// The objects have the same class and differ in the member with this name. If the keys of the elections that hold them
+    /// differ, `ElectionId` is such a name.
     Member(Text),
 }
 
@@ -58,7 +58,7 @@ impl How {
     }
 }
 
-/// The first difference between two reports.
+/// A difference between two reports.
 #[derive(Debug, Drop)]
 pub struct Difference {
     /// The part of the report that differs.

@@ -1,15 +1,19 @@
-ghost use Rattle.std.specs.Prelude.{◌≡◌, option_copied, IfOk};
-ghost use Rattle.erd_compare.specs.Words.{view, meaning, IsDifference};
+ghost use Rattle.std.specs.Prelude.{◌≡◌, ◌↔◌, [], IfOk};
+ghost use Rattle.erd_compare.specs.Words.{view, meaning, AreDifferences, AreDifferent, IsDifference, Stands, first_of};
+ghost use Rattle.erd_compare.specs.declared.difference.Difference.{Difference as difference};
 ghost use Rattle.erd_compare.specs.code.Comparing.{TellsPart};
 
+mod key_steps;
 mod tables;
+mod told;
 
 use crate::comparer::Comparer;
 use crate::difference::{Difference, Part};
-use crate::first::tables::{KeyedDifference, least_difference};
+use crate::first::key_steps::{first_keyed, push_differences};
+use crate::first::told::copied;
 use crate::ranks::common_ranks::CommonRanks;
 use crate::ranks::name_numbers::names_of_both;
-use erd_meaning::{Key, Report};
+use erd_meaning::Report;
 use std::alloc::{AllocError, Global};
 
 /// The parts in the order in which they are compared.
@@ -69,28 +73,60 @@ pub fn first_difference(
     Ok(None)
 }
 
-/// Returns the first difference between the two reports at a part.
-pub(crate) fn part_difference(
-    comparer: &Comparer,
-    part: Part,
-) -> Result<Option<Difference>, AllocError>
-    ensures { IfOk result (TellsPart (meaning comparer.now.left.prefer (view comparer.now.left.tree)) (meaning comparer.now.right.prefer (view comparer.now.right.tree)) part) }
+/// Returns all differences between the meanings of two reports, in rising order: none if and only if they mean the same. Both
+/// reports must have been resolved under the same preference.
+///
+/// They rise by their parts, then by their keys, where an election without a key comes before those with one, and then by the
+/// names of members. If only one report has an object with a key, that is one difference, and if the objects with a key have
+/// different classes, that is one. Otherwise there is one for each member that differs. So the first of the list is what
+/// `first_difference` returns.
+///
+/// The code walks the two reports once, as `first_difference` does, and goes on past each difference.
+///
+/// # Errors
+///
+/// `AllocError` if out of memory.
+///
+/// ```
+/// assert!(rt; differences(alloc, &report, &report)?.is_empty());
+/// ```
+pub fn differences(
+    alloc: Global,
+    left: &Report,
+    right: &Report,
+) -> Result<Vec<Difference>, AllocError>
+    requires one_preference { left.now.prefer ≡ right.now.prefer }
+    ensures all { IfOk result (λ found. AreDifferences (meaning left.now.prefer (view left.now.tree)) (meaning right.now.prefer (view right.now.tree)) found.items) }
+    ensures each { IfOk result (λ found. (d : difference) → AreDifferent (meaning left.now.prefer (view left.now.tree)) (meaning right.now.prefer (view right.now.tree)) d → Stands d found.items) }
+    ensures first { IfOk result (λ found. IsDifference (meaning left.now.prefer (view left.now.tree)) (meaning right.now.prefer (view right.now.tree)) (first_of found.items)) }
+    ensures same { IfOk result (λ found. (found.items ≡ []) ↔ (meaning left.now.prefer (view left.now.tree) ≡ meaning right.now.prefer (view right.now.tree))) }
 {
-    match least_difference(comparer, part)? {
-        Some(KeyedDifference { key, how }) => {
-            let key = copied(comparer.alloc, key)?;
-            Ok(Some(Difference { part, key, how }))
-        }
-        None => Ok(None),
+    // read for what they ensure: both trees are accepted, and their numbers are whole
+    let _one = left.tree();
+    let _other = right.tree();
+    let ranks = CommonRanks::of_both(alloc, left, right)?;
+    let names = names_of_both(alloc, left, right, &ranks)?;
+    let comparer = Comparer::of(alloc, left, right, &ranks, &names);
+    let mut found = Vec::new(alloc);
+    for part in PARTS {
+        push_differences(&comparer, part, &mut found)?;
     }
+    Ok(found)
 }
 
-/// Returns a copy of the key, if there is one.
-fn copied(alloc: Global, key: Option<&Key>) -> Result<Option<Key>, AllocError>
-    ensures { IfOk result (λ copy. copy ≡ option_copied key.entry) }
+/// Returns the first difference between the two reports at a part.
+fn part_difference(comparer: &Comparer, part: Part) -> Result<Option<Difference>, AllocError>
+    ensures { IfOk result (TellsPart (meaning comparer.now.left.prefer (view comparer.now.left.tree)) (meaning comparer.now.right.prefer (view comparer.now.right.tree)) part) }
 {
-    match key {
-        Some(key) => Ok(Some(key.try_clone(alloc)?)),
+    let Some(next) = first_keyed(comparer, part)? else {
+        return Ok(None);
+    };
+    match next.ways.first(comparer.alloc)? {
+        Some(how) => {
+            let key = copied(comparer.alloc, next.key)?;
+            Ok(Some(Difference { part, key, how }))
+        }
+        // a key that is found differs in some way
         None => Ok(None),
     }
 }

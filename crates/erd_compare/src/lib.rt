@@ -1,4 +1,4 @@
-//! The first difference between the meanings of two reports. The rules are those of docs/PROFILE.md.
+//! The first difference between the meanings of two reports, and all of them. The rules are those of docs/PROFILE.md.
 #![tactic(auto)]
 
 mod comparer;
@@ -10,4 +10,4 @@ mod ranks;
 mod values;
 
 pub use difference::{Difference, How, Part};
-pub use first::first_difference;
+pub use first::{differences, first_difference};

@@ -4,3 +4,5 @@
 pub mod Results
 -- a set whose keys have numbers answers as the list of its keys
 pub mod NumberedKeys
+-- what is written of a number or of a text tells where it ends
+pub mod SaltedTexts

@@ -1,7 +1,7 @@
 ghost use Rattle.std.specs.Prelude.{◌≡◌, ◌++◌, fold};
 ghost use Rattle.std.specs.Hash as fed;
 ghost use Rattle.std.specs.Hash.DefaultHasher.{initial, write};
-ghost use Rattle.erd_index.specs.Salts.{salted_number, start_of, text_number};
+ghost use Rattle.erd_index.specs.Salts.{joined_start, salted_number, start_of, text_number};
 
 use std::hash::{DefaultHasher, Hash, Hasher};
 
@@ -32,7 +32,9 @@ impl Salt {
     /// ```
     /// let joined = salt.joined(&Salt::of(3, 4));
     /// ```
-    pub fn joined(&self, other: &Salt) -> Salt {
+    pub fn joined(&self, other: &Salt) -> Salt
+        ensures { start_of result ≡ joined_start (start_of self.now) (start_of other.now) }
+    {
         let mut start = self.start;
         let mut others = other.start;
         start.write_u64(others.finish());

@@ -1,5 +1,5 @@
 -- The names that the proofs of this crate cite most, passed on from one place. Declares nothing.
-pub use Rattle.erd_text.proofs.Common.{◌≡◌, ℕ, zero, suc, ◌+◌, ◌-◌, ◌^◌, ◌<◌, ◌≤◌, Bool, true, false, cond, not, ◌&&◌, ◌||◌, ◌⊎◌, List, [], ◌∷◌, ◌++◌, map, length, take, drop, ℤ, pos, negsuc, is_none, IsSomeAnd, IfSome, if◌then◌else◌, IsTrue, nat_lt, ◌==◌, slice_get, Some, None, string_bytes, codes, Contains, filter, Option, option_map, find, flat_map, option_and_then, bytes_eq, nat_cmp, is_eq, is_lt, Ordering, Less, Equal, Greater, unwrap_or, sym, refl, ap, ◌∙◌, subst, ap₂, inl, inr, ⊎_elim, true≢false, append_assoc, append-nil, arith, length-append, Bor, rules, not-true, not-false, and_parts, and_from, or_from, false_from_ne_true, tied_itself, tied_back, nat_list_cmp_total, exact_bytes, bytes_eq-Decides, Equal-is, IsTotalOrder, slice_cmp, AllByRecursion, list_all, list_any, option_cmp, option_map_or, bool_cmp, match_ordering, ordering_reverse, ordering_then, Data, null, boolean, string, array, object, Items, no_items, item, Members, no_members, member, put, get_member, get_item, get, items_of, view, items_view, members_view, Value, then_both, steps_less, start_less, place_same, text_of_class, role_of_class, class_in_role, reason_cmp, fault_cmp, ListsAll, Row, rows_of_class, is_reference_name, kind_of_identity, kind_of_member, is_required, text_cmp, Class, class, Family, family, Role, role, Report, Fault, Reason, reason, Repeated, MemberKind, kind, Step, At, Name, ShapeFault, NoneOf, steps_of, fault_at, IsTree, is_same_json, list_of_items, entries_of, faults_of, Telling, told_at, told_of_items, told_of_members, told_of_report, IsInOrder, IsKnown, AreItemsKnown, AreMembersKnown, AreEntriesKnown, class_of_object, scope_inside, want_of_kind, is_report_class, member_want, carried_want, want_of_name, entry_want, is_compared_set, Asked, asked, is_repeated, asked_of_member, asked_inside, asked_from, asked_at, leb, ◌≢◌, get_or, replicate, is_some, IfOk, OnErr, slice_set, Ok, Err, vec_items, fold, count_by, Result, swap, IsPermutation, IsSorted, option_to_list, position, filter_map, option_copied, is_gt, add-one, lit<, length-drop, length-set, take-append-drop, length-take, take_all, get_or-append-add, ltb-false, ne_eqb, le-leb, and-true, and-false, or-false, fun_ext, append_snoc, drop-append_seam, take-append_seam, eqb-false, cases_order, or_parts, and_left, and_right, true_from_ne_false, cases_Bool, cond_both, Decides-eqb, Decides-int_eq, leb_tells, nat_cmp_total, on_total, then_total, back_total, lists_total, position_from-zero, map-append, length-map, nil_from_length, length-replicate, get_or_append_left, take-append-le, drop_more, take_more, length_push, at_drop_more, at_drop_all, IsStrictlySortedBy-filter, flat_map-append, list_any-append, flat_map_single, filter_map-append, filter-append, IsPermutation-refl, ranks_by, answers_always, IsPermutation-sym, IsPermutation-cons, IsPermutation-swap, IsPermutation-trans, IsPermutation-map, IsPermutation-append_left, IsPermutation-append_right, IsPermutation-append_comm, IsPermutation-keeps, length_permutation, list_any-IsPermutation, sum_by-IsPermutation, IsPartitionedBy-leb, IsPartitionPoint-from_clause, CmpEqualImpliesEq, exact_unsigned, same_Some, slice_get-map, slice_get_within, some_pair_parts, slice_get_read, slice_get_past, get_or_from_slice_get, IfOk-weaker, err_from_is_err_and, map-map, IsStrictWeakOrder, bool_cmp_total, both_ways, nat_eq_equiv, bytes_decides, options_total, HashWrites, fed_then, str, usize, cons_option, enumerate_from, position_from, position_or_len, IsNonDecreasingBy, IsStable, ties, lookup, option_or, eq_by_cmp, ⊤, as_str, as_object, has_float, items_have_float, members_have_float, comma_if, compact_text, items_text, members_text, place_cmp_total, place_cmp_exact, family_of_class, families, family_number, step_cmp, place_cmp, unit_rows, party_rows, person_rows, office_rows, header_rows, candidate_rows, Contest, Selection, DuplicateId, NoIdentifier, SelectionOfOtherContest, TwinIdentifier, TwinSelection, Unresolved, WrongFamily, none_from_empty, less, tree_sound, if_some, tree_in_order, no_fault_listed, entries_in, array_from, list_of_items_exact, list_of_items-place, object_in, object_at, report_class, election_class, not_empty, is_absent, is_filled_array, keyed_list, MayBeArray, ObjectAt, ObjectIn, asked_at-step, Within-step, Within-root, not_within, of_role, asked_inside_object, faultless, wanted_within, lacks_none, member_within, Within, kind_of_class, kind_of_name, kind_of_id, want_by_kind, and_then-Some, option_map-Some, some_from, position_of, all_weakened, in_at, In, In-append_left, In-append_right, In-append, In-map, In-map_from, In-flat_map, any_at, In-filter, In-filter_kept, In-from_contains, contains_from_In, all_from_In, In-all, Below, sorted_append, rising_unique, In-any, all_hold, each_holds, In-flat_map_from, tree_of, small_ballot_with, header_node, contest_node, small_ballot, small_ballot_canonical, election, one_unit, with_report_member, with_unit_member, with_election_member, report_of_two, two_elections_with, two_elections, three_contests, outer_place, walk_lists, Agrees, Around, RefusedFor, IsFaultless, entries_at, text_at, IsSilent, IsKnownOfAll, Want, Carried, ClassText, Member, Reference, Status, with_inserted, rising_list, compact_cmp, with_rising_text, Entry, value_tokens, items_tokens, members_tokens}
+pub use Rattle.erd_text.proofs.Common.{◌≡◌, ℕ, zero, suc, ◌+◌, ◌-◌, ◌^◌, ◌<◌, ◌≤◌, Bool, true, false, cond, not, ◌&&◌, ◌||◌, ◌⊎◌, List, [], ◌∷◌, ◌++◌, map, length, take, drop, ℤ, pos, negsuc, is_none, IsSomeAnd, IfSome, if◌then◌else◌, IsTrue, nat_lt, ◌==◌, slice_get, Some, None, string_bytes, codes, Contains, filter, Option, option_map, find, flat_map, option_and_then, bytes_eq, nat_cmp, is_eq, is_lt, Ordering, Less, Equal, Greater, unwrap_or, sym, refl, ap, ◌∙◌, subst, ap₂, inl, inr, ⊎_elim, true≢false, append_assoc, append-nil, arith, length-append, Bor, rules, not-true, not-false, and_parts, and_from, or_from, false_from_ne_true, tied_itself, tied_back, nat_list_cmp_total, exact_bytes, bytes_eq-Decides, Equal-is, IsTotalOrder, slice_cmp, AllByRecursion, list_all, list_any, option_cmp, option_map_or, bool_cmp, match_ordering, ordering_reverse, ordering_then, Data, null, boolean, string, array, object, Items, no_items, item, Members, no_members, member, put, get_member, get_item, get, items_of, view, items_view, members_view, Value, then_both, steps_less, start_less, place_same, text_of_class, role_of_class, class_in_role, reason_cmp, fault_cmp, ListsAll, Row, rows_of_class, is_reference_name, kind_of_identity, kind_of_member, is_required, text_cmp, Class, class, Family, family, Role, role, Report, Fault, Reason, reason, Repeated, MemberKind, kind, Step, At, Name, ShapeFault, NoneOf, steps_of, fault_at, IsTree, is_same_json, list_of_items, entries_of, faults_of, Telling, told_at, told_of_items, told_of_members, told_of_report, IsInOrder, IsKnown, AreItemsKnown, AreMembersKnown, class_of_object, scope_inside, want_of_kind, is_report_class, member_want, carried_want, want_of_name, entry_want, is_compared_set, Asked, asked, is_repeated, asked_of_member, asked_inside, asked_from, asked_at, leb, ◌≢◌, get_or, replicate, is_some, IfOk, OnErr, slice_set, Ok, Err, vec_items, fold, count_by, Result, swap, IsPermutation, IsSorted, option_to_list, position, filter_map, option_copied, is_gt, add-one, lit<, length-drop, length-set, take-append-drop, length-take, take_all, get_or-append-add, ltb-false, ne_eqb, le-leb, and-true, and-false, or-false, fun_ext, append_snoc, drop-append_seam, take-append_seam, eqb-false, cases_order, or_parts, and_left, and_right, true_from_ne_false, cases_Bool, cond_both, Decides-eqb, Decides-int_eq, leb_tells, nat_cmp_total, on_total, then_total, back_total, lists_total, position_from-zero, map-append, length-map, nil_from_length, length-replicate, get_or_append_left, take-append-le, drop_more, take_more, length_push, at_drop_more, at_drop_all, IsStrictlySortedBy-filter, flat_map-append, list_any-append, flat_map_single, filter_map-append, filter-append, IsPermutation-refl, ranks_by, answers_always, IsPermutation-sym, IsPermutation-cons, IsPermutation-swap, IsPermutation-trans, IsPermutation-map, IsPermutation-append_left, IsPermutation-append_right, IsPermutation-append_comm, IsPermutation-keeps, length_permutation, list_any-IsPermutation, sum_by-IsPermutation, IsPartitionedBy-leb, IsPartitionPoint-from_clause, CmpEqualImpliesEq, exact_unsigned, same_Some, slice_get-map, slice_get_within, some_pair_parts, slice_get_read, slice_get_past, get_or_from_slice_get, IfOk-weaker, err_from_is_err_and, map-map, IsStrictWeakOrder, bool_cmp_total, both_ways, nat_eq_equiv, bytes_decides, options_total, HashWrites, fed_then, str, usize, cons_option, enumerate_from, position_from, position_or_len, IsNonDecreasingBy, IsStable, ties, lookup, option_or, eq_by_cmp, ⊤, as_str, as_object, has_float, items_have_float, members_have_float, comma_if, compact_text, items_text, members_text, place_cmp_total, place_cmp_exact, family_of_class, families, family_number, step_cmp, place_cmp, unit_rows, party_rows, person_rows, office_rows, header_rows, candidate_rows, Contest, Selection, DuplicateId, NoIdentifier, SelectionOfOtherContest, TwinIdentifier, TwinSelection, Unresolved, WrongFamily, none_from_empty, less, tree_sound, if_some, tree_in_order, no_fault_listed, entries_in, array_from, list_of_items_exact, list_of_items-place, object_in, object_at, report_class, election_class, not_empty, is_absent, is_filled_array, keyed_list, MayBeArray, ObjectAt, ObjectIn, asked_at-step, Within-step, Within-root, not_within, of_role, asked_inside_object, faultless, wanted_within, lacks_none, member_within, Within, kind_of_class, kind_of_name, kind_of_id, want_by_kind, and_then-Some, option_map-Some, some_from, position_of, all_weakened, in_at, In, In-append_left, In-append_right, In-append, In-map, In-map_from, In-flat_map, any_at, In-filter, In-filter_kept, In-from_contains, contains_from_In, all_from_In, In-all, Below, sorted_append, rising_unique, In-any, all_hold, each_holds, In-flat_map_from, tree_of, small_ballot_with, header_node, contest_node, small_ballot, small_ballot_canonical, election, one_unit, with_report_member, with_unit_member, with_election_member, report_of_two, two_elections_with, two_elections, three_contests, outer_place, walk_lists, Agrees, Around, RefusedFor, IsFaultless, entries_at, text_at, Want, Carried, ClassText, Member, Reference, Status, with_inserted, rising_list, compact_cmp, with_rising_text, Entry, value_tokens, items_tokens, members_tokens}
 unfoldable pub use Rattle.erd_text.proofs.Common.{IsStrictlySortedBy, serde_json_on_literals, IsDistinct}
 pub use Rattle.indexmap.specs.IndexMap.{get_by}
 pub use Rattle.erd_index.proofs.Results.{on_error}
@@ -20,7 +20,7 @@ pub use Rattle.erd_meaning.specs.RankedNames.{family_chosen, ranked_name, Placed
 pub use Rattle.erd_meaning.specs.Records.{json_set, if_carried, carried_members, label_beside_text, label_of, content_of, meaning, plain_value, is_in_envelope, plain_member, record_with, selection_record, selection_map, member_value, member_of_class, object_record, with_election_id, record_in_election, placed_record, placed_with_key, records_of, election_records}
 pub use Rattle.erd_meaning.specs.SelectionNames.{key_named, keys_found, keys_named, keys_of_selection, is_write_in, order_of_selection, label_of_selection, name_in_class, selection_role, name_of, class_cmp, name_cmp, name_named}
 pub use Rattle.erd_meaning.specs.code.ChosenKeys.{is_preferred, choice_cmp, choice_of_two, choice_of, choice}
-pub use Rattle.erd_meaning.specs.code.ElectionKeys.{AreSeen, is_seen, seen_with, held_from}
+pub use Rattle.erd_meaning.specs.code.ElectionKeys.{AreSeen, is_seen, seen_with}
 pub use Rattle.erd_meaning.specs.code.Indexed.{same_owned, is_salted_id, is_salted_owned}
 pub use Rattle.erd_meaning.specs.code.KeyOrders.{positioned, seen_keys, keys_seen, lent_key_cmp, AreDistinct, rank_by, positions_by, rank_in_keys, rising_positions, family_keys, HaveDistinctKeys, IsOrder}
 pub use Rattle.erd_meaning.specs.code.ObjectIndexes.{with_place, places_from, rank, number_at, number_of_id, number_of_key, contests_noted, contests_before, is_in_contest, IsStart, number_among}

@@ -8,3 +8,4 @@ pub mod orders
 pub mod meanings
 pub mod examples
 pub mod references
+pub mod salts

@@ -5,4 +5,3 @@ pub mod FoundSelections
 pub mod Known  -- what the indexes know of earlier objects
 pub mod Pushed
 pub mod ElectionsHeld  -- the elections by position, and which one holds an object
-pub mod HeldLists  -- the positions of the elections that hold objects, one after another

@@ -3,9 +3,8 @@ pub mod Orders  -- the orders of keys and names are total, and tell unequal ones
 pub mod ChosenKeys  -- the order in which the program chooses among identifiers
 pub mod NumberedOrders  -- their order is total, tells unequal ones apart, and keeps the order of names if the numbers keep that of keys
 pub mod ObjectWalk  -- the elections and the objects in the order in which the program meets them, with the faults of identity
-pub mod Collected  -- the same as one walk collects them, and as they fill the tables
-pub mod ElectionKeys  -- what the program keeps of the elections: their keys, and which holds an object
-pub mod Holding  -- the elections that hold the objects of a report
+pub mod Spots  -- the place of an object, given the positions that the program keeps of it
+pub mod ElectionKeys  -- what the program keeps of the elections: their keys
 pub mod ObjectLookups  -- look-ups among the objects that are kept
 pub mod ObjectIndexes  -- the indexes that the program keeps of the objects
 pub mod Indexed  -- when these indexes are those of the objects
@@ -18,7 +17,9 @@ pub mod RanksAmong  -- names with ranks among the objects that the program keeps
 pub mod RankedOrders  -- their order is total, and equal ones are hashed alike
 pub mod Shown  -- what the program's own structs stand for
 pub mod ShownWalks  -- what clauses see of the walks
-pub mod CollectedWalks  -- what clauses see of what is collected and filled
+pub mod CollectedWalks  -- what clauses see of what is collected
+pub mod SaltWrites  -- what the salt of a report is computed from
+pub mod SaltLaws  -- it covers all that the indexes hash
 pub mod Resolved  -- what holds of a report after each phase, and of an accepted one
 pub mod ResolvedElections  -- what holds of the elections that a report keeps
 pub mod ResolvedIndexes  -- what a report holds beside its tree

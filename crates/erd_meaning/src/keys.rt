@@ -3,6 +3,5 @@
 pub mod key;
 pub mod key_of;
 pub(crate) mod key_rule;
-pub(crate) mod salt;
 pub(crate) mod shared_key;
 pub(crate) mod triple;

@@ -17,7 +17,6 @@ use crate::names::ranked_name::RankedName;
 use crate::names::selection_name::SelectionName;
 use crate::names::sought_name::SoughtName;
 use crate::objects::election_table::ElectionTable;
-use crate::objects::holders::Holders;
 use crate::objects::order::Order;
 use crate::objects::ranked_objects::RankedObjects;
 use crate::objects::table::ObjectTable;
@@ -52,12 +51,11 @@ pub(crate) struct Indexes<'a> {
     pub(crate) elections: Elections<'a>,
 }
 
-/// The keys of the elections of a report, their order by these, and which election contains which object.
+/// The keys of the elections of a report, and their order by these.
 #[derive(Debug, Drop)]
 pub(crate) struct Elections<'a> {
     pub(crate) keys: ElectionTable<'a>,
     pub(crate) order: Order,
-    pub(crate) holders: Holders,
 }
 
 impl<'a> Model for Report<'a> {
@@ -219,7 +217,7 @@ impl<'a> Report<'a> {
     pub fn election_of(&self, family: Family, index: usize) -> Option<usize>
         ensures { result ≡ election_in family (view self.now.tree) index }
     {
-        self.elections().holders.get(family, index)
+        self.objects().election_of(family, index)
     }
 
     /// Returns the number of objects of the family.

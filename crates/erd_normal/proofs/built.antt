@@ -1,7 +1,6 @@
--- The tree that is built, part by part: what stands under each name, that it is a tree, and how deep it nests.
+-- The tree that is built, part by part: what stands under each name, and that it is a tree.
 pub mod NormalMembers
 pub mod NormalTrees
-pub mod NormalDepths
 pub mod NormalGets
 pub mod NormalReports
 pub mod NormalObjects

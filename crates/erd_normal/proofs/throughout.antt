@@ -1,4 +1,4 @@
--- What holds of each part that is built holds of all that is asked in the report that is built.
+-- What is asked in the report that is built, and of which values of the report it is built.
 pub mod InsideValues
 pub mod ThroughoutValues
 pub mod ThroughoutMembers

@@ -22,6 +22,7 @@ mod refusing;
 mod report_calls;
 mod rows;
 mod runs;
+mod salts;
 mod vectors;
 mod worked;
 mod writers;

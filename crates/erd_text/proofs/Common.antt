@@ -1,5 +1,5 @@
 -- The names that the proofs of this crate cite most, passed on from one place. Declares nothing.
-pub use Rattle.erd_check.proofs.Common.{◌≡◌, ℕ, zero, suc, ◌+◌, ◌-◌, ◌^◌, ◌<◌, ◌≤◌, Bool, true, false, cond, not, ◌&&◌, ◌||◌, ◌⊎◌, List, [], ◌∷◌, ◌++◌, map, length, take, drop, ℤ, pos, negsuc, is_none, IsSomeAnd, IfSome, if◌then◌else◌, IsTrue, nat_lt, ◌==◌, slice_get, Some, None, string_bytes, codes, Contains, filter, Option, option_map, find, flat_map, option_and_then, bytes_eq, nat_cmp, is_eq, is_lt, Ordering, Less, Equal, Greater, unwrap_or, sym, refl, ap, ◌∙◌, subst, ap₂, inl, inr, ⊎_elim, true≢false, append_assoc, append-nil, arith, length-append, Bor, rules, not-true, not-false, and_parts, and_from, or_from, false_from_ne_true, tied_itself, tied_back, nat_list_cmp_total, exact_bytes, bytes_eq-Decides, Equal-is, IsTotalOrder, slice_cmp, AllByRecursion, list_all, list_any, option_cmp, option_map_or, bool_cmp, match_ordering, ordering_reverse, ordering_then, Data, null, boolean, string, array, object, Items, no_items, item, Members, no_members, member, put, get_member, get_item, get, items_of, view, items_view, members_view, Value, then_both, steps_less, start_less, place_same, text_of_class, role_of_class, class_in_role, reason_cmp, fault_cmp, ListsAll, Row, rows_of_class, is_reference_name, kind_of_identity, kind_of_member, is_required, text_cmp, Class, class, Family, family, Role, role, Report, Fault, Reason, reason, Repeated, MemberKind, kind, Step, At, Name, ShapeFault, NoneOf, steps_of, fault_at, IsTree, is_same_json, list_of_items, entries_of, faults_of, Telling, told_at, told_of_items, told_of_members, told_of_report, IsInOrder, IsKnown, AreItemsKnown, AreMembersKnown, AreEntriesKnown, class_of_object, scope_inside, want_of_kind, is_report_class, member_want, carried_want, want_of_name, entry_want, is_compared_set, Asked, asked, is_repeated, asked_of_member, asked_inside, asked_from, asked_at}
+pub use Rattle.erd_check.proofs.Common.{◌≡◌, ℕ, zero, suc, ◌+◌, ◌-◌, ◌^◌, ◌<◌, ◌≤◌, Bool, true, false, cond, not, ◌&&◌, ◌||◌, ◌⊎◌, List, [], ◌∷◌, ◌++◌, map, length, take, drop, ℤ, pos, negsuc, is_none, IsSomeAnd, IfSome, if◌then◌else◌, IsTrue, nat_lt, ◌==◌, slice_get, Some, None, string_bytes, codes, Contains, filter, Option, option_map, find, flat_map, option_and_then, bytes_eq, nat_cmp, is_eq, is_lt, Ordering, Less, Equal, Greater, unwrap_or, sym, refl, ap, ◌∙◌, subst, ap₂, inl, inr, ⊎_elim, true≢false, append_assoc, append-nil, arith, length-append, Bor, rules, not-true, not-false, and_parts, and_from, or_from, false_from_ne_true, tied_itself, tied_back, nat_list_cmp_total, exact_bytes, bytes_eq-Decides, Equal-is, IsTotalOrder, slice_cmp, AllByRecursion, list_all, list_any, option_cmp, option_map_or, bool_cmp, match_ordering, ordering_reverse, ordering_then, Data, null, boolean, string, array, object, Items, no_items, item, Members, no_members, member, put, get_member, get_item, get, items_of, view, items_view, members_view, Value, then_both, steps_less, start_less, place_same, text_of_class, role_of_class, class_in_role, reason_cmp, fault_cmp, ListsAll, Row, rows_of_class, is_reference_name, kind_of_identity, kind_of_member, is_required, text_cmp, Class, class, Family, family, Role, role, Report, Fault, Reason, reason, Repeated, MemberKind, kind, Step, At, Name, ShapeFault, NoneOf, steps_of, fault_at, IsTree, is_same_json, list_of_items, entries_of, faults_of, Telling, told_at, told_of_items, told_of_members, told_of_report, IsInOrder, IsKnown, AreItemsKnown, AreMembersKnown, class_of_object, scope_inside, want_of_kind, is_report_class, member_want, carried_want, want_of_name, entry_want, is_compared_set, Asked, asked, is_repeated, asked_of_member, asked_inside, asked_from, asked_at}
 unfoldable pub use Rattle.erd_check.proofs.Common.{IsStrictlySortedBy, serde_json_on_literals}
 pub use Rattle.std.proofs.Common.{leb, ◌≢◌, get_or, replicate, is_some, IfOk, OnErr, slice_set, Ok, Err, vec_items, fold, count_by, Result, swap, IsPermutation, IsSorted, option_to_list, position, filter_map, option_copied, is_gt, add-one, lit<, length-drop, length-set, take-append-drop, length-take, take_all, get_or-append-add, ltb-false, ne_eqb, le-leb}
 pub use Rattle.std.proofs.Math.Bool.{and-true, and-false, or-false}
@@ -47,7 +47,6 @@ pub use Rattle.erd_check.proofs.Walks.{outer_place, walk_lists, Agrees, Around}
 pub use Rattle.erd_check.specs.Refusals.{RefusedFor}
 pub use Rattle.erd_check.specs.Shapes.{IsFaultless}
 pub use Rattle.erd_check.specs.Values.{entries_at, text_at}
-pub use Rattle.erd_check.specs.Visits.{IsSilent, IsKnownOfAll}
 pub use Rattle.erd_check.specs.declared.want.Want.{Want}
 pub use Rattle.erd_check.specs.declared.want.Want.TheVariants.{Carried, ClassText, Member, Reference, Status}
 pub use Rattle.erd_text.specs.RisingLists.{with_inserted, rising_list, compact_cmp, with_rising_text}

@@ -106,7 +106,7 @@ side_answer side refused outcome first second third fourth text a begun named si
 -- ---- what the calls answer as data, from what the calls on bytes answer
 
 -- the value of a refusal says why the bytes are refused
-refusal_data : (π : Preference) (bytes : List ℕ) (refused : Refusal) (outcome : Outcome) (why : Data) → RefusedAs π bytes refused → TellsRefusalAs refused outcome why
+pub refusal_data : (π : Preference) (bytes : List ℕ) (refused : Refusal) (outcome : Outcome) (why : Data) → RefusedAs π bytes refused → TellsRefusalAs refused outcome why
     → IsRefusalData π bytes outcome why
 refusal_data π bytes (refusal.Faults faults) Bad why (is, none) tells = (faults, is, tells)
 refusal_data π bytes refusal.NotJson NotJson why not tells = (not, tells)

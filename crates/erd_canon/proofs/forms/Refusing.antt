@@ -1,5 +1,5 @@
 -- Why a tree is not accepted, and so the bytes that are it.
-use Rattle.erd_canon.proofs.Common.{◌≡◌, ℕ, List, [], ◌∷◌, Some, sym, refl, ◌∙◌, subst, inl, Data, Fault, IsFault, Preference, IsTreeOf, IsRefusedReport, IsSomeReport, RefusedAs, refusal_for}
+use Rattle.erd_canon.proofs.Common.{◌≡◌, ℕ, List, [], ◌∷◌, Some, sym, refl, ◌∙◌, subst, inl, Data, Fault, IsAccepted, IsFault, Preference, IsTreeOf, IsAcceptedReport, IsRefusedReport, IsSomeReport, RefusedAs, refusal_for}
 use Rattle.erd_check.proofs.Order.{contains_from_In}
 use Rattle.erd_check.specs.Refusals.{RefusedFor}
 use Rattle.erd_check.specs.declared.error.CheckError.{CheckError}
@@ -22,3 +22,7 @@ refused_tree π b t (Faults faults) read (all, some) =
     let refused : IsRefusedReport π b faults = record { tree = t; read = read; all = all; some = some } in
     (refused, refused_is_none π b faults refused)
 refused_tree π b t Memory read h = tt
+
+-- bytes of an accepted tree are an accepted report, under each equal preference and for each equal tree
+pub as_report : (π ρ : Preference) (b : List ℕ) (t r : Data) → ρ ≡ π → r ≡ t → IsTreeOf b t → IsAccepted π t → IsAcceptedReport ρ b r
+as_report π ρ b t r p e read accepted = subst (λ (σ : Preference). IsAcceptedReport σ b r) (sym p) (subst (IsAcceptedReport π b) (sym e) (record { read = read; accepted = accepted }))

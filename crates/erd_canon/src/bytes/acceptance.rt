@@ -1,17 +1,15 @@
-ghost use Rattle.std.specs.Prelude.{◌≡◌, ℕ, List, IfOk, IfErr, OnOk, None};
+ghost use Rattle.std.specs.Prelude.{ℕ, List, IfOk, IfErr, OnOk, None};
 ghost use Rattle.std.specs.Option.{option_copied};
 ghost use Rattle.serde_json.specs.View.{view};
-ghost use Rattle.erd_check.specs.Refusals.{RefusedFor};
 ghost use Rattle.erd_check.specs.Trees.{IsShallow};
-ghost use Rattle.erd_meaning.specs.Accepted.{IsAccepted, IsFault};
+ghost use Rattle.erd_meaning.specs.Accepted.{IsAccepted};
 ghost use Rattle.erd_meaning.specs.Keys.{Preference};
 ghost use Rattle.erd_canon.specs.Bytes.{IsTreeOf};
 ghost use Rattle.erd_canon.specs.Refused.{IsSomeReport, RefusedAs};
 
 use crate::bytes::disposal::{Disposal, Free};
 use crate::bytes::refusal::Refusal;
-use erd_check::CheckError;
-use erd_meaning::{Report, accept_with};
+use erd_meaning::accept_with;
 use serde_json::Value;
 use std::alloc::Global;
 
@@ -83,7 +81,7 @@ pub fn check_bytes_with(alloc: Global, bytes: &[u8], prefer: Option<&str>) -> Re
     check_input(alloc, bytes, prefer, &Free)
 }
 
-/// Checks the input, as `check_bytes_with` does. If it is accepted, its report and its tree go to the disposal.
+/// Checks the input, as `check_bytes_with` does. Its tree goes to the disposal, and so does its report if it is accepted.
 pub(crate) fn check_input<I: Input, D: Disposal>(
     alloc: Global,
     input: I,
@@ -94,9 +92,24 @@ pub(crate) fn check_input<I: Input, D: Disposal>(
     ensures refused { IfErr result (RefusedAs (option_copied prefer.entry) (I.bytes input)) }
 {
     let tree = input.into_tree(alloc)?;
-    let report = accepted(alloc, &tree, prefer)?;
-    disposal.dispose(report);
+    let answer = check_tree(alloc, &tree, prefer, disposal);
     disposal.dispose(tree);
+    answer
+}
+
+/// Checks the tree of a report. If it is accepted, its report goes to the disposal.
+fn check_tree<D: Disposal>(
+    alloc: Global,
+    tree: &Value,
+    prefer: Option<&str>,
+    disposal: &D,
+) -> Result<(), Refusal>
+    requires nests { IsShallow (view tree.now) }
+    ensures ok { OnOk result (IsAccepted (option_copied prefer.entry) (view tree.now)) }
+    ensures refused { IfErr result (λ refusal. (b : List ℕ) → IsTreeOf b (view tree.now) → RefusedAs (option_copied prefer.entry) b refusal) }
+{
+    let report = accept_with(alloc, tree, prefer)?;
+    disposal.dispose(report);
     Ok(())
 }
 
@@ -111,19 +124,4 @@ fn tree_of(alloc: Global, bytes: &[u8]) -> Result<Value, Refusal>
         Err(error) if error.is_memory() => Err(Refusal::Memory),
         Err(_) => Err(Refusal::NotJson),
     }
-}
-
-/// Resolves the tree as a report that is accepted under the preference. If the shape has a fault, its faults alone are listed.
-pub(crate) fn accepted<'a>(
-    alloc: Global,
-    tree: &'a Value,
-    prefer: Option<&str>,
-) -> Result<Report<'a>, CheckError>
-    requires nests { IsShallow (view tree.now) }
-    ensures tree { IfOk result (λ report. report.tree ≡ tree.now) }
-    ensures prefer { IfOk result (λ report. report.prefer ≡ option_copied prefer.entry) }
-    ensures accepted { IfOk result (λ _. IsAccepted (option_copied prefer.entry) (view tree.now)) }
-    ensures refused { IfErr result (RefusedFor (IsFault (option_copied prefer.entry) (view tree.now))) }
-{
-    accept_with(alloc, tree, prefer)
 }

@@ -1,12 +1,17 @@
-ghost use Rattle.std.specs.Prelude.{◌≡◌, IfOk, IfErr, None};
+ghost use Rattle.std.specs.Prelude.{ℕ, List, IfOk, IfErr, None};
 ghost use Rattle.std.specs.Option.{option_copied};
+ghost use Rattle.serde_json.specs.View.{view};
+ghost use Rattle.erd_check.specs.Trees.{IsShallow};
+ghost use Rattle.erd_canon.specs.Bytes.{IsTreeOf};
 ghost use Rattle.erd_canon.specs.Headline.{Headline};
 ghost use Rattle.erd_canon.specs.Refused.{RefusedAs};
 
-use crate::bytes::acceptance::{Input, accepted};
+use crate::bytes::acceptance::Input;
 use crate::bytes::disposal::{Disposal, Free};
 use crate::bytes::refusal::Refusal;
+use erd_meaning::accept_with;
 use erd_normal::normal_text;
+use serde_json::Value;
 use std::alloc::Global;
 
 /// Returns the canonical bytes of an accepted report, with no preferred type of identifier. `canonical_with` takes a
@@ -58,8 +63,8 @@ pub fn canonical_with(alloc: Global, bytes: &[u8], prefer: Option<&str>) -> Resu
     canonical_of_input(alloc, bytes, prefer, &Free)
 }
 
-/// Returns the canonical bytes of the input, as `canonical_with` does. If there are any, its report and its tree go to the
-/// disposal.
+/// Returns the canonical bytes of the input, as `canonical_with` does. Its tree goes to the disposal, and so does its report if it is
+/// accepted.
 pub(crate) fn canonical_of_input<I: Input, D: Disposal>(
     alloc: Global,
     input: I,
@@ -70,9 +75,24 @@ pub(crate) fn canonical_of_input<I: Input, D: Disposal>(
     ensures refused { IfErr result (RefusedAs (option_copied prefer.entry) (I.bytes input)) }
 {
     let tree = input.into_tree(alloc)?;
-    let report = accepted(alloc, &tree, prefer)?;
-    let text = normal_text(alloc, &report)?;
-    disposal.dispose(report);
+    let answer = canonical_of_tree(alloc, &tree, prefer, disposal);
     disposal.dispose(tree);
-    Ok(text)
+    answer
+}
+
+/// Returns the canonical bytes of the tree of a report. If it is accepted, its report goes to the disposal.
+fn canonical_of_tree<D: Disposal>(
+    alloc: Global,
+    tree: &Value,
+    prefer: Option<&str>,
+    disposal: &D,
+) -> Result<Vec<u8>, Refusal>
+    requires nests { IsShallow (view tree.now) }
+    ensures headline { IfOk result (λ text. (b : List ℕ) → IsTreeOf b (view tree.now) → Headline (option_copied prefer.entry) b text.items) }
+    ensures refused { IfErr result (λ refusal. (b : List ℕ) → IsTreeOf b (view tree.now) → RefusedAs (option_copied prefer.entry) b refusal) }
+{
+    let report = accept_with(alloc, tree, prefer)?;
+    let text = normal_text(alloc, &report);
+    disposal.dispose(report);
+    Ok(text?)
 }

@@ -1,17 +1,18 @@
-ghost use Rattle.std.specs.Prelude.{◌≡◌, ℕ, List, IfErr, IfOk, None};
+ghost use Rattle.std.specs.Prelude.{ℕ, List, IfErr, IfOk, None};
 ghost use Rattle.std.specs.Option.{option_copied};
 ghost use Rattle.serde_json.specs.View.{view};
 ghost use Rattle.erd_check.specs.Trees.{IsShallow};
 ghost use Rattle.erd_meaning.specs.Keys.{Preference};
 ghost use Rattle.erd_canon.specs.ByteLaws.{AgreesUnderEach, TellsWhatIsSaid};
-ghost use Rattle.erd_canon.specs.Bytes.{IsTreeOf};
+ghost use Rattle.erd_canon.specs.Bytes.{IsAcceptedReport, IsTreeOf};
 ghost use Rattle.erd_canon.specs.EngineTexts.{IsComparison};
 ghost use Rattle.erd_canon.specs.Refused.{IsSomeReport, RefusedSide};
 
-use crate::bytes::acceptance::{Input, accepted};
+use crate::bytes::acceptance::Input;
 use crate::bytes::disposal::{Disposal, Free};
 use crate::bytes::refusal::{Refusal, Side};
 use erd_compare::{Difference, first_difference};
+use erd_meaning::{Report, accept_with};
 use serde_json::Value;
 use std::alloc::Global;
 
@@ -69,8 +70,7 @@ pub fn compare_bytes_with(
     compare_inputs(alloc, left, right, prefer, &Free)
 }
 
-/// Compares the inputs, as `compare_bytes_with` does. If both are accepted, their reports and their trees go to the disposal.
-#[tactic(auto, using(crate::proofs::forms::Refusing::refused_tree))]
+/// Compares the inputs, as `compare_bytes_with` does. Each tree that is read and each report that is accepted goes to the disposal.
 pub(crate) fn compare_inputs<I: Input, D: Disposal>(
     alloc: Global,
     left: I,
@@ -83,28 +83,74 @@ pub(crate) fn compare_inputs<I: Input, D: Disposal>(
     ensures agree { IfOk result (AgreesUnderEach (I.bytes left) (I.bytes right)) }
     ensures refused { IfErr result (RefusedSide (option_copied prefer.entry) (I.bytes left) (I.bytes right)) }
 {
-    let left_tree = left_tree_of(alloc, left)?;
-    let left_report = match accepted(alloc, &left_tree, prefer) {
+    let tree = left_tree_of(alloc, left)?;
+    let answer = compare_with_tree(alloc, &tree, right, prefer, disposal);
+    disposal.dispose(tree);
+    answer
+}
+
+/// Compares the tree of the left report with the input on the right.
+fn compare_with_tree<I: Input, D: Disposal>(
+    alloc: Global,
+    left: &Value,
+    right: I,
+    prefer: Option<&str>,
+    disposal: &D,
+) -> Result<Option<Difference>, Side>
+    requires nests { IsShallow (view left.now) }
+    ensures ok { IfOk result (λ found. (b : List ℕ) → IsTreeOf b (view left.now) → IsComparison (option_copied prefer.entry) b (I.bytes right) found) }
+    ensures refused { IfErr result (λ side. (b : List ℕ) → IsTreeOf b (view left.now) → RefusedSide (option_copied prefer.entry) b (I.bytes right) side) }
+{
+    let report = match accept_with(alloc, left, prefer) {
         Ok(report) => report,
         Err(error) => return Err(Side::Left(Refusal::from(error))),
     };
-    let right_tree = right_tree_of(alloc, right)?;
-    let right_report = match accepted(alloc, &right_tree, prefer) {
+    let answer = compare_with_report(alloc, &report, right, disposal);
+    disposal.dispose(report);
+    answer
+}
+
+/// Compares the left report with the input on the right, under the preference of the report.
+fn compare_with_report<I: Input, D: Disposal>(
+    alloc: Global,
+    left: &Report,
+    right: I,
+    disposal: &D,
+) -> Result<Option<Difference>, Side>
+    ensures ok { IfOk result (λ found. (b : List ℕ) → IsAcceptedReport left.now.prefer b (view left.now.tree) → IsComparison left.now.prefer b (I.bytes right) found) }
+    ensures refused { IfErr result (λ side. (b : List ℕ) → IsAcceptedReport left.now.prefer b (view left.now.tree) → RefusedSide left.now.prefer b (I.bytes right) side) }
+{
+    let tree = right_tree_of(alloc, right)?;
+    let answer = compare_report_with_tree(alloc, left, &tree, disposal);
+    disposal.dispose(tree);
+    answer
+}
+
+/// Compares the left report with the tree of the right one, under the preference of the report.
+fn compare_report_with_tree<D: Disposal>(
+    alloc: Global,
+    left: &Report,
+    right: &Value,
+    disposal: &D,
+) -> Result<Option<Difference>, Side>
+    requires nests { IsShallow (view right.now) }
+    ensures ok { IfOk result (λ found. (b c : List ℕ) → IsAcceptedReport left.now.prefer b (view left.now.tree) → IsTreeOf c (view right.now) → IsComparison left.now.prefer b c found) }
+    ensures refused { IfErr result (λ side. (b c : List ℕ) → IsAcceptedReport left.now.prefer b (view left.now.tree) → IsTreeOf c (view right.now) → RefusedSide left.now.prefer b c side) }
+{
+    let report = match accept_with(alloc, right, left.preference()) {
         Ok(report) => report,
         Err(error) => return Err(Side::Right(Refusal::from(error))),
     };
-    match first_difference(alloc, &left_report, &right_report) {
-        Ok(found) => {
-            disposal.dispose((left_report, right_report));
-            disposal.dispose((left_tree, right_tree));
-            Ok(found)
-        }
+    let answer = first_difference(alloc, left, &report);
+    disposal.dispose(report);
+    match answer {
+        Ok(found) => Ok(found),
         Err(_) => Err(Side::Memory),
     }
 }
 
 /// Parses the input on the left into a tree.
-fn left_tree_of<I: Input>(alloc: Global, left: I) -> Result<Value, Side>
+pub(crate) fn left_tree_of<I: Input>(alloc: Global, left: I) -> Result<Value, Side>
     ensures read { IfOk result (λ tree. IsTreeOf (I.bytes left) (view tree)) }
     ensures nests { IfOk result (λ tree. IsShallow (view tree)) }
     ensures refused { IfErr result (λ side. (π : Preference) (right : List ℕ) → RefusedSide π (I.bytes left) right side) }
@@ -116,7 +162,7 @@ fn left_tree_of<I: Input>(alloc: Global, left: I) -> Result<Value, Side>
 }
 
 /// Parses the input on the right into a tree.
-fn right_tree_of<I: Input>(alloc: Global, right: I) -> Result<Value, Side>
+pub(crate) fn right_tree_of<I: Input>(alloc: Global, right: I) -> Result<Value, Side>
     ensures read { IfOk result (λ tree. IsTreeOf (I.bytes right) (view tree)) }
     ensures nests { IfOk result (λ tree. IsShallow (view tree)) }
     ensures refused { IfErr result (λ side. (π : Preference) (left : List ℕ) → IsSomeReport π left → RefusedSide π left (I.bytes right) side) }

@@ -68,7 +68,11 @@ pub fn compare_data_with(
 }
 
 /// Returns the answer if the report on one side is refused.
-fn refused_side(alloc: Global, side: &str, refusal: &Refusal) -> Result<Answer, AllocError>
+pub(crate) fn refused_side(
+    alloc: Global,
+    side: &str,
+    refusal: &Refusal,
+) -> Result<Answer, AllocError>
     ensures { IfOk result (λ answer. IsSideAnswer side.now refusal.now answer.outcome (string_bytes answer.text)) }
 {
     let mut text = String::from_str(alloc, "{\"faults\":")?;

@@ -43,7 +43,7 @@ fn push_fault(
 }
 
 /// Appends a comma if the item that follows is not the first.
-fn push_comma(later: bool, text: &mut String) -> Result<(), AllocError>
+pub(crate) fn push_comma(later: bool, text: &mut String) -> Result<(), AllocError>
     ensures { OnOk result (string_bytes text.new ≡ string_bytes text.old ++ comma_if later) }
 {
     if later { text.push(',') } else { Ok(()) }

@@ -156,8 +156,8 @@ pub fn run_canon_with<S: Source, O: Sink, E: Sink>(
 /// Reads a report, checks it, and writes its canonical bytes, as `run_canon_with` does, and hands the tree and the report to the
 /// disposal when it no longer needs them.
 ///
-/// A program that ends after the run can leave them to the system, which is faster than to free them. If the report is refused,
-/// or memory runs out, they are freed.
+/// A program that ends after the run can leave them to the system, which is faster than to free them. The tree goes to the
+/// disposal whatever the outcome is, and the report if it is accepted.
 ///
 /// # Errors
 ///

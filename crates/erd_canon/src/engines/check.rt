@@ -110,8 +110,8 @@ pub fn run_check_with<S: Source, O: Sink>(
 /// Reads a report, checks it, and writes whether it is accepted, as `run_check_with` does, and hands the tree and the report to
 /// the disposal when it no longer needs them.
 ///
-/// A program that ends after the run can leave them to the system, which is faster than to free them. If the report is refused,
-/// or memory runs out, they are freed.
+/// A program that ends after the run can leave them to the system, which is faster than to free them. The tree goes to the
+/// disposal whatever the outcome is, and the report if it is accepted.
 ///
 /// # Errors
 ///

@@ -136,8 +136,8 @@ pub fn run_compare_with<S: Source, T: Source, O: Sink>(
 /// Reads two reports, compares them, and writes the result, as `run_compare_with` does, and hands the trees and the reports to
 /// the disposal when it no longer needs them.
 ///
-/// A program that ends after the run can leave them to the system, which is faster than to free them. If a report is refused, or
-/// memory runs out, they are freed.
+/// A program that ends after the run can leave them to the system, which is faster than to free them. A tree goes to the
+/// disposal whatever the outcome is, and a report if it is accepted.
 ///
 /// # Errors
 ///

@@ -3,7 +3,9 @@ use Rattle.erd_compare.proofs.Common.{◌≡◌, ℕ, Bool, true, false, List, [
 use Rattle.std.specs.Prelude.{⊤}
 use Rattle.std.specs.declared.cmp.Ordering.TheVariants.{Less}
 use Rattle.erd_compare.proofs.examples.FirstDifferenceExamples.{before_itself, not_in}
-use Rattle.erd_compare.proofs.least_difference.HeldRecords.{told_at_election}
+use Rattle.std.specs.List.Sorted.{IsStrictlySortedBy}
+use Rattle.erd_compare.specs.code.DifferingNames.{AreNames}
+use Rattle.erd_compare.proofs.differing.HeldNames.{names_of_two}
 use Rattle.erd_tables.specs.declared.class.Class.TheVariants as class
 use Rattle.erd_compare.specs.declared.difference.Part.TheVariants as part
 
@@ -75,11 +77,20 @@ is_later (Some k) = bytes_eq k.value (codes "E2")
 apart : Some (local_key (codes "E2")) ≡ Some (local_key (codes "E1")) → ⊥
 apart e = true≢false (ap is_later e)
 
+its_members : (a b : ObjectRecord) → Some a ≡ Some b → a.members ≡ b.members
+its_members a b e = let same : a ≡ b = cc in ap (λ (r : ObjectRecord). r.members) same
+
 -- its class and all its members are the same; only its election is another
 differs_in_election : DifferFirstAt (record_in_election (Some (local_key (codes "E2"))) (its_record left)) (record_in_election (Some (local_key (codes "E1"))) (its_record moved)) (codes "ElectionId")
+unfolding IsStrictlySortedBy
 differs_in_election =
-    told_at_election None (Some (local_key (codes "E2"))) (Some (local_key (codes "E1"))) apart refl (its_record left) (its_record moved)
-    (no_election_id None left (value_with_key None left family.Contest key) class.PartyContest) (no_election_id None moved (value_with_key None moved family.Contest key) class.PartyContest) same_contest
+    let mine = its_record left in
+    let its = its_record moved in
+    let none : AreNames false mine.members its.members [] = record { rise = tt; differ = tt; first = its_members mine its same_contest; each = λ yes. absurd (true≢false (sym yes)) } in
+    let told =
+    names_of_two mine.members its.members (no_election_id None left (value_with_key None left family.Contest key) class.PartyContest) (no_election_id None moved (value_with_key None moved family.Contest key) class.PartyContest) false []
+    none (Some (local_key (codes "E2"))) (Some (local_key (codes "E1"))) apart in
+    record { same_class = refl; differ = told.first.differ; least = told.first.least }
 
 earlier_contest : records_of None left family.Contest (local_key (codes "C1")) ≡ records_of None moved family.Contest (local_key (codes "C1"))
 unfolding serde_json_on_literals

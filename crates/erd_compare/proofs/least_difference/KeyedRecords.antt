@@ -1,6 +1,6 @@
 -- What a report means at the keys of a part are the records of its objects: each object of an accepted report has a record,
 -- and no two of a part have one key.
-use Rattle.erd_compare.proofs.Common.{◌≡◌, ℕ, zero, suc, ◌≤◌, Bool, true, false, ◌⊎◌, List, [], ◌∷◌, length, nat_lt, slice_get, Some, None, Option, option_map, find, option_and_then, is_eq, sym, refl, ap, ◌∙◌, subst, inl, inr, arith, tied_itself, slice_get_within, option_cmp, Data, Family, family, Role, role, In, any_at, position_of, has_keys, key_cmp, Preference, key_of, election_key_in, election_in, ObjectRecord, Placed, report_of, elections, objects, has_several, election_of_place, meaning, object_record, record_in_election, placed_record, records_of, election_records, key_cmp_total, find-Some, find-any, option_map-Some, has_identifier, in_at, one_key, no_election_id, options_exact, equal_keys, Key, record_with_key, record_without_key, record_at, TellsHow, RecordMap, IsWholeTree, HasNoElectionId, TellsHeld, role_of_part, objects_in, key_with_role, holder_key_in, is_ranked, TellsAtPositions, HasKeyAt, IsComparable, record_of_class, How, Part, part}
+use Rattle.erd_compare.proofs.Common.{◌≡◌, ℕ, zero, suc, ◌≤◌, Bool, true, false, ◌⊎◌, List, [], ◌∷◌, length, nat_lt, slice_get, Some, None, Option, option_map, find, option_and_then, is_eq, sym, refl, ap, ◌∙◌, subst, inl, inr, arith, tied_itself, slice_get_within, option_cmp, Data, Family, family, Role, role, In, any_at, position_of, has_keys, key_cmp, Preference, key_of, election_key_in, election_in, ObjectRecord, Placed, report_of, elections, objects, has_several, election_of_place, meaning, object_record, record_in_election, placed_record, records_of, election_records, key_cmp_total, find-Some, find-any, option_map-Some, has_identifier, in_at, one_key, no_election_id, options_exact, equal_keys, Key, record_with_key, record_without_key, record_at, RecordMap, IsWholeTree, HasNoElectionId, TellsHeld, AreWays, Ways, view, Judged, role_of_part, objects_in, key_with_role, holder_key_in, is_ranked, TellsAtPositions, HasKeyAt, IsComparable, record_of_class, Part, part}
 use Rattle.std.specs.Cmp.Lexicographic.{options_total}
 use Rattle.erd_check.specs.Wants.{asked, class_of_object}
 use Rattle.erd_check.specs.declared.want.Want.TheVariants.{Object}
@@ -207,20 +207,25 @@ module _ (π : Preference) (t : Data) (c : IsComparable π t) (p : Part) where
 
 -- ---- two reports
 
-pub tells_as : (a b x y : Option ObjectRecord) (how : Option How) → a ≡ x → b ≡ y → TellsHow x y how → TellsHow a b how
-tells_as a b x y how e g h = subst (λ z. TellsHow z b how) (sym e) (subst (λ z. TellsHow x z how) (sym g) h)
+-- what holds of two records holds of equal ones
+pub tells_as : (P : Option ObjectRecord → Option ObjectRecord → Type 0) (a b x y : Option ObjectRecord) → a ≡ x → b ≡ y → P x y → P a b
+tells_as P a b x y e g h = subst (λ z. P z b) (sym e) (subst (P x) (sym g) h)
 
 -- what is told of the objects at two positions, and of the keys of their elections, is told of their records at a key that
 -- both have
-pub records_here : (π ρ : Preference) (t u : Data) (c : IsComparable π t) (d : IsComparable ρ u) (p : Part) (i j : ℕ) (one other : Data)
-    → Some one ≡ option_map (λ o. o.value) (slice_get (objects_in (role_of_part p) t) i) → Some other ≡ option_map (λ o. o.value) (slice_get (objects_in (role_of_part p) u) j) → (own : Option How)
-    → TellsHow (object_record π t (role_of_part p) one) (object_record ρ u (role_of_part p) other) own → (how : Option How)
-    → TellsHeld own (holder_key_in π (role_of_part p) t i) (holder_key_in ρ (role_of_part p) u j) how → TellsAtPositions π ρ t u p i j how
-records_here π ρ t u c d p i j one other left right own told how held k mine its =
-    let a = record_here π t c p k i mine in
-    let b = record_here ρ u d p k j its in
-    let first = ap (object_record π t (role_of_part p)) (sym (value_here π t c p k i one mine left)) ∙ a.1 in
-    let second = ap (object_record ρ u (role_of_part p)) (sym (value_here ρ u d p k j other its right)) ∙ b.1 in
-    tells_as (record_at (meaning π t) p k) (record_at (meaning ρ u) p k) (Some (record_in_election (holder_key_in π (role_of_part p) t i) a.0))
-    (Some (record_in_election (holder_key_in ρ (role_of_part p) u j) b.0)) how a.3 b.3
-    (held a.0 b.0 a.2 b.2 (tells_as (Some a.0) (Some b.0) (object_record π t (role_of_part p) one) (object_record ρ u (role_of_part p) other) own (sym first) (sym second) told))
+pub records_here : (all : Bool) (a b : Judged) (c : IsComparable a.prefer (view a.tree)) (d : IsComparable b.prefer (view b.tree)) (p : Part) (i j : ℕ) (one other : Data)
+    → Some one ≡ option_map (λ o. o.value) (slice_get (objects_in (role_of_part p) (view a.tree)) i) → Some other ≡ option_map (λ o. o.value) (slice_get (objects_in (role_of_part p) (view b.tree)) j) → (own : Ways)
+    → AreWays all (object_record a.prefer (view a.tree) (role_of_part p) one) (object_record b.prefer (view b.tree) (role_of_part p) other) own → (held : Ways)
+    → TellsHeld all own (holder_key_in a.prefer (role_of_part p) (view a.tree) i) (holder_key_in b.prefer (role_of_part p) (view b.tree) j) held → TellsAtPositions all a b p i j held
+records_here all a b c d p i j one other left right own told held on k mine its =
+    let π = a.prefer in
+    let ρ = b.prefer in
+    let t = view a.tree in
+    let u = view b.tree in
+    let x = record_here π t c p k i mine in
+    let y = record_here ρ u d p k j its in
+    let first = ap (object_record π t (role_of_part p)) (sym (value_here π t c p k i one mine left)) ∙ x.1 in
+    let second = ap (object_record ρ u (role_of_part p)) (sym (value_here ρ u d p k j other its right)) ∙ y.1 in
+    tells_as (λ r s. AreWays all r s held) (record_at (meaning π t) p k) (record_at (meaning ρ u) p k) (Some (record_in_election (holder_key_in π (role_of_part p) t i) x.0))
+    (Some (record_in_election (holder_key_in ρ (role_of_part p) u j) y.0)) x.3 y.3
+    (on x.0 y.0 x.2 y.2 (tells_as (λ r s. AreWays all r s own) (Some x.0) (Some y.0) (object_record π t (role_of_part p) one) (object_record ρ u (role_of_part p) other) (sym first) (sym second) told))

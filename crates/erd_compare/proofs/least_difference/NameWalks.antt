@@ -19,7 +19,7 @@ past_later : (k l : List ℕ) (ls : List (List ℕ)) → text_cmp k l ≡ Less �
 past_later k l ls low = ap (λ b. cond b ls (l ∷ ls)) (sym (is_eq-slice_cmp l k) ∙ ap is_eq (less_turned nat_list_cmp_total k l low))
 
 -- the names without the first one, if it is this name, which is above no name of the list
-past_name : (k : List ℕ) (ls : List (List ℕ)) → IsStrictlySortedBy text_cmp ls → NoneLess text_cmp k ls → IsPast text_cmp k ls (names_past k ls)
+pub past_name : (k : List ℕ) (ls : List (List ℕ)) → IsStrictlySortedBy text_cmp ls → NoneLess text_cmp k ls → IsPast text_cmp k ls (names_past k ls)
 past_name k [] rise none = past_below nat_list_cmp_total k [] rise tt
 past_name k (l ∷ ls) rise none = at (text_cmp k l) refl
   where
@@ -28,7 +28,7 @@ past_name k (l ∷ ls) rise none = at (text_cmp k l) refl
     at Equal is = subst (λ x. IsPast text_cmp x (l ∷ ls) (names_past x (l ∷ ls))) (sym (exact_bytes k l is)) (subst (IsPast text_cmp l (l ∷ ls)) (sym (past_first l ls)) (past_head nat_list_cmp_total l ls rise))
     at Greater is = absurd (none l (inl refl) (greater_turned nat_list_cmp_total k l is))
 
-no_more : (k : List ℕ) (ls : List (List ℕ)) → length (names_past k ls) ≤ length ls
+pub no_more : (k : List ℕ) (ls : List (List ℕ)) → length (names_past k ls) ≤ length ls
 no_more k [] = omega arith
 no_more k (l ∷ ls) = at (bytes_eq l k)
   where
@@ -36,7 +36,7 @@ no_more k (l ∷ ls) = at (bytes_eq l k)
     at true = omega arith
     at false = omega arith
 
-one_fewer : (k : List ℕ) (ks : List (List ℕ)) → length (names_past k (k ∷ ks)) < length (k ∷ ks)
+pub one_fewer : (k : List ℕ) (ks : List (List ℕ)) → length (names_past k (k ∷ ks)) < length (k ∷ ks)
 one_fewer k ks = subst (λ xs. length xs < length (k ∷ ks)) (sym (past_first k ks)) (omega arith)
 
 -- the lesser of the first names that are left: it can be passed by, no name that is left is less, and fewer are left after it

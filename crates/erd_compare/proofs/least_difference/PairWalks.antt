@@ -1,7 +1,6 @@
 -- The members of two objects are walked in step, and a test of the pairs decides whether the maps of the two are equal.
-use Rattle.erd_compare.proofs.Common.{◌≡◌, ℕ, ◌+◌, ◌<◌, Bool, true, false, List, length, Some, None, Option, option_map, sym, refl, ap, subst, true≢false, Bor, nat_list_cmp_total, Data, Members, as_object, view, text_cmp, Class, IsTree, Judged, member_of_class, names, absent_member, Decides, TellsHow, MemberMap, record_of_class, TellsLeastName, lesser_name, DifferAtName, IsMapOf, DecideNames, IsPairOf, first_of, names_past, member_found, How, Member, MemberPair}
+use Rattle.erd_compare.proofs.Common.{◌≡◌, ℕ, ◌+◌, ◌<◌, Bool, true, false, List, length, Some, None, sym, refl, true≢false, nat_list_cmp_total, Data, Members, as_object, text_cmp, IsTree, names, MemberMap, lesser_name, DifferAtName, IsMapOf, DecideNames, IsPairOf, first_of, names_past, MemberPair}
 use Rattle.erd_compare.proofs.least_difference.NameWalks.{both_objects, next_name, none_left}
-use Rattle.erd_compare.proofs.same_values.EqualOptions.{decides_as}
 use Rattle.erd_compare.proofs.least_difference.StepWalks.{IsInStep, equal_below}
 
 -- a map with nothing
@@ -45,28 +44,3 @@ module _ (answers : MemberPair → Bool → Type 0) (d e : Data) where
             differ = λ same. absurd (true≢false (sym ((decided pair false is told).1 same)));
             least = equal_below nat_list_cmp_total m n ls rs step pair.name.now its.left its.right;
           }
-
--- how the records of two objects of a class differ
-abbrev pub TellsRecords : Judged → Judged → Class → Data → Data → Option How → Type 0
-TellsRecords a b c d e how = TellsHow (Some (record_of_class a.prefer (view a.tree) c d)) (Some (record_of_class b.prefer (view b.tree) c e)) how
-
--- what is told of them, if the answers decide what their members mean
-pub records_told : (a b : Judged) (d e : Data) (c : Class) (answers : MemberPair → Bool → Type 0) (found o : Option (Bor (List ℕ))) → found ≡ o
-    → ((m n : MemberMap) → IsMapOf d m → IsMapOf e n → DecideNames answers d e m n → TellsLeastName m n (option_map (λ s. s.now) found))
-    → ((pair : MemberPair) (answer : Bool) → answers pair answer
-    → Decides answer (member_found a.prefer (view a.tree) c pair.name.now (option_map (λ v. view v.now) pair.one)) (member_found b.prefer (view b.tree) c pair.name.now (option_map (λ v. view v.now) pair.other)))
-    → TellsRecords a b c d e (option_map (λ s. Member s.now) o)
-records_told a b d e c answers found o is told decided =
-    at o (subst (λ x. TellsLeastName ones others (option_map (λ s. s.now) x)) is
-    (told ones others (absent_member a.prefer (view a.tree) d c) (absent_member b.prefer (view b.tree) e c) (λ pair answer is h.
-    decides_as refl (ap (member_found a.prefer (view a.tree) c pair.name.now) is.one) (ap (member_found b.prefer (view b.tree) c pair.name.now) is.other) (decided pair answer h))))
-  where
-    ones : MemberMap
-    ones = member_of_class a.prefer (view a.tree) d c
-
-    others : MemberMap
-    others = member_of_class b.prefer (view b.tree) e c
-
-    at : (o : Option (Bor (List ℕ))) → TellsLeastName ones others (option_map (λ s. s.now) o) → TellsRecords a b c d e (option_map (λ s. Member s.now) o)
-    at None same = ap (λ (members : MemberMap). Some (record { class = c; members = members })) same
-    at (Some name) h = record { same_class = refl; differ = h.differ; least = h.least }

@@ -12,14 +12,14 @@ parts = part.Report ∷ part.Unit ∷ part.Party ∷ part.Person ∷ part.Office
 abbrev pub part_at : ℕ → Part
 part_at i = get_or parts i part.Report
 
-number_at : (i : ℕ) → i < 10 → part_number (part_at i) ≡ i
+pub number_at : (i : ℕ) → i < 10 → part_number (part_at i) ≡ i
 number_at i low = let count : 0 + i ≡ i = omega arith in sym (get_or-map part_number parts i part.Report 0 low) ∙ (get_or-range_with_len 0 10 i 0 low ∙ count)
 
 part_itself : (p : Part) → part_at (part_number p) ≡ p
 part_itself part.Report = refl
 part_itself p = refl
 
-numbered : (p : Part) (i : ℕ) → part_number p ≡ i → part_at i ≡ p
+pub numbered : (p : Part) (i : ℕ) → part_number p ≡ i → part_at i ≡ p
 numbered p i e = ap part_at (sym e) ∙ part_itself p
 
 pub number_low : (p : Part) → part_number p < 10

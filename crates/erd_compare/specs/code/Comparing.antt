@@ -34,11 +34,6 @@ NamesKeys k = ⊤
 abbrev pub Decides : {A : Type 0} → Bool → A → A → Type 0
 Decides answer a b = (answer ≡ true) ↔ (a ≡ b)
 
--- The answer is how the two records differ, or none if they are equal.
-abbrev pub TellsHow : Option ObjectRecord → Option ObjectRecord → Option How → Type 0
-TellsHow a b None = a ≡ b
-TellsHow a b (Some how) = Differ a b how
-
 -- A record for each key, or for none.
 abbrev pub RecordMap : Type 0
 RecordMap = Option Key → Option ObjectRecord

@@ -1,27 +1,28 @@
--- The least key at which two reports differ in a part.
+-- The objects of a part by position and by rank, and the least key at which two reports differ there.
 use Rattle.std.specs.Prelude.{◌≡◌, ◌==◌, ℕ, List, [], ◌∷◌, map, if◌then◌else◌, Bool, true, Option, Some, None, option_and_then}
 use Rattle.std.specs.List.{slice_get}
 use Rattle.std.specs.Option.{option_cmp, option_copied}
-use Rattle.std.specs.declared.cmp.Ordering.{Ordering}
-use Rattle.std.specs.declared.cmp.Ordering.TheVariants.{Less}
 use Rattle.serde_json.specs.Data.{Data}
+use Rattle.serde_json.specs.View.{view}
 use Rattle.erd_tables.specs.declared.class.Family.TheVariants as family
 use Rattle.erd_tables.specs.declared.class.Role.{Role}
 use Rattle.erd_tables.specs.declared.class.Role.TheVariants as role
 use Rattle.erd_meaning.specs.Accepted.{IsAccepted}
+use Rattle.erd_meaning.specs.Judged.{Judged}
 use Rattle.erd_meaning.specs.Keys.{Preference, has_keys, is_keyed_role, key_cmp, key_of}
 use Rattle.erd_meaning.specs.Lookups.{election_in, election_key_in, key_in}
 use Rattle.erd_meaning.specs.Objects.{IsBounded, Placed, elections, objects, report_of}
 use Rattle.erd_meaning.specs.Records.{meaning}
 use Rattle.erd_text.specs.RisingLists.{rising_list}
 use Rattle.erd_meaning.specs.declared.keys.key.Key.{Key}
-use Rattle.erd_compare.specs.code.Comparing.{DifferAtKey, IsWholeTree, RecordMap, TellsHow}
-use Rattle.erd_compare.specs.Differences.{record_at}
+use Rattle.erd_compare.specs.code.Comparing.{DifferAtKey, IsWholeTree, RecordMap}
+use Rattle.erd_compare.specs.code.DifferingWays.{AreWays, hows_of}
+use Rattle.erd_compare.specs.Differences.{first_of, record_at}
 use Rattle.erd_compare.specs.declared.difference.How.{How}
-use Rattle.erd_compare.specs.declared.difference.How.TheVariants.{OnlyLeft, OnlyRight}
 use Rattle.erd_compare.specs.declared.difference.Part.{Part}
 use Rattle.erd_compare.specs.declared.difference.Part.TheVariants as part
-use Rattle.erd_compare.specs.declared.first.tables.KeyedDifference.{KeyedDifference}
+use Rattle.erd_compare.specs.declared.first.tables.KeyedWays.{KeyedWays}
+use Rattle.erd_compare.specs.declared.objects.ways.Ways.{Ways}
 
 -- The report is accepted, a machine word can count its objects, and it is a tree whose numbers are whole.
 pub record IsComparable (π : Preference) (t : Data) : Type 0 where
@@ -97,36 +98,23 @@ abbrev pub shared : Option ℕ → Option ℕ → Option ℕ → ℕ → Option 
 shared (Some i) (Some j) (Some common) rank = if common == rank then Some (i, j) else None
 shared i j common rank = None
 
--- The positions that both lists have at the rank, if the common rank there is the rank.
-abbrev pub shared_at : List ℕ → List ℕ → List ℕ → ℕ → Option (ℕ × ℕ)
-shared_at ones others common rank = shared (slice_get ones rank) (slice_get others rank) (slice_get common rank) rank
-
 -- ---- differences
 
--- If the objects of the part at the two positions have the same key, the answer is how their records differ, or none if
--- they are equal.
-abbrev pub TellsAtPositions : Preference → Preference → Data → Data → Part → ℕ → ℕ → Option How → Type 0
-TellsAtPositions π ρ t u p i j how =
-    (k : Option Key) → HasKeyAt π t (role_of_part p) i k → HasKeyAt ρ u (role_of_part p) j k → TellsHow (record_at (meaning π t) p k) (record_at (meaning ρ u) p k) how
+-- What a report means at the keys of a part.
+abbrev pub map_of : Judged → Part → RecordMap
+map_of a p = record_at (meaning a.prefer (view a.tree)) p
 
--- The answer is the least key at which the two maps differ, or none if they agree at every key.
-abbrev pub TellsLeast : RecordMap → RecordMap → Option KeyedDifference → Type 0
+-- If the objects of the part at the two positions have the same key, these are the ways in which their records differ.
+abbrev pub TellsAtPositions : Bool → Judged → Judged → Part → ℕ → ℕ → Ways → Type 0
+TellsAtPositions all a b p i j ways =
+    (k : Option Key) → HasKeyAt a.prefer (view a.tree) (role_of_part p) i k → HasKeyAt b.prefer (view b.tree) (role_of_part p) j k → AreWays all (map_of a p k) (map_of b p k) ways
+
+-- The key is the least at which the two maps differ, and this is how, if there is a way.
+abbrev pub TellsLeastAt : RecordMap → RecordMap → Option Key → Option How → Type 0
+TellsLeastAt m n k None = ⊥
+TellsLeastAt m n k (Some how) = DifferAtKey m n k how
+
+-- The answer is the least key at which the two maps differ, with the first way, or none if they agree at every key.
+abbrev pub TellsLeast : RecordMap → RecordMap → Option KeyedWays → Type 0
 TellsLeast m n None = (k : Option Key) → m k ≡ n k
-TellsLeast m n (Some d) = DifferAtKey m n (option_copied d.key) d.how
-
--- The difference is that only one report has an object with this key. Which one it is says how.
-abbrev pub IsOnly : Option Key → How → Option KeyedDifference → Type 0
-IsOnly k how None = ⊥
-IsOnly k how (Some d) = (option_copied d.key ≡ k) × (d.how ≡ how)
-
--- Only the report with the lesser of two keys, which compare like this, has an object with it.
-abbrev pub IsOnlyLesser : Ordering → Option Key → Option Key → Option KeyedDifference → Type 0
-IsOnlyLesser Less k l d = IsOnly k OnlyLeft d
-IsOnlyLesser o k l d = IsOnly l OnlyRight d
-
--- The answer is the difference at a rank where the reports have these keys, if they have any there.
-abbrev pub TellsNext : Option (Option Key) → Option (Option Key) → Option KeyedDifference → Type 0
-TellsNext None None d = d ≡ None
-TellsNext (Some k) None d = IsOnly k OnlyLeft d
-TellsNext None (Some l) d = IsOnly l OnlyRight d
-TellsNext (Some k) (Some l) d = IsOnlyLesser (option_cmp key_cmp k l) k l d
+TellsLeast m n (Some d) = TellsLeastAt m n (option_copied d.key) (first_of (hows_of d.ways))

@@ -23,11 +23,6 @@ members_left left = members_from left.first left.rest
 abbrev pub names_left : MembersLeft → List (List ℕ)
 names_left left = names (members_left left)
 
--- The first of the names, if there is one.
-abbrev pub first_of : List (List ℕ) → Option (List ℕ)
-first_of [] = None
-first_of (k ∷ ks) = Some k
-
 -- The names, without the first one if it is this name.
 abbrev pub names_past : List ℕ → List (List ℕ) → List (List ℕ)
 names_past name [] = []

@@ -1,7 +1,7 @@
 ghost use Rattle.std.specs.Prelude.{◌≡◌, option_map};
-ghost use Rattle.erd_compare.specs.Words.{Data, get, members_view, view};
+ghost use Rattle.erd_compare.specs.Words.{Data, first_of, get, members_view, view};
 ghost use Rattle.erd_compare.specs.code.LeastNames.{lesser_name};
-ghost use Rattle.erd_compare.specs.code.NamesInStep.{AreMembersOf, first_of, members_from, members_left, names_left, names_past};
+ghost use Rattle.erd_compare.specs.code.NamesInStep.{AreMembersOf, members_from, members_left, names_left, names_past};
 
 use serde_json::{Map, Value};
 use std::collections::btree_map::Iter;

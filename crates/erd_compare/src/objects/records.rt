@@ -1,16 +1,20 @@
-ghost use Rattle.std.specs.Prelude.{◌≡◌, option_map, true, IfOk, IfSome, Some};
+ghost use Rattle.std.specs.Prelude.{◌≡◌, map, option_map, true, IfOk, IfSome};
 ghost use Rattle.erd_compare.specs.Words.{view, role_of_class, kind_of_member, object_record};
-ghost use Rattle.erd_compare.specs.code.Comparing.{IsWholeTree, TellsHow, Decides};
-ghost use Rattle.erd_compare.specs.code.LeastNames.{IsObject, record_of_class};
+ghost use Rattle.erd_meaning.specs.Records.{member_of_class};
+ghost use Rattle.erd_compare.specs.code.Comparing.{IsWholeTree, Decides};
+ghost use Rattle.erd_compare.specs.code.DifferingNames.{AreNames};
+ghost use Rattle.erd_compare.specs.code.DifferingWays.{AreWays};
+ghost use Rattle.erd_compare.specs.code.LeastNames.{IsObject};
 ghost use Rattle.erd_compare.specs.code.PlacedObjects.{AreSelectionsAt, IsPlaced};
 ghost use Rattle.erd_compare.specs.code.PlainParts.{member_found};
 ghost use Rattle.erd_compare.specs.code.SelectionMembers.{is_selections};
 
 use crate::comparer::Comparer;
-use crate::difference::How;
-use crate::objects::least_name::{MemberPair, least_differing_name};
+use crate::objects::differing_names::PairsLeft;
+use crate::objects::least_name::MemberPair;
 use crate::objects::plain_members::is_same_plain_member;
 use crate::objects::selections::{Found, is_same_selections};
+use crate::objects::ways::Ways;
 use erd_check::values::class_of_object;
 use erd_tables::{Class, Family, MemberKind, Role, member_kind};
 use serde_json::Value;
@@ -23,61 +27,73 @@ pub(crate) struct Placed<'a> {
     pub(crate) index: usize,
 }
 
-/// Returns how two objects with a role differ: in their class, or else at the least name of a member that differs.
-pub(crate) fn object_difference(
+/// Returns the ways in which two objects with a role differ: in their class, or else in members. If not all are wanted, the
+/// first is enough.
+pub(crate) fn object_ways<'a>(
     comparer: &Comparer,
     role: Role,
-    one: Placed,
-    other: Placed,
-) -> Result<Option<How>, AllocError>
+    one: Placed<'a>,
+    other: Placed<'a>,
+    all: bool,
+) -> Result<Ways<'a>, AllocError>
     requires one { IsWholeTree (view one.value.now) }
     requires other { IsWholeTree (view other.value.now) }
     requires one_placed { IsPlaced comparer.now.left role one.index (view one.value.now) }
     requires other_placed { IsPlaced comparer.now.right role other.index (view other.value.now) }
-    ensures { IfOk result (TellsHow (object_record comparer.now.left.prefer (view comparer.now.left.tree) role (view one.entry.value.now))
+    ensures { IfOk result (AreWays all (object_record comparer.now.left.prefer (view comparer.now.left.tree) role (view one.entry.value.now))
         (object_record comparer.now.right.prefer (view comparer.now.right.tree) role (view other.entry.value.now))) }
 {
     match (
         class_of_object(role, one.value),
         class_of_object(role, other.value),
     ) {
-        (None, None) => Ok(None),
-        (Some(_), None) => Ok(Some(How::OnlyLeft)),
-        (None, Some(_)) => Ok(Some(How::OnlyRight)),
+        (None, None) => Ok(Ways::Members(Vec::new(comparer.alloc))),
+        (Some(_), None) => Ok(Ways::OnlyLeft),
+        (None, Some(_)) => Ok(Ways::OnlyRight),
         (Some(class), Some(other_class)) => {
             if class == other_class {
-                member_difference(comparer, class, one, other)
+                let names = differing_members(comparer, class, one, other, all)?;
+                Ok(Ways::Members(names))
             } else {
-                Ok(Some(How::OtherClass))
+                Ok(Ways::OtherClass)
             }
         }
     }
 }
 
-/// Returns how two objects of the same class differ: at the least name of a member that differs.
+/// Returns the names of the members at which two objects of the same class differ, in rising order: all of them, or only the
+/// first if not all are wanted.
 #[tactic(auto, using(crate::proofs::whole_trees::WholeTrees::whole_one, crate::proofs::whole_trees::WholeTrees::whole_other, crate::proofs::same_selections::PlacedSelections::pair_one, crate::proofs::same_selections::PlacedSelections::pair_other))]
-fn member_difference(
+fn differing_members<'a>(
     comparer: &Comparer,
     class: Class,
-    one: Placed,
-    other: Placed,
-) -> Result<Option<How>, AllocError>
+    one: Placed<'a>,
+    other: Placed<'a>,
+    all: bool,
+) -> Result<Vec<&'a str>, AllocError>
     requires one { IsWholeTree (view one.value.now) }
     requires other { IsWholeTree (view other.value.now) }
     requires one_object { IsObject (view one.value.now) }
     requires other_object { IsObject (view other.value.now) }
     requires one_placed { IsPlaced comparer.now.left (role_of_class class) one.index (view one.value.now) }
     requires other_placed { IsPlaced comparer.now.right (role_of_class class) other.index (view other.value.now) }
-    ensures { IfOk result (TellsHow (Some (record_of_class comparer.now.left.prefer (view comparer.now.left.tree) class (view one.entry.value.now)))
-        (Some (record_of_class comparer.now.right.prefer (view comparer.now.right.tree) class (view other.entry.value.now)))) }
+    ensures { IfOk result (λ found. AreNames all (member_of_class comparer.now.left.prefer (view comparer.now.left.tree) (view one.entry.value.now) class)
+        (member_of_class comparer.now.right.prefer (view comparer.now.right.tree) (view other.entry.value.now) class) (map (λ s. s.now) found.items)) }
 {
-    let found = least_differing_name(one.value, other.value, |pair| {
+    let mut found = Vec::new(comparer.alloc);
+    // a value with a class is an object
+    let Some(mut left) = PairsLeft::of(one.value, other.value) else {
+        return Ok(found);
+    };
+    while let Some(name) = left.next_differing(|pair| {
         is_same_member(comparer, class, pair, one.index, other.index)
-    })?;
-    match found {
-        Some(name) => Ok(Some(How::in_member(comparer.alloc, name)?)),
-        None => Ok(None),
+    })? {
+        found.push(name)?;
+        if !all {
+            return Ok(found);
+        }
     }
+    Ok(found)
 }
 
 /// Returns whether the members with one name, of two objects of the same class at these positions, mean the same.

@@ -42,7 +42,7 @@ module _ (π : Preference) (t : Data) (none : NoneOf (IdentityFault π t)) where
   pub kept_distinct : HaveDistinctKeys (kept_objects π t)
   kept_distinct f keyed =
       subst AreDistinct
-      (sym (ap (map (λ (k : Kept). k.key)) (those_kept π f t) ∙ map-map (λ (k : Kept). k.key) (λ (o : Placed). kept π f o.value) (objects f t)))
+      (sym (ap (map (λ (k : Kept). k.key)) (those_kept π f t) ∙ map-map (λ (k : Kept). k.key) (λ (o : Placed). kept π f o) (objects f t)))
       (distinct_map (λ (o : Placed). key_of_family_object π f o.value) (eq_by_cmp (option_cmp key_cmp)) (objects f t)
       (subst (λ b. IsDistinct (λ (o p : Placed). eq_by_cmp (option_cmp key_cmp) (cond b (key_of π o.value) None) (cond b (key_of π p.value) None)) (objects f t)) (sym keyed) (objects_distinct f keyed)))
 

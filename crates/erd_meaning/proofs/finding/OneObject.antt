@@ -163,7 +163,7 @@ missed p xs x e h t = missed_from p 0 xs x (sym (position_from-zero p xs) ∙ e)
 
 -- the objects of a family, as they are kept
 abbrev pub kept_of : Preference → Family → List Placed → List Kept
-kept_of π f os = map (λ o. kept π f o.value) os
+kept_of π f os = map (λ o. kept π f o) os
 
 those_located : (f : Family) (xs : List Located) → those_of f (objects_among (map (λ x. x.met) xs)) ≡ objects_among (map (λ x. x.met) (pick f xs))
 those_located f [] = refl
@@ -181,7 +181,7 @@ those_located f (x ∷ xs) = at x.met (those_located f xs)
 
 objects_located : (π : Preference) (f : Family) (os : List Placed) → objects_among (map (λ x. x.met) (located π f os)) ≡ kept_of π f os
 objects_located π f [] = refl
-objects_located π f (o ∷ os) = ap (λ ks. kept π f o.value ∷ ks) (objects_located π f os)
+objects_located π f (o ∷ os) = ap (λ ks. kept π f o ∷ ks) (objects_located π f os)
 
 pub those_kept : (π : Preference) (f : Family) (t : Data) → those_of f (kept_objects π t) ≡ kept_of π f (objects f t)
 those_kept π f t =
@@ -191,10 +191,10 @@ pub those_shown : (π : Preference) (v : Value) (os : List Object) (ns : List Nu
 those_shown π v os ns f r = ap (those_of f) r.kept ∙ those_kept π f (view v)
 
 pub counted_kept : (π : Preference) (t : Data) (ks : List Kept) (f : Family) → ks ≡ kept_objects π t → length (those_of f ks) ≡ length (objects f t)
-counted_kept π t ks f e = ap (λ js. length (those_of f js)) e ∙ ap length (those_kept π f t) ∙ length-map (objects f t) (λ (o : Placed). kept π f o.value)
+counted_kept π t ks f e = ap (λ js. length (those_of f js)) e ∙ ap length (those_kept π f t) ∙ length-map (objects f t) (λ (o : Placed). kept π f o)
 
 pub counted : (π : Preference) (v : Value) (os : List Object) (ns : List NumberedName) (f : Family) → IsResolved π v os ns → length (those_of f (map shown os)) ≡ length (objects f (view v))
-counted π v os ns f r = ap length (those_shown π v os ns f r) ∙ length-map (objects f (view v)) (λ (o : Placed). kept π f o.value)
+counted π v os ns f r = ap length (those_shown π v os ns f r) ∙ length-map (objects f (view v)) (λ (o : Placed). kept π f o)
 
 -- each family has no more objects than are kept of the whole report
 pub few_objects : (π : Preference) (v : Value) (os : List Object) (ns : List NumberedName) → IsResolved π v os ns → length os < 2 ^ 64 → IsBounded (view v)
@@ -211,7 +211,7 @@ few_objects π v os ns r word = record {
 -- ---- at a position
 
 kept_get : (π : Preference) {A : Type 0} (g : Kept → Option A) (f : Family) (os : List Placed) (i : ℕ)
-    → option_and_then g (slice_get (kept_of π f os) i) ≡ option_and_then (λ o. g (kept π f o.value)) (slice_get os i)
+    → option_and_then g (slice_get (kept_of π f os) i) ≡ option_and_then (λ o. g (kept π f o)) (slice_get os i)
 kept_get π g f [] i = refl
 kept_get π g f (o ∷ os) zero = refl
 kept_get π g f (o ∷ os) (suc i) = kept_get π g f os i
@@ -222,12 +222,12 @@ value_get π f (o ∷ os) zero = refl
 value_get π f (o ∷ os) (suc i) = value_get π f os i
 
 pub kept_part : (π : Preference) {A : Type 0} (g : Kept → Option A) (f : Family) (t : Data) (i : ℕ)
-    → option_and_then g (slice_get (those_of f (kept_objects π t)) i) ≡ option_and_then (λ o. g (kept π f o.value)) (slice_get (objects f t) i)
+    → option_and_then g (slice_get (those_of f (kept_objects π t)) i) ≡ option_and_then (λ o. g (kept π f o)) (slice_get (objects f t) i)
 kept_part π g f t i = ap (λ (ks : List Kept). option_and_then g (slice_get ks i)) (those_kept π f t) ∙ kept_get π g f (objects f t) i
 
 -- what is known of the object that is kept at a position
 pub part_at : (π : Preference) {A : Type 0} (g : Kept → Option A) (v : Value) (os : List Object) (ns : List NumberedName) (f : Family) (i : ℕ) → IsResolved π v os ns
-    → option_and_then g (slice_get (those_of f (map shown os)) i) ≡ option_and_then (λ o. g (kept π f o.value)) (slice_get (objects f (view v)) i)
+    → option_and_then g (slice_get (those_of f (map shown os)) i) ≡ option_and_then (λ o. g (kept π f o)) (slice_get (objects f (view v)) i)
 part_at π g v os ns f i r = ap (λ (ks : List Kept). option_and_then g (slice_get (those_of f ks) i)) r.kept ∙ kept_part π g f (view v) i
 
 pub value_at : (π : Preference) (v : Value) (os : List Object) (ns : List NumberedName) (f : Family) (i : ℕ) → IsResolved π v os ns

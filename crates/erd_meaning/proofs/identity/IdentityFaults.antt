@@ -33,7 +33,7 @@ at_true false f e = absurd (true≢false (sym e))
 
 -- what is met of an object of a family, and of an election
 abbrev object_here : Preference → Family → Placed → Met
-object_here π f o = an_object (kept π f o.value)
+object_here π f o = an_object (kept π f o)
 
 abbrev election_here : Preference → Data → Placed → Met
 election_here π t e = an_election (has_several t) (key_of π e.value)

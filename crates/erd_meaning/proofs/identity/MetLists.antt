@@ -1,7 +1,8 @@
 -- The walk over the elections and the objects of a report, as lists: what it has met and told, and what it leaves.
 use Rattle.erd_meaning.proofs.Common.{◌≡◌, Bool, false, ◌&&◌, ◌||◌, List, [], ◌∷◌, ◌++◌, map, is_none, Option, sym, refl, ap, ◌∙◌, ap₂, append_assoc, append-nil, filter_map-append, list_any, has_keys, Kept, Met, an_object, an_election, Located, object_met, election_met, objects_among, elections_among, same_key, has_same_key, has_same_id, faults_told, are_twins, are_named_alike, faults_after, ObjectsMet, met_one, met_all, Key, true, cond, Some, None, is_eq, key_cmp, AreSeen, is_seen, seen_with, key_cmp_exact, Equal-is, or-false, list_any-append, arith, length, subst, Data, ListsAll, Fault, none_from_empty, NoneOf, Preference, IdentityFault, all_located, kept_objects, election_keys, shown, met_of}
 use Rattle.erd_meaning.proofs.identity.ToldFaults.{told}
-use Rattle.erd_meaning.specs.declared.objects.object_walk.ObjectWalk.{ObjectWalk}
+use Rattle.erd_meaning.specs.code.ObjectWalk.{nothing_met}
+use Rattle.erd_meaning.specs.declared.objects.filled.Tables.{Tables}
 use Rattle.erd_meaning.proofs.identity.IdentityFaults.{identity_listed, identity_told}
 use Rattle.erd_meaning.proofs.identity.ObjectFamilies.{election_keys_met}
 
@@ -115,31 +116,19 @@ seen_more keys seen None are k = are k ∙ sym (or-false (list_any (same_key (So
 seen_more keys seen (Some l) are k =
     known_more seen k l (is_seen seen (Some l)) refl ∙ ap (λ b. b || is_eq (key_cmp k l)) (are k) ∙ sym (any-append (same_key (Some k)) keys (Some l))
 
--- ---- what the walk over the elections and the objects of a report leaves
+-- ---- what is in the tables of the elections and the objects of a report
 
--- a walk that began with nothing has met this report
-pub record Walked (π : Preference) (w v : ObjectWalk) (t : Data) : Type 0 where
-  pub no_object : w.objects ≡ []
-  pub no_election : w.elections ≡ []
-  pub no_fault : w.faults.items ≡ []
-  pub met : met_of v ≡ met_all (met_of w) (all_located π t)
+filled : (π : Preference) (v : Tables) (t : Data) → met_of v ≡ met_all nothing_met (all_located π t) → WalksAll (met_of v) (all_located π t)
+filled π v t met = subst (λ (m : ObjectsMet). WalksAll m (all_located π t)) (sym met) (walks_all nothing_met (all_located π t) refl refl refl)
 
-walked : (π : Preference) (w v : ObjectWalk) (t : Data) → Walked π w v t → WalksAll (met_of v) (all_located π t)
-walked π w v t h =
-    subst (λ (m : ObjectsMet). WalksAll m (all_located π t)) (sym h.met)
-    (walks_all (met_of w) (all_located π t) (ap (map shown) h.no_object) h.no_election h.no_fault)
+pub filled_objects : (π : Preference) (v : Tables) (t : Data) → met_of v ≡ met_all nothing_met (all_located π t) → map shown v.objects ≡ kept_objects π t
+filled_objects π v t met = (filled π v t met).objects
 
-pub walked_objects : (π : Preference) (w v : ObjectWalk) (t : Data) → Walked π w v t → map shown v.objects ≡ kept_objects π t
-walked_objects π w v t h = (walked π w v t h).objects
+pub filled_elections : (π : Preference) (v : Tables) (t : Data) → met_of v ≡ met_all nothing_met (all_located π t) → v.elections ≡ election_keys π t
+filled_elections π v t met = (filled π v t met).elections ∙ election_keys_met π t
 
-pub walked_elections : (π : Preference) (w v : ObjectWalk) (t : Data) → Walked π w v t → v.elections ≡ election_keys π t
-walked_elections π w v t h = (walked π w v t h).elections ∙ election_keys_met π t
+pub all_told : (π : Preference) (v : Tables) (t : Data) → met_of v ≡ met_all nothing_met (all_located π t) → (fs : List Fault) → fs ≡ v.faults.items → ListsAll (IdentityFault π t) fs
+all_told π v t met fs e = subst (ListsAll (IdentityFault π t)) (sym (e ∙ (filled π v t met).faults)) (identity_listed π t)
 
-pub walked_faults : (π : Preference) (w v : ObjectWalk) (t : Data) → Walked π w v t → v.faults.items ≡ identity_told π t
-walked_faults π w v t h = (walked π w v t h).faults
-
-pub all_told : (π : Preference) (w v : ObjectWalk) (t : Data) → Walked π w v t → (fs : List Fault) → fs ≡ v.faults.items → ListsAll (IdentityFault π t) fs
-all_told π w v t h fs e = subst (ListsAll (IdentityFault π t)) (sym (e ∙ walked_faults π w v t h)) (identity_listed π t)
-
-pub none_told : (π : Preference) (w v : ObjectWalk) (t : Data) → Walked π w v t → (fs : List Fault) → fs ≡ v.faults.items → length fs ≡ 0 → NoneOf (IdentityFault π t)
-none_told π w v t h fs e empty = none_from_empty (IdentityFault π t) fs (all_told π w v t h fs e) empty
+pub none_told : (π : Preference) (v : Tables) (t : Data) → met_of v ≡ met_all nothing_met (all_located π t) → (fs : List Fault) → fs ≡ v.faults.items → length fs ≡ 0 → NoneOf (IdentityFault π t)
+none_told π v t met fs e empty = none_from_empty (IdentityFault π t) fs (all_told π v t met fs e) empty

@@ -1,6 +1,8 @@
 -- The reasons of a reference, by one look-up of its text; where no reference stands, none is told.
-use Rattle.erd_meaning.proofs.Common.{◌≡◌, ℕ, Bool, true, false, ◌&&◌, ◌||◌, List, [], ◌∷◌, ◌++◌, length, Some, None, codes, Option, option_and_then, bytes_eq, sym, refl, ap, ◌∙◌, ap₂, list_all, list_any, option_map_or, Data, array, object, Items, no_items, item, Members, no_members, member, get, as_str, role_of_class, class_in_role, rows_of_class, is_reference_name, kind_of_identity, kind_of_member, is_required, Class, class, Role, role, MemberKind, kind, Step, At, Name, if_some, kind_of_class, is_same_json, faults_of, Telling, told_at, told_of_items, told_of_members, IsKnown, AreItemsKnown, AreMembersKnown, IsSilent, IsKnownOfAll, AreEntriesKnown, class_of_object, scope_inside, want_of_kind, is_report_class, member_want, carried_want, want_of_name, entry_want, is_compared_set, Want, Carried, ClassText, Member, Status, leads_to_references, cond_both, not, is_some, is_none, ◌==◌, option_map, option_to_list, and-false, string, family_number, Family, family, Reason, SelectionOfOtherContest, Unresolved, WrongFamily, Reference, number_of_id, is_in_contest, number_among, object_among, Kept, is_known, is_of_others, is_selection_family, is_selection_elsewhere, is_elsewhere, reason_if, id_reasons, reference_reasons_told, arith}
+use Rattle.erd_meaning.proofs.Common.{◌≡◌, ℕ, Bool, true, false, ◌&&◌, ◌||◌, List, [], ◌∷◌, ◌++◌, length, Some, None, codes, Option, option_and_then, bytes_eq, sym, refl, ap, ◌∙◌, ap₂, list_all, list_any, option_map_or, Data, array, object, Items, no_items, item, Members, no_members, member, get, as_str, role_of_class, class_in_role, rows_of_class, is_reference_name, kind_of_identity, kind_of_member, is_required, Class, class, Role, role, MemberKind, kind, Step, At, Name, if_some, kind_of_class, is_same_json, faults_of, Telling, told_at, told_of_items, told_of_members, class_of_object, scope_inside, want_of_kind, is_report_class, member_want, carried_want, want_of_name, entry_want, is_compared_set, Want, Carried, ClassText, Member, Status, leads_to_references, cond_both, not, is_some, is_none, ◌==◌, option_map, option_to_list, and-false, string, family_number, Family, family, Reason, SelectionOfOtherContest, Unresolved, WrongFamily, Reference, number_of_id, is_in_contest, number_among, object_among, Kept, is_known, is_of_others, is_selection_family, is_selection_elsewhere, is_elsewhere, reason_if, id_reasons, reference_reasons_told, arith}
 use Rattle.erd_tables.proofs.Roles.{class_in_role_named}
+use Rattle.erd_check.proofs.Silence.{silent_member}
+use Rattle.erd_check.specs.Visits.{IsSilentMember}
 use Rattle.erd_check.specs.declared.want.Scope.{Scope, Scope as scope}
 use Rattle.erd_check.specs.declared.want.Want.TheVariants.{Object}
 use Rattle.std.specs.Bool.{then_some}
@@ -101,72 +103,14 @@ entries_inside (Member kind.Languages required) v h e = let k : Object role.Lang
 entries_inside Carried v h e = let k : Carried ≡ v = cc in ap leads_to_references (sym k)
 entries_inside w v h e = cc
 
--- ---- the walk
+-- ---- reasons of references are told where a reference is asked for, and nowhere else
 
--- what is told of values that do not lead to references
-pub record TellsOfReferences (tells : Telling) : Type 0 where
-  pub nothing : (outer : Data) (w : Want) (repeated : Bool) (d : Data) → leads_to_references w ≡ false → tells outer w repeated d ≡ []
+no_reason : (ks : List Kept) (outer : Data) (w : Want) (repeated : Bool) (d : Data) → leads_to_references w ≡ false → reference_reasons_told ks outer w repeated d ≡ []
+no_reason ks outer (Reference f) repeated d h = cc
+no_reason ks outer w repeated d h = refl
 
-module _ (tells : Telling) (quiet : TellsOfReferences tells) where
-  here : (outer : Data) (p : List Step) (w : Want) (repeated : Bool) (d : Data) → leads_to_references w ≡ false → faults_of p (tells outer w repeated d) ≡ []
-  here outer p w repeated d h = ap (faults_of p) (quiet.nothing outer w repeated d h)
-
-  in_entries : (owner : Data) (p : List Step) (is_set : Bool) (all ds : Items) (o : Option Want)
-      → ((v : Want) → o ≡ Some v → told_of_items tells owner (array all) p v is_set [] ds ≡ [])
-      → option_map_or (λ v. told_of_items tells owner (array all) p v is_set [] ds) o [] ≡ []
-  in_entries owner p is_set all ds None each = refl
-  in_entries owner p is_set all ds (Some v) each = each v refl
-
-  in_member : (outer owner : Data) (p : List Step) (d : Data) (o : Option Want)
-      → ((v : Want) → o ≡ Some v → told_at tells outer owner p v false d ≡ [])
-      → option_map_or (λ v. told_at tells outer owner p v false d) o [] ≡ []
-  in_member outer owner p d None each = refl
-  in_member outer owner p d (Some v) each = each v refl
-
-  mutual
-    silent_at : (outer owner : Data) (p : List Step) (w : Want) (repeated : Bool) (d : Data) → leads_to_references w ≡ false → told_at tells outer owner p w repeated d ≡ []
-    silent_at outer owner p w repeated (array ds) h =
-        ap₂ ◌++◌ (here outer p w repeated (array ds) h)
-        (in_entries owner p (is_compared_set w) ds ds (entry_want w) (λ v e. silent_items owner (array ds) p v (is_compared_set w) [] ds (entries_inside w v h e)))
-    silent_at outer owner p w repeated (object ms) h =
-        ap₂ ◌++◌ (here outer p w repeated (object ms) h) (silent_members owner (object ms) p (scope_inside w (object ms)) ms (named_inside w ms h))
-    silent_at outer owner p w repeated e h = here outer p w repeated e h
-
-    silent_items : (outer owner : Data) (p : List Step) (w : Want) (is_set : Bool) (earlier : List Data) (ds : Items) → leads_to_references w ≡ false → told_of_items tells outer owner p w is_set earlier ds ≡ []
-    silent_items outer owner p w is_set earlier no_items h = refl
-    silent_items outer owner p w is_set earlier (item d ds) h =
-        ap₂ ◌++◌ (silent_at outer owner (p ++ At (length earlier) ∷ []) w (is_set && list_any (is_same_json d) earlier) d h) (silent_items outer owner p w is_set (earlier ++ d ∷ []) ds h)
-
-    silent_members : (outer owner : Data) (p : List Step) (s : Scope) (ms : Members) → ((name : List ℕ) (v : Want) → want_of_name s name ≡ Some v → leads_to_references v ≡ false) → told_of_members tells outer owner p s ms ≡ []
-    silent_members outer owner p s no_members h = refl
-    silent_members outer owner p s (member k d ms) h =
-        ap₂ ◌++◌ (in_member outer owner (p ++ Name k ∷ []) d (want_of_name s k) (λ v e. silent_at outer owner (p ++ Name k ∷ []) v false d (h k v e))) (silent_members outer owner p s ms h)
-
-pub is_silent : (tells : Telling) → TellsOfReferences tells → (w : Want) → leads_to_references w ≡ false → IsSilent tells w
-is_silent tells quiet w h = λ outer owner p repeated d. silent_at tells quiet outer owner p w repeated d h
-
--- ---- what is known of values
-
-module _ (Known : Want → Data → Type 0) (each : (w : Want) (d : Data) → Known w d) where
-  mutual
-    known_at : (w : Want) (d : Data) → IsKnown Known w d
-    known_at w (array ds) = (each w (array ds), if_some (λ v. AreItemsKnown Known v ds) (entry_want w) (λ v. items_known v ds))
-    known_at w (object ms) = (each w (object ms), members_known (scope_inside w (object ms)) ms)
-    known_at w e = each w e
-
-    items_known : (w : Want) (ds : Items) → AreItemsKnown Known w ds
-    items_known w no_items = tt
-    items_known w (item d ds) = (known_at w d, items_known w ds)
-
-    members_known : (s : Scope) (ms : Members) → AreMembersKnown Known s ms
-    members_known s no_members = tt
-    members_known s (member k d ms) = (if_some (λ v. IsKnown Known v d) (want_of_name s k) (λ v. known_at v d), members_known s ms)
-
-pub is_known_of_all : (Known : Want → Data → Type 0) → ((w : Want) (d : Data) → Known w d) → (w : Want) → IsKnownOfAll Known w
-is_known_of_all Known each w = λ d. known_at Known each w d
-
-pub are_entries_known : (Known : Want → Data → Type 0) → ((w : Want) (d : Data) → Known w d) → (w : Want) (ds : Items) → AreEntriesKnown Known w ds
-are_entries_known Known each w ds = if_some (λ v. AreItemsKnown Known v ds) (entry_want w) (λ v. items_known Known each v ds)
+pub no_reference : (ks : List Kept) (owner : Data) (w : Want) (d : Data) → leads_to_references w ≡ false → IsSilentMember (reference_reasons_told ks) owner w d
+no_reference ks = silent_member (reference_reasons_told ks) (λ w. leads_to_references w ≡ false) (record { nothing = no_reason ks; of_entries = entries_inside; of_members = named_inside })
 
 -- ---- the reasons of a reference, by one look-up of its text
 
@@ -232,14 +176,6 @@ reasons_of_family ks outer f g id i e same =
 
 pub told_if : (b : Bool) (r : Reason) → option_to_list (then_some b r) ≡ reason_if b r
 told_if b r = grind arith
-
--- reasons of references are told where a reference is asked for, and nowhere else
-pub of_references : (ks : List Kept) → TellsOfReferences (reference_reasons_told ks)
-of_references ks = record { nothing = λ outer w repeated d h. at outer w repeated d h }
-  where
-    at : (outer : Data) (w : Want) (repeated : Bool) (d : Data) → leads_to_references w ≡ false → reference_reasons_told ks outer w repeated d ≡ []
-    at outer (Reference f) repeated d h = cc
-    at outer w repeated d h = refl
 
 -- a value with this text
 pub text_read : (d : Data) (s : List ℕ) → as_str d ≡ Some s → d ≡ string s

@@ -1,6 +1,6 @@
 -- What the walk over selections tells of them, in order: exactly the faults of selections.
 use Rattle.erd_meaning.proofs.Common.{◌≡◌, ℕ, Bool, true, false, cond, ◌||◌, ◌⊎◌, List, [], ◌∷◌, ◌++◌, ◌==◌, Some, None, Option, flat_map, is_eq, Ordering, Less, sym, refl, ap, ◌∙◌, subst, ap₂, inl, inr, append_assoc, append-nil, and_parts, and_from, Decides-eqb, tied_itself, IsStrictlySortedBy, option_map_or, Data, fault_cmp, place_cmp, Fault, TwinSelection, In, In-append_left, In-append_right, In-append, any_at, In-any, In-all, sorted_append, fault_at, NameParts, Placed, name_cmp, fault_if, name_cmp_total, name_cmp_exact, NumberedName, is_selection_named, is_taken, NamesMet, added_name, with_name, named_one, named_all, Equal-is, or-false, list_any-append, arith, suc, ◌+◌, map, slice_get, option_map, map-append, same_Some, slice_get-map, enumerate_from, Selection, In-map, In-map_from, In-flat_map, all_from_In, Preference, contests, selections_of_contest, numbered_selections_of, numbered_selections, Located, located_one, located, ListsAll, Reason, Step, In-from_contains, contains_from_In, IsBefore, SelectionFault, RepeatsName, name_of, objects, In-flat_map_from}
-use Rattle.erd_check.proofs.TwoWalks.{both_empty}
+use Rattle.erd_check.proofs.Lists.{both_empty}
 use Rattle.erd_meaning.proofs.identity.IdentityFaults.{at_true}
 use Rattle.erd_meaning.proofs.identity.ObjectFamilies.{itself}
 use Rattle.erd_meaning.proofs.identity.ToldFaults.{if_sorted, in_if, less_itself, turned, earlier_fault, before_apart}

@@ -109,13 +109,13 @@ module _ (π : Preference) (v : Value) (os : List Object) (names : List Numbered
   rank_same : (f : Family) → has_keys f ≡ true → (key : Option Key) → rank_among (map shown os) f key ≡ rank_of π (view v) f key
   rank_same f keyed key =
       ap (λ ks. length (filter (λ k. is_lt (option_cmp key_cmp k.key key)) ks)) (those_shown π v os names f r)
-      ∙ count_map (λ (o : Placed). kept π f o.value) (λ (k : Kept). is_lt (option_cmp key_cmp k.key key)) (objects f (view v))
+      ∙ count_map (λ (o : Placed). kept π f o) (λ (k : Kept). is_lt (option_cmp key_cmp k.key key)) (objects f (view v))
       ∙ ap (λ b. length (filter (λ (o : Placed). is_lt (option_cmp key_cmp (cond b (key_of π o.value) None) key)) (objects f (view v)))) keyed
 
   pub rising_same : (f : Family) → rising_keys_among (map shown os) f ≡ rising_keys π (view v) f
   rising_same f =
       ap (λ (keys : List (Option Key)). rising_list (λ a b. option_cmp key_cmp a.0 b.0) (positioned 0 keys))
-      (ap (map (λ (k : Kept). k.key)) (those_shown π v os names f r) ∙ map-map (λ (k : Kept). k.key) (λ (o : Placed). kept π f o.value) (objects f (view v)))
+      (ap (map (λ (k : Kept). k.key)) (those_shown π v os names f r) ∙ map-map (λ (k : Kept). k.key) (λ (o : Placed). kept π f o) (objects f (view v)))
       ∙ rising_positioned π (view v) f
 
   -- the rank of the object at a position
@@ -123,14 +123,14 @@ module _ (π : Preference) (v : Value) (os : List Object) (names : List Numbered
       → option_map (λ (k : Kept). rank_among (map shown os) f k.key) (slice_get (those_of f (map shown os)) i) ≡ option_map (λ k. rank_of π (view v) f (Some k)) (key_in π f (view v) i)
   rank_same_at f keyed i =
       ap (λ ks. option_map rank (slice_get ks i)) (those_shown π v os names f r)
-      ∙ ap (option_map rank) (slice_get-map (λ (o : Placed). kept π f o.value) (objects f (view v)) i)
+      ∙ ap (option_map rank) (slice_get-map (λ (o : Placed). kept π f o) (objects f (view v)) i)
       ∙ at (slice_get (objects f (view v)) i) refl
     where
       rank : Kept → ℕ
       rank k = rank_among (map shown os) f k.key
 
       at : (o : Option Placed) → slice_get (objects f (view v)) i ≡ o
-          → option_map rank (option_map (λ (o : Placed). kept π f o.value) o) ≡ option_map (λ k. rank_of π (view v) f (Some k)) (option_and_then (λ (o : Placed). key_of_family_object π f o.value) o)
+          → option_map rank (option_map (λ (o : Placed). kept π f o) o) ≡ option_map (λ k. rank_of π (view v) f (Some k)) (option_and_then (λ (o : Placed). key_of_family_object π f o.value) o)
       at None is = refl
       at (Some o) is =
           let its = has_identifier π (view v) r.identified f o keyed ((in_at (objects f (view v)) i o is)) in

@@ -1,5 +1,4 @@
--- What the program keeps of the elections of a report: their keys, and for each object inside an election, which election it
--- is.
+-- What the program keeps of the elections of a report: their keys.
 use Rattle.std.specs.Prelude.{◌≡◌, ◌+◌, ℕ, List, [], ◌∷◌, ◌++◌, Bool, false, if◌then◌else◌, Option, Some, None, length, replicate}
 use Rattle.std.specs.List.{list_any}
 use Rattle.std.specs.Ordering.{is_eq}
@@ -22,8 +21,3 @@ is_seen seen (Some key) = list_any (λ k. is_eq (key_cmp key k)) seen
 abbrev pub seen_with : List Key → Option Key → List Key
 seen_with seen None = seen
 seen_with seen (Some key) = if is_seen seen (Some key) then seen else seen ++ key ∷ []
-
--- For each entry of this member of each election, the position of the election. The first election has position n.
-abbrev pub held_from : List ℕ → ℕ → List Data → List ℕ
-held_from name n [] = []
-held_from name n (e ∷ es) = replicate (length (entries_at name e)) n ++ held_from name (n + 1) es

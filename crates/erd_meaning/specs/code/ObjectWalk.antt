@@ -15,22 +15,29 @@ use Rattle.erd_tables.specs.declared.place.Step.{Step}
 use Rattle.erd_tables.specs.declared.place.Step.TheVariants.{Name}
 use Rattle.erd_check.specs.Paths.{fault_at}
 use Rattle.erd_meaning.specs.Keys.{Preference, has_keys, key_cmp, key_of, key_of_family_object}
-use Rattle.erd_meaning.specs.Objects.{Placed, elections, has_several, id_of, placed_entries, report_of, selections_of_contest}
+use Rattle.erd_meaning.specs.Objects.{Placed, election_of_place, elections, has_several, id_of, placed_entries, report_of, selections_of_contest}
 use Rattle.erd_meaning.specs.declared.keys.key.Key.{Key}
 
 -- ---- objects
 
+-- The position of the election that has an object of the family in one of its arrays, by the place of the object, or none. A selection
+-- stands in its contest instead.
+abbrev pub holder_at : Family → List Step → Option ℕ
+holder_at family.Selection p = None
+holder_at f p = election_of_place p
+
 -- What the program keeps of an object for its look-ups (its struct `Object`): the family, the value, the key if the family
--- has keys, and the `@id`.
+-- has keys, the `@id`, and the position of the election that has it in one of its arrays.
 pub record Kept : Type 0 where
   pub family : Family
   pub value : Data
   pub key : Option Key
   pub id : Option (List ℕ)
+  pub election : Option ℕ
 
--- What is kept of a value that is an object of the family.
-abbrev pub kept : Preference → Family → Data → Kept
-kept π f d = record { family = f; value = d; key = key_of_family_object π f d; id = id_of d }
+-- What is kept of an object of the family.
+abbrev pub kept : Preference → Family → Placed → Kept
+kept π f o = record { family = f; value = o.value; key = key_of_family_object π f o.value; id = id_of o.value; election = holder_at f o.place }
 
 -- What the walk meets: an object with what is kept of it, or an election with its key and whether it needs one.
 pub data Met : Type 0 where
@@ -44,7 +51,7 @@ pub record Located : Type 0 where
 
 -- An object of a family at its place.
 abbrev pub located_one : Preference → Family → Placed → Located
-located_one π f o = record { place = o.place; met = an_object (kept π f o.value) }
+located_one π f o = record { place = o.place; met = an_object (kept π f o) }
 
 -- An election at its place. The flag says whether elections need keys.
 abbrev pub located_election : Preference → Bool → Placed → Located
@@ -191,6 +198,10 @@ with_met m p (an_election needed key) = with_election m p needed key
 
 abbrev pub met_one : ObjectsMet → Located → ObjectsMet
 met_one m x = with_met m x.place x.met
+
+-- Before anything was met.
+abbrev pub nothing_met : ObjectsMet
+nothing_met = record { objects = []; elections = []; faults = [] }
 
 -- The state of the walk after these, one after another.
 abbrev pub met_all : ObjectsMet → List Located → ObjectsMet

@@ -3,13 +3,11 @@ use Rattle.std.specs.Prelude.{◌≡◌}
 use Rattle.serde_json.specs.View.{view}
 use Rattle.serde_json.specs.declared.value.Value.{Value}
 use Rattle.erd_meaning.specs.Keys.{Preference}
-use Rattle.erd_meaning.specs.code.Holding.{AreHeld}
 use Rattle.erd_meaning.specs.code.KeyOrders.{IsOrder}
 use Rattle.erd_meaning.specs.code.ObjectWalk.{election_keys}
 use Rattle.erd_meaning.specs.declared.report.Elections.{Elections}
 
--- These are the keys of the elections of the report, their order by these, and the elections that hold its objects.
+-- These are the keys of the elections of the report, and their order by these.
 pub record AreElections (π : Preference) (tree : Value) (elections : Elections) : Type 0 where
   pub keys : elections.keys ≡ election_keys π (view tree)
   pub ordered : IsOrder (election_keys π (view tree)) elections.order
-  pub held : AreHeld elections.holders (view tree)

@@ -10,7 +10,7 @@ use Rattle.erd_meaning.specs.declared.objects.table.Object.{Object}
 
 -- What clauses see of an `Object`, which is what is kept of it.
 abbrev pub shown : Object → Kept
-shown o = record { family = o.family; value = view o.value.now; key = o.key; id = option_map (λ s. s.now) o.id }
+shown o = record { family = o.family; value = view o.value.now; key = o.key; id = option_map (λ s. s.now) o.id; election = o.election }
 
 -- A value at the place that the path leads to.
 abbrev pub placed_at : Path → Value → Placed

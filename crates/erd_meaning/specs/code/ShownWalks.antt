@@ -4,11 +4,11 @@ use Rattle.erd_meaning.specs.code.ObjectWalk.{ObjectsMet}
 use Rattle.erd_meaning.specs.code.RanksAmong.{names_of}
 use Rattle.erd_meaning.specs.code.SelectionWalk.{NamesMet}
 use Rattle.erd_meaning.specs.code.Shown.{shown}
-use Rattle.erd_meaning.specs.declared.objects.object_walk.ObjectWalk.{ObjectWalk}
+use Rattle.erd_meaning.specs.declared.objects.filled.Tables.{Tables}
 use Rattle.erd_meaning.specs.declared.names.selection_walk.SelectionWalk.{SelectionWalk}
 
--- What clauses see of the walk over the elections and the objects: how far it has come.
-abbrev pub met_of : ObjectWalk → ObjectsMet
+-- What clauses see of the tables of the elections and the objects: how far they are filled.
+abbrev pub met_of : Tables → ObjectsMet
 met_of w = record { objects = map shown w.objects; elections = w.elections; faults = w.faults.items }
 
 -- What clauses see of the walk over the selections: how far it has come.

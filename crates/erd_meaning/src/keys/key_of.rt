@@ -3,7 +3,6 @@ ghost use Rattle.std.specs.Prelude.{◌≡◌, option_copied, IfOk};
 ghost use Rattle.erd_meaning.specs.Words.{view, key_of};
 
 use crate::keys::key::Key;
-use crate::keys::salt::SaltHasher;
 use crate::keys::triple::Triple;
 use erd_check::values::entries_at;
 use serde_json::Value;
@@ -37,25 +36,12 @@ pub fn key_of(
 pub(crate) fn chosen_triple<'a>(object: &'a Value, prefer: Option<&str>) -> Option<Triple<'a>>
     ensures { result ≡ key_of (option_copied prefer.entry) (view object.now) }
 {
-    fed_triple(object, prefer, &mut SaltHasher::new())
-}
-
-/// Returns what `chosen_triple` does, and feeds each identifier of the object to the hasher. So each is read once.
-pub(crate) fn fed_triple<'a>(
-    object: &'a Value,
-    prefer: Option<&str>,
-    hasher: &mut SaltHasher,
-) -> Option<Triple<'a>>
-    ensures { result ≡ key_of (option_copied prefer.entry) (view object.now) }
-{
     match entries_at(object, "ExternalIdentifier") {
         [] => None,
         [first, rest @ ..] => {
             let mut chosen = Triple::of(first);
-            hasher.feed_triple(&chosen);
             for identifier in rest {
                 let triple = Triple::of(identifier);
-                hasher.feed_triple(&triple);
                 if triple.goes_before(&chosen, prefer) {
                     chosen = triple;
                 }

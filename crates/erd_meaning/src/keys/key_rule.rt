@@ -2,8 +2,7 @@ ghost use Rattle.std.specs.Prelude.{◌≡◌, IfOk};
 ghost use Rattle.erd_meaning.specs.Words.{view, key_of};
 
 use crate::keys::key::Key;
-use crate::keys::key_of::{chosen_triple, fed_triple, key_of};
-use crate::keys::salt::SaltHasher;
+use crate::keys::key_of::{chosen_triple, key_of};
 use crate::keys::triple::Triple;
 use serde_json::Value;
 use std::alloc::{AllocError, Global};
@@ -31,17 +30,6 @@ impl<'p> KeyRule<'p> {
         ensures { result ≡ key_of self.now (view object.now) }
     {
         chosen_triple(object, self.prefer)
-    }
-
-    /// Returns what `triple_of` does, and feeds each identifier of the object to the hasher.
-    pub(crate) fn fed_triple_of<'a>(
-        &self,
-        object: &'a Value,
-        hasher: &mut SaltHasher,
-    ) -> Option<Triple<'a>>
-        ensures { result ≡ key_of self.now (view object.now) }
-    {
-        fed_triple(object, self.prefer, hasher)
     }
 
     /// Returns the key of an object, if it has an identifier.

@@ -1,73 +1,88 @@
 ghost use Rattle.std.specs.Prelude.{◌≡◌, ◌++◌, ◌∷◌, [], codes, flat_map, IfOk};
-ghost use Rattle.erd_meaning.specs.Words.{view, entries_at, key_of, key_of_family_object};
-ghost use Rattle.erd_meaning.specs.code.Collected.{all_found, contest_found, elections_found, object_found, objects_found};
-ghost use Rattle.erd_meaning.specs.code.ObjectWalk.{an_election};
+ghost use Rattle.erd_meaning.specs.Words.{view, elections, key_of_family_object, placed_entries};
+ghost use Rattle.erd_meaning.specs.Objects.{has_several};
 ghost use Rattle.erd_meaning.specs.code.CollectedWalks.{collected_in};
+ghost use Rattle.erd_meaning.specs.code.ObjectWalk.{all_located, contest_located, election_located, located, located_election, located_one};
+ghost use Rattle.erd_meaning.specs.code.Spots.{election_place, member_name, object_place, owner_place};
 
 use crate::keys::key_rule::KeyRule;
-use crate::keys::salt::SaltHasher;
 use crate::keys::triple::Triple;
-use erd_check::values::{entries_at, text_at};
+use crate::objects::spot::{Spot, member_of};
+use erd_check::values::entries_at;
 use erd_tables::Family;
 use serde_json::Value;
 use std::alloc::AllocError;
 
-/// An election or an object of a report, with the identifier that gives it its key.
+/// An election or an object of a report, where it stands, and the identifier that gives it its key.
 #[derive(Drop)]
 pub(crate) enum Found<'a> {
     Election {
+        index: usize,
         needs_key: bool,
         key: Option<Triple<'a>>,
     },
     Object {
         family: Family,
+        spot: Spot,
         value: &'a Value,
         key: Option<Triple<'a>>,
         id: Option<&'a str>,
     },
 }
 
-/// The elections and objects that a walk has found, in the order of their places, and the hasher of the salt, to which it
-/// has fed what the indexes hash of them.
-#[derive(Drop)]
-pub(crate) struct Collection<'a> {
-    pub(crate) found: Vec<Found<'a>>,
-    pub(crate) hasher: SaltHasher,
+/// Collects the elections and objects of a report, in the order of their places. If there are several elections, each needs a
+/// key.
+pub(crate) fn collected<'a>(keys: &KeyRule, report: &'a Value) -> Result<Vec<Found<'a>>, AllocError>
+    ensures { IfOk result (λ found. collected_in found ≡ all_located keys.now (view report.now)) }
+{
+    let mut found = Vec::new(keys.alloc);
+    let spot = Spot {
+        election: 0,
+        contest: 0,
+        entry: 0,
+    };
+    collect_elections(keys, report, &mut found)?;
+    collect_entries(keys, Family::Unit, spot, report, &mut found)?;
+    collect_entries(keys, Family::Header, spot, report, &mut found)?;
+    collect_entries(keys, Family::Office, spot, report, &mut found)?;
+    collect_entries(keys, Family::Party, spot, report, &mut found)?;
+    collect_entries(keys, Family::Person, spot, report, &mut found)?;
+    Ok(found)
 }
 
-/// Collects the elections and objects of a report. If there are several elections, each needs a key.
-pub(crate) fn collected<'a>(keys: &KeyRule, report: &'a Value) -> Result<Collection<'a>, AllocError>
-    ensures { IfOk result (λ walk. collected_in walk ≡ all_found keys.now (view report.now)) }
+/// Collects the elections and the objects inside them. If there are several elections, each needs a key.
+fn collect_elections<'a>(
+    keys: &KeyRule,
+    report: &'a Value,
+    found: &mut Vec<Found<'a>>,
+) -> Result<(), AllocError>
+    ensures { IfOk result (λ _. collected_in found.new
+        ≡ collected_in found.old ++ flat_map (election_located keys.now (has_several (view report.now))) (elections (view report.now))) }
 {
-    let mut walk = Collection {
-        found: Vec::new(keys.alloc),
-        hasher: SaltHasher::new(),
-    };
     let several = entries_at(report, "Election").len() > 1;
-    collect_elections(keys, several, report, &mut walk)?;
-    collect_entries(keys, Family::Unit, report, "GpUnit", &mut walk)?;
-    collect_entries(keys, Family::Header, report, "Header", &mut walk)?;
-    collect_entries(keys, Family::Office, report, "Office", &mut walk)?;
-    collect_entries(keys, Family::Party, report, "Party", &mut walk)?;
-    collect_entries(keys, Family::Person, report, "Person", &mut walk)?;
-    Ok(walk)
+    collect_each_election(keys, several, report, found)
 }
 
 /// Collects the elections and the objects inside them. `needed` says whether each election needs a key.
-fn collect_elections<'a>(
+fn collect_each_election<'a>(
     keys: &KeyRule,
     needed: bool,
     report: &'a Value,
-    walk: &mut Collection<'a>,
+    found: &mut Vec<Found<'a>>,
 ) -> Result<(), AllocError>
-    ensures { IfOk result (λ _. collected_in walk.new
-        ≡ collected_in walk.old ++ elections_found keys.now needed (view report.now)) }
+    ensures { IfOk result (λ _. collected_in found.new
+        ≡ collected_in found.old ++ flat_map (election_located keys.now needed) (elections (view report.now))) }
 {
-    for election in entries_at(report, "Election") {
-        collect_election(keys, needed, election, walk)?;
-        collect_entries(keys, Family::Style, election, "BallotStyle", walk)?;
-        collect_entries(keys, Family::Candidate, election, "Candidate", walk)?;
-        collect_contests(keys, election, walk)?;
+    for (index, election) in entries_at(report, "Election").iter().enumerate() {
+        let spot = Spot {
+            election: index,
+            contest: 0,
+            entry: 0,
+        };
+        collect_election(keys, needed, index, election, found)?;
+        collect_entries(keys, Family::Style, spot, election, found)?;
+        collect_entries(keys, Family::Candidate, spot, election, found)?;
+        collect_contests(keys, spot, election, found)?;
     }
     Ok(())
 }
@@ -76,67 +91,82 @@ fn collect_elections<'a>(
 fn collect_election<'a>(
     keys: &KeyRule,
     needed: bool,
+    index: usize,
     election: &'a Value,
-    walk: &mut Collection<'a>,
+    found: &mut Vec<Found<'a>>,
 ) -> Result<(), AllocError>
-    ensures { IfOk result (λ _. collected_in walk.new
-        ≡ collected_in walk.old ++ an_election needed (key_of keys.now (view election.now)) ∷ []) }
+    ensures { IfOk result (λ _. collected_in found.new ≡ collected_in found.old
+        ++ located_election keys.now needed (record { place = election_place index; value = view election.now }) ∷ []) }
 {
-    walk.hasher.feed_text(text_at(election, "@id"));
-    let key = keys.fed_triple_of(election, &mut walk.hasher);
-    walk.found.push(Found::Election {
+    let key = keys.triple_of(election);
+    found.push(Found::Election {
+        index,
         needs_key: needed,
         key,
     })?;
     Ok(())
 }
 
-/// Collects the contests of an election, each with its selections.
+/// Collects the contests of an election, each with its selections. The spot has the position of the election.
 fn collect_contests<'a>(
     keys: &KeyRule,
+    spot: Spot,
     election: &'a Value,
-    walk: &mut Collection<'a>,
+    found: &mut Vec<Found<'a>>,
 ) -> Result<(), AllocError>
-    ensures { IfOk result (λ _. collected_in walk.new
-        ≡ collected_in walk.old ++ flat_map (contest_found keys.now) (entries_at (codes "Contest") (view election.now))) }
+    ensures { IfOk result (λ _. collected_in found.new ≡ collected_in found.old
+        ++ flat_map (contest_located keys.now) (placed_entries (codes "Contest") (record { place = election_place spot.election; value = view election.now }))) }
 {
-    for contest in entries_at(election, "Contest") {
-        collect_object(keys, Family::Contest, contest, walk)?;
-        collect_entries(keys, Family::Selection, contest, "ContestSelection", walk)?;
+    for (index, contest) in entries_at(election, "Contest").iter().enumerate() {
+        let of_contest = Spot {
+            election: spot.election,
+            contest: index,
+            entry: index,
+        };
+        collect_object(keys, Family::Contest, of_contest, contest, found)?;
+        collect_entries(keys, Family::Selection, of_contest, contest, found)?;
     }
     Ok(())
 }
 
-/// Collects the objects of a family that are the entries of one member of their owner.
+/// Collects the objects of a family that one owner has. The spot has the positions on the way to the owner.
 fn collect_entries<'a>(
     keys: &KeyRule,
     family: Family,
+    spot: Spot,
     owner: &'a Value,
-    name: &str,
-    walk: &mut Collection<'a>,
+    found: &mut Vec<Found<'a>>,
 ) -> Result<(), AllocError>
-    ensures { IfOk result (λ _. collected_in walk.new
-        ≡ collected_in walk.old ++ objects_found keys.now family (entries_at name.now (view owner.now))) }
+    ensures { IfOk result (λ _. collected_in found.new ≡ collected_in found.old
+        ++ located keys.now family (placed_entries (member_name family) (record { place = owner_place family spot; value = view owner.now }))) }
 {
-    for entry in entries_at(owner, name) {
-        collect_object(keys, family, entry, walk)?;
+    for (index, entry) in entries_at(owner, member_of(family)).iter().enumerate() {
+        let of_entry = Spot {
+            election: spot.election,
+            contest: spot.contest,
+            entry: index,
+        };
+        collect_object(keys, family, of_entry, entry, found)?;
     }
     Ok(())
 }
 
-/// Collects an object of a family. Its `@id` and its identifiers are found once, for its tables and for the salt.
+/// Collects an object of a family. Its `@id` and its key are found once, for its tables and for the salt.
 fn collect_object<'a>(
     keys: &KeyRule,
     family: Family,
+    spot: Spot,
     value: &'a Value,
-    walk: &mut Collection<'a>,
+    found: &mut Vec<Found<'a>>,
 ) -> Result<(), AllocError>
-    ensures { IfOk result (λ _. collected_in walk.new ≡ collected_in walk.old ++ object_found keys.now family (view value.now) ∷ []) }
+    ensures { IfOk result (λ _. collected_in found.new ≡ collected_in found.old
+        ++ located_one keys.now family (record { place = object_place family spot; value = view value.now }) ∷ []) }
 {
     let id = value.get("@id").and_then(Value::as_str);
-    let key = fed_key(keys, family, value, id, &mut walk.hasher);
-    walk.found.push(Found::Object {
+    let key = key_in_family(keys, family, value);
+    found.push(Found::Object {
         family,
+        spot,
         value,
         key,
         id,
@@ -144,25 +174,12 @@ fn collect_object<'a>(
     Ok(())
 }
 
-/// Returns the identifier that gives an object its key, if its family has keys and it has an identifier. Feeds the hasher the
-/// `@id` of the object and its identifiers. Of a selection all texts and numbers are fed, since its name is made of several.
-fn fed_key<'a>(
-    keys: &KeyRule,
-    family: Family,
-    value: &'a Value,
-    id: Option<&str>,
-    hasher: &mut SaltHasher,
-) -> Option<Triple<'a>>
+/// Returns the identifier that gives an object its key, if its family has keys and it has an identifier.
+fn key_in_family<'a>(keys: &KeyRule, family: Family, value: &'a Value) -> Option<Triple<'a>>
     ensures { result ≡ key_of_family_object keys.now family (view value.now) }
 {
     match family {
-        Family::Selection => {
-            hasher.feed(value);
-            None
-        }
-        _ => {
-            hasher.feed_text(id.unwrap_or(""));
-            keys.fed_triple_of(value, hasher)
-        }
+        Family::Selection => None,
+        _ => keys.triple_of(value),
     }
 }

@@ -1,57 +1,63 @@
-ghost use Rattle.std.specs.Prelude.{◌≡◌, false, map, IfOk, IfSome};
-ghost use Rattle.erd_meaning.specs.code.Collected.{filled_all, filled_one, nothing_filled};
-ghost use Rattle.erd_meaning.specs.code.CollectedWalks.{filled_in, found};
+ghost use Rattle.std.specs.Prelude.{◌≡◌, map, IfOk};
+ghost use Rattle.erd_meaning.specs.code.CollectedWalks.{found};
+ghost use Rattle.erd_meaning.specs.code.ObjectWalk.{met_all, met_one, nothing_met};
+ghost use Rattle.erd_meaning.specs.code.ShownWalks.{met_of};
 
 use crate::keys::shared_key::SharedKey;
 use crate::objects::collected::Found;
 use crate::objects::election_table::ElectionTable;
+use crate::objects::spot::{holder_of, push_election_faults, push_object_faults};
 use crate::objects::table::{Object, ObjectTable};
 use erd_index::Salt;
-use erd_tables::Family;
+use erd_tables::{Family, Fault};
 use std::alloc::{AllocError, Global};
 
-/// The objects and the elections of a report in their tables.
+/// The objects and the elections of a report in their tables, and the faults of identity that were met on the way.
 #[derive(Drop)]
 pub(crate) struct Tables<'a> {
     pub(crate) objects: ObjectTable<'a>,
     pub(crate) elections: ElectionTable<'a>,
+    pub(crate) faults: Vec<Fault>,
 }
 
-/// Returns the tables of what was found, in which nothing is looked up by name, or `None` if any of it has a fault of identity.
+/// Returns the tables of what was found, in which nothing is looked up by name.
 pub(crate) fn filled<'a>(
     alloc: Global,
     salt: Salt,
     all: Vec<Found<'a>>,
-) -> Result<Option<Tables<'a>>, AllocError>
-    ensures { IfOk result (λ filled. IfSome filled (λ tables. filled_in tables false
-        ≡ filled_all nothing_filled (map found all.entry.items))) }
+) -> Result<Tables<'a>, AllocError>
+    ensures { IfOk result (λ tables. met_of tables ≡ met_all nothing_met (map found all.entry.items)) }
 {
     let mut tables = Tables {
         objects: ObjectTable::new(alloc, salt),
         elections: ElectionTable::new(alloc, salt),
+        faults: Vec::new(alloc),
     };
     for one in all {
-        if tables.add(alloc, one)? {
-            return Ok(None);
-        }
+        tables.add(alloc, one)?;
     }
-    Ok(Some(tables))
+    Ok(tables)
 }
 
 impl<'a> Tables<'a> {
-    /// Adds an election or an object. Returns whether it has a fault of identity: it lacks a key that it needs, or has the
-    /// key or the `@id` of an earlier one.
-    fn add(&mut self, alloc: Global, one: Found<'a>) -> Result<bool, AllocError>
-        ensures { IfOk result (λ has_fault. filled_in self.new has_fault ≡ filled_one (filled_in self.old false) (found one.entry)) }
+    /// Adds an election or an object, and its faults of identity: it lacks a key that it needs, or has the key or the `@id` of
+    /// an earlier one. The place of a fault is made of the positions that are kept.
+    fn add(&mut self, alloc: Global, one: Found<'a>) -> Result<(), AllocError>
+        ensures { IfOk result (λ _. met_of self.new ≡ met_one (met_of self.old) (found one.entry)) }
     {
         match one {
-            Found::Election { needs_key, key } => {
+            Found::Election {
+                index,
+                needs_key,
+                key,
+            } => {
                 let lacks_key = needs_key && key.is_none();
                 let has_key = self.elections.push(alloc, key)?;
-                Ok(lacks_key || has_key)
+                push_election_faults(alloc, index, lacks_key, has_key, &mut self.faults)
             }
             Found::Object {
                 family,
+                spot,
                 value,
                 key,
                 id,
@@ -63,9 +69,10 @@ impl<'a> Tables<'a> {
                     value,
                     key: shared,
                     id,
+                    election: holder_of(family, spot),
                 };
                 let earlier = self.objects.push(object, key)?;
-                Ok(lacks_key || earlier.has_key || earlier.has_id)
+                push_object_faults(alloc, family, spot, lacks_key, earlier, &mut self.faults)
             }
         }
     }

@@ -20,13 +20,15 @@ use std::alloc::{AllocError, Global};
 use std::fmt;
 use std::marker::Model;
 
-/// An object of a family, with its `@id`, if it has one, and its key, if its family has keys.
+/// An object of a family, with its `@id`, if it has one, its key, if its family has keys, and the position of the election that has
+/// it in one of its arrays, if one has.
 #[derive(Debug, Drop)]
 pub(crate) struct Object<'a> {
     pub(crate) family: Family,
     pub(crate) value: &'a Value,
     pub(crate) key: Option<SharedKey>,
     pub(crate) id: Option<&'a str>,
+    pub(crate) election: Option<usize>,
 }
 
 /// Whether an earlier object of the same family has the same key, and whether an earlier object of any family has the same
@@ -204,6 +206,17 @@ impl<'a> ObjectTable<'a> {
     {
         match self.get(family, index) {
             Some(object) => object.key.as_ref(),
+            None => None,
+        }
+    }
+
+    /// Returns the position of the election that has the object of the family at the position in one of its arrays, if there are
+    /// such.
+    pub(crate) fn election_of(&self, family: Family, index: usize) -> Option<usize>
+        ensures { result ≡ option_and_then (λ k. k.election) (slice_get (those_of family (map shown self.now)) index) }
+    {
+        match self.get(family, index) {
+            Some(object) => object.election,
             None => None,
         }
     }

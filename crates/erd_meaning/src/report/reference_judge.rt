@@ -1,5 +1,7 @@
-ghost use Rattle.std.specs.Prelude.{◌≡◌, ◌++◌, [], map, option_to_list, IfOk, IfSome, true, false, ⊤};
-ghost use Rattle.erd_meaning.specs.Words.{Data, view, ListsAll, IsFaultless, IsShallow, IsTree, steps_of, faults_of, ReferenceFault};
+ghost use Rattle.std.specs.Prelude.{◌≡◌, ◌++◌, [], map, option_to_list, IfOk, IfErr, IsTrue, true, false, ⊤};
+ghost use Rattle.serde_json.specs.Data.{array, string};
+ghost use Rattle.erd_check.specs.Visits.{IsSilentMember};
+ghost use Rattle.erd_meaning.specs.Words.{Data, view, items_view, ListsAll, IsFaultless, IsShallow, IsTree, steps_of, faults_of, IsFault, ReferenceFault, RefusedFor};
 ghost use Rattle.erd_meaning.specs.code.ObjectWalk.{kept_objects};
 ghost use Rattle.erd_meaning.specs.code.OwnIds.{HaveOwnIds};
 ghost use Rattle.erd_meaning.specs.code.Resolved.{IsIdentified, IsReferred};
@@ -8,12 +10,12 @@ ghost use Rattle.erd_meaning.specs.code.Shown.{shown};
 
 use crate::keys::key_rule::KeyRule;
 use crate::objects::table::ObjectTable;
-use erd_check::joined_walk::shape_with;
+use erd_check::joined_walk::{Visited, shape_with};
 use erd_check::path::{Path, push_fault};
 use erd_check::visitor::{Visit, Visitor};
 use erd_check::walk::walk_report;
 use erd_check::want::{Scope, Want};
-use erd_check::{Shaped, is_among};
+use erd_check::{CheckError, Shaped, is_among};
 use erd_tables::{Family, Fault, FaultList, MemberKind, Reason, Role};
 use serde_json::Value;
 use std::alloc::{AllocError, Global};
@@ -37,24 +39,28 @@ pub(crate) fn reference_faults(
     Ok(FaultList::of(found))
 }
 
-/// Returns a report as a `Shaped` if it has no fault of the shape and none of references. Otherwise returns `None`. Both are judged
-/// in one walk, and each reference is looked up in `objects`, which are those of the report.
+/// Returns a report as a `Shaped` if it has no fault of the shape and none of references, or the faults of the first of these two
+/// that has any. Both are judged in one walk, and each reference is looked up in `objects`, which are those of the report.
 pub(crate) fn shape_with_references<'a>(
     keys: &KeyRule,
     tree: &'a Value,
     objects: &ObjectTable,
-) -> Result<Option<Shaped<'a>>, AllocError>
+) -> Result<Shaped<'a>, CheckError>
     requires nests { IsShallow (view tree.now) }
     requires kept { map shown objects.now ≡ kept_objects keys.now (view tree.now) }
     requires identified { IsIdentified keys.now tree.now }
-    ensures tree { IfOk result (λ found. IfSome found (λ s. s ≡ tree.now)) }
-    ensures faultless { IfOk result (λ found. IfSome found (λ _. IsFaultless tree.now)) }
-    ensures referred { IfOk result (λ found. IfSome found (λ _. IsReferred tree.now)) }
+    ensures tree { IfOk result (λ s. s ≡ tree.now) }
+    ensures faultless { IfOk result (λ _. IsFaultless tree.now) }
+    ensures referred { IfOk result (λ _. IsReferred tree.now) }
+    ensures refused { IfErr result (RefusedFor (IsFault keys.now (view tree.now))) }
 {
-    let Some(shaped) = shape_with(keys.alloc, &ReferenceJudge { objects }, tree)? else {
-        return Ok(None);
-    };
-    Ok(Some(shaped))
+    let Visited { shaped, found } = shape_with(keys.alloc, &ReferenceJudge { objects }, tree)?;
+    let references = FaultList::of(found);
+    if references.len() == 0 {
+        Ok(shaped)
+    } else {
+        Err(CheckError::Faults(references))
+    }
 }
 
 /// The visitor that finds the faults of references to these objects. No two of them have the same `@id`.
@@ -71,35 +77,20 @@ impl<'b, 'a> Visitor for ReferenceJudge<'b, 'a> {
 
     ghost is_thorough = { λ _. false };
 
-    fn enters(&self, want: Want) -> bool {
-        may_have_references(want)
-    }
-
-    fn compares(&self, want: Want) -> bool {
-        true
-    }
-
-    fn passes_over_text(&self, want: Want, text: &str) -> bool {
-        match want {
-            Want::Reference(family) => self.is_clear_anywhere(family, text),
-            _ => true,
-        }
-    }
-
+    /// No identifier, no text but a reference, and no carried value has a reference inside.
     fn passes_over(
         &self,
         alloc: Global,
         want: Want,
-        object: &Value,
-        items: &[Value],
+        owner: &Value,
+        value: &Value,
     ) -> Result<bool, AllocError> {
-        match want {
-            Want::Member(MemberKind::Many(family), _) => {
-                self.are_clear(alloc, family, true, object, items)
-            }
-            Want::Member(MemberKind::Ordered, _) => {
-                self.are_clear(alloc, Family::Selection, false, object, items)
-            }
+        if !may_have_references(want) {
+            return Ok(true);
+        }
+        match value {
+            Value::String(text) => Ok(self.is_clear_text(want, text.as_str())),
+            Value::Array(items) => self.is_clear_array(alloc, want, owner, items.as_slice()),
             _ => Ok(false),
         }
     }
@@ -131,8 +122,7 @@ impl<'b, 'a> Visitor for ReferenceJudge<'b, 'a> {
     }
 }
 
-/// Returns `true` if the table asks for a reference, or for a value that may have references inside. No identifier, no text
-/// and no carried value has any.
+/// Returns `true` if the table asks for a reference, or for a value that may have references inside.
 fn may_have_references(want: Want) -> bool
     ensures { result ≡ leads_to_references want }
 {
@@ -152,6 +142,39 @@ fn may_have_references(want: Want) -> bool
 }
 
 impl<'b, 'a> ReferenceJudge<'b, 'a> {
+    /// Returns `true` only if a member with this text is no reference that has a fault.
+    fn is_clear_text(&self, want: Want, text: &str) -> bool
+        ensures { result ≡ true → (outer : Data) → reference_reasons_told (map shown self.now.objects.now) outer want false (string text.now) ≡ [] }
+    {
+        match want {
+            Want::Reference(family) => self.is_clear_anywhere(family, text),
+            _ => true,
+        }
+    }
+
+    /// Returns `true` only if a member with this array is one of references of which none has a fault. `owner` is the object that
+    /// has the member.
+    fn is_clear_array(
+        &self,
+        alloc: Global,
+        want: Want,
+        owner: &Value,
+        items: &[Value],
+    ) -> Result<bool, AllocError>
+        ensures { IfOk result (λ clear. IsTrue clear
+            → IsSilentMember (reference_reasons_told (map shown self.now.objects.now)) (view owner.now) want (array (items_view items.now))) }
+    {
+        match want {
+            Want::Member(MemberKind::Many(family), _) => {
+                self.are_clear(alloc, family, true, owner, items)
+            }
+            Want::Member(MemberKind::Ordered, _) => {
+                self.are_clear(alloc, Family::Selection, false, owner, items)
+            }
+            _ => Ok(false),
+        }
+    }
+
     /// Returns `true` only if a reference to the family with this text has no fault, whatever object has it. Of a selection this
     /// depends on the object.
     fn is_clear_anywhere(&self, family: Family, id: &str) -> bool

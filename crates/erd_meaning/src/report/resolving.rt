@@ -9,17 +9,16 @@ use crate::keys::key_rule::KeyRule;
 use crate::names::ranked_name::RankedName;
 use crate::names::selection_name::SelectionName;
 use crate::names::selection_walk::{SelectionWalk, meet_selections};
-use crate::objects::collected::{Collection, collected};
+use crate::objects::collected::collected;
 use crate::objects::election_table::ElectionTable;
-use crate::objects::filled::filled;
-use crate::objects::holders::Holders;
-use crate::objects::object_walk::{ObjectWalk, meet_report};
+use crate::objects::filled::{Tables, filled};
 use crate::objects::ranked_objects::RankedObjects;
+use crate::objects::salt::salt_of;
 use crate::objects::table::ObjectTable;
 use crate::report::reference_judge::reference_faults;
 use crate::report::{Elections, Indexes, Report};
 use erd_check::{CheckError, Shaped};
-use erd_index::{Salt, SaltedSet};
+use erd_index::SaltedSet;
 use erd_tables::{FaultList, Text};
 use serde_json::Value;
 use std::alloc::{AllocError, Global};
@@ -118,12 +117,10 @@ fn indexed<'a>(
     ensures prefer { IfOk result (λ r. r.prefer ≡ keys.now) }
 {
     let order = elections.order(keys.alloc)?;
-    let holders = Holders::of(keys.alloc, tree)?;
     let prefer = preference_of(keys)?;
     let elections = Elections {
         keys: elections,
         order,
-        holders,
     };
     let indexes = Indexes {
         objects,
@@ -144,7 +141,7 @@ fn preference_of(keys: &KeyRule) -> Result<Option<Text>, AllocError>
 }
 
 /// Returns the objects of a report and the keys of its elections, or its faults of identity. The walk that makes the salt finds
-/// what the tables need. Only if there is a fault does another walk find it again, to list the faults with their places.
+/// what the tables need, and the positions of which the places of faults are made.
 pub(crate) fn objects_told_apart<'a>(
     keys: &KeyRule,
     tree: &'a Value,
@@ -154,36 +151,13 @@ pub(crate) fn objects_told_apart<'a>(
     ensures elections { IfOk result (λ r. r.1 ≡ election_keys keys.now (view tree.now)) }
     ensures refused { IfErr result (RefusedFor (IdentityFault keys.now (view tree.now))) }
 {
-    let Collection { found, hasher } = collected(keys, tree)?;
-    let salt = hasher.salt();
-    match filled(keys.alloc, salt, found)? {
-        Some(tables) => Ok((tables.objects, tables.elections)),
-        None => walked(keys, tree, salt),
-    }
-}
-
-/// Returns what `objects_told_apart` does, by a walk that lists the faults with their places. The indexes have this salt.
-fn walked<'a>(
-    keys: &KeyRule,
-    tree: &'a Value,
-    salt: Salt,
-) -> Result<(ObjectTable<'a>, ElectionTable<'a>), CheckError>
-    ensures identified { IfOk result (λ _. IsIdentified keys.now tree.now) }
-    ensures kept { IfOk result (λ r. map shown r.0 ≡ kept_objects keys.now (view tree.now)) }
-    ensures elections { IfOk result (λ r. r.1 ≡ election_keys keys.now (view tree.now)) }
-    ensures refused { IfErr result (RefusedFor (IdentityFault keys.now (view tree.now))) }
-{
-    let mut walk = ObjectWalk {
-        objects: ObjectTable::new(keys.alloc, salt),
-        elections: ElectionTable::new(keys.alloc, salt),
-        faults: Vec::new(keys.alloc),
-    };
-    meet_report(keys, tree, &mut walk)?;
-    let ObjectWalk {
+    let found = collected(keys, tree)?;
+    let salt = salt_of(&found);
+    let Tables {
         objects,
         elections,
         faults,
-    } = walk;
+    } = filled(keys.alloc, salt, found)?;
     let identity = FaultList::of(faults);
     if identity.len() == 0 {
         Ok((objects, elections))

@@ -1,42 +1,12 @@
 -- What is asked of a value that stands in an object of a known class, by the kind of its member, and one step inside an object.
-use Rattle.erd_normal.proofs.Common.{◌≡◌, ℕ, zero, suc, Bool, true, false, ◌&&◌, ◌⊎◌, List, if◌then◌else◌, Some, None, codes, Option, bytes_eq, sym, refl, ap, ◌∙◌, subst, inl, inr, AllByRecursion, Data, array, object, Items, no_items, item, Members, get_member, get_item, get, role_of_class, kind_of_member, is_required, Class, class, Role, role, MemberKind, kind, Step, At, Name, array_from, ObjectAt, Within-step, of_role, wanted_within, lacks_none, member_within, Within, ShapeFault, NoneOf, list_of_items, class_of_object, want_of_kind, is_report_class, member_want, entry_want, is_compared_set, Asked, asked, asked_of_member, asked_inside, Want, ClassText, Member, ⊤, text_exact, AsksObject, of_label, classed, Classed, want_unless_status, kind_of_type}
+use Rattle.erd_normal.proofs.Common.{◌≡◌, ℕ, zero, suc, Bool, true, false, ◌&&◌, ◌⊎◌, List, if◌then◌else◌, Some, None, codes, Option, bytes_eq, sym, refl, ap, ◌∙◌, subst, inl, inr, AllByRecursion, Data, array, object, Items, no_items, item, Members, get_member, get_item, get, role_of_class, kind_of_member, Class, class, Role, role, kind, Step, At, Name, array_from, Within-step, of_role, wanted_within, lacks_none, member_within, Within, ShapeFault, NoneOf, list_of_items, class_of_object, is_report_class, member_want, entry_want, is_compared_set, Asked, asked, asked_of_member, asked_inside, Want, ClassText, Member, text_exact, AsksObject, of_label, classed, Classed}
 
 -- ---- members
-
--- it is asked at some place what a member of this kind asks; of `@type` and of texts nothing is said
-abbrev pub AskedAs : Data → MemberKind → Data → Type 0
-AskedAs t kind.ClassText d = ⊤
-AskedAs t kind.Word d = ⊤
-AskedAs t k d = (r : Bool) × Within t (asked (want_of_kind k r) d)
-
-asked_as_kind : (t : Data) (k : MemberKind) (r : Bool) (d : Data) → Within t (asked (want_of_kind k r) d) → AskedAs t k d
-asked_as_kind t kind.ClassText r d w = tt
-asked_as_kind t kind.Word r d w = tt
-asked_as_kind t k r d w = (r, w)
 
 -- `Status` of the report is a word
 pub status_kind : (c : Class) (name : List ℕ) → (is_report_class c && bytes_eq name (codes "Status")) ≡ true → kind_of_member c name ≡ kind.Word
 status_kind class.ElectionReport name e = ap (kind_of_member class.ElectionReport) (text_exact name (codes "Status") e)
 status_kind c name e = cc
-
-asked_as_other : (t : Data) → NoneOf (ShapeFault t) → (w : Want) (q : Role) (c : Class) (ms : Members) → ObjectAt t w q c ms → (name : List ℕ) (v : Data) → get_member name ms ≡ Some v
-    → bytes_eq name (codes "@type") ≡ false → AskedAs t (kind_of_member c name) v
-asked_as_other t clean w q c ms o name v found other =
-    (elim (is_report_class c && bytes_eq name (codes "Status")) as (λ b. (is_report_class c && bytes_eq name (codes "Status")) ≡ b → AskedAs t (kind_of_member c name) v) [
-      | true ↦ λ is. subst (λ k. AskedAs t k v) (sym (status_kind c name is)) tt
-      | false ↦ λ is.
-          asked_as_kind t (kind_of_member c name) (is_required c name) v
-          (subst (λ x. Within t (asked x v)) (want_unless_status c name is) (member_within t clean w q ms c name v o.asks o.among other o.inside found))
-    ]) refl
-
--- what is asked of a member that stands
-pub asked_as : (t : Data) → NoneOf (ShapeFault t) → (w : Want) (q : Role) (c : Class) (ms : Members) → ObjectAt t w q c ms → (name : List ℕ) (v : Data) → get_member name ms ≡ Some v
-    → AskedAs t (kind_of_member c name) v
-asked_as t clean w q c ms o name v found =
-    (elim (bytes_eq name (codes "@type")) as (λ b. bytes_eq name (codes "@type") ≡ b → AskedAs t (kind_of_member c name) v) [
-      | true ↦ λ is. subst (λ k. AskedAs t k v) (sym (ap (kind_of_member c) (text_exact name (codes "@type") is) ∙ kind_of_type c)) tt
-      | false ↦ λ is. asked_as_other t clean w q c ms o name v found is
-    ]) refl
 
 -- ---- labels
 

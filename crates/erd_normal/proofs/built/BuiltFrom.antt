@@ -32,8 +32,9 @@ pub record SpecialAsked (special : List ℕ → Bool) (c : Class) (d : Data) (s 
   pub is : b ≡ asked (member_want c name) found
 
 -- a member that comes from one of the object's
-pub record BuiltAsked (t : Data) (value_of : Builder) (c : Class) (ms : Members) (s : Step) (b : Asked) : Type 0 where
+pub record BuiltAsked (t : Data) (value_of : Builder) (special : List ℕ → Bool) (c : Class) (ms : Members) (s : Step) (b : Asked) : Type 0 where
   pub name : List ℕ
+  pub plain : special name ≡ false
   pub found : Data
   pub origin : BuiltFrom t value_of c ms name found
   pub step : s ≡ Name name
@@ -65,17 +66,18 @@ module _ (t : Data) (clean : NoneOf (ShapeFault t)) where
 
   -- what is asked one step inside an object that is built: its `@type`, a special member, or what is built of a member
   pub inside_built : (value_of : Builder) (special : List ℕ → Bool) (r : Role) (c : Class) (ms : Members) (d : Data) → BuiltObject t value_of special r c ms d → (s : Step) (b : Asked)
-      → asked_inside (Object r) d s ≡ Some b → TypeAsked r d s b ⊎ (SpecialAsked special c d s b ⊎ BuiltAsked t value_of c ms s b)
+      → asked_inside (Object r) d s ≡ Some b → TypeAsked r d s b ⊎ (SpecialAsked special c d s b ⊎ BuiltAsked t value_of special c ms s b)
   inside_built value_of special r c ms d o s b e = elim (asked_in_object (Object r) r c d s b of_role o.among e) [
     | inl type ↦ inl type
     | inr m ↦ inr (at m (special m.name) refl)
   ]
     where
-      at : (m : MemberAsked c d s b) (is : Bool) → special m.name ≡ is → SpecialAsked special c d s b ⊎ BuiltAsked t value_of c ms s b
+      at : (m : MemberAsked c d s b) (is : Bool) → special m.name ≡ is → SpecialAsked special c d s b ⊎ BuiltAsked t value_of special c ms s b
       at m true is = inl (record { name = m.name; named = is; found = m.found; stands = m.stands; step = m.step; is = m.is })
       at m false is =
           inr (record {
             name = m.name;
+            plain = is;
             found = m.found;
             origin = built_from value_of (Object r) r c ms o.at m.name m.found m.other (sym (o.gets m.name is) ∙ m.stands);
             step = m.step;

@@ -1,8 +1,8 @@
 -- What stands under each name of an object that is built from an object of a class.
-use Rattle.erd_normal.proofs.Common.{◌≡◌, ℕ, ◌≤◌, true, false, List, Some, None, codes, Option, option_map, option_and_then, bytes_eq, nat_cmp, Less, Equal, Greater, sym, refl, ap, ◌∙◌, subst, true≢false, arith, tied_itself, nat_list_cmp_total, slice_cmp, match_ordering, Data, string, object, Members, no_members, member, put, get_member, get, as_str, role_of_class, class_in_role, kind_of_member, text_cmp, Class, class, Family, Role, role, MemberKind, kind, kind_of_id, IsTree, entries_at, class_of_object, Preference, key_of, id_of, rising_list, compact_cmp, with_rising_text, selection_role, depth, members_depth, is_object, get_member-put, get_member-put_other, text_itself, kind_of_type, class_role, class_of_node, id_of_key, id_of_selection, array_of, normal_value, normal_object_with, normal_node_value, normal_content, normal_node, with_id, normal_selection, normal_object_value, normal_object, normal_election_value, normal_election}
+use Rattle.erd_normal.proofs.Common.{◌≡◌, ℕ, true, false, List, Some, None, codes, Option, option_map, option_and_then, bytes_eq, nat_cmp, Less, Equal, Greater, sym, refl, ap, ◌∙◌, subst, true≢false, tied_itself, nat_list_cmp_total, slice_cmp, match_ordering, Data, string, object, Members, no_members, member, put, get_member, get, as_str, role_of_class, class_in_role, kind_of_member, Class, class, Family, Role, role, MemberKind, kind, kind_of_id, IsTree, entries_at, class_of_object, Preference, key_of, id_of, rising_list, compact_cmp, with_rising_text, selection_role, is_object, get_member-put, get_member-put_other, text_itself, kind_of_type, class_role, class_of_node, id_of_key, id_of_selection, array_of, normal_value, normal_object_with, normal_node_value, normal_content, normal_node, with_id, normal_selection, normal_object_value, normal_object, normal_election_value, normal_election}
 use Rattle.erd_normal.proofs.built.NormalMembers.{get_normal, get_normal_node, node_value}
 
--- ---- the members of an object with a value put at a name: what stands at the other names, two values put there in turn, and how deep they nest
+-- ---- the members of an object with a value put at a name: what stands at the other names, and two values put there in turn
 
 -- the other names keep their values, where a name is other by a test that computes on literals; `get_member-put` of
 -- serde_json says what stands at the name itself
@@ -20,17 +20,6 @@ put_twice k d e (member l f ms) =
       | Equal ↦ λ is. ap (λ o. match_ordering o (member k d (member l e ms)) (member l d ms) (member l e (put k d ms))) is
       | Greater ↦ λ is. ap (λ o. match_ordering o (member k d (member l f (put k e ms))) (member l d (put k e ms)) (member l f (put k d (put k e ms)))) is ∙ ap (member l f) (put_twice k d e ms)
     ]) refl
-
--- ---- depth
-
--- nested no deeper than n, if the value and the members are
-pub put-depth : (k : List ℕ) (v : Data) (ms : Members) (n : ℕ) → depth v ≤ n → members_depth ms ≤ n → members_depth (put k v ms) ≤ n
-put-depth k v no_members n new low = omega arith
-put-depth k v (member l d ms) n new low =
-    let here : depth d ≤ n = omega arith in
-    let rest : members_depth ms ≤ n = omega arith in
-    let later : members_depth (put k v ms) ≤ n = put-depth k v ms n new rest in
-    elim (text_cmp k l) as (λ o. members_depth (match_ordering o (member k v (member l d ms)) (member l v ms) (member l d (put k v ms))) ≤ n) [ Less ↦ omega arith | Equal ↦ omega arith | Greater ↦ omega arith ]
 
 -- ---- what stands under each name of an object that is built from an object of a class
 

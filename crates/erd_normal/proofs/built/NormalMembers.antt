@@ -1,5 +1,5 @@
 -- The members that are built from those of an object: under each name what is built of the value there.
-use Rattle.erd_normal.proofs.Common.{◌≡◌, ℕ, ◌≤◌, List, Some, None, Option, option_map, option_and_then, Ordering, Equal, sym, refl, ap, ◌∙◌, arith, exact_bytes, option_map_or, match_ordering, Data, Members, no_members, member, get_member, kind_of_member, text_cmp, Class, MemberKind, IsTree, Preference, depth, members_depth, IsBeforeFirst, AreMembers, max, before_later, get_member-before, get_member-first, get_member-later, normal_members, normal_node_value, normal_content, normal_node_members}
+use Rattle.erd_normal.proofs.Common.{◌≡◌, ℕ, List, Some, None, Option, option_map, option_and_then, Ordering, Equal, sym, refl, ap, ◌∙◌, exact_bytes, option_map_or, match_ordering, Data, Members, no_members, member, get_member, kind_of_member, text_cmp, Class, MemberKind, IsTree, Preference, IsBeforeFirst, AreMembers, before_later, get_member-before, get_member-first, get_member-later, normal_members, normal_node_value, normal_content, normal_node_members}
 
 -- ---- of any value by name
 
@@ -41,16 +41,6 @@ trees_of_each value (member l d ms) rise each =
       | Some v ↦ λ given. (before_each value l ms rise.2 rise.0, each l d v (get_member-first l d ms) rise.1 given, h)
     ]) refl
 
-depth_of_each : (value : List ℕ → Data → Option Data) (ms : Members) → AreMembers ms
-    → ((name : List ℕ) (d v : Data) → get_member name ms ≡ Some d → value name d ≡ Some v → depth v ≤ depth d) → members_depth (each_member value ms) ≤ members_depth ms
-depth_of_each value no_members rise each = omega arith
-depth_of_each value (member l d ms) rise each =
-    let h = depth_of_each value ms rise.2 (λ name e v found. each name e v (get_member-later l name d e ms rise found)) in
-    (elim (value l d) as (λ r. value l d ≡ r → members_depth (option_map_or (λ v. member l v (each_member value ms)) r (each_member value ms)) ≤ max (depth d) (members_depth ms)) [
-      | None ↦ λ given. omega (arith, h)
-      | Some v ↦ λ given. omega (arith, h, each l d v (get_member-first l d ms) given)
-    ]) refl
-
 -- ---- of an object of a class
 
 module _ (value_of : List ℕ → MemberKind → Data → Option Data) (c : Class) where
@@ -64,11 +54,6 @@ module _ (value_of : List ℕ → MemberKind → Data → Option Data) (c : Clas
 
   pub get_normal : (name : List ℕ) (ms : Members) → AreMembers ms → get_member name (normal_members value_of c ms) ≡ option_and_then (value_of name (kind_of_member c name)) (get_member name ms)
   get_normal name ms rise = ap (get_member name) (normal_members_each ms) ∙ get_each value_in_class name ms rise
-
-  -- each value that is given for a member that stands is nested no deeper
-  pub normal_members-depth : (ms : Members) → AreMembers ms
-      → ((name : List ℕ) (d v : Data) → get_member name ms ≡ Some d → value_of name (kind_of_member c name) d ≡ Some v → depth v ≤ depth d) → members_depth (normal_members value_of c ms) ≤ members_depth ms
-  normal_members-depth ms rise each = rw (normal_members_each ms) (depth_of_each value_in_class ms rise each)
 
 -- ---- of a contest or a header
 

@@ -1,6 +1,6 @@
 -- The report that is built: what stands under each name, and its envelope.
-use Rattle.erd_normal.proofs.Common.{◌≡◌, ℕ, ◌≤◌, true, false, List, [], ◌∷◌, if◌then◌else◌, Some, None, codes, Option, option_and_then, bytes_eq, sym, refl, ap, ◌∙◌, subst, true≢false, arith, and_parts, AllByRecursion, list_all, Data, object, Members, put, get_member, get, as_str, class_in_role, kind_of_member, class, role, ShapeFault, NoneOf, IsTree, class_of_object, Preference, depth, members_depth, get_member-put, is_envelope_name, text_exact, skeleton_of_shape, Skeleton, HasCanonicalEnvelope, put_all, normal_members, normal_object_with, normal_report_value, envelope_values, with_envelope, in_envelope, normal_tree}
-use Rattle.erd_normal.proofs.built.NormalGets.{put_elsewhere, put-depth, no_value, same_value}
+use Rattle.erd_normal.proofs.Common.{◌≡◌, ℕ, true, false, List, [], ◌∷◌, if◌then◌else◌, Some, None, codes, Option, option_and_then, bytes_eq, sym, refl, ap, ◌∙◌, subst, true≢false, and_parts, list_all, Data, object, Members, put, get_member, get, as_str, class_in_role, kind_of_member, class, role, ShapeFault, NoneOf, IsTree, class_of_object, Preference, get_member-put, is_envelope_name, text_exact, skeleton_of_shape, Skeleton, HasCanonicalEnvelope, put_all, normal_members, normal_object_with, normal_report_value, envelope_values, with_envelope, in_envelope, normal_tree}
+use Rattle.erd_normal.proofs.built.NormalGets.{put_elsewhere, no_value, same_value}
 use Rattle.erd_normal.proofs.built.NormalMembers.{get_normal}
 
 -- ---- the members with the canonical envelope: what stands at each name
@@ -32,10 +32,6 @@ put_value-other (p ∷ ps) name o names other =
       | false ↦ λ is. put_value-other ps name o both.1 other
     ]) refl
 
-put_all-depth : (n : ℕ) (ps : List Named) (ms : Members) → AllByRecursion (λ p. depth p.1 ≤ n) ps → members_depth ms ≤ n → members_depth (put_all ps ms) ≤ n
-put_all-depth n [] ms low inside = inside
-put_all-depth n (p ∷ ps) ms low inside = put-depth p.0 p.1 (put_all ps ms) n low.0 (put_all-depth n ps ms low.1 inside)
-
 -- ---- the envelope
 
 -- what stands at a name; it computes at a literal
@@ -44,11 +40,6 @@ get_with_envelope name ms = get_put_all envelope_values name ms
 
 pub get_with_envelope-other : (name : List ℕ) (ms : Members) → is_envelope_name name ≡ false → get_member name (with_envelope ms) ≡ get_member name ms
 get_with_envelope-other name ms other = get_with_envelope name ms ∙ put_value-other envelope_values name (get_member name ms) refl other
-
-pub with_envelope-depth : (ms : Members) → members_depth (with_envelope ms) ≤ members_depth ms
-with_envelope-depth ms =
-    let low : 0 ≤ members_depth ms = omega arith in
-    put_all-depth (members_depth ms) envelope_values ms (low, (low, (low, (low, (low, (low, (low, tt))))))) (omega arith)
 
 -- ---- the report that is built: what stands under each name, and its envelope
 

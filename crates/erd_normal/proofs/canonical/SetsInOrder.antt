@@ -14,22 +14,11 @@ use Rattle.erd_normal.proofs.lists.BuiltLists.{maps_agree}
 use Rattle.erd_text.proofs.StableRising.{map_after}
 use Rattle.erd_normal.proofs.same.IdsOfObjects.{Refers, references_refer}
 use Rattle.erd_normal.proofs.same.normal.NewIds.{prefixed_keys}
-use Rattle.erd_normal.proofs.throughout.ThroughoutMembers.{HoldsOfMembers, built_references, is_prefixed}
-use Rattle.erd_normal.proofs.throughout.ThroughoutObjects.{HoldsOfObjects}
-use Rattle.erd_normal.proofs.throughout.ThroughoutReports.{HoldsOfBuilt, holds_of_built}
+use Rattle.erd_normal.proofs.throughout.ThroughoutMembers.{BuiltAs, from_kept, from_label, from_many, from_identifiers, from_languages, from_ordered, from_identity, from_content, from_selections, from_word, from_whole, from_keyed, from_elections, built_references, is_prefixed}
+use Rattle.erd_normal.proofs.throughout.ThroughoutReports.{built_as}
 use Rattle.erd_normal.proofs.throughout.ThroughoutValues.{is_apart}
 
--- ---- what has to hold of a value
-
--- the entries of a value rise, if a member is asked for, and the value stands in the report
-pub record IsRisingIn (π : Preference) (u : Data) (a : Asked) : Type 0 where
-  pub rises : (k : MemberKind) → kind_wanted a.want ≡ Some k → Within u a → RisesAs π u k (entries_of a.value)
-
-standing_value : (π : Preference) (u : Data) (k : MemberKind) (required : Bool) (d : Data) → (Within u (asked (Member k required) d) → RisesAs π u k (entries_of d)) → IsRisingIn π u (asked (Member k required) d)
-standing_value π u k required d h = record { rises = λ q e w. let same : k ≡ q = cc in subst (λ x. RisesAs π u x (entries_of d)) same (h w) }
-
-rising_value : (π : Preference) (u : Data) (k : MemberKind) (required : Bool) (d : Data) → RisesAs π u k (entries_of d) → IsRisingIn π u (asked (Member k required) d)
-rising_value π u k required d h = standing_value π u k required d (λ w. h)
+-- ---- sets that are built
 
 apart_rises : (π : Preference) (u : Data) (k : MemberKind) (required : Bool) (ds : List Data) → is_apart (Member k required) ≡ true → RisesAs π u k ds
 apart_rises π u kind.Identity required ds h = tt
@@ -135,56 +124,36 @@ module _ (π : Preference) (t : Data) (accepted : IsAccepted π t) (tree : IsTre
   abbrev u : Data
   u = normal_tree π t
 
-  members : HoldsOfMembers π t (IsRisingIn π u)
-  members = record {
-    kept = λ a w apart. record { rises = λ k e x. kept_rises π u a.want a.value k apart e };
-    class_text = λ r c text named. record { rises = λ k e x. cc };
-    label = λ required d w. rising_value π u kind.Label required _ tt;
-    one = λ f named d w. record { rises = λ k e x. cc };
-    many = λ f named required d w full.
-        standing_value π u (kind.Many f) required (array_of (built_references π t f d))
-        (λ built. subst (λ xs. IsStrictlySortedBy (option_cmp key_cmp) (keys_referred π u f xs)) (sym (list_of_items-items_of (built_references π t f d)))
-        (references_rising π t accepted tree bounded f named required d w built));
-    many_entry = λ f named required d w i e found. record { rises = λ k h x. cc };
-    identifiers = λ required d w full.
-        rising_value π u kind.Identifiers required (array_of (rising_list compact_cmp (entries_of d)))
-        (values_rising π t accepted tree fits kind.Identifiers required role.Identifier refl refl identifier_simple d (wanted_within t (no_shape_fault π t accepted) (asked (Member kind.Identifiers required) d) w) w);
-    languages = λ required d w full.
-        rising_value π u kind.Languages required (array_of (rising_list compact_cmp (entries_of d)))
-        (values_rising π t accepted tree fits kind.Languages required role.Language refl refl language_simple d (wanted_within t (no_shape_fault π t accepted) (asked (Member kind.Languages required) d) w) w);
-    ordered = λ required d w full. rising_value π u kind.Ordered required _ tt;
-    ordered_entry = λ e w. record { rises = λ k h x. cc };
-  }
+  of_kind : (k q : MemberKind) (ds : List Data) → Some k ≡ Some q → RisesAs π u k ds → RisesAs π u q ds
+  of_kind k q ds e h = let same : k ≡ q = cc in subst (λ x. RisesAs π u x ds) same h
 
-  parts : HoldsOfObjects π t (IsRisingIn π u)
-  parts = record {
-    members = members;
-    identity = λ required id. rising_value π u kind.Identity required _ tt;
-    content = λ required d w full. rising_value π u kind.Content required _ tt;
-    node = λ d w. record { rises = λ k e x. cc };
-    selections = λ contest required d of_report stands w full.
-        let ds : List Data = map (normal_selection π t contest.value) (rising_list (by_name π t) (entries_of d)) in
-        standing_value π u (kind.Keyed family.Selection) required (array_of ds)
-        (λ built. subst (λ xs. IsStrictlySortedBy (option_cmp name_cmp) (map (name_of π u) xs)) (sym (list_of_items-items_of ds))
-        (selections_rising π t accepted tree bounded contest required d of_report stands built));
-    selection = λ contest d w. record { rises = λ k e x. cc };
-    object = λ f d w. record { rises = λ k e x. cc };
-  }
-
-  built : HoldsOfBuilt π t (IsRisingIn π u)
-  built = record {
-    parts = parts;
-    word = λ required text. rising_value π u kind.Word required _ tt;
-    whole = λ required n. rising_value π u kind.Whole required _ tt;
-    keyed = λ f keyed required d w all full. rising_value π u (kind.Keyed f) required (normal_objects π t f (entries_of d)) (objects_rising π t accepted tree f keyed (entries_of d) all);
-    elections = λ required d w is.
-        let ds : List Data = map (normal_election π t) (rising_list (by_key π) (entries_of d)) in
-        rising_value π u kind.Elections required (array_of ds)
-        (subst (λ xs. IsStrictlySortedBy (option_cmp key_cmp) (keys_of π xs)) (sym (list_of_items-items_of ds)) (elections_rising π t accepted tree (entries_of d) is));
-    election = λ d w. record { rises = λ k e x. cc };
-    report = record { rises = λ k e x. cc };
-  }
+  rises : {a : Asked} → BuiltAs π t a → (q : MemberKind) → kind_wanted a.want ≡ Some q → Within u a → RisesAs π u q (entries_of a.value)
+  rises (from_kept a w apart) q e built = kept_rises π u a.want a.value q apart e
+  rises (from_label required d w) q e built = of_kind kind.Label q _ e tt
+  rises (from_ordered required d w filled) q e built = of_kind kind.Ordered q _ e tt
+  rises (from_identity required id) q e built = of_kind kind.Identity q [] e tt
+  rises (from_content required d w filled) q e built = of_kind kind.Content q _ e tt
+  rises (from_word required s) q e built = of_kind kind.Word q [] e tt
+  rises (from_whole required n) q e built = of_kind kind.Whole q [] e tt
+  rises (from_many f named required d w filled) q e built =
+      of_kind (kind.Many f) q _ e (subst (λ xs. IsStrictlySortedBy (option_cmp key_cmp) (keys_referred π u f xs)) (sym (list_of_items-items_of (built_references π t f d)))
+      (references_rising π t accepted tree bounded f named required d w built))
+  rises (from_identifiers required d w filled) q e built =
+      of_kind kind.Identifiers q _ e
+      (values_rising π t accepted tree fits kind.Identifiers required role.Identifier refl refl identifier_simple d (wanted_within t (no_shape_fault π t accepted) (asked (Member kind.Identifiers required) d) w) w)
+  rises (from_languages required d w filled) q e built =
+      of_kind kind.Languages q _ e
+      (values_rising π t accepted tree fits kind.Languages required role.Language refl refl language_simple d (wanted_within t (no_shape_fault π t accepted) (asked (Member kind.Languages required) d) w) w)
+  rises (from_selections contest required d of_report stands w filled) q e built =
+      let ds : List Data = map (normal_selection π t contest.value) (rising_list (by_name π t) (entries_of d)) in
+      of_kind (kind.Keyed family.Selection) q _ e (subst (λ xs. IsStrictlySortedBy (option_cmp name_cmp) (map (name_of π u) xs)) (sym (list_of_items-items_of ds))
+      (selections_rising π t accepted tree bounded contest required d of_report stands built))
+  rises (from_keyed f keyed required d w all filled) q e built = of_kind (kind.Keyed f) q _ e (objects_rising π t accepted tree f keyed (entries_of d) all)
+  rises (from_elections required d w is) q e built =
+      let ds : List Data = map (normal_election π t) (rising_list (by_key π) (entries_of d)) in
+      of_kind kind.Elections q _ e (subst (λ xs. IsStrictlySortedBy (option_cmp key_cmp) (keys_of π xs)) (sym (list_of_items-items_of ds)) (elections_rising π t accepted tree (entries_of d) is))
+  rises h q e built = cc
 
   -- the sets of the report that is built rise
   pub sets_in_order_built : AreSetsInOrder π (normal_tree π t)
-  sets_in_order_built p a k e want = (holds_of_built π t (no_shape_fault π t accepted) tree (IsRisingIn π u) built p a e).rises k want (record { place = p; is = e })
+  sets_in_order_built p a k e want = rises (built_as π t (no_shape_fault π t accepted) tree p a e) k want (record { place = p; is = e })

@@ -3,4 +3,5 @@ pub mod NewIds
 pub mod SaidValues
 pub mod SaidObjects
 pub mod SaidReports
+pub mod SameDepths
 pub mod SameForms

@@ -1,14 +1,15 @@
 -- The text that is written for a report is the text of its canonical form.
-use Rattle.erd_normal.proofs.Common.{◌≡◌, ℕ, suc, ◌≤◌, List, [], Some, Option, option_map, option_and_then, Less, sym, refl, ap, ◌∙◌, subst, ap₂, append-nil, arith, nat_list_cmp_total, AllByRecursion, ordering_reverse, Data, array, object, Items, no_items, item, Members, no_members, member, put, text_cmp, IsTree, IsAccepted, Preference, IsBounded, number, depth, members_depth, of_json, of_items, of_members, read, max_depth, AreTrees, AreMembers, IsShallow, names, max, IsUtf8, ⊤, Token, items_depth, outline, items_outline, members_outline, before_all, HasFittingNumbers, ItemsHaveFittingNumbers, MembersHaveFittingNumbers, no_shape_fault, normal_tree, value_tokens}
+use Rattle.erd_normal.proofs.Common.{◌≡◌, ℕ, suc, ◌≤◌, List, [], Some, Option, option_map, option_and_then, Less, sym, refl, ap, ◌∙◌, subst, ap₂, append-nil, arith, nat_list_cmp_total, AllByRecursion, ordering_reverse, Data, array, object, Items, no_items, item, Members, no_members, member, put, text_cmp, IsTree, IsAccepted, Preference, IsBounded, number, depth, members_depth, of_json, of_items, of_members, read, max_depth, AreTrees, AreMembers, IsShallow, names, max, IsUtf8, ⊤, Token, items_depth, outline, items_outline, members_outline, before_all, HasFittingNumbers, ItemsHaveFittingNumbers, MembersHaveFittingNumbers, normal_tree, value_tokens}
 use Rattle.serde_json.proofs.Texts.{print-outline}
 use Rattle.json.specs.Lex.{tokens}
 use Rattle.json.proofs.Printed.Trees.{value-json_tokens}
 use Rattle.json.specs.Print.{print}
 use Rattle.erd_normal.proofs.texts.CompactTexts.{number_read}
 use Rattle.erd_normal.specs.CanonicalText.{IsCanonicalText}
-use Rattle.erd_normal.proofs.built.NormalDepths.{normal_tree-depth}
 use Rattle.erd_normal.proofs.built.NormalTrees.{normal_tree-tree}
 use Rattle.erd_normal.proofs.canonical.NormalForms.{form_built, only_form_built, whole_built}
+use Rattle.erd_normal.proofs.same.normal.SameDepths.{no_deeper_form}
+use Rattle.erd_normal.proofs.same.normal.SaidReports.{normal_tree_says}
 use Rattle.erd_normal.proofs.texts.FittingNumbers.{normal_tree-fits}
 use Rattle.json.specs.Json as json
 use Rattle.json.specs.Tree as tree
@@ -114,7 +115,7 @@ module _ (π : Preference) (t : Data) (accepted : IsAccepted π t) (tree : IsTre
         tree = u;
         form = form_built π t accepted tree bounded fits;
         only = only_form_built π t accepted tree bounded fits;
-        no_deeper = normal_tree-depth π t (no_shape_fault π t accepted) tree;
+        no_deeper = no_deeper_form π t u (normal_tree-tree π t tree) (form_built π t accepted tree bounded fits).canonical (normal_tree_says π t accepted tree bounded);
         is_tree = normal_tree-tree π t tree;
         whole = whole_built π t accepted tree bounded fits;
         written = printed ∙ (ap print are ∙ print-outline u);

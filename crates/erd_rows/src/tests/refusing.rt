@@ -1,4 +1,4 @@
-//! Refused memory requests. The library that `tests/refusals.sh` preloads refuses them. Without it, no request is refused,
+//! Refused memory requests. The library that `tests/program/refusals.sh` preloads refuses them. Without it, no request is refused,
 //! and each call is made twice.
 use crate::tests::answers::Answer;
 use std::alloc::Global;

@@ -1,5 +1,5 @@
 //! Rows: a report or two, and what is told of them. Each call that tells it is tried, with each of its requests for memory
-//! refused where `tests/refusals.sh` runs it.
+//! refused where `tests/program/refusals.sh` runs it.
 use crate::tests::answers::{ACCEPTED, SAME};
 use crate::tests::edits::{Edited, made};
 use crate::tests::pair_calls::{Compared, PAIR_CALLS, pair_answer};

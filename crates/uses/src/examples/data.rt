@@ -1,6 +1,9 @@
 //! Examples of the calls that answer as data.
 use crate::tests::{BARE, OTHER_NAME, REPORT};
-use erd_canon::{check_data, check_data_with, compare_bytes, compare_data, compare_data_with};
+use erd_canon::{
+    check_data, check_data_with, compare_bytes, compare_data, compare_data_with, differences_data,
+    differences_data_with,
+};
 use erd_compare::Difference;
 use std::alloc::Global;
 use std::process::Abort;
@@ -43,6 +46,26 @@ fn no_difference(rt: HostRuntime) -> Result<(), Fail> {
     let (alloc, one) = (rt.alloc(), REPORT.as_bytes());
     let answer = compare_data_with(alloc, one, one, Some("fips"))?;
     assert_eq!(rt; answer.text.as_str(), "null");
+    Ok(())
+}
+
+#[test]
+fn all_differences(rt: HostRuntime) -> Result<(), Fail> {
+    let alloc = rt.alloc();
+    let (one, other) = (REPORT.as_bytes(), OTHER_NAME.as_bytes());
+    let answer = differences_data(alloc, one, other)?;
+    assert_eq!(rt;
+        answer.text.as_str(),
+        r#"[{"how":"member","key":null,"member":"Name","part":"election"}]"#
+    );
+    Ok(())
+}
+
+#[test]
+fn no_differences(rt: HostRuntime) -> Result<(), Fail> {
+    let (alloc, one) = (rt.alloc(), REPORT.as_bytes());
+    let answer = differences_data_with(alloc, one, one, Some("fips"))?;
+    assert_eq!(rt; answer.text.as_str(), "[]");
     Ok(())
 }
 

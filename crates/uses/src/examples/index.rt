@@ -1,5 +1,5 @@
 //! Examples of `erd_index`.
-use erd_index::{Salt, SaltedSet, Sought};
+use erd_index::{Salt, SaltHasher, SaltedSet, Sought};
 use std::hash::{Hash, Hasher};
 use std::test::Fail;
 
@@ -33,6 +33,14 @@ fn salts(rt: HostRuntime) {
     let mut hasher = salt.hasher();
     20.hash(&mut hasher);
     assert!(rt; hasher.finish() == salt.number(&20));
+}
+
+#[test]
+fn salts_of_what_is_fed(rt: HostRuntime) {
+    let mut hasher = SaltHasher::new();
+    hasher.feed(&20u64);
+    hasher.feed_text("gp1");
+    assert!(rt; hasher.salt().number(&20) != SaltHasher::new().salt().number(&20));
 }
 
 #[test]

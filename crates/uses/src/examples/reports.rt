@@ -1,7 +1,7 @@
 //! Examples of `erd_meaning`, `erd_normal` and `erd_compare`.
 use crate::callers::report_of;
 use erd_check::{same_json, shape};
-use erd_compare::first_difference;
+use erd_compare::{differences, first_difference};
 use erd_meaning::{
     Key, Named, RankedName, Report, SaltedSet, SelectionName, accept_with, key_of, places_in,
     resolve, resolve_with,
@@ -247,11 +247,12 @@ fn forms(rt: HostRuntime) -> Result<(), Fail> {
 }
 
 #[test]
-fn differences(rt: HostRuntime) -> Result<(), Fail> {
+fn comparisons(rt: HostRuntime) -> Result<(), Fail> {
     let alloc = rt.alloc();
     let tree = Value::from_str(alloc, BALLOT)?;
     let report = report_of(alloc, &tree)?;
     assert!(rt; first_difference(alloc, &report, &report)?.is_none());
+    assert!(rt; differences(alloc, &report, &report)?.is_empty());
     Ok(())
 }
 

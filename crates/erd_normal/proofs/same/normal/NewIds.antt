@@ -6,13 +6,12 @@ use Rattle.erd_normal.proofs.canonical.ContestSelections.{one_contest}
 use Rattle.erd_normal.proofs.canonical.RisingReports.{selection_values_distinct, by_key_total, by_name_total}
 use Rattle.erd_normal.proofs.canonical.SelectionIds.{listed, selection_values, text_built}
 use Rattle.erd_normal.proofs.lists.KeyedRanks.{rank_exact, rank_low}
-use Rattle.erd_normal.proofs.throughout.ThroughoutMembers.{is_prefixed, HoldsOfMembers, built_references}
+use Rattle.erd_normal.proofs.throughout.ThroughoutMembers.{is_prefixed, BuiltAs, from_kept, from_one, from_many_entry, from_ordered_entry, built_references}
 use Rattle.erd_normal.proofs.same.complete.Texts.{no_keys, one_family, some_again}
 use Rattle.erd_normal.proofs.same.IdsOfObjects.{Refers, reference_refers, references_refer}
 use Rattle.erd_normal.proofs.lists.BuiltLists.{all_map, entry_holds}
 use Rattle.erd_normal.proofs.lists.FoundInParts.{FoundSelection, owner_found}
-use Rattle.erd_normal.proofs.throughout.ThroughoutObjects.{HoldsOfObjects}
-use Rattle.erd_normal.proofs.throughout.ThroughoutReports.{HoldsOfBuilt, holds_of_built}
+use Rattle.erd_normal.proofs.throughout.ThroughoutReports.{built_as}
 use Rattle.erd_normal.proofs.throughout.ThroughoutValues.{is_apart}
 use Rattle.erd_normal.proofs.throughout.InsideValues.{all_inside, carried_passes, name_passes}
 
@@ -225,13 +224,6 @@ module _ (π : Preference) (t : Data) (accepted : IsAccepted π t) (tree : IsTre
 
   -- ---- references of the report that is built
 
-  -- if it is a reference, it has the canonical `@id` of an object with an `@id`
-  pub record IsRenamed (a : Asked) : Type 0 where
-    pub each : is_reference a.want ≡ true → (s : List ℕ) × (id : List ℕ) × Renamed π t s id × (a.value ≡ string id)
-
-  no_reference : (w : Want) (d : Data) (b : Bool) → is_reference w ≡ false → IsRenamed (record { want = w; value = d; repeated = b })
-  no_reference w d b other = record { each = λ is. let x : true ≡ false = sym is ∙ other in cc }
-
   apart_refers : (w : Want) → is_apart w ≡ true → is_reference w ≡ false
   apart_refers (Reference f) h = cc
   apart_refers w h = refl
@@ -246,48 +238,19 @@ module _ (π : Preference) (t : Data) (accepted : IsAccepted π t) (tree : IsTre
       (λ x r. (r.0, normal_id π t f (text_of x), renamed_reference f named x r, refl))
       (all_rising (Refers t f) (reference_cmp π t f) (list_of_items ds.0) (references_refer π t accepted f required ds.0 inside)))
 
-  renamed_members : HoldsOfMembers π t IsRenamed
-  renamed_members = record {
-    kept = λ a w apart. no_reference a.want a.value a.repeated (apart_refers a.want apart);
-    class_text = λ r c text named. no_reference _ _ false refl;
-    label = λ required d w. no_reference _ _ false refl;
-    one = λ f named d w. record { each = λ is. let r = reference_refers π t accepted f d w in (r.0, normal_id π t f (text_of d), renamed_reference f named d r, refl) };
-    many = λ f named required d w full. no_reference _ _ false refl;
-    many_entry = λ f named required d w i e found. record {
-      each = λ is. entry_holds (λ e. (s : List ℕ) × (id : List ℕ) × Renamed π t s id × (e ≡ string id)) (built_references π t f d) i e (renamed_entry f named required d w) found;
-    };
-    identifiers = λ required d w full. no_reference _ _ false refl;
-    languages = λ required d w full. no_reference _ _ false refl;
-    ordered = λ required d w full. no_reference _ _ false refl;
-    ordered_entry = λ e w. record { each = λ is. let r = reference_refers π t accepted family.Selection e w in (r.0, text_of (normal_selection_reference π t e), renamed_selection e r, refl) };
-  }
-
-  renamed_objects : HoldsOfObjects π t IsRenamed
-  renamed_objects = record {
-    members = renamed_members;
-    identity = λ required id. no_reference _ _ false refl;
-    content = λ required d w full. no_reference _ _ false refl;
-    node = λ d w. no_reference _ _ false refl;
-    selections = λ contest required d of_report stands w full. no_reference _ _ false refl;
-    selection = λ contest d w. no_reference _ _ false refl;
-    object = λ f d w. no_reference _ _ false refl;
-  }
-
-  renamed_built : HoldsOfBuilt π t IsRenamed
-  renamed_built = record {
-    parts = renamed_objects;
-    word = λ required text. no_reference _ _ false refl;
-    whole = λ required n. no_reference _ _ false refl;
-    keyed = λ f keyed required d w all full. no_reference _ _ false refl;
-    elections = λ required d w is. no_reference _ _ false refl;
-    election = λ d w. no_reference _ _ false refl;
-    report = no_reference _ _ false refl;
-  }
+  -- if it is a reference, it has the canonical `@id` of an object with an `@id`
+  renamed_built : {a : Asked} → BuiltAs π t a → is_reference a.want ≡ true → (s : List ℕ) × (id : List ℕ) × Renamed π t s id × (a.value ≡ string id)
+  renamed_built (from_kept a w apart) is = let x : true ≡ false = sym is ∙ apart_refers a.want apart in cc
+  renamed_built (from_one f named d w) is = let r = reference_refers π t accepted f d w in (r.0, normal_id π t f (text_of d), renamed_reference f named d r, refl)
+  renamed_built (from_many_entry f named required d w i e found) is =
+      entry_holds (λ e. (s : List ℕ) × (id : List ℕ) × Renamed π t s id × (e ≡ string id)) (built_references π t f d) i e (renamed_entry f named required d w) found
+  renamed_built (from_ordered_entry e w) is = let r = reference_refers π t accepted family.Selection e w in (r.0, text_of (normal_selection_reference π t e), renamed_selection e r, refl)
+  renamed_built h is = cc
 
   -- nothing in the report that is built refers to an object without `@id`
   pub new_unused : (f : Family) (o : Placed) (id : List ℕ) → NewId π t f o id → id_of o.value ≡ None → IsUnused (normal_tree π t) id
   new_unused f o id new none p a stands refers value =
-      let r = (holds_of_built π t (no_shape_fault π t accepted) tree IsRenamed renamed_built p a stands).each refers in
+      let r = renamed_built (built_as π t (no_shape_fault π t accepted) tree p a stands) refers in
       let texts : string r.1 ≡ string id = sym r.3 ∙ value in
       let same : r.1 ≡ id = cc in
       let one : r.2.object ≡ o = new_exact π t accepted bounded r.2.its_family f r.2.object o id (subst (NewId π t r.2.its_family r.2.object) same r.2.new) new in

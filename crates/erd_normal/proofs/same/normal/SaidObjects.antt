@@ -1,5 +1,5 @@
 -- What is built of the order of a ballot, a selection and an object of a family says what they say.
-use Rattle.erd_normal.proofs.Common.{◌≡◌, ℕ, zero, suc, Bool, true, false, List, map, Some, None, codes, Option, option_map, option_and_then, bytes_eq, sym, refl, ap, ◌∙◌, subst, Data, string, array, object, Items, no_items, item, Members, no_members, member, get_member, get_item, get, as_str, text_of_class, role_of_class, kind_of_member, Class, class, Family, family, Role, role, MemberKind, kind, entries_in, object_from, string_from_text, array_from, text_exact, found_cases, object_in, ObjectAt, ObjectIn, of_role, wanted_within, member_within, within-tree, Within, kind_of_class, kind_of_name, want_by_kind, is_array, ShapeFault, NoneOf, IsTree, list_of_items, entries_of, class_of_object, want_of_kind, member_want, want_of_name, asked, Scope, scope, Member, Object, no_shape_fault, stands, kind_of_type, IsAccepted, has_keys, Preference, key_of, Placed, contests, selections_of_contest, objects, id_of, IsBounded, rising_list, selection_role, canonical_id, Sides, an_unused_id, a_text, an_id, a_list, an_object, no_entry, one_entry, Same, SameEntries, SameMembers, id_of_key, id_of_selection, array_of, normal_node_value, normal_content, normal_nodes, normal_node, normal_selection, by_key, by_name, normal_object_value, normal_object, normal_objects, normal_tree, In, In-flat_map, In-map_from}
+use Rattle.erd_normal.proofs.Common.{◌≡◌, ℕ, zero, suc, Bool, true, false, List, map, Some, None, codes, Option, option_map, option_and_then, bytes_eq, sym, refl, ap, ◌∙◌, subst, Data, string, array, object, Items, no_items, item, Members, no_members, member, get_member, get_item, get, as_str, text_of_class, role_of_class, kind_of_member, Class, Family, family, Role, role, MemberKind, kind, entries_in, object_from, string_from_text, array_from, text_exact, found_cases, object_in, ObjectAt, ObjectIn, of_role, wanted_within, member_within, within-tree, Within, want_by_kind, is_array, ShapeFault, NoneOf, IsTree, list_of_items, entries_of, class_of_object, want_of_kind, member_want, want_of_name, asked, Scope, scope, Member, Object, no_shape_fault, stands, kind_of_type, IsAccepted, has_keys, Preference, key_of, Placed, contests, selections_of_contest, objects, id_of, IsBounded, rising_list, selection_role, canonical_id, Sides, an_unused_id, a_text, an_id, a_list, an_object, no_entry, one_entry, Same, SameEntries, SameMembers, id_of_key, id_of_selection, array_of, normal_node_value, normal_content, normal_nodes, normal_node, normal_selection, by_key, by_name, normal_object_value, normal_object, normal_objects, normal_tree, In, In-flat_map, In-map_from}
 use Rattle.erd_normal.proofs.built.AskedMembers.{entry_asked}
 use Rattle.erd_normal.proofs.built.BuiltFrom.{Builder, BuiltObject}
 use Rattle.erd_normal.proofs.built.BuiltObjects.{built_node, built_object, built_selection, is_id, no_name, node_builder, object_builder, plain_builder}
@@ -9,8 +9,8 @@ use Rattle.erd_normal.proofs.canonical.SelectionIds.{listed}
 use Rattle.erd_normal.proofs.lists.Lists.{IsPart, part_has}
 use Rattle.erd_normal.proofs.same.Lookups.{Aligned, both_there, not_both, lacks_none, lacks_one, merged}
 use Rattle.erd_normal.proofs.same.normal.NewIds.{NewId, of_contest, of_family, sides, stands_for, new_unused, style_unused}
-use Rattle.erd_normal.proofs.same.normal.SaidValues.{Said, aligned_said, is_simple_kind, said_member, said_unless, said_value, set_built}
-use Rattle.erd_normal.proofs.throughout.ThroughoutObjects.{IsOfContest, is_of_contest}
+use Rattle.erd_normal.proofs.same.normal.SaidValues.{Said, aligned_said, said_member, said_unless, said_value, set_built}
+use Rattle.erd_normal.proofs.throughout.ThroughoutObjects.{IsOfContest, is_node_kind, is_object_kind, is_of_contest, node_kind, object_kind, selection_kind}
 
 -- ---- objects of a class
 
@@ -72,31 +72,6 @@ module _ (m : Sides) (t : Data) (clean : NoneOf (ShapeFault t)) (value_of : Buil
 style_alone : (f : Family) (i : ℕ) → has_keys f ≡ true → canonical_id f i ≡ None → f ≡ family.Style
 style_alone family.Style i keyed e = refl
 style_alone f i keyed e = cc
-
--- ---- kinds of members
-
--- a member of a contest or a header of a ballot
-abbrev is_node_kind : MemberKind → Bool
-is_node_kind kind.Content = true
-is_node_kind k = is_simple_kind k
-
--- a member of an object of a family
-abbrev is_object_kind : MemberKind → Bool
-is_object_kind (kind.Keyed family.Selection) = true
-is_object_kind kind.Content = true
-is_object_kind k = is_simple_kind k
-
-selection_kind : (c : Class) (name : List ℕ) → bytes_eq name (codes "@type") ≡ false → is_id name ≡ false → role_of_class c ≡ selection_role → is_simple_kind (kind_of_member c name) ≡ true
-selection_kind class.CandidateSelection name other no_id r = kind_of_name (λ m. is_simple_kind m.kind) is_simple_kind class.CandidateSelection name other no_id refl (λ m h e. h) refl refl
-selection_kind c name other no_id r = kind_of_name (λ m. is_simple_kind m.kind) is_simple_kind c name other no_id (cc) (λ m h e. h) refl refl
-
-node_kind : (c : Class) (name : List ℕ) → bytes_eq name (codes "@type") ≡ false → role_of_class c ≡ role.Content → is_node_kind (kind_of_member c name) ≡ true
-node_kind class.OrderedContest name other r = kind_of_class is_node_kind class.OrderedContest name other refl refl refl refl
-node_kind c name other r = kind_of_class is_node_kind c name other (cc) (cc) refl refl
-
-object_kind : (c : Class) (f : Family) (name : List ℕ) → bytes_eq name (codes "@type") ≡ false → is_id name ≡ false → role_of_class c ≡ role.OfFamily f → is_object_kind (kind_of_member c name) ≡ true
-object_kind class.Election f name other no_id r = cc
-object_kind c f name other no_id r = kind_of_name (λ m. is_object_kind m.kind) is_object_kind c name other no_id (cc) (λ m h e. h) refl refl
 
 module _ (π : Preference) (t : Data) (accepted : IsAccepted π t) (tree : IsTree t) (bounded : IsBounded t) where
   abbrev m : Sides

@@ -1,24 +1,14 @@
 -- The canonical tree says what the report says.
-use Rattle.erd_normal.proofs.Common.{◌≡◌, ℕ, Bool, true, false, List, map, if◌then◌else◌, Some, None, Option, sym, refl, subst, Data, array, object, Members, get_member, get, is_envelope_name, kind_of_member, class, Family, role, MemberKind, kind, ObjectAt, within-tree, Within, kind_of_class, ShapeFault, NoneOf, IsTree, list_of_items, entries_of, want_of_kind, asked, Member, Object, no_shape_fault, skeleton_of_shape, election_within, election_object, Skeleton, IsAccepted, has_keys, Preference, objects, IsBounded, rising_list, Sides, of_the_envelope, Same, SaysTheSame, array_of, normal_value, by_key, normal_election_value, normal_election, normal_report_value, normal_tree, In}
+use Rattle.erd_normal.proofs.Common.{◌≡◌, ℕ, Bool, true, false, List, map, if◌then◌else◌, Some, None, Option, sym, refl, subst, Data, array, object, Members, get_member, get, is_envelope_name, kind_of_member, class, Family, role, MemberKind, kind, ObjectAt, within-tree, Within, kind_of_class, ShapeFault, NoneOf, IsTree, list_of_items, entries_of, want_of_kind, asked, Member, Object, no_shape_fault, skeleton_of_shape, election_within, election_object, Skeleton, IsAccepted, Preference, objects, IsBounded, rising_list, Sides, of_the_envelope, Same, SaysTheSame, array_of, normal_value, by_key, normal_election_value, normal_election, normal_report_value, normal_tree, In}
 use Rattle.erd_normal.proofs.built.BuiltObjects.{built_election, built_report, election_builder, no_name}
 use Rattle.erd_normal.proofs.built.NormalTrees.{normal_election-tree, normal_tree-tree}
 use Rattle.erd_normal.proofs.lists.Lists.{IsPart}
 use Rattle.erd_normal.proofs.same.Lookups.{MayLack, not_both}
 use Rattle.erd_normal.proofs.same.normal.NewIds.{new_text, old_text, sides}
 use Rattle.erd_normal.proofs.same.normal.SaidObjects.{in_class, objects_said, said_object}
-use Rattle.erd_normal.proofs.same.normal.SaidValues.{Said, is_simple_kind, kept, said_member, said_unless, said_value, set_built}
-use Rattle.erd_normal.proofs.throughout.ThroughoutReports.{election_family, report_family, report_listed}
-
--- a member of the election
-abbrev is_election_kind : MemberKind → Bool
-is_election_kind (kind.Keyed f) = has_keys f
-is_election_kind k = is_simple_kind k
-
--- a member of the report
-abbrev is_report_kind : MemberKind → Bool
-is_report_kind (kind.Keyed f) = has_keys f
-is_report_kind kind.Elections = true
-is_report_kind k = is_simple_kind k
+use Rattle.erd_normal.proofs.same.normal.SaidValues.{Said, kept, said_member, said_unless, said_value, set_built}
+use Rattle.erd_normal.proofs.throughout.ThroughoutMembers.{is_plain_kind}
+use Rattle.erd_normal.proofs.throughout.ThroughoutReports.{is_election_kind, is_report_kind, election_family, report_family, report_listed}
 
 -- a member of the envelope may be absent
 envelope_lacks : (t : Data) (name : List ℕ) (o : Option Data) → is_envelope_name name ≡ true → MayLack t (in_class role.Report class.ElectionReport) name o
@@ -60,7 +50,7 @@ module _ (π : Preference) (t : Data) (accepted : IsAccepted π t) (tree : IsTre
 
   -- ---- the report
 
-  outside : (name : List ℕ) (k : MemberKind) (required : Bool) (d : Data) → is_simple_kind k ≡ true → (b : Bool) → b ≡ false → Within t (asked (want_of_kind k required) d)
+  outside : (name : List ℕ) (k : MemberKind) (required : Bool) (d : Data) → is_plain_kind k ≡ true → (b : Bool) → b ≡ false → Within t (asked (want_of_kind k required) d)
       → Said m (want_of_kind k required) d (if b then None else normal_value π t k d)
   outside name k required d simple true is w = cc
   outside name k required d simple false is w = said_value π t accepted tree bounded k required d simple w

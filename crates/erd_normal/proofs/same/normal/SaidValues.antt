@@ -108,11 +108,6 @@ rising_members ms = put (codes "Text") (array_of (rising_list compact_cmp (entri
 
 -- ---- by kind
 
--- a member that is no `@id`, holds no objects, and refers to none by itself that has no prefix
-abbrev pub is_simple_kind : MemberKind → Bool
-is_simple_kind kind.Identity = false
-is_simple_kind k = is_plain_kind k
-
 module _ (π : Preference) (t : Data) (accepted : IsAccepted π t) (tree : IsTree t) (bounded : IsBounded t) where
   abbrev m : Sides
   m = sides π t
@@ -156,7 +151,7 @@ module _ (π : Preference) (t : Data) (accepted : IsAccepted π t) (tree : IsTre
       (In-all (λ e. Within t (asked (Reference family.Selection) e)) x (list_of_items ds) (entries_asked t (Member kind.Ordered required) (Reference family.Selection) ds refl refl w) h)))
   ordered required d is w = cc
 
-  pub said_value : (k : MemberKind) (required : Bool) (d : Data) → is_simple_kind k ≡ true → Within t (asked (want_of_kind k required) d) → Said m (want_of_kind k required) d (normal_value π t k d)
+  pub said_value : (k : MemberKind) (required : Bool) (d : Data) → is_plain_kind k ≡ true → Within t (asked (want_of_kind k required) d) → Said m (want_of_kind k required) d (normal_value π t k d)
   said_value kind.Label required d simple w = kept (label false d w)
   said_value (kind.One f) required d simple w = kept (reference_said f simple d (reference_refers π t accepted f d w))
   said_value (kind.Many f) required d simple w = said_unless m (kind.Many f) required d _ refl

@@ -1,5 +1,5 @@
 -- Members that are no selections mean what they do by themselves.
-use Rattle.erd_compare.proofs.Common.{sym, ap, ◌∙◌, is_selections, false, true}
+use Rattle.erd_compare.proofs.Common.{sym, ap, ◌∙◌, is_selections}
 use Rattle.erd_compare.proofs.same_selections.MemberValues.{other_member, seen}
 use Rattle.erd_compare.proofs.objects.records.is_same_member.Goals as goal
 

@@ -1,4 +1,4 @@
-use Rattle.erd_compare.proofs.Common.{◌≡◌, ℕ, ◌+◌, ◌<◌, List, ◌∷◌, map, length, get_or, drop, slice_get, Some, option_map, option_and_then, sym, refl, ap, ◌∙◌, subst, arith, drop_more, drop_all, slice_get-map, slice_get_within, slice_get_read, view, Value, family, Judged, selections_before, Placed, objects, number_of_selection, AreSelectionsIn, on_side, false, true}
+use Rattle.erd_compare.proofs.Common.{◌≡◌, ℕ, ◌+◌, ◌<◌, List, ◌∷◌, map, length, get_or, drop, slice_get, Some, option_map, option_and_then, sym, refl, ap, ◌∙◌, subst, arith, drop_more, drop_all, slice_get-map, slice_get_within, slice_get_read, view, Value, family, Judged, selections_before, Placed, objects, number_of_selection, AreSelectionsIn, on_side}
 use Rattle.erd_meaning.proofs.selections.ContestSelections.{stand_from_start}
 use Rattle.erd_compare.proofs.same_selections.PlacedSelections.{stands_after}
 use Rattle.erd_compare.proofs.same_selections.NameMaps.{IsFilling, all_put, named_before, named_first, none_put, unnamed}

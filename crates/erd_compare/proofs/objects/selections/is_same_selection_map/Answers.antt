@@ -1,4 +1,4 @@
-use Rattle.erd_compare.proofs.Common.{false, sym, ◌∙◌, true≢false, true}
+use Rattle.erd_compare.proofs.Common.{false, sym, ◌∙◌, true≢false}
 use Rattle.erd_compare.proofs.same_selections.PlacedSelections.{contests_decide}
 use Rattle.erd_compare.proofs.same_selections.SelectionWalks.{both_maps, both_passed, differ, ended, left_alone, whole_left, whole_right}
 use Rattle.erd_compare.proofs.whole_trees.WholeTrees.{whole_trees-views}

@@ -1,4 +1,4 @@
-use Rattle.erd_compare.proofs.Common.{◌≡◌, ℕ, suc, ◌+◌, ◌<◌, ◌≤◌, true, List, [], ◌∷◌, map, length, get_or, codes, sym, refl, ap, ◌∙◌, subst, true≢false, arith, rules, AllByRecursion, view, items_view, Value, family, entries_of, text_at, carried_members, key_named, depth, ◌*◌, iter_rest, items_depth, the_lemmas, class_of_node, is_header_class, node_of, IsWholeTree, false}
+use Rattle.erd_compare.proofs.Common.{◌≡◌, ℕ, suc, ◌+◌, ◌<◌, ◌≤◌, true, List, [], ◌∷◌, map, length, get_or, codes, sym, refl, ap, ◌∙◌, subst, true≢false, arith, rules, AllByRecursion, view, items_view, Value, family, entries_of, text_at, carried_members, key_named, depth, ◌*◌, iter_rest, items_depth, the_lemmas, class_of_node, is_header_class, node_of, IsWholeTree}
 use Rattle.serde_json.proofs.Views.{view-Array}
 use Rattle.erd_compare.specs.code.ContentParts.{content_within}
 use Rattle.erd_check.proofs.Lists.{list_of_items-items_of}

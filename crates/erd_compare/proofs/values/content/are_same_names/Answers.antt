@@ -1,4 +1,4 @@
-use Rattle.erd_compare.proofs.Common.{map, Option, option_and_then, sym, ◌∙◌, iter_rest, Data, as_str, view, Value, Preference, NameParts, name_named, false, true}
+use Rattle.erd_compare.proofs.Common.{map, Option, option_and_then, sym, ◌∙◌, iter_rest, Data, as_str, view, Value, Preference, NameParts, name_named}
 use Rattle.erd_compare.proofs.same_content.StepByStep.{differ_here, one_further}
 use Rattle.erd_compare.proofs.values.content.are_same_names.Goals as goal
 

@@ -1,4 +1,4 @@
-use Rattle.erd_compare.proofs.Common.{◌≡◌, List, map, codes, Option, option_and_then, sym, refl, ap, ◌∙◌, true≢false, Data, as_str, view, Value, family, entries_at, text_at, Preference, NameParts, carried_members, class_of_node, key_named, name_named, false, true}
+use Rattle.erd_compare.proofs.Common.{◌≡◌, List, map, codes, Option, option_and_then, sym, refl, ap, ◌∙◌, true≢false, Data, as_str, view, Value, family, entries_at, text_at, Preference, NameParts, carried_members, class_of_node, key_named, name_named}
 use Rattle.std.proofs.lemmas.Simd.{map-map}
 use Rattle.erd_compare.proofs.same_values.EqualOptions.{decides_as}
 use Rattle.erd_compare.proofs.same_content.SameContents.{contest-Decides}

@@ -1,4 +1,4 @@
-use Rattle.erd_compare.proofs.Common.{slice_get, sym, ◌∙◌, view, objects, on_side, false, true}
+use Rattle.erd_compare.proofs.Common.{slice_get, sym, ◌∙◌, view, objects, on_side}
 use Rattle.erd_compare.proofs.same_values.ReferencedKeys.{found_elsewhere, found_here, found_nowhere, rank_kept, rank_owned}
 use Rattle.erd_compare.proofs.values.references.rank_with_id.Goals as goal
 

@@ -1,7 +1,7 @@
-use Rattle.erd_meaning.proofs.Common.{◌≡◌, false, map}
-use Rattle.erd_meaning.specs.code.Collected.{filled_all, nothing_filled}
-use Rattle.erd_meaning.specs.code.CollectedWalks.{filled_in, found}
+use Rattle.erd_meaning.proofs.Common.{◌≡◌, map, met_all, met_of}
+use Rattle.erd_meaning.specs.code.CollectedWalks.{found}
+use Rattle.erd_meaning.specs.code.ObjectWalk.{nothing_met}
 use Rattle.erd_meaning.proofs.objects.filled.filled.Given as goal
 
 abbrev pub invariant-loop-one : goal.invariant-loop-one
-invariant-loop-one l = filled_in l.tables false ≡ filled_all nothing_filled (map found l.yielded)
+invariant-loop-one l = met_of l.tables ≡ met_all nothing_met (map found l.yielded)

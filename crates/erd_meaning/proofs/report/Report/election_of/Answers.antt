@@ -1,6 +1,9 @@
 use Rattle.erd_meaning.proofs.Common.{◌∙◌, view}
-use Rattle.erd_meaning.proofs.finding.ElectionsHeld.{election_holds}
+use Rattle.erd_meaning.proofs.finding.ElectionsHeld.{held}
+use Rattle.erd_meaning.proofs.finding.OneObject.{part_at}
 use Rattle.erd_meaning.proofs.report.Report.election_of.Goals as goal
 
 pub returns : goal.returns
-returns c = c.get.ensures ∙ election_holds c.elections.result.now.holders c.args.family (view c.args.self.now.tree) c.args.index c.elections.ensures.held
+returns c =
+    c.election_of.ensures ∙ part_at c.args.self.now.prefer (λ k. k.election) c.args.self.now.tree c.objects.result.now c.objects.ensures.0 c.args.family c.args.index c.objects.ensures.1
+    ∙ held c.args.family (view c.args.self.now.tree) c.args.index

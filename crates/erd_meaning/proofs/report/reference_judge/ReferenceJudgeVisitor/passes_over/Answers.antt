@@ -1,15 +1,23 @@
-use Rattle.erd_meaning.proofs.Common.{true, false, map, IsTrue, IfOk-weaker, ⊤, view, items_view, family, AreEntriesKnown, AreClear, shown}
-use Rattle.erd_meaning.proofs.references.SilentWalks.{are_entries_known}
+use Rattle.serde_json.proofs.Views.{view-Array}
+use Rattle.erd_meaning.proofs.Common.{◌≡◌, map, sym, ap, ◌∙◌, subst, IsTrue, IfOk, IfOk-weaker, ⊤, Data, array, view, items_view, IsKnown, reference_reasons_told, shown}
+use Rattle.erd_check.proofs.Silence.{known_inside}
+use Rattle.erd_check.specs.Visits.{IsSilentMember}
+use Rattle.erd_meaning.proofs.references.SilentWalks.{no_reference}
 use Rattle.erd_meaning.proofs.report.reference_judge.ReferenceJudgeVisitor.passes_over.Goals as goal
 
-pub returns-in-Member-Many-default-clause-known : goal.returns-in-Member-Many-default-clause-known
-returns-in-Member-Many-default-clause-known c =
-    let ds = items_view c.args.items.now in
-    IfOk-weaker c.are_clear.result (λ clear. IsTrue clear → AreClear (map shown c.args.self.now.objects.now) (view c.args.object.now) c.in-Member-Many-default.family true ds)
-    (λ passes. IsTrue passes → AreEntriesKnown (λ w d. ⊤) c.args.want ds) (λ clear silent passes. are_entries_known (λ w d. ⊤) (λ w d. tt) c.args.want ds) c.are_clear.ensures
+pub returns-then-not-may_have_references-clause-silent : goal.returns-then-not-may_have_references-clause-silent
+returns-then-not-may_have_references-clause-silent c passed =
+    no_reference (map shown c.args.self.now.objects.now) (view c.args.owner.now) c.args.want (view c.args.value.now) (sym c.may_have_references.ensures ∙ c.if-not-may_have_references.true)
 
-pub returns-in-Member-Ordered-default-clause-known : goal.returns-in-Member-Ordered-default-clause-known
-returns-in-Member-Ordered-default-clause-known c =
-    let ds = items_view c.args.items.now in
-    IfOk-weaker c.are_clear-in-Member-Ordered-default.result (λ clear. IsTrue clear → AreClear (map shown c.args.self.now.objects.now) (view c.args.object.now) family.Selection false ds)
-    (λ passes. IsTrue passes → AreEntriesKnown (λ w d. ⊤) c.args.want ds) (λ clear silent passes. are_entries_known (λ w d. ⊤) (λ w d. tt) c.args.want ds) c.are_clear-in-Member-Ordered-default.ensures
+pub returns-then-not-may_have_references-clause-known : goal.returns-then-not-may_have_references-clause-known
+returns-then-not-may_have_references-clause-known c passed = known_inside (λ w d. ⊤) (λ w d. tt) c.args.want (view c.args.value.now)
+
+pub returns-in-Array-clause-silent : goal.returns-in-Array-clause-silent
+returns-in-Array-clause-silent c =
+    let is : array (items_view c.as_slice.result.now) ≡ view c.args.value.now = ap (λ vs. array (items_view vs)) c.as_slice.ensures.value ∙ sym (ap view c.in-Array.is ∙ view-Array c.in-Array.items) in
+    subst (λ d. IfOk c.is_clear_array.result (λ passes. IsTrue passes → IsSilentMember (reference_reasons_told (map shown c.args.self.now.objects.now)) (view c.args.owner.now) c.args.want d)) is c.is_clear_array.ensures
+
+pub returns-in-Array-clause-known : goal.returns-in-Array-clause-known
+returns-in-Array-clause-known c =
+    IfOk-weaker c.is_clear_array.result (λ clear. IsTrue clear → IsSilentMember (reference_reasons_told (map shown c.args.self.now.objects.now)) (view c.args.owner.now) c.args.want (array (items_view c.as_slice.result.now)))
+    (λ passes. IsTrue passes → IsKnown (λ w d. ⊤) c.args.want (view c.args.value.now)) (λ clear silent passes. known_inside (λ w d. ⊤) (λ w d. tt) c.args.want (view c.args.value.now)) c.is_clear_array.ensures

@@ -1,0 +1,41 @@
+ghost use Rattle.std.specs.Prelude.{IfErr, IfOk};
+ghost use Rattle.std.specs.Option.{option_copied};
+ghost use Rattle.erd_canon.specs.EngineTexts.{AreCompared};
+ghost use Rattle.erd_canon.specs.Refused.{RefusedSide};
+
+use crate::bytes::comparison::{left_tree_of, right_tree_of};
+use crate::bytes::refusal::{Refusal, Side};
+use erd_compare::{Difference, differences};
+use erd_meaning::accept_with;
+use std::alloc::Global;
+
+/// Returns all differences between the meanings of two reports under a preferred type of identifier, or under none. The reports
+/// are refused for the same reasons, and in the same order, as by `compare_bytes_with`.
+///
+/// # Errors
+///
+/// As `compare_bytes_with`.
+pub(crate) fn differences_of(
+    alloc: Global,
+    left: &[u8],
+    right: &[u8],
+    prefer: Option<&str>,
+) -> Result<Vec<Difference>, Side>
+    ensures ok { IfOk result (λ found. AreCompared (option_copied prefer.entry) left.now right.now found.items) }
+    ensures refused { IfErr result (RefusedSide (option_copied prefer.entry) left.now right.now) }
+{
+    let left_tree = left_tree_of(alloc, left)?;
+    let left_report = match accept_with(alloc, &left_tree, prefer) {
+        Ok(report) => report,
+        Err(error) => return Err(Side::Left(Refusal::from(error))),
+    };
+    let right_tree = right_tree_of(alloc, right)?;
+    let right_report = match accept_with(alloc, &right_tree, prefer) {
+        Ok(report) => report,
+        Err(error) => return Err(Side::Right(Refusal::from(error))),
+    };
+    match differences(alloc, &left_report, &right_report) {
+        Ok(found) => Ok(found),
+        Err(_) => Err(Side::Memory),
+    }
+}

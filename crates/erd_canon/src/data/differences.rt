@@ -1,0 +1,120 @@
+ghost use Rattle.std.specs.Prelude.{◌≡◌, ◌++◌, string_bytes, IfOk, None, OnOk};
+ghost use Rattle.std.specs.Option.{option_copied};
+ghost use Rattle.serde_json.specs.Written.{comma_if, compact_text};
+ghost use Rattle.erd_compare.specs.DifferenceData.{difference_data};
+ghost use Rattle.erd_canon.specs.DataAnswers.{IsDataText, IsListedData, listing_outcome};
+ghost use Rattle.erd_canon.specs.DataValues.{differences_data};
+
+use crate::bytes::differences::differences_of;
+use crate::bytes::refusal::Side;
+use crate::data::check::Answer;
+use crate::data::compare::refused_side;
+use crate::data::fault_texts::push_comma;
+use crate::engines::outcome::Outcome;
+use erd_compare::Difference;
+use std::alloc::{AllocError, Global};
+
+/// Lists the differences of two reports, as `differences_data_with` does with no preference.
+///
+/// # Errors
+///
+/// `AllocError` if out of memory.
+///
+/// ```
+/// let answer = differences_data(alloc, one, other)?;
+/// assert_eq!(rt;
+///     answer.text.as_str(),
+///     r#"[{"how":"member","key":null,"member":"Name","part":"election"}]"#
+/// );
+/// ```
+pub fn differences_data(alloc: Global, left: &[u8], right: &[u8]) -> Result<Answer, AllocError>
+    ensures { IfOk result (λ answer. IsListedData None left.now right.now answer.outcome (string_bytes answer.text)) }
+{
+    differences_data_with(alloc, left, right, None)
+}
+
+/// Lists the differences of the bytes of two reports under a preferred type of identifier, or under none, and answers with a
+/// JSON text.
+///
+/// The text is an array with an object for each difference, in rising order, which is empty if the reports mean the same. The
+/// objects are those of `compare_data_with`, and the first is the one that it answers. If a report is refused, the text is what
+/// `compare_data_with` answers. docs/DATA.md describes the objects.
+///
+/// # Errors
+///
+/// `AllocError` if out of memory.
+///
+/// ```
+/// let answer = differences_data_with(alloc, one, one, Some("fips"))?;
+/// assert_eq!(rt; answer.text.as_str(), "[]");
+/// ```
+pub fn differences_data_with(
+    alloc: Global,
+    left: &[u8],
+    right: &[u8],
+    prefer: Option<&str>,
+) -> Result<Answer, AllocError>
+    ensures { IfOk result (λ answer. IsListedData (option_copied prefer.entry) left.now right.now answer.outcome (string_bytes answer.text)) }
+{
+    match differences_of(alloc, left, right, prefer) {
+        Ok(found) => listed(alloc, &found),
+        Err(Side::Left(refusal)) => refused_side(alloc, "left", &refusal),
+        Err(Side::Right(refusal)) => refused_side(alloc, "right", &refusal),
+        Err(Side::Memory) => Err(AllocError),
+    }
+}
+
+/// Returns the answer for two accepted reports with these differences.
+fn listed(alloc: Global, found: &[Difference]) -> Result<Answer, AllocError>
+    ensures outcome { IfOk result (λ answer. answer.outcome ≡ listing_outcome found.now) }
+    ensures text { IfOk result (λ answer. IsDataText (string_bytes answer.text) (differences_data found.now)) }
+{
+    let mut text = String::new(alloc);
+    push_differences(alloc, found, &mut text)?;
+    let outcome = outcome_of(found);
+    Ok(Answer { outcome, text })
+}
+
+/// Returns the outcome for two accepted reports with these differences.
+fn outcome_of(found: &[Difference]) -> Outcome
+    ensures { result ≡ listing_outcome found.now }
+{
+    match found.first() {
+        Some(_) => Outcome::Bad,
+        None => Outcome::Good,
+    }
+}
+
+/// Appends the JSON array of the differences. Only the text of the array and the JSON value of one difference are in memory at a
+/// time.
+fn push_differences(
+    alloc: Global,
+    found: &[Difference],
+    text: &mut String,
+) -> Result<(), AllocError>
+    ensures { OnOk result (string_bytes text.new ≡ string_bytes text.old ++ compact_text (differences_data found.now)) }
+{
+    text.push('[')?;
+    let mut later = false;
+    for difference in found {
+        push_difference(alloc, later, difference, text)?;
+        later = true;
+    }
+    text.push(']')
+}
+
+/// Appends the JSON object of a difference, after a comma if it is not the first.
+fn push_difference(
+    alloc: Global,
+    later: bool,
+    difference: &Difference,
+    text: &mut String,
+) -> Result<(), AllocError>
+    ensures { OnOk result (string_bytes text.new ≡ string_bytes text.old ++ (comma_if later ++ compact_text (difference_data difference.now))) }
+{
+    push_comma(later, text)?;
+    let value = difference.to_value(alloc)?;
+    let object = value.to_string(alloc)?;
+    text.push_str(object.as_str())?;
+    Ok(())
+}

@@ -1,0 +1,10 @@
+pub mod Walks
+pub mod NamePairs
+pub mod NameLists
+pub mod HeldNames
+pub mod RecordWays
+pub mod RanksShared
+pub mod KeySteps
+pub mod NamedDifferences
+pub mod PartLists
+pub mod FirstOfAll

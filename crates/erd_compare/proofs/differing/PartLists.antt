@@ -1,0 +1,182 @@
+-- The differences at the keys of a part, and those of the parts, joined in order.
+use Rattle.erd_compare.proofs.Common.{◌≡◌, ◌⊎◌, ℕ, ◌+◌, ◌<◌, true, List, [], ◌∷◌, ◌++◌, map, flat_map, Some, None, Option, Less, Equal, nat_cmp, sym, ap, ◌∙◌, subst, inl, inr, arith, option_copied, map-append, tied_itself, nat_cmp_is, nat_cmp_total, AllByRecursion, In, In-map, In-map_from, In-flat_map, In-flat_map_from, In-all, all_weakened, append-nil, ordering_then, view, Judged, meaning, Meaning, Key, RecordMap, map_of, part_number, record_at, Difference, difference_cmp, How, Part, AreDifferent, AreDifferences, AgreeBut, DifferIn, Stands, hows_of, AreWays}
+use Rattle.std.proofs.lemmas.Grind.{flat_map-append}
+use Rattle.std.proofs.lemmas.List.{append_assoc}
+use Rattle.std.specs.List.Sorted.{IsStrictlySortedBy}
+use Rattle.erd_check.proofs.Order.{In-append_left, In-append_right, all_from_In, sorted_append, sorted_map}
+use Rattle.erd_meaning.proofs.selections.ContestSelections.{all_both}
+use Rattle.erd_compare.specs.code.DifferingKeys.{AreKeysFound, GoesOnToKey}
+use Rattle.erd_compare.specs.code.DifferingNames.{AreDiffering}
+use Rattle.erd_compare.specs.code.DifferingParts.{AppendsDifferences, AreDifferencesIn, differences_at}
+use Rattle.erd_compare.specs.declared.first.key_steps.Ranks.{Ranks}
+use Rattle.erd_compare.specs.declared.first.tables.KeyedWays.{KeyedWays}
+use Rattle.erd_compare.proofs.least_difference.PartsInOrder.{numbered, part_at}
+use Rattle.erd_compare.proofs.least_difference.RisingKeys.{by_key, by_key_total}
+use Rattle.erd_compare.proofs.differing.RecordWays.{agree_more, agree_same, way_cmp, ways_all, ways_rise, ways_sound}
+use Rattle.erd_compare.proofs.differing.Walks.{to_in, to_stands}
+
+abbrev the_key : KeyedWays → Option Key
+the_key d = option_copied d.key
+
+-- ---- one part
+
+module _ (p : Part) where
+  abbrev told : Option Key → How → Difference
+  told k how = record { part = p; key = k; how = how }
+
+  same_part : nat_cmp (part_number p) (part_number p) ≡ Equal
+  same_part = tied_itself nat_cmp_total (part_number p)
+
+  -- at one key they are compared by their ways
+  at_one_key : (k : Option Key) (h g : How) → way_cmp h g ≡ Less → difference_cmp (told k h) (told k g) ≡ Less
+  at_one_key k h g low =
+      ap (λ o. ordering_then (ordering_then o (by_key k k)) (way_cmp h g)) same_part ∙ (ap (λ o. ordering_then o (way_cmp h g)) (tied_itself by_key_total k) ∙ low)
+
+  -- and else by their keys
+  by_keys : (k l : Option Key) (h g : How) → by_key k l ≡ Less → difference_cmp (told k h) (told l g) ≡ Less
+  by_keys k l h g low = ap (λ o. ordering_then (ordering_then o (by_key k l)) (way_cmp h g)) same_part ∙ ap (λ o. ordering_then o (way_cmp h g)) low
+
+  abbrev pub flat : List KeyedWays → List Difference
+  flat ds = flat_map (differences_at p) ds
+
+  -- each of them is one of the ways at a key
+  from_key : (ds : List KeyedWays) (x : Difference) → In x (flat ds) → (d : KeyedWays) × In d ds × ((how : How) × In how (hows_of d.ways) × (told (the_key d) how ≡ x))
+  from_key ds x i =
+      let d = In-flat_map_from (differences_at p) ds x i in
+      (d.0, d.1, In-map_from (told (the_key d.0)) (hows_of d.0.ways) x d.2)
+
+  at_key : (ds : List KeyedWays) (d : KeyedWays) (how : How) → In d ds → In how (hows_of d.ways) → In (told (the_key d) how) (flat ds)
+  at_key ds d how i j = In-flat_map (differences_at p) (told (the_key d) how) d ds i (In-map (told (the_key d)) how (hows_of d.ways) j)
+
+  rising : (ds : List KeyedWays) → IsStrictlySortedBy by_key (map the_key ds) → AllByRecursion (λ d. IsStrictlySortedBy way_cmp (hows_of d.ways)) ds → IsStrictlySortedBy difference_cmp (flat ds)
+  unfolding IsStrictlySortedBy
+  rising [] rise each = tt
+  rising (d ∷ ds) rise each =
+      sorted_append difference_cmp (differences_at p d) (flat ds) (sorted_map (told (the_key d)) way_cmp difference_cmp (at_one_key (the_key d)) (hows_of d.ways) each.0) (rising ds rise.1 each.1) below
+    where
+      below : (x y : Difference) → In x (differences_at p d) → In y (flat ds) → difference_cmp x y ≡ Less
+      below x y i j =
+          let one = In-map_from (told (the_key d)) (hows_of d.ways) x i in
+          let other = from_key ds y j in
+          subst (λ z. difference_cmp z y ≡ Less) one.2
+          (subst (λ z. difference_cmp (told (the_key d) one.0) z ≡ Less) other.2.2
+          (by_keys (the_key d) (the_key other.0) one.0 other.2.0 (In-all (λ k. by_key (the_key d) k ≡ Less) (the_key other.0) (map the_key ds) rise.0 (In-map the_key other.0 ds other.1))))
+
+  module _ (a b : Judged) where
+    abbrev mine : RecordMap
+    mine = map_of a p
+
+    abbrev its : RecordMap
+    its = map_of b p
+
+    abbrev pub AreTold : KeyedWays → Type 0
+    AreTold d = AreWays true (mine (the_key d)) (its (the_key d)) d.ways
+
+    abbrev Told : List KeyedWays → Option Key → How → Type 0
+    Told ds k how = Stands (told k how) (flat ds)
+
+    -- those at all keys are all
+    pub all_in_part : (ds : List KeyedWays) → AreDiffering by_key mine its (map the_key ds) → AllByRecursion AreTold ds → AreDifferencesIn (meaning a.prefer (view a.tree)) (meaning b.prefer (view b.tree)) p (flat ds)
+    all_in_part ds keys each = record {
+      rise = rising ds keys.rise (all_weakened AreTold (λ d. IsStrictlySortedBy way_cmp (hows_of d.ways)) ds (λ d h. ways_rise true (mine (the_key d)) (its (the_key d)) d.ways h) each);
+      differ = all_from_In (AreDifferent (meaning a.prefer (view a.tree)) (meaning b.prefer (view b.tree))) (flat ds) differs;
+      its_part = all_from_In (λ x. x.part ≡ p) (flat ds) (λ x i. let one = from_key ds x i in ap (λ (y : Difference). y.part) (sym one.2.2));
+      all = λ k. at k (keys.all k);
+    }
+      where
+        differs : (x : Difference) → In x (flat ds) → AreDifferent (meaning a.prefer (view a.tree)) (meaning b.prefer (view b.tree)) x
+        differs x i =
+            let one = from_key ds x i in
+            let k = the_key one.0 in
+            subst (AreDifferent (meaning a.prefer (view a.tree)) (meaning b.prefer (view b.tree))) one.2.2
+            (In-all (DifferIn (mine k) (its k)) one.2.0 (hows_of one.0.ways) (ways_sound true (mine k) (its k) one.0.ways (In-all AreTold one.0 ds each one.1)) one.2.1)
+
+        at : (k : Option Key) → (mine k ≡ its k) ⊎ Stands k (map the_key ds) → AgreeBut (Told ds k) (mine k) (its k)
+        at k (inl same) = agree_same (Told ds k) (mine k) (its k) same
+        at k (inr stands) =
+            let one = In-map_from the_key ds k (to_in k (map the_key ds) stands) in
+            let d = one.0 in
+            subst (λ l. AgreeBut (Told ds l) (mine l) (its l)) one.2
+            (agree_more (λ how. Stands how (hows_of d.ways)) (Told ds (the_key d)) (λ how h. to_stands (told (the_key d) how) (flat ds) (at_key ds d how one.1 (to_in how (hows_of d.ways) h))) (mine (the_key d)) (its (the_key d))
+            (ways_all (mine (the_key d)) (its (the_key d)) d.ways (In-all AreTold d ds each one.1)))
+
+    -- ---- the walk through a part
+
+    -- the differences at these keys were appended, and the keys from these ranks on are left
+    pub record AreAppended (before after : List Difference) (at : Ranks) : Type 0 where
+      pub keyed : List KeyedWays
+      pub walked : AreKeysFound a b p (map the_key keyed) at
+      pub told : AllByRecursion AreTold keyed
+      pub items : after ≡ before ++ flat keyed
+
+    pub none_appended : (before : List Difference) (at : Ranks) → AreKeysFound a b p [] at → AreAppended before before at
+    none_appended before at start = record { keyed = []; walked = start; told = tt; items = sym (append-nil before) }
+
+    pub one_appended : (before after new : List Difference) (at next : Ranks) (d : KeyedWays) → AreAppended before after at
+        → ((found : List (Option Key)) → AreKeysFound a b p found at → GoesOnToKey true a b p found next (Some d)) → new ≡ after ++ differences_at p d → AreAppended before new next
+    one_appended before after new at next d h on is =
+        let goes = on (map the_key h.keyed) h.walked in
+        record {
+          keyed = h.keyed ++ (d ∷ []);
+          walked = subst (λ ks. AreKeysFound a b p ks next) (sym (map-append the_key h.keyed (d ∷ []))) goes.walked;
+          told = all_both AreTold h.keyed (d ∷ []) h.told (goes.ways, tt);
+          items = is ∙ (ap (λ xs. xs ++ differences_at p d) h.items
+              ∙ (append_assoc before (flat h.keyed) (differences_at p d)
+              ∙ ap (λ xs. before ++ xs) (ap (λ xs. flat h.keyed ++ xs) (sym (append-nil (differences_at p d))) ∙ sym (flat_map-append (differences_at p) h.keyed (d ∷ [])))));
+        }
+
+    pub all_appended : (before after : List Difference) (at next : Ranks) → AreAppended before after at → ((found : List (Option Key)) → AreKeysFound a b p found at → GoesOnToKey true a b p found next None)
+        → AppendsDifferences (meaning a.prefer (view a.tree)) (meaning b.prefer (view b.tree)) p before after
+    all_appended before after at next h on = (flat h.keyed, all_in_part h.keyed (on (map the_key h.keyed) h.walked) h.told, h.items)
+
+-- ---- the parts
+
+-- these are all differences at the parts below a number
+pub record AreDifferencesBelow (m n : Meaning) (i : ℕ) (ds : List Difference) : Type 0 where
+  pub rise : IsStrictlySortedBy difference_cmp ds
+  pub differ : AllByRecursion (AreDifferent m n) ds
+  pub low : AllByRecursion (λ d. part_number d.part < i) ds
+  pub all : (p : Part) (k : Option Key) → part_number p < i → AgreeBut (λ how. Stands (record { part = p; key = k; how = how }) ds) (record_at m p k) (record_at n p k)
+
+below_more : (j i : ℕ) → j < i + 1 → (j < i) ⊎ (j ≡ i)
+below_more j i low = grind arith
+
+by_parts : (x y : Difference) → part_number x.part < part_number y.part → difference_cmp x y ≡ Less
+by_parts x y low = ap (λ o. ordering_then (ordering_then o (by_key x.key y.key)) (way_cmp x.how y.how)) (sym (nat_cmp_is (part_number x.part) (part_number y.part) Less low))
+
+abbrev ToldAt : List Difference → Part → Option Key → How → Type 0
+ToldAt xs p k how = Stands (record { part = p; key = k; how = how }) xs
+
+module _ (m n : Meaning) where
+  pub none_below : AreDifferencesBelow m n 0 []
+  unfolding IsStrictlySortedBy
+  none_below = record { rise = tt; differ = tt; low = tt; all = λ p k low. absurd (omega (arith, low)) }
+
+  module _ (i : ℕ) (ds : List Difference) (h : AreDifferencesBelow m n i ds) (es : List Difference) (g : AreDifferencesIn m n (part_at i) es) (number : part_number (part_at i) ≡ i) where
+    its_number : (y : Difference) → In y es → part_number y.part ≡ i
+    its_number y j = ap part_number (In-all (λ d. d.part ≡ part_at i) y es g.its_part j) ∙ number
+
+    pub more_below : AreDifferencesBelow m n (i + 1) (ds ++ es)
+    more_below = record {
+      rise = sorted_append difference_cmp ds es h.rise g.rise (λ x y j l. by_parts x y (subst (λ c. part_number x.part < c) (sym (its_number y l)) (In-all (λ d. part_number d.part < i) x ds h.low j)));
+      differ = all_both (AreDifferent m n) ds es h.differ g.differ;
+      low = all_both (λ d. part_number d.part < i + 1) ds es (all_weakened (λ d. part_number d.part < i) (λ d. part_number d.part < i + 1) ds (λ d low. omega (arith, low)) h.low)
+          (all_from_In (λ d. part_number d.part < i + 1) es (λ y j. let is = its_number y j in omega (arith, is)));
+      all = λ p k low. at p k (below_more (part_number p) i low);
+    }
+      where
+        before : (x : Difference) → Stands x ds → Stands x (ds ++ es)
+        before x s = to_stands x (ds ++ es) (In-append_left x ds es (to_in x ds s))
+
+        behind : (x : Difference) → Stands x es → Stands x (ds ++ es)
+        behind x s = to_stands x (ds ++ es) (In-append_right x ds es (to_in x es s))
+
+        at : (p : Part) (k : Option Key) → (part_number p < i) ⊎ (part_number p ≡ i) → AgreeBut (ToldAt (ds ++ es) p k) (record_at m p k) (record_at n p k)
+        at p k (inl low) = agree_more (ToldAt ds p k) (ToldAt (ds ++ es) p k) (λ how s. before (record { part = p; key = k; how = how }) s) (record_at m p k) (record_at n p k) (h.all p k low)
+        at p k (inr same) =
+            subst (λ q. AgreeBut (ToldAt (ds ++ es) q k) (record_at m q k) (record_at n q k)) (numbered p i same)
+            (agree_more (ToldAt es (part_at i) k) (ToldAt (ds ++ es) (part_at i) k) (λ how s. behind (record { part = part_at i; key = k; how = how }) s) (record_at m (part_at i) k) (record_at n (part_at i) k) (g.all k))
+
+  -- those below all parts are all
+  pub all_parts : (i : ℕ) (ds : List Difference) → ((p : Part) → part_number p < i) → AreDifferencesBelow m n i ds → AreDifferences m n ds
+  all_parts i ds each h = record { rise = h.rise; differ = h.differ; all = λ p k. h.all p k (each p) }
