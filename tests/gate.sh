@@ -3,8 +3,8 @@
 # is 'N passed, M failed' for all of them together. docs/GATE.md says what each part is for.
 set -u
 cd "$(dirname "$0")/.." || exit 1
-. tests/counting.sh
-. tests/parts.sh
+. tests/shared/counting.sh
+. tests/gate_parts.sh
 program=crates/erd/out/erd
 tests=crates/erd_rows/out/erd_rows_tests
 tried=''
@@ -24,7 +24,7 @@ is_proved() {
 # proved CRATE ..: waits until `rt ci` has proved these crates
 proved() {
     local crate
-    [ -n "$is_beside" ] || ended rt ci
+    [ -n "$is_beside" ] || ended tests/prove.sh
     for crate in "$@"; do
         until is_proved "$crate" || [ -e "$results/001/status" ] || [ -e "$results/001/lost" ]; do sleep 1; done
         is_proved "$crate" || return
@@ -42,7 +42,7 @@ program() {
 
 # tests: waits until `rt ci` has ended, and has left the tests
 tests() {
-    ended rt ci
+    ended tests/prove.sh
     [ -x "$tests" ]
 }
 
@@ -55,7 +55,7 @@ libraries() {
 edits() {
     local crate steps=()
     for crate in "$@"; do
-        steps+=("proved: $(libraries "$crate")" "tests/edits.py --gate $crate")
+        steps+=("proved: $(libraries "$crate")" "tests/bodies/try_edits.py --gate $crate")
         tried+=" $crate "
     done
     lane "${steps[@]}"
@@ -63,10 +63,14 @@ edits() {
 
 # What `rt ci` has proved, compiled and run is what the scripts run, so nothing older may stand there.
 rm -f "$program" "$tests"
-lane 'rt ci'
+lane 'tests/prove.sh'
 
-lane 'python3 tests/definitions.py' 'python3 tests/pages.py' 'python3 tests/documented.py' 'python3 tests/edits_suite.py' \
-    'conformance/run --in-process reference/erd_reference.py'
+lane 'python3 tests/pages/definitions.py' 'python3 tests/pages/closures.py' 'python3 tests/pages/gate_times.py' 'python3 tests/pages/facts_and_links.py' \
+    'python3 tests/pages/documented.py' 'tests/pages/commit_message.sh' 'tests/pages/version.sh' 'tests/forms/signed_sums.sh' \
+    'python3 tests/bodies/self_test.py' 'tests/bodies/prove_again.sh' 'python3 tests/bodies/wrong_programs.py' \
+    'python3 packaging/notices.py' 'python3 tests/pages/site.py' 'python3 tests/prepare/steps.py' \
+    'conformance/run --in-process reference/erd_reference.py' \
+    'conformance/run --differences --in-process reference/erd_reference.py'
 
 edits erd_check erd_text erd_meaning erd_normal
 edits erd_compare erd_canon erd_program
@@ -74,12 +78,15 @@ for crate in $(sed -n 's|^\([a-z_]*\)/.*|\1|p' tests/edits/gate.txt | sort -u); 
     [[ $tried == *" $crate "* ]] || missing "tests/edits/gate.txt: the edits of $crate are not tried"
 done
 
-lane 'proved: erd_canon' 'tests/library.sh' 'tests/fuzz.sh' 'program:' 'tests/portable.sh' 'tests/calling.sh' 'tests/javascript.sh' \
-    'tests/python.sh' 'tests/page.sh' 'tests/package.sh' 'tests/release.sh'
+lane 'proved: erd_canon' 'tests/library/c_library.sh' 'tests/fuzz/fuzz.sh' 'program:' 'tests/forms/other_machines.sh' \
+    'tests/forms/language_examples.sh' 'tests/forms/javascript_package.sh' 'tests/forms/python_package.sh' 'tests/page/page.sh' \
+    'python3 tests/bodies/wrong_lines.py --gate' 'tests/forms/program_packages.sh' 'tests/forms/release_files.sh'
 
-lane 'program:' 'tests/cli.sh' 'tests/man.sh' 'python3 tests/examples.py' 'tests/contrib.sh' 'python3 tests/agree.py 500' \
-    'python3 tests/says_the_same.py' 'python3 tests/preferences.py' 'conformance/run ./erd' 'tests/limits.sh' 'tests/install.sh' \
-    'python3 tests/instructions.py' 'ended: tests/library.sh' 'tests/same.sh' 'tests:' 'tests/refusals.sh'
+lane 'program:' 'tests/program/command.sh' 'tests/pages/manual.sh' 'python3 tests/pages/examples.py' 'tests/program/contrib.sh' \
+    'python3 tests/program/agrees_with_reference.py 500' 'python3 tests/program/same_meaning.py' \
+    'python3 tests/program/agrees_on_preferences.py' 'conformance/run ./erd' 'tests/program/limits.sh' 'tests/program/confined.sh' \
+    'tests/forms/make_install.sh' 'python3 tests/measures/instructions.py' 'python3 tests/measures/crowding.py' \
+    'ended: tests/library/c_library.sh' 'tests/forms/profiled_program.sh' 'tests/forms/same_bytes.sh' 'tests:' 'tests/program/refusals.sh'
 
 follow
 await

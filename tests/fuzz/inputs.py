@@ -1,13 +1,13 @@
 """Writes what the fuzzer begins with: usage inputs.py FOLDER. FOLDER/words.h has the names of the member table and other words, and
-FOLDER/seeds an input for each case of conformance/ and for each example that is not large."""
+FOLDER/seeds an input for each case of out/conformance, which conformance/make makes, and for each example that is not large."""
 import json
 import pathlib
 import sys
 
 ROOT = pathlib.Path(__file__).resolve().parents[2]
 sys.dont_write_bytecode = True
-sys.path[:0] = [str(ROOT / 'tests'), str(ROOT / 'reference')]
-import agree  # noqa: E402
+sys.path[:0] = [str(ROOT / 'tests' / 'program'), str(ROOT / 'reference')]
+from agrees_with_reference import CLASSES, NAMES, NUMBERS, TEXTS, TYPES  # noqa: E402
 
 BREAK = b'\xfe'
 MOST_BYTES = 16000
@@ -26,11 +26,11 @@ def escaped(texts):
 
 def written_words():
     return ''.join([
-        words_of('names', escaped(agree.NAMES)),
-        words_of('classes', agree.CLASSES),
-        words_of('types', escaped(agree.TYPES)),
-        words_of('texts', escaped(agree.TEXTS + agree.TYPES)),
-        words_of('plain', LITERALS + agree.NUMBERS),
+        words_of('names', escaped(NAMES)),
+        words_of('classes', CLASSES),
+        words_of('types', escaped(TYPES)),
+        words_of('texts', escaped(TEXTS + TYPES)),
+        words_of('plain', LITERALS + NUMBERS),
     ])
 
 
@@ -57,7 +57,7 @@ def main():
     (folder / 'words.h').write_text(written_words(), encoding='utf-8')
     seeds = folder / 'seeds'
     seeds.mkdir(exist_ok=True)
-    found = {case.name: input_of_case(case) for case in sorted((ROOT / 'conformance').iterdir()) if case.is_dir()}
+    found = {case.name: input_of_case(case) for case in sorted((ROOT / 'out' / 'conformance').iterdir()) if case.is_dir()}
     found['long-lines'] = with_long_lines()
     found.update((path.name, path.read_bytes()) for path in sorted((ROOT / 'examples').glob('*.json')))
     for name, data in found.items():

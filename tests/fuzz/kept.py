@@ -1,5 +1,5 @@
-"""Makes a conformance case of an input of the fuzzer: usage kept.py FINDING NAME. The answers are those of the reference program; read
-them against docs/PROFILE.md before you keep them, and write `why` by hand. An input with one report is a case for `check` and
+"""Writes a conformance case of an input of the fuzzer, for a file of conformance/cases: usage kept.py FINDING NAME. The answers are those
+of the reference program; read them against docs/PROFILE.md before you keep them, and write `why` by hand. An input with one report is a case for `check` and
 `canon`, one with two a case for `compare`.
 """
 import pathlib
@@ -29,11 +29,14 @@ def files_of(left, right, prefer):
 
 def main():
     finding, name = sys.argv[1:]
-    case = inputs.ROOT / 'conformance' / name
-    case.mkdir()
+    case = inputs.ROOT / 'out' / 'fuzz' / 'kept' / name
+    case.mkdir(parents=True)
+    (case / 'why').write_text('what it shows. docs/PROFILE.md, section "..".\n', encoding='utf-8')
     for file, data in files_of(*parts_of(pathlib.Path(finding).read_bytes())).items():
         (case / file).write_bytes(data)
-    print(f'{case}: now write why, and read the answers')
+    sys.path.insert(0, str(inputs.ROOT / 'conformance'))
+    import shorten
+    print('\n'.join(shorten.short(case)))
 
 
 if __name__ == '__main__':

@@ -1,9 +1,11 @@
-"""The C side of the library with the wrong line of an edit: usage planted.py EDIT, to standard output."""
+"""The C side of the library with a wrong line of the list `library`: usage planted.py NAME, to standard output."""
 import pathlib
 import sys
 
-words = [line.partition(': ')[2] for line in pathlib.Path(sys.argv[1]).read_text(encoding='utf-8').splitlines()]
-text = pathlib.Path(words[0]).read_text(encoding='utf-8')
-if text.count(words[1]) != 1:
-    sys.exit(f'it has {text.count(words[1])} times: {words[1]}')
-sys.stdout.write(text.replace(words[1], words[2]))
+ROOT = pathlib.Path(__file__).resolve().parents[2]
+sys.path.insert(0, str(ROOT / 'tests' / 'bodies'))
+import wrong_lines  # noqa: E402
+
+wanted = wrong_lines.list_of(wrong_lines.LISTS / 'library.txt')
+line = next(line for line in wanted.lines if line.name == sys.argv[1])
+sys.stdout.write(wrong_lines.changed(line, (ROOT / line.file).read_text(encoding='utf-8')))

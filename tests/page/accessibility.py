@@ -1,11 +1,11 @@
 """The accessibility check: WCAG 2.2 AA, as far as a program can judge it, for each state of the page, light and dark."""
 import pathlib
 
-from session import SUITE
+from session import EXAMPLES, SUITE
 
 CHECK = (pathlib.Path(__file__).parent / 'accessibility.js').read_text(encoding='utf-8')
 TAB = '\ue004'
-CONTROLS = 'button, select, summary, input[type="file"], progress, [tabindex="0"]'
+CONTROLS = 'button, select, summary, input, progress, [tabindex="0"]'
 MOST_STEPS = 120
 
 # The spacing of texts that a reader may ask for (1.4.12).
@@ -55,6 +55,9 @@ def run(session):
         'a difference': lambda: example(1),
         'faults': lambda: example(2),
         'not JSON': lambda: session.judged(SUITE / 'reading-report-cut-short' / 'input.json'),
+        'many files': lambda: many(session),
+        'the steps that prepare a copy': lambda: steps(session),
+        'a prepared copy': lambda: copied(session),
     }
     for name, show in states.items():
         show()
@@ -62,7 +65,31 @@ def run(session):
     planted(session)
     names_of_controls(session, lambda: example(1))
     order_of_focus(session, lambda: example(2))
-    narrow(session, [lambda: example(1), lambda: example(2)])
+    order_of_focus(session, lambda: steps(session))
+    narrow(session, [lambda: example(1), lambda: example(2), lambda: many(session), lambda: steps(session), lambda: copied(session)])
+
+
+def many(session):
+    """A table of three files."""
+    session.fresh()
+    session.choose(0, *(EXAMPLES / name for name in ('county.vendor-a.json', 'county.vendor-b.json', 'one-unit.json')))
+    session.browser.until("return document.documentElement.dataset.busy === 'no' && document.querySelector('#many-files tbody tr') !== null")
+
+
+def steps(session):
+    """The steps for an export, each with what it would change."""
+    session.judged(EXAMPLES / 'municipal.raw.json')
+    session.click('#prepare-begin-0')
+    session.browser.until("return document.querySelector('#prepare-check-0') !== null")
+    session.browser.script("document.querySelectorAll('.prepare details').forEach((one) => { one.open = true; })")
+
+
+def copied(session):
+    """The copy, which is judged."""
+    steps(session)
+    session.browser.script("document.getElementById('verdict').remove()")
+    session.click('#prepare-check-0')
+    session.verdict()
 
 
 def checked(session, name):

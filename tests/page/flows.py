@@ -1,6 +1,7 @@
 """What a user does with a mouse: each flow of the page, with files whose answers are known."""
 import base64
 import json
+import pathlib
 import re
 import zlib
 
@@ -25,7 +26,7 @@ def run(session):
 
 def examples(session):
     """The examples, one click away."""
-    wanted = {0: 'These two files define the same ballots', 1: 'These two files do not define the same ballots',
+    wanted = {0: 'These two files define the same ballots', 1: 'These two files do not say the same',
               2: 'Refused: 3 faults'}
     for position, verdict in wanted.items():
         session.fresh()
@@ -37,7 +38,8 @@ def one_file(session):
     """An accepted file: the verdict, the sums, and the canonical form as a file."""
     session.equal('an accepted file', session.judged(SMALL), 'Accepted')
     canonical = (EXAMPLES / 'small-ballot.canonical.json').read_bytes()
-    session.equal('its sums', session.texts('.sum'), [sha256(SMALL.read_bytes()), sha256(canonical)])
+    session.equal('its sums, and that of the page', session.texts('.sum'),
+                  [sha256(SMALL.read_bytes()), sha256(canonical), sha256(pathlib.Path(session.page).read_bytes())])
     session.equal('a screen reader is told', session.text('#announcement'), 'Accepted')
     session.browser.script("document.querySelector('.record .buttons button:last-child').scrollIntoView()")
     session.click('.record .buttons button:last-child')
@@ -45,13 +47,19 @@ def one_file(session):
 
 
 def faults(session):
-    """A refused file: a card for each fault, in order, and the part of the file."""
+    """A refused file: a card for each kind of fault, with its places in order, and the part of the file."""
     case = SUITE / 'shape-faults-of-the-whole-first-phase'
     lines = (case / 'check.txt').read_text(encoding='utf-8').splitlines()
     session.equal('a refused file', session.judged(case / 'input.json'), 'Refused: %d faults' % len(lines))
-    pointers = [line.split(': ')[0] or 'empty: the report itself' for line in lines]
-    session.equal('its pointers', session.texts('.card .place > span:last-child'), pointers[:20])
-    session.click('.faults > p:last-child button')
+    kinds = {}
+    for line in lines:
+        pointer, words = line.split(': ', 1)
+        kinds.setdefault(words.split(' member ')[0], []).append(pointer or 'empty: the report itself')
+    session.equal('its kinds of faults', len(session.texts('.card')), len(kinds))
+    session.equal('how many places each has', session.texts('.card .count'),
+                  ['(%d place%s)' % (len(pointers), '' if len(pointers) == 1 else 's') for pointers in kinds.values()])
+    session.equal('its pointers', session.texts('.card .pointer'), [pointer for pointers in kinds.values() for pointer in pointers[:10]])
+    session.click('.faults .save button')
     session.equal('the list of faults', session.downloaded('faults.txt'), (case / 'check.txt').read_bytes())
     one_fault = SMALL.read_text(encoding='utf-8').replace('"VotesAllowed":1', '"VotesAllowed":1.5')
     session.judged(session.file('one-fault.json', one_fault))
@@ -71,14 +79,14 @@ def two_files(session):
     for old, new in (('Ingrith Sablewood', 'Ingrid Sablewood'), ('"VotesAllowed":1', '"VotesAllowed":2')):
         changed = changed.replace(old, new)
     verdict = session.judged(COUNTY[0], session.file('changed.json', changed))
-    session.equal('two files that differ', verdict, 'These two files do not define the same ballots')
+    session.equal('two files that differ', verdict, 'These two files do not say the same')
     session.equal('the first difference', session.text('.sentence'),
-                  'Candidate “Ingrith Sablewood” (local-level K-12) differs in BallotName.')
+                  'Candidate “Ingrith Sablewood” (local-level K-12) differs in its name on the ballot (BallotName).')
     session.equal('both values', session.texts('#first-difference ~ div tbody:last-child td div'),
                   ['“Ingrith Sablewood”', '“Ingrid Sablewood”'])
-    others = session.texts('.differences summary')
-    session.said('the other differences', '' if len(others) >= 1 and others[0].startswith('Contest ') else repr(others))
-    session.click('.differences summary')
+    listed = session.texts('.differences summary')
+    session.said('all differences', '' if len(listed) > 1 and listed[0].startswith('Candidate ') and listed[1].startswith('Contest ') else repr(listed))
+    session.click('.differences > li:nth-child(2) summary')
     session.becomes('a value of another difference', lambda: session.texts('.differences td div')[:2], ['1', '2'])
 
 
@@ -104,8 +112,8 @@ def dropped(session):
     session.becomes('one dropped on the second place', session.verdict, "These two files can't be compared yet")
     session.browser.script(DROP, files, 'body')
     session.becomes('two files dropped', session.verdict, 'These two files define the same ballots')
-    session.browser.script(DROP, files + files[:1], 'body')
-    session.equal('three files dropped', session.text('#announcement'), 'Choose one file, or two.')
+    session.browser.script(DROP, [{'name': 'x.txt', 'data': 'x'}] * 3, 'body')
+    session.equal('three files that are not JSON', session.text('#announcement'), 'There is no file whose name ends in .json.')
     session.said('three files dropped, shown', '' if session.browser.script("return !document.getElementById('files-message').hidden") else 'no message')
 
 
@@ -118,7 +126,7 @@ def preferred(session):
         const select = document.getElementById('prefer');
         select.value = 'local-level';
         select.dispatchEvent(new Event('change'));""")
-    session.becomes('under the preference', lambda: session.text('.sentence'), 'Unit (local-level U1) differs in ExternalIdentifier.')
+    session.becomes('under the preference', lambda: session.text('.sentence'), 'Unit (local-level U1) differs in its external identifiers (ExternalIdentifier).')
     session.verdict()
     session.equal('the record has the preference', session.texts('.record dd bdi')[-1:], ['local-level'])
 
@@ -131,14 +139,18 @@ def refused_texts(session):
         'byte order mark': (b'\xef\xbb\xbf' + whole, 'The file begins with a byte order mark'),
         'UTF-16': (whole.decode().encode('utf-16'), 'The file is encoded as UTF-16.'),
         'Windows-1252': (whole.replace(b'Governor', b'Gouverneur d\xe9l\xe9gu\xe9'), 'The file has a byte that is not UTF-8.'),
-        'XML': (b'<?xml version="1.0"?><ElectionReport/>', 'This is XML or a web page.'),
+        'the XML form': (b'<?xml version="1.0"?><ElectionReport/>', 'This is the XML form of the standard'),
+        'a web page': (b'<!DOCTYPE html><title>x</title>', 'This is a web page.'),
+        'XML': (b'<?xml version="1.0"?><x/>', 'This is XML'),
+        'a picture': (b'\x89PNG\r\n\x1a\n', 'This is a picture.'),
+        'a PDF': (b'%PDF-1.7', 'This is a PDF file'),
         'a comma too many': (whole.replace(b'}]', b'},]', 1), 'There is a comma before a closing bracket.'),
         'empty': (b' \n', 'The file is empty.'),
     }
     for name, (data, words) in troubles.items():
         verdict = session.judged(session.file('trouble.json', data))
         session.equal('not JSON: ' + name, verdict, 'Not JSON')
-        text = session.text('#result section p')
+        text = session.text('#result section.card p')
         session.said('why it is not: ' + name, '' if text.startswith(words) else text)
     path = session.work / 'long.json'
     with open(path, 'wb') as file:
@@ -165,14 +177,18 @@ def unpacked(stream):
         return b''
 
 
+def pages_of(pdf):
+    """How many pages a PDF has."""
+    return len(re.findall(rb'/Type\s*/Page\b', pdf + b''.join(map(unpacked, re.findall(rb'stream\r?\n(.*?)endstream', pdf, re.S)))))
+
+
 def printed(session):
     """The record is one page, and has what it needs."""
     session.judged(*COUNTY)
-    pdf = base64.b64decode(session.browser.command('print'))
-    pages = len(re.findall(rb'/Type\s*/Page\b', pdf + b''.join(map(unpacked, re.findall(rb'stream\r?\n(.*?)endstream', pdf, re.S)))))
+    pages = pages_of(base64.b64decode(session.browser.command('print')))
     session.said('the printed record is one page', '' if pages == 1 else '%d pages' % pages)
     labels = session.texts('.record dt')
     wanted = json.loads((ROOT / 'web' / 'texts.en.json').read_text(encoding='utf-8'))
-    missing = [key for key in ('verdict', 'file1', 'file2', 'fileSum', 'formSum', 'prefer', 'date', 'version')
+    missing = [key for key in ('verdict', 'file1', 'file2', 'fileSum', 'formSum', 'prefer', 'date', 'version', 'page')
                if wanted['record.' + key] not in labels]
     session.equal('the record has all', missing, [])

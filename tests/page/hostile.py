@@ -79,7 +79,7 @@ def differences(session, name, text):
     right['GpUnit'][0]['ExternalIdentifier'].append(identifier('z' + text, text))
     paths = [session.file('left.json', json.dumps(left)), session.file('right.json', json.dumps(right, ensure_ascii=True))]
     verdict = judged_safely(session, 'differences, ' + name, *paths)
-    session.equal('differences, %s: told' % name, verdict, 'These two files do not define the same ballots')
+    session.equal('differences, %s: told' % name, verdict, 'These two files do not say the same')
     session.open_details()
     session.equal('differences, %s: nothing unseen when open' % name, session.browser.script(UNSEEN), '')
     session.equal('differences, %s: no element when open' % name, session.browser.script(ELEMENTS), 0)
@@ -102,11 +102,12 @@ def many_faults(session):
     data = '{"@type":"ElectionResults.ElectionReport","Status":"pre-election","Election":[' + ','.join(['{}'] * 100_000) + ']}'
     verdict = judged_safely(session, 'many faults', session.file('many.json', data))
     session.equal('many faults: the verdict', verdict, 'Refused: 100,000 faults')
-    session.equal('many faults: those shown', len(session.texts('.card')), 20)
-    session.browser.script("document.querySelector('.faults > p button').click()")
-    session.browser.until("return document.querySelectorAll('.card').length === 40")
-    session.becomes('many faults: the focus is on the first new one',
-                    lambda: session.browser.script('return document.activeElement.textContent.slice(0, 3)'), '21.')
+    session.equal('many faults: one kind', len(session.texts('.card')), 1)
+    session.equal('many faults: the places shown', len(session.texts('.places > li')), 10)
+    session.browser.script("document.querySelector('.places + p button').click()")
+    session.browser.until("return document.querySelectorAll('.places > li').length === 20")
+    session.becomes('many faults: the focus is on the first new one', lambda: session.browser.script(
+        "return document.activeElement === document.querySelector('.places > li:nth-child(11) .place')"), True)
 
 
 def shown_whole(session):
@@ -116,6 +117,6 @@ def shown_whole(session):
     session.judged(session.file('whole.json', json.dumps(report)))
     length = "return document.querySelector('.card .place').textContent.length"
     before = session.browser.script(length)
-    session.browser.script("document.querySelector('.card .place > span:last-child button').click()")
+    session.browser.script("document.querySelector('.card .pointer button').click()")
     after = session.browser.script(length)
     session.said('a long text, cut and whole', '' if before < 1500 and after > 5000 else '%d, then %d characters' % (before, after))

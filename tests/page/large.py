@@ -20,6 +20,7 @@ WATCH = """
 def run(session):
     alive(session)
     stages(session)
+    verdict_first(session)
     speed(session)
     no_memory(session)
 
@@ -51,6 +52,23 @@ def stages(session):
     session.becomes('a file after that', session.verdict, 'Accepted')
 
 
+def verdict_first(session):
+    """Two files of 25 MB that differ: the verdict is there before the list, and stays when the list is cancelled."""
+    other = session.file('large-changed.json', session.large.read_text(encoding='utf-8').replace('Precinct 94999', 'Precinct 9499X'))
+    session.fresh()
+    session.choose(0, session.large, other)
+    session.browser.until("return document.getElementById('verdict') !== null", seconds=200)
+    session.equal('25 MB twice: the verdict comes while the page is busy',
+                  [session.text('#verdict'), session.browser.script('return document.documentElement.dataset.busy')],
+                  ['These two files do not say the same', 'yes'])
+    session.said('25 MB twice: the first difference', '' if 'P-94999' in session.text('.sentence') else session.text('.sentence'))
+    print('        %s: the verdict on 25 MB twice in %s ms' % (session.browser.name, milliseconds(session)))
+    session.click('#cancel')
+    session.becomes('25 MB twice: cancelled', lambda: session.text('#stopped'), 'Cancelled. The verdict stands; what would have followed it is not here.')
+    session.equal('25 MB twice: the verdict stays', session.verdict(), 'These two files do not say the same')
+    other.unlink()
+
+
 def speed(session):
     """The first answer after the page was opened."""
     session.fresh()
@@ -69,9 +87,9 @@ def milliseconds(session):
 
 def no_memory(session):
     """The page with less memory for the proved code: it says so, and the next file is judged."""
-    if session.poor is None:
+    if 'poor' not in session.others:
         return
-    session.browser.open(session.poor)
+    session.browser.open(session.others['poor'])
     session.browser.until('return document.documentElement.dataset.ready')
     session.choose(0, session.large)
     session.equal('less memory: the verdict', session.verdict(seconds=200), 'Out of memory')

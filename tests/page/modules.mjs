@@ -3,21 +3,30 @@
 import { existsSync, readdirSync, readFileSync } from 'node:fs';
 import { load } from '../../bindings/js/index.mjs';
 import { aligned } from '../../web/scripts/alignment.mjs';
+import { BallotAnswers } from '../../web/scripts/ballot_answers.mjs';
+import { isUnchangedLine } from '../../web/scripts/ballot_changes.mjs';
+import { renamed, talliesOf } from '../../web/scripts/causes.mjs';
+import { csvOf } from '../../web/scripts/csv.mjs';
 import { whyNotJson } from '../../web/scripts/diagnosis.mjs';
 import { allDifferences } from '../../web/scripts/differences.mjs';
 import { compactText, readCanonical } from '../../web/scripts/exact.mjs';
 import { excerptOf, Lines } from '../../web/scripts/excerpt.mjs';
 import { Meaning } from '../../web/scripts/meaning.mjs';
+import { kindsOf } from '../../web/scripts/fault_kinds.mjs';
+import { whyAlike } from '../../web/scripts/look_alikes.mjs';
 import { foundPlaces } from '../../web/scripts/places.mjs';
-import { rowsOfDifference } from '../../web/scripts/rows.mjs';
-import { NotJson, Scanner } from '../../web/scripts/scanner.mjs';
+import { rowsOfDifference, withMoves } from '../../web/scripts/rows.mjs';
+import { wordOf } from '../../web/scripts/seen.mjs';
+import { codeOf } from '../../web/scripts/sums.mjs';
+import { mergedText, piecesOfBoth } from '../../web/scripts/text_changes.mjs';
+import { NotJson, Scanner } from '../../bindings/js/lib/scanner.mjs';
 import { useTexts } from '../../web/scripts/texts.mjs';
 import { trailOf } from '../../web/scripts/trail.mjs';
 import { typesIn } from '../../web/scripts/types.mjs';
 import { piecesOf } from '../../web/scripts/visible.mjs';
 
 const ROOT = new URL('../../', import.meta.url);
-const SUITE = new URL('conformance/', ROOT);
+const SUITE = new URL('out/conformance/', ROOT);
 const TEXTS = JSON.parse(readFileSync(new URL('web/texts.en.json', ROOT)));
 const encoder = new TextEncoder();
 let passed = 0;
@@ -130,6 +139,69 @@ const line = (text) => ({ text, like: text, indent: 0 });
 const rows = aligned(['a', 'b', 'c', 'd'].map(line), ['a', 'c', 'x', 'd'].map(line));
 equal('rows', rows.map(({ left, right, same }) => [left?.text ?? null, right?.text ?? null, same]),
     [['a', 'a', true], ['b', null, false], ['c', 'c', true], [null, 'x', false], ['d', 'd', true]]);
+
+// A line that is at another place is one row, and what moved along with it is equal.
+const entry = (text, number, indent = 0) => ({ ...line(text), number, indent });
+const moves = withMoves(aligned([entry('a', 1), entry('x', 1, 1), entry('b', 2), entry('c', 3)], [entry('b', 1), entry('a', 2), entry('x', 1, 1), entry('d', 3)]));
+equal('moves', moves.map(({ left, right, same, moved }) => [left?.text ?? null, right?.text ?? null, same, moved ?? null]),
+    [['b', 'b', false, { from: 2, to: 1 }], ['a', 'a', true, null], ['x', 'x', true, null], ['c', 'd', false, null]]);
+
+// What differs within two texts, and why they look alike.
+const marked = (pieces) => pieces.map(({ text, changed }) => (changed ? `[${text}]` : text)).join('');
+const words = piecesOfBoth('Ingrith Sablewood', 'Ingrid Sablewood');
+equal('what differs in two names', [marked(words.left), marked(words.right)], ['Ingri[th] Sablewood', 'Ingri[d] Sablewood']);
+const accents = piecesOfBoth('Jose\u0301 Elm', 'Jos\u00e9 Elm');
+equal('a letter is marked with its accent', [marked(accents.left), marked(accents.right)], ['Jos[e\u0301] Elm', 'Jos[\u00e9] Elm']);
+equal('two texts as one', mergedText('Vote for one', 'Vote for two'),
+    [{ text: 'Vote for ', mark: '' }, { text: 'one', mark: 'removed' }, { text: 'two', mark: 'added' }]);
+const alike = [['Jos\u00e9', 'Jose\u0301'], ['Alder', '\u0410lder'], ['a b', 'a\u00a0b'], ['a', 'a\u200b'], ["O'T", 'O\u2019T'], ['a', 'b']];
+equal('why they look alike', alike.map(([one, other]) => whyAlike(one, other)), [['spelling'], ['letters'], ['blanks'], ['hidden'], ['marks'], []]);
+
+// Codes for the phone, by the values of Crockford's letters: 80 bits are sixteen of them.
+equal('a code of zeros', codeOf('0'.repeat(64)), '0000 0000 0000 0000');
+equal('a code of ones', codeOf('f'.repeat(64)), 'ZZZZ ZZZZ ZZZZ ZZZZ');
+equal('a code', codeOf(`0123456789abcdef0123${'0'.repeat(44)}`), '04HM ASW9 NF6Y Y093');
+
+// Cells that a spreadsheet would take for formulas, and cells with commas and quotes.
+equal('CSV', csvOf([['=1+1', 'a,b', 'say "x"', 5, '-2']]), '\'=1+1,"a,b","say ""x""",5,\'-2\r\n');
+
+// Faults by their kinds.
+const kinds = kindsOf([{ place: ['a', 'VoteCounts'], reason: 5 }, { place: [], reason: 2, name: 'Name' },
+    { place: ['b', 'VoteCounts'], reason: 5 }, { place: [0], reason: 1 }]);
+equal('kinds of faults', kinds.map(({ reason, faults, names: some }) => [reason, faults.length, some]),
+    [[5, 2, [['VoteCounts', 2]]], [2, 1, [['Name', 1]]], [1, 1, []]]);
+
+// What a voter sees, by the rules below the table of docs/PROFILE.md.
+const table = { Contest: { Name: 'seen', FileDate: 'unseen' }, ElectionReport: { Person: 'in doubt' } };
+const wordsOf = [[{ part: 'contest', how: 'member', member: 'Name' }, 'seen'], [{ part: 'contest', how: 'member', member: 'FileDate' }, 'unseen'],
+    [{ part: 'contest', how: 'member', member: 'Carried' }, 'in doubt'], [{ part: 'contest', how: 'member', member: 'toString' }, 'in doubt'],
+    [{ part: 'contest', how: 'member', member: 'ElectionId' }, 'seen'], [{ part: 'person', how: 'only left' }, 'in doubt']];
+wordsOf.forEach(([difference, word]) => equal(`the word of ${JSON.stringify(difference)}`, wordOf(table, difference, 'Contest'), word));
+
+// One changed identifier: the object is found again, and all differences follow from it.
+const county = readFileSync(new URL('examples/county.canonical.json', ROOT), 'utf8');
+const meaningOf = (text) => new Meaning(readCanonical(encoder.encode(text)), null);
+for (const [value, other] of [['K-12', 'K-99'], ['P-1', 'P-1x'], ['C-SHERIFF', 'C-0'], ['MEADOW', 'A']]) {
+    const pair = [meaningOf(county), meaningOf(county.replaceAll(`"Value":"${value}"`, `"Value":"${other}"`))];
+    const entries = allDifferences(...pair);
+    const { pairs, isCaused } = renamed(pair, entries);
+    equal(`${value} under another identifier`, [pairs.map(({ keys }) => keys.map((key) => key[2])), isCaused.every(Boolean), entries.length > 2],
+        [[[value, other]], true, true]);
+    equal(`${value}: how many objects differ`, talliesOf(entries).filter((tally) => tally['only left'] === 1 && tally['only right'] === 1).length, 1);
+}
+
+// A ballot of two files, in which a name is changed and two selections have changed places.
+const moved = county.replace('Ingrith', 'Ingrid').replace('"cs1-2","cs1-3","cs1-4"', '"cs1-3","cs1-2","cs1-4"');
+const ballots = new BallotAnswers([meaningOf(county), meaningOf(moved)]);
+equal('the languages of the ballots', ballots.languages(), ['en-US', 'es-US']);
+equal('how many ballots differ', ballots.styles({ words: '', group: null, from: 0, count: 0 }).counts, { all: 4, differing: 3, same: 1 });
+equal('the ballots of a precinct', ballots.styles({ words: 'birch', group: 'all', from: 0, count: 9 }).entries.map(({ code }) => code), ['local-level BS-1']);
+const selections = ballots.ballot({ key: ballots.keys[0] }).items.flatMap((item) => item.selections ?? []);
+equal('moved selections', selections.filter(({ mark }) => mark === 'moved').map(({ from, to }) => [from, to]), [[1, 2]]);
+equal('reworded selections', selections.flatMap(({ lines: some }) => some.flatMap(({ texts }) => texts.flatMap(({ pieces }) => pieces)))
+    .filter(({ mark }) => mark !== '').map(({ text, mark }) => [text, mark]), [['Ingrith', 'removed'], ['Ingrid', 'added']]);
+equal('a ballot of one file has no marks', new BallotAnswers([meaningOf(county)]).ballot({ key: ballots.keys[0] }).items
+    .flatMap((item) => [item, ...item.selections ?? []]).filter(({ mark, lines: some }) => mark !== '' || !some.every(isUnchangedLine)), []);
 
 console.log(`${passed} passed, ${failed} failed`);
 process.exitCode = failed === 0 ? 0 : 1;

@@ -27,7 +27,7 @@ TRIES = """
 
 def run(session):
     asked = [address for address in session.browser.requests() if not address.startswith(('blob:', 'data:', 'chrome:', 'about:'))]
-    others = [address for address in asked if address not in (session.address, session.poor)]
+    others = [address for address in asked if address not in (session.address, *session.others.values())]
     session.equal('network: nothing but the page was asked for', others, [])
     session.said('network: the page was asked for', '' if session.browser.name == 'Firefox' or asked else 'no request was seen')
     with Listener() as listener:

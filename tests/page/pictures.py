@@ -3,10 +3,12 @@
 # The name of each picture, the example, what stands at its top, its height, and whether it is dark.
 PICTURES = (
     ('page-same', 0, 'h1', 800, False),
-    ('page-difference', 1, 'h1', 1150, False),
+    ('page-difference', 1, '[data-part="verdict"]', 1000, False),
     ('page-faults', 2, '#result', 900, False),
-    ('page-dark', 1, '#result', 900, True),
+    ('page-dark', 1, '[data-part="verdict"]', 900, True),
+    ('page-ballots', 1, '.ballot > :nth-child(4)', 1000, False),
 )
+
 
 
 def run(session, folder):
@@ -14,6 +16,8 @@ def run(session, folder):
         session.fresh()
         session.browser.script("document.querySelectorAll('#examples button')[arguments[0]].click()", example)
         session.verdict()
+        if name == 'page-ballots':
+            ballot(session)
         session.browser.scheme(dark)
         session.browser.resize(1000, height)
         session.browser.script('scrollTo(0, document.querySelector(arguments[0]).getBoundingClientRect().top + scrollY - 20)', top)
@@ -21,3 +25,11 @@ def run(session, folder):
         session.said('the picture ' + name, '' if 5_000 < len(picture) < 200_000 else '%d bytes' % len(picture))
         (folder / (name + '.png')).write_bytes(picture)
         session.browser.scheme(False)
+
+
+def ballot(session):
+    """The ballot whose selections have changed places."""
+    session.browser.script("document.getElementById('ballots').open = true")
+    session.browser.until("return document.querySelectorAll('.style').length >= 4")
+    session.browser.script("document.querySelectorAll('.style')[1].open = true")
+    session.browser.until("return document.querySelector('.ballot') !== null")

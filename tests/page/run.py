@@ -1,54 +1,55 @@
 """Tries the page in one browser.
 
-usage: run.py BROWSER PAGE POOR WORK PICTURES
+usage: run.py BROWSER PAGE OTHERS WORK PICTURES [PART ..]
 
-BROWSER is Chromium or Firefox, PAGE the file of the page, POOR the page with less memory for the proved code or a file that is
-not there, WORK a folder for files of the test, and PICTURES a folder for pictures. The last line is 'N passed, M failed'.
+BROWSER is Chromium or Firefox, PAGE the file of the page, and OTHERS a folder with pages that differ from it in a limit: `poor.html`
+has less memory for the proved code, if it is there, and `short.html` lists no differences after the first. WORK is a folder for
+files of the test, and PICTURES one for pictures. With names of parts, only these are tried. The last line is 'N passed, M failed'.
 """
-import json
+import os
 import pathlib
 import sys
 import time
 
 import accessibility
+import ballots
 import browsers
 import flows
 import hostile
 import keyboard
 import large
+import many
 import network
+import notices
 import pictures
-from session import EXAMPLES, Session
+import prepared
+import record
+import results
+import spanish
+from session import Session, report_of_units
 
 KINDS = {kind.name: kind for kind in (browsers.Chromium, browsers.Firefox)}
-UNITS = 95_000
+PARTS = (flows, results, notices, ballots, record, prepared, many, spanish, keyboard, hostile, large, network, accessibility)
+# A browser is west of Greenwich, and the other one is east of it.
+ZONES = {'Chromium': 'America/St_Johns', 'Firefox': 'Asia/Kolkata'}
+UNITS_OF_25_MB = 95_000
 
 
-def large_report(path):
-    """An accepted report of 25 MB: the report of one unit, with many more units."""
-    report = json.loads((EXAMPLES / 'one-unit.json').read_text(encoding='utf-8'))
-    unit = json.dumps(report['GpUnit'][0] | {'@id': 'unit-NUMBER', 'Name': 'Precinct NUMBER'}).replace(
-        '"Value": "%s"' % report['GpUnit'][0]['ExternalIdentifier'][0]['Value'], '"Value": "P-NUMBER"')
-    report['GpUnit'].append('UNITS')
-    text = json.dumps(report).replace('"UNITS"', ',\n'.join(unit.replace('NUMBER', str(number)) for number in range(UNITS)))
-    path.write_text(text, encoding='utf-8')
-    return path
-
-
-def main(name, page, poor, work, pictures_folder):
+def main(name, page, others, work, pictures_folder, *names):
     downloads = pathlib.Path(work) / 'downloads'
     downloads.mkdir(parents=True, exist_ok=True)
+    os.environ['TZ'] = ZONES[name]
     browser = KINDS[name](str(downloads))
-    session = Session(browser, page, work)
-    session.large = large_report(session.work / 'large.json')
-    session.poor = pathlib.Path(poor).resolve().as_uri() if pathlib.Path(poor).exists() else None
+    session = Session(browser, page, work, ZONES[name])
+    session.large = report_of_units(session.work / 'large.json', UNITS_OF_25_MB)
+    session.others = {path.stem: path.resolve().as_uri() for path in pathlib.Path(others).glob('*.html')}
     try:
         browser.requests()
-        for part in (flows, keyboard, hostile, large, network, accessibility):
+        for part in [part for part in PARTS if not names or part.__name__ in names]:
             start = time.monotonic()
             session.part(part.run)
             print('        %s: %s took %d s' % (name, part.__name__, time.monotonic() - start), flush=True)
-        if name == 'Chromium':
+        if name == 'Chromium' and not names:
             session.part(lambda here: pictures.run(here, pathlib.Path(pictures_folder)))
     finally:
         browser.close()

@@ -1,5 +1,6 @@
 """The page in a browser, and what the parts of the test have in common."""
 import hashlib
+import json
 import pathlib
 import time
 
@@ -7,14 +8,16 @@ from browsers import DriverError
 
 ROOT = pathlib.Path(__file__).resolve().parent.parent.parent
 EXAMPLES = ROOT / 'examples'
-SUITE = ROOT / 'conformance'
+SUITE = ROOT / 'out' / 'conformance'
 
 
 class Session:
     """One browser with the page, opened from the disk. Counts cases."""
 
-    def __init__(self, browser, page, work):
+    def __init__(self, browser, page, work, zone):
         self.browser = browser
+        self.zone = zone
+        self.page = page
         self.address = pathlib.Path(page).resolve().as_uri()
         self.work = pathlib.Path(work)
         self.passed = 0
@@ -81,11 +84,12 @@ class Session:
         return self.browser.script('return [...document.querySelectorAll(arguments[0])].map((one) => one.textContent)', selector)
 
     def open_details(self):
-        """Opens all that is closed, and waits until the tables of the differences are there."""
-        self.browser.script("document.querySelectorAll('details').forEach((one) => { one.open = true; })")
-        self.browser.until("""
-            const details = [...document.querySelectorAll('.differences details')];
-            return details.every((one) => one.querySelector('table') !== null);""")
+        """Opens all that is closed, and waits until the tables of the differences and the ballots are there."""
+        for ready in ("document.querySelector('#ballots') === null || document.querySelector('#ballots :is(.style, .none)') !== null",
+                      "[...document.querySelectorAll('.differences details')].every((one) => one.querySelector('table') !== null)",
+                      "[...document.querySelectorAll('.style')].every((one) => one.querySelector('.ballot') !== null)"):
+            self.browser.script("document.querySelectorAll('details').forEach((one) => { one.open = true; })")
+            self.browser.until('return ' + ready)
 
     def click(self, selector):
         self.browser.one(selector).click()
@@ -107,6 +111,17 @@ class Session:
                 return path.read_bytes()
             time.sleep(0.05)
         return b''
+
+
+def report_of_units(path, count):
+    """An accepted report: that of one unit, with so many more units of some 260 bytes each."""
+    report = json.loads((EXAMPLES / 'one-unit.json').read_text(encoding='utf-8'))
+    unit = json.dumps(report['GpUnit'][0] | {'@id': 'unit-NUMBER', 'Name': 'Precinct NUMBER'}).replace(
+        '"Value": "%s"' % report['GpUnit'][0]['ExternalIdentifier'][0]['Value'], '"Value": "P-NUMBER"')
+    report['GpUnit'].append('UNITS')
+    text = json.dumps(report).replace('"UNITS"', ',\n'.join(unit.replace('NUMBER', str(number)) for number in range(count)))
+    path.write_text(text, encoding='utf-8')
+    return path
 
 
 def sha256(data):

@@ -1,0 +1,140 @@
+"""Compares a form of the library with the conformance suite and with the program.
+
+usage: compare_form.py PROGRAM NATIVE PAIRS SEED FOLDER NAME COMMAND ..
+
+COMMAND is a program that answers many calls, as tests/forms/caller.c does. It gets every case of `conformance/`, whose answers stand
+there, and PAIRS random reports and pairs, which PROGRAM answers too. The program has no answers as data: those are compared with
+NATIVE, the same caller with the library of this machine in it. All is compared byte for byte. FOLDER is for files.
+"""
+import copy
+import importlib.machinery
+import importlib.util
+import json
+import pathlib
+import random
+import subprocess
+import sys
+
+ROOT = pathlib.Path(__file__).resolve().parents[2]
+sys.dont_write_bytecode = True
+sys.path.insert(0, str(ROOT / 'tests' / 'program'))
+from agrees_with_reference import EXAMPLES, cases  # noqa: E402
+
+MOST_SECONDS = 600
+
+
+def suite():
+    """The program conformance/run as a module."""
+    loader = importlib.machinery.SourceFileLoader('run', str(ROOT / 'conformance' / 'run'))
+    module = importlib.util.module_from_spec(importlib.util.spec_from_loader('run', loader))
+    loader.exec_module(module)
+    return module
+
+
+class Question:
+    """A call as the program is given it, and what it must write: its standard output, standard error and status."""
+
+    def __init__(self, name, words, expected):
+        self.name, self.expected = name, expected
+        self.command, *rest = words
+        self.prefer = rest[1] if rest[0] == '--prefer' else None
+        self.files = rest[2:] if rest[0] == '--prefer' else rest
+
+    def line(self):
+        """The line that asks for it. The preference is in hexadecimal, since it may have a line feed or a tab."""
+        return '\t'.join([self.command, '-' if self.prefer is None else '=' + self.prefer.encode().hex(), *map(str, self.files)])
+
+    def what_differs(self, outcome, text):
+        """Says where an answer differs from what the program must write."""
+        output, errors, status = self.expected
+        wanted = output or errors
+        if outcome == status and text == wanted:
+            return None
+        return f'{self.name}: {self.command}: status {outcome}, wanted {status}; {text[:200]!r}, wanted {wanted[:200]!r}'
+
+
+def of_the_suite():
+    """Every call of the conformance suite, but for the filter, which no library has."""
+    run, questions = suite(), []
+
+    def keep(kind, *rest):
+        words, _, expected = rest[-3:]
+        if kind != 'filter':
+            questions.append(Question(pathlib.Path(words[-1]).parent.name, words, expected))
+        return []
+
+    run.differences_of_run = keep
+    for case in run.cases_of(run.suite()):
+        run.failures_of_case([], case)
+    return questions
+
+
+def of_random_reports(program, count, seed, folder):
+    """Random reports and pairs, with what the program writes of them."""
+    questions = []
+    bases = [json.loads((ROOT / 'examples' / f'{name}.json').read_text(encoding='utf-8')) for name in EXAMPLES]
+    for number, case in enumerate(cases(bases, count, random.Random(seed))):
+        words = ['canon' if case.command == 'filter' else case.command]
+        words += [] if case.prefer is None else ['--prefer', case.prefer]
+        for side, data in enumerate(case.inputs()):
+            path = folder / f'{number}-{side}.json'
+            path.write_bytes(data)
+            words.append(str(path))
+        ran = subprocess.run([program, *words], capture_output=True, check=False)
+        questions.append(Question(f'random {number}', words, (ran.stdout, ran.stderr, ran.returncode)))
+    return questions
+
+
+def as_data(native, questions):
+    """The same checks and comparisons once more, answered as data, with what the native library answers."""
+    asked = []
+    for question in questions:
+        if question.command != 'canon':
+            asked.append(copy.copy(question))
+            asked[-1].command += '_data'
+    for question, (outcome, text) in zip(asked, answers_of([native], asked)):
+        question.expected = (text, b'', outcome)
+    return asked
+
+
+def answers_of(command, questions):
+    """The outcome and the text of each call."""
+    asked = ''.join(question.line() + '\n' for question in questions).encode()
+    ran = subprocess.run(command, input=asked, capture_output=True, check=False, timeout=MOST_SECONDS)
+    if ran.returncode != 0:
+        sys.exit(f'{command[0]} ended with status {ran.returncode}: {ran.stderr.decode(errors="replace")[-500:]}')
+    rest, answers = ran.stdout, []
+    while rest:
+        head, _, rest = rest.partition(b'\n')
+        outcome, length = map(int, head.split())
+        answers.append((outcome, rest[:length]))
+        rest = rest[length:]
+    return answers
+
+
+def main():
+    program, native, pairs, seed, folder, name, *command = sys.argv[1:]
+    of_suite = of_the_suite()
+    of_random = of_random_reports(program, int(pairs), int(seed), pathlib.Path(folder))
+    passed = failed = 0
+    for kind, questions in [
+        ('the suite', of_suite),
+        (f'random reports and pairs, seed {seed}', of_random),
+        ('answers as data', as_data(native, of_suite + of_random)),
+    ]:
+        answers = answers_of(command, questions)
+        differences = [question.what_differs(*answer) for question, answer in zip(questions, answers)]
+        differences = [difference for difference in differences if difference]
+        if len(answers) != len(questions):
+            differences.append(f'{len(answers)} answers to {len(questions)} calls')
+        for difference in differences[:3]:
+            print(f'FAILED  {name}: {difference}')
+        if not differences:
+            print(f'ok      {name}: {len(questions)} calls, {kind}')
+        passed, failed = passed + (not differences), failed + bool(differences)
+    print(f'{passed} passed, {failed} failed')
+    return 1 if failed else 0
+
+
+if __name__ == '__main__':
+    sys.exit(main())

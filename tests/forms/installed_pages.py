@@ -1,0 +1,49 @@
+"""Holds what installed pages name against what is installed: `installed_pages.py FOLDER` looks into the folder of the
+installed documents.
+A file or folder of the repository that a page or a script there names is in that folder too. One line a case that fails, and
+at the end the counts.
+"""
+
+import pathlib
+import re
+import sys
+
+ROOT = pathlib.Path(__file__).resolve().parents[2]
+FOLDERS = sorted(path.name for path in ROOT.iterdir() if path.is_dir() and not path.name.startswith('.') and path.name != 'out')
+
+
+def named(text):
+    """What looks like a path in the repository: the target of a link, a page by its name, or words with a folder in front."""
+    yield from re.findall(r'\]\(([^)#:]+)(?:#[^)]*)?\)', text)
+    yield from re.findall(r'(?<![\w./-])([A-Z]{4,}\.md)\b', text)
+    yield from re.findall(rf'(?<![\w./-])((?:{"|".join(FOLDERS)})/[\w./-]*\w)', text)
+
+
+def cases(folder):
+    pages = sorted(path for path in folder.rglob('*') if path.is_file() and path.suffix in ('.md', '.sh', '.yml', ''))
+    for page in pages:
+        place = page.relative_to(folder)
+        missing = set()
+        for name in named(page.read_text(encoding='utf-8')):
+            beside, above = place.parent / name, pathlib.Path(name)
+            known = [way for way in (beside, above) if (ROOT / way).exists()]
+            if known and not any((folder / way).exists() for way in known):
+                missing.add(name)
+        yield f'what {place} names', [], sorted(missing)
+    yield 'there are pages', True, len(pages) > 5
+
+
+def main():
+    passed = failed = 0
+    for title, wanted, found in cases(pathlib.Path(sys.argv[1])):
+        if wanted == found:
+            passed += 1
+        else:
+            failed += 1
+            print(f'FAILED: {title}: {found} is not installed')
+    print(f'{passed} passed, {failed} failed')
+    return int(failed > 0)
+
+
+if __name__ == '__main__':
+    sys.exit(main())

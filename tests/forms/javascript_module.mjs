@@ -1,0 +1,184 @@
+// Tries the module of bindings/js in this process: the whole conformance suite, and what a caller can do wrong. One line for
+// each case that fails; at the end stand the counts.
+import { existsSync, readdirSync, readFileSync } from 'node:fs';
+import { load, MOST_BYTES, NoMemoryError, repeatedNames, TooLongError, TrapError } from '../../bindings/js/index.mjs';
+import { withMostPages } from '../shared/less_memory.mjs';
+
+const SUITE = new URL('../../out/conformance/', import.meta.url);
+const EXAMPLES = new URL('../../examples/', import.meta.url);
+let passed = 0;
+let failed = 0;
+
+function said(name, isRight, why = '') {
+    if (isRight) {
+        passed++;
+    } else {
+        failed++;
+        console.log(`FAILED  ${name}${why === '' ? '' : `: ${why}`}`);
+    }
+}
+
+function equal(name, found, wanted) {
+    said(name, found === wanted, `${JSON.stringify(found)?.slice(0, 300)} in place of ${JSON.stringify(wanted)?.slice(0, 300)}`);
+}
+
+function throws(name, kind, act) {
+    try {
+        act();
+        said(name, false, 'nothing was thrown');
+    } catch (error) {
+        said(name, error instanceof kind && error.message !== '', String(error));
+    }
+}
+
+function fileOf(folder, name) {
+    const place = new URL(name, folder);
+    return existsSync(place) ? readFileSync(place) : null;
+}
+
+const erd = await load(readFileSync(new URL('../../out/portable/erd.wasm', import.meta.url)));
+
+// Each case of the suite: the texts made from objects, and those that the calls of the program write.
+for (const name of readdirSync(SUITE, { withFileTypes: true }).filter((entry) => entry.isDirectory()).map((entry) => entry.name)) {
+    const folder = new URL(`${name}/`, SUITE);
+    const options = { prefer: fileOf(folder, 'prefer')?.toString().replace(/\n$/, '') };
+    const lines = fileOf(folder, 'check.txt')?.toString();
+    if (lines !== undefined) {
+        tryReport(name, fileOf(folder, 'input.json'), options, lines, fileOf(folder, 'canonical.json')?.toString());
+    } else {
+        tryPair(name, fileOf(folder, 'left.json'), fileOf(folder, 'right.json'), options, fileOf(folder, 'compare.txt').toString());
+    }
+}
+
+function tryReport(name, report, options, lines, form) {
+    const checked = erd.check(report, options);
+    equal(`${name}: check`, checked.text, lines);
+    equal(`${name}: the outcome`, checked.outcome, { 'accepted\n': 'accepted', 'not JSON\n': 'not JSON' }[lines] ?? 'refused');
+    equal(`${name}: accepted`, checked.accepted, lines === 'accepted\n');
+    equal(`${name}: the lines of faults`, checked.faults.map(({ pointer, words }) => `${pointer}: ${words}\n`).join(''),
+        checked.outcome === 'refused' ? lines : '');
+    const canonical = erd.canonical(report, options);
+    equal(`${name}: canonical`, canonical.text, form ?? lines);
+    equal(`${name}: the bytes`, canonical.bytes === null ? undefined : Buffer.from(canonical.bytes).toString(), form);
+    equal(`${name}: as the program writes it`, written('erd_check', [report], options), lines);
+}
+
+function tryPair(name, left, right, options, lines) {
+    const compared = erd.compare(left, right, options);
+    equal(`${name}: compare`, compared.text, lines);
+    equal(`${name}: same`, compared.same, lines === 'same\n');
+    equal(`${name}: as the program writes it`, written('erd_compare', [left, right], options), lines);
+    if (compared.difference !== null) {
+        const { part, key, how, member } = compared.difference;
+        const object = key === null ? part : `${part} ${JSON.stringify(key)}`;
+        equal(`${name}: the difference`, `${object}: ${how}${how === 'member' ? ` ${JSON.stringify(member)}` : ''}\n`, lines);
+    }
+}
+
+function written(name, reports, options) {
+    return new TextDecoder().decode(erd.written(name, reports, options).bytes);
+}
+
+// A name that looks like a line of another fault stays one name.
+const falseLine = JSON.stringify({
+    '@type': 'ElectionResults.ElectionReport', Election: [], Status: 'pre-election', 'x\n/y: wrong kind\nId': 1,
+});
+const two = erd.check(falseLine).faults;
+equal('a name with a false line', JSON.stringify(two.map(({ place, reason }) => [place, reason])),
+    JSON.stringify([[['Election'], 9], [['x\n/y: wrong kind\nId'], 6]]));
+
+// The forms of a report.
+const bytes = readFileSync(new URL('small-ballot.json', EXAMPLES));
+const form = readFileSync(new URL('small-ballot.canonical.json', EXAMPLES)).toString();
+equal('a Buffer', erd.canonical(bytes).text, form);
+equal('a Uint8Array', erd.canonical(new Uint8Array(bytes)).text, form);
+equal('a part of an ArrayBuffer', erd.canonical(new Uint8Array(Buffer.concat([Buffer.from('x'), bytes])).subarray(1)).text, form);
+equal('an ArrayBuffer', erd.canonical(new Uint8Array(bytes).buffer).text, form);
+equal('a string', erd.canonical(bytes.toString()).text, form);
+equal('no bytes', erd.check(new Uint8Array(0)).outcome, 'not JSON');
+equal('the report stays as it is', Buffer.compare(bytes, readFileSync(new URL('small-ballot.json', EXAMPLES))), 0);
+equal('the preference null', erd.check(bytes, { prefer: null }).outcome, 'accepted');
+equal('the empty preference', erd.check(bytes, { prefer: '' }).outcome, 'accepted');
+
+// Wrong arguments.
+const NO_REPORTS = {
+    nothing: undefined, null: null, 'a number': 5, 'an array': [1], 'an object': {}, 'wide numbers': new Uint16Array(2),
+};
+for (const [name, wrong] of Object.entries(NO_REPORTS)) {
+    throws(`${name} as a report`, TypeError, () => erd.check(wrong));
+    throws(`${name} as the right report`, TypeError, () => erd.compare(bytes, wrong));
+}
+throws('half a surrogate pair', TypeError, () => erd.check('"\ud800"'));
+throws('options that are a text', TypeError, () => erd.check(bytes, 'fips'));
+throws('options that are null', TypeError, () => erd.check(bytes, null));
+throws('an unknown option', TypeError, () => erd.check(bytes, { preferred: 'fips' }));
+throws('a preference that is a number', TypeError, () => erd.check(bytes, { prefer: 5 }));
+throws('a preference with a zero character', TypeError, () => erd.check(bytes, { prefer: 'a\0b' }));
+throws('a preference with half a surrogate pair', TypeError, () => erd.check(bytes, { prefer: '\udc00' }));
+
+// Names that are written more than once.
+for (const { report, names } of JSON.parse(readFileSync(new URL('repeated_names.json', import.meta.url)))) {
+    const name = `the repeated names of ${report}`;
+    if (names === null) {
+        throws(name, SyntaxError, () => repeatedNames(report));
+    } else {
+        equal(name, JSON.stringify(repeatedNames(report).map(({ pointer, times }) => [pointer, times])), JSON.stringify(names));
+    }
+}
+const repeated = `[${Array(1001).fill('{"a":1,"a":2}')}]`;
+equal('the first 1,000 repeated names', repeatedNames(repeated).length, 1000);
+equal('all repeated names', repeatedNames(repeated, { most: null }).length, 1001);
+equal('two repeated names', JSON.stringify(repeatedNames(repeated, { most: 2 }).map(({ place }) => place)), '[[0,"a"],[1,"a"]]');
+throws('no report with repeated names', TypeError, () => repeatedNames(5));
+
+// The limit on bytes.
+const long = new Uint8Array(MOST_BYTES + 1).fill(0x20);
+throws('too long', TooLongError, () => erd.check(long));
+throws('too long on the right', TooLongError, () => erd.compare(bytes, long));
+equal('the most bytes', erd.check(long.subarray(1)).outcome, 'not JSON');
+equal('a call after that', erd.check(bytes).outcome, 'accepted');
+
+// Memory that is refused: the same module with less memory. The next call goes on with a fresh instance.
+const PAGES = 200;
+const poor = await load(withMostPages(readFileSync(new URL('../../out/portable/erd.wasm', import.meta.url)), PAGES));
+const large = Buffer.concat([Buffer.from('['), Buffer.alloc(PAGES * 60_000, '0,'), Buffer.from('0]')]);
+throws('no memory for the bytes', NoMemoryError, () => poor.check(new Uint8Array(PAGES * 65_536)));
+throws('no memory to read them', NoMemoryError, () => poor.check(large.subarray(0, PAGES * 20_000)));
+equal('a call after that', poor.canonical(bytes).text, form);
+equal('the same call with memory', erd.check(large).outcome, 'refused');
+// A call that traps leaves its instance behind, and the next one begins with another. A call that ends well keeps its own.
+const real = WebAssembly.Instance;
+let instances = 0;
+let traps = false;
+WebAssembly.Instance = class {
+    constructor(...words) {
+        const { exports } = new real(...words);
+        instances++;
+        this.exports = {
+            ...exports,
+            erd_check_data(...arguments_) {
+                if (traps) {
+                    throw new WebAssembly.RuntimeError('unreachable');
+                }
+                return exports.erd_check_data(...arguments_);
+            },
+        };
+    }
+};
+const trapping = await load(readFileSync(new URL('../../out/portable/erd.wasm', import.meta.url)));
+trapping.check(bytes);
+trapping.check(bytes);
+equal('one instance for two calls', instances, 1);
+traps = true;
+throws('a call that traps', TrapError, () => trapping.check(bytes));
+traps = false;
+equal('a call after a trap', trapping.check(bytes).outcome, 'accepted');
+equal('another instance after a trap', instances, 2);
+WebAssembly.Instance = real;
+
+equal('the code of TrapError', new TrapError(new Error('why')).code, 'TRAP');
+equal('the code of TooLongError', new TooLongError().code, 'TOO_LONG');
+equal('the code of NoMemoryError', new NoMemoryError().code, 'NO_MEMORY');
+
+console.log(`${passed} passed, ${failed} failed`);
+process.exitCode = failed === 0 ? 0 : 1;

@@ -1,0 +1,150 @@
+#!/usr/bin/env bash
+# Tries the package for JavaScript: the module in one process, the command as the program is tried, and the package in a fresh
+# folder, with nothing but Debian's tools on the path. One line a case.
+set -u
+. "$(dirname "$0")/../shared/start.sh" || exit 1
+command -v node > /dev/null || { echo 'skipped the package for JavaScript: not installed: nodejs'; counts; exit; }
+. tests/shared/commands.sh
+. tests/shared/erd_wasm.sh
+has_wasm 'the package for JavaScript' || { counts; exit; }
+
+# The module.
+conformance/make
+node tests/forms/javascript_module.mjs > "$work/module.log" 2>&1
+counted 'the module' "$work/module.log"
+
+# in_fresh COMMAND ..: runs a command in a fresh folder, as a user without this repository would
+in_fresh() {
+    (cd "$work/fresh" && env -i HOME="$work" PATH=/usr/local/bin:/usr/bin:/bin "$@")
+}
+
+# The package, in a fresh folder.
+mkdir "$work/fresh"
+if command -v npm > /dev/null; then
+    run packaging/portable/javascript.sh
+    expect 'the package' 0
+    package=$(echo "$PWD"/out/portable/erd-*.tgz)
+    sum=$(sha256sum < "$package")
+    rm "$package"
+    run packaging/portable/javascript.sh
+    equal 'the same bytes each time' "$(sha256sum < "$package")" "$sum"
+    run in_fresh npm install --silent --offline --no-audit --no-fund "$package"
+    expect 'npm install' 0
+    erd="$work/fresh/node_modules/.bin/erd"
+else
+    echo 'skipped npm pack: not installed: npm'
+    mkdir -p "$work/fresh/node_modules/erd"
+    cp -R bindings/js/. "$work/fresh/node_modules/erd"
+    cp "$wasm" "$work/fresh/node_modules/erd"
+    erd="$work/fresh/node_modules/erd/erd.mjs"
+    prepare=prepare.mjs
+fi
+equal 'its version' "$(sed -n 's/.*"version": "\(.*\)".*/\1/p' bindings/js/package.json)" "$(cat VERSION)"
+cat > "$work/fresh/first.mjs" <<'END'
+import { readFile } from 'node:fs/promises';
+import { load } from 'erd';
+const erd = await load();
+const [left, right] = await Promise.all(process.argv.slice(2).map((name) => readFile(name)));
+const { same, difference } = erd.compare(left, right);
+console.log(erd.check(left).outcome, same, difference?.line ?? '');
+END
+sed 's/Ingrith/Ingrid/' examples/county.vendor-b.json > "$work/typo.json"
+run in_fresh node first.mjs "$PWD/examples/county.vendor-a.json" "$PWD/examples/county.vendor-b.json"
+expect_text 'a first program: two that mean the same' 0 'accepted true '
+run in_fresh node first.mjs "$PWD/examples/county.vendor-a.json" "$work/typo.json"
+expect_text 'a first program: two that differ' 0 'accepted false candidate ["local-level","","K-12"]: member "BallotName"'
+run in_fresh "$(dirname "$erd")/${prepare:-erd-prepare}" --steps taken,chosen,seen "$PWD/examples/municipal.raw.json"
+expect 'the command erd-prepare' 0
+cp "$work/out" "$work/prepared.json"
+run in_fresh node first.mjs "$work/prepared.json" "$work/prepared.json"
+expect_text 'what it has prepared' 0 'accepted true '
+cat > "$work/fresh/second.mjs" <<'END'
+import { readFile } from 'node:fs/promises';
+import { Preparation, stepsOf } from 'erd/prepare';
+const { steps } = new Preparation(await readFile(process.argv[2])).prepare(stepsOf('seen'));
+console.log(steps.map(({ name, made }) => `${name} ${made.length}`).join());
+END
+run in_fresh node second.mjs "$PWD/examples/municipal.raw.json"
+expect_text 'the module erd/prepare' 0 'gone-candidates 2'
+if command -v tsc > /dev/null; then
+    cp tests/forms/javascript_types.ts "$work/fresh/types.mts"
+    run in_fresh tsc --strict --noEmit --target es2022 --module node16 --moduleResolution node16 types.mts
+    said 'the types' "$(head -n 3 "$work/out")"
+else
+    echo 'skipped the types: not installed: node-typescript'
+fi
+
+# The command: a case of each group of the suite, what the program says of wrong arguments, and of files.
+works 'the command' "$erd" examples
+mkdir "$work/suite"
+for name in out/conformance/*/; do
+    group=$(basename "$name" | cut -d- -f1)
+    [ -e "$work/suite/$group" ] || ln -s "$PWD/$name" "$work/suite/$group"
+done
+cp out/conformance/run "$work/suite/run"
+run "$work/suite/run" "$erd"
+said "a case of each group: $(tail -n 1 "$work/out")" "$(grep FAILED "$work/out" | head -n 3)"
+node tests/forms/javascript_command.mjs "$work/fresh/node_modules/erd" > "$work/command.log" 2>&1
+counted 'the command on pairs and preferences' "$work/command.log"
+
+# as_program WORD ..: the command writes what the program writes, and ends with its status
+as_program() {
+    local wanted
+    ./erd "$@" < /dev/null > "$work/wanted_out" 2> "$work/wanted_err"
+    wanted=$?
+    run "$erd" "$@"
+    said "as the program: $*" "$([ "$status" -eq "$wanted" ] || echo "status $status, not $wanted; ")$(
+        cmp "$work/out" "$work/wanted_out" 2>&1; cmp "$work/err" "$work/wanted_err" 2>&1)"
+}
+if [ -x erd ]; then
+    one=examples/one-unit.json
+    for word in check canon compare; do
+        as_program "$word"
+        as_program "$word" -h
+        as_program help "$word"
+        as_program "$word" "$one" "$one" "$one"
+    done
+    as_program --help
+    as_program -h
+    as_program help nosuch
+    as_program help help
+    as_program nosuchcommand
+    as_program --version
+    as_program check -x
+    as_program check --prefer
+    as_program check --prefer=
+    as_program check --prefer a --prefer b "$one"
+    as_program check --prefer=local-level "$one"
+    as_program check "$one" --prefer local-level
+    as_program compare "$one" --nosuch
+    as_program check -- -a
+    as_program check /
+    as_program check nosuch.json
+    as_program compare nosuch.json /
+    as_program check $'\xff'
+    as_program canon README.md
+    as_program
+    truncate -s 67108864 "$work/long"
+    as_program check "$work/long"
+    truncate -s +1 "$work/long"
+    as_program check "$work/long"
+    rm "$work/long"
+else
+    echo 'skipped the program beside the command: make erd has not been run'
+fi
+# The command with less memory for the proved code.
+mkdir "$work/poor"
+cp -R bindings/js/. "$work/poor"
+node tests/shared/less_memory.mjs "$wasm" 100 "$work/poor/erd.wasm"
+head -c 10000000 /dev/zero | tr '\0' ' ' > "$work/blanks"
+run node "$work/poor/erd.mjs" check "$work/blanks"
+expect_text 'no memory' 4 ''
+equal 'its words' "$(cat "$work/err")" 'no memory'
+rm "$work/blanks"
+
+"$erd" canon examples/one-unit.json > /dev/full 2> "$work/err"
+status=$?
+: > "$work/out"
+expect_text 'a write that fails' 3 ''
+equal 'its words' "$(cat "$work/err")" 'write failed'
+counts

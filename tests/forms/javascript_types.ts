@@ -1,0 +1,27 @@
+// A caller of the package whose types are checked: each result and each option once.
+import { Canonical, Checked, Compared, Difference, Erd, Fault, load, MOST_BYTES, NoMemoryError, TooLongError, TrapError } from 'erd';
+
+const erd: Erd = await load(new Uint8Array(MOST_BYTES));
+const checked: Checked = erd.check('{}', { prefer: 'fips' });
+const faults: Fault[] = checked.faults;
+const steps: (string | number)[] = faults[0].place;
+const name: string | undefined = faults[0].name;
+const canonical: Canonical = erd.canonical(new ArrayBuffer(1));
+const bytes: Uint8Array | null = canonical.bytes;
+const compared: Compared = erd.compare(new Uint8Array(1), '', { prefer: null });
+const difference: Difference | null = compared.difference;
+const side: 'left' | 'right' | null = compared.side;
+const text: string = checked.text + canonical.text + compared.text;
+const errors: Error[] = [new TooLongError(), new NoMemoryError(), new TrapError()];
+// @ts-expect-error: a number is no report
+erd.check(5);
+// @ts-expect-error: there is no such option
+erd.check('', { preferred: 'fips' });
+export { bytes, difference, errors, name, side, steps, text };
+
+import { Preparation, stepsOf, told } from 'erd/prepare';
+
+const prepared = new Preparation(new Uint8Array()).prepare(stepsOf('taken'), { tellsOthers: true });
+const lengths: number[] = [prepared.bytes.length, ...prepared.steps.map((step) => told(step).changes.length)];
+// @ts-expect-error no such group
+stepsOf('none');

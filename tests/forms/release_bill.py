@@ -1,0 +1,42 @@
+"""Looks at the bill of materials of a release: `release_bill.py FOLDER VERSION`. Says what is wrong, or nothing."""
+import hashlib
+import json
+import pathlib
+import sys
+
+ALSO = {'spdxVersion', 'dataLicense', 'SPDXID', 'name', 'documentNamespace', 'creationInfo', 'packages', 'files', 'relationships'}
+
+
+def faults(folder, version):
+    bill = folder / f'erd-{version}.spdx.json'
+    document = json.loads(bill.read_text(encoding='utf-8'))
+    if not ALSO <= set(document):
+        yield f'it lacks {ALSO - set(document)}'
+    if document['spdxVersion'] != 'SPDX-2.3' or document['dataLicense'] != 'CC0-1.0':
+        yield 'it is not SPDX 2.3'
+    there = {path.name for path in folder.iterdir()} - {'SHA256SUMS', bill.name}
+    listed = {file['fileName'][2:]: file for file in document['files']}
+    if set(listed) != there:
+        yield f'its files are not those of the folder: {set(listed) ^ there}'
+    for name in sorted(set(listed) & there):
+        sums = {entry['algorithm']: entry['checksumValue'] for entry in listed[name]['checksums']}
+        data = (folder / name).read_bytes()
+        if sums != {'SHA1': hashlib.sha1(data).hexdigest(), 'SHA256': hashlib.sha256(data).hexdigest()}:
+            yield f'the sums of {name} are wrong'
+    names = [entry['SPDXID'] for entry in document['packages'] + document['files']] + ['SPDXRef-DOCUMENT']
+    if len(set(names)) != len(names):
+        yield 'two things have one identifier'
+    for relation in document['relationships']:
+        for end in (relation['spdxElementId'], relation['relatedSpdxElement']):
+            if end not in names:
+                yield f'a relation names {end}, which is not there'
+    if {'dlmalloc', 'serde_json', 'erd'} - {package['name'] for package in document['packages']}:
+        yield 'a library that is linked is not named'
+
+
+def main():
+    for fault in faults(pathlib.Path(sys.argv[1]), sys.argv[2]):
+        print(fault)
+
+
+main()

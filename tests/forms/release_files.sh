@@ -1,0 +1,140 @@
+#!/usr/bin/env bash
+# Makes a release in this folder and in another one, compares every byte, and uses its files as a new user would: the packages of
+# the library, those for arm64 under qemu, and the archive for Windows under wine. One line a case.
+set -u
+. "$(dirname "$0")/../shared/start.sh" || exit 1
+. tests/shared/commands.sh
+. packaging/version.sh
+release=$PWD/out/release
+example=$PWD/examples/calling/erd_call.c
+one=$PWD/examples/one-unit.json
+left=$PWD/examples/county.vendor-a.json
+right=$PWD/examples/county.vendor-b.json
+tools=/usr/local/bin:/usr/bin:/bin:/usr/sbin:/sbin
+export WINEPREFIX=$work/wine WINEDEBUG=-all
+ended() {
+    [ ! -d "$WINEPREFIX" ] || wineserver -k 2> /dev/null
+    rm -rf "$work"
+}
+trap ended EXIT
+
+missing=''
+for command in wasm-opt wasm2wat aarch64-linux-gnu-gcc x86_64-w64-mingw32-gcc dpkg-deb dpkg-shlibdeps npm; do
+    command -v "$command" > /dev/null || missing+=" $command"
+done
+for module in setuptools wheel; do
+    /usr/bin/python3 -c "import $module" 2> /dev/null || missing+=" python3-$module"
+done
+if [ -n "$missing" ]; then
+    echo "skipped the release: there is no$missing"
+    run packaging/release.sh
+    said 'a release that would leave a form out is refused' "$([ "$status" -ne 0 ] && [ ! -e "$release" ] || echo 'it is made')"
+    counts
+    exit
+fi
+
+# plain COMMAND ..: with the paths and the environment of a new user
+plain() {
+    run env -i HOME="$work" PATH="$tools" LANG=C.UTF-8 WINEPREFIX="$WINEPREFIX" WINEDEBUG=-all "$@"
+}
+
+# answers NAME COMMAND ..: the example of C answers as the program
+answers() {
+    local name=$1
+    shift
+    plain "$@" "$one"
+    expect_text "$name: check" 0 accepted
+    plain "$@" "$left" "$right"
+    expect_text "$name: compare" 0 same
+    plain "$@" "$left" "$one"
+    expect "$name: a difference" 1
+    same_bytes "$name: the line of a difference" "$work/out" <(./erd compare "$left" "$one")
+}
+
+run packaging/release.sh
+expect 'a release' 0
+[ "$status" -eq 0 ] || { counts; exit; }
+run env -C "$release" sha256sum --quiet --check --strict SHA256SUMS
+expect_text 'its sums' 0 ''
+equal 'the sums are of every file' "$(sed 's/.*  //' "$release/SHA256SUMS" | tr '\n' ' ')" \
+    "$(cd "$release" && LC_ALL=C ls | grep -v SHA256SUMS | tr '\n' ' ')"
+run python3 tests/forms/release_bill.py "$release" "$version"
+expect_text 'the bill of materials' 0 ''
+
+# The same in another folder. What is proved and compiled here serves there.
+copy=$work/another/folder
+mkdir -p "$copy/crates/erd_c/out" "$copy/out/c"
+tar --create --exclude=./.git --exclude=./out --exclude=./crates --exclude=node_modules . | tar --extract --directory "$copy"
+cp -p crates/erd_c/out/liberd_c.a crates/erd_c/out/module.bc crates/erd_c/out/module.bc.of "$copy/crates/erd_c/out"
+cp -p out/c/* "$copy/out/c"
+run "$copy/packaging/release.sh"
+expect 'a release in another folder' 0
+for file in "$release"/*; do
+    same_bytes "the same bytes: $(basename "$file")" "$file" "$copy/out/release/$(basename "$file")"
+done
+
+# A form that is missing stops the release, and leaves none.
+sed -i '1i portable/other.wasm' "$copy/packaging/release-files.txt"
+sed -i '/^packaging\/[a-z_]*\.sh\|^packaging\/portable\|^python3 web/d' "$copy/packaging/release.sh"
+run "$copy/packaging/release.sh"
+expect 'a form that is missing stops it' 1
+equal 'what it says' "$(cat "$work/err")" 'no release: there is no out/portable/other.wasm'
+said 'nothing is left of it' "$(ls -d "$copy/out/release" 2> /dev/null)"
+
+# The library's packages, in an empty root.
+if command -v lintian > /dev/null; then
+    run lintian --no-cfg --fail-on error,warning "$release"/liberd*.deb
+    expect_text 'lintian has nothing to say of the library' 0 ''
+else
+    echo 'skipped lintian has nothing to say of the library: there is no lintian'
+fi
+root=$work/root
+mkdir -p "$root/var/lib/dpkg/info" "$root/var/lib/dpkg/updates"
+touch "$root/var/lib/dpkg/status"
+PATH=$PATH:/usr/sbin:/sbin run dpkg --root="$root" --force-not-root --force-depends --force-script-chrootless --log=/dev/null \
+    --install "$release/liberd0_$version-1_amd64.deb" "$release/liberd-dev_$version-1_amd64.deb"
+expect 'dpkg installs the library' 0
+for package in liberd0 liberd-dev; do
+    equal "the version in the changelog of $package" "$(version_told "$root/usr/share/doc/$package")" "erd $version-1 $version"
+done
+if command -v pkg-config > /dev/null; then
+    found=$(env -i PATH="$tools" PKG_CONFIG_SYSROOT_DIR="$root" PKG_CONFIG_LIBDIR="$root/usr/lib/x86_64-linux-gnu/pkgconfig" \
+        PKG_CONFIG_ALLOW_SYSTEM_CFLAGS=1 PKG_CONFIG_ALLOW_SYSTEM_LIBS=1 pkg-config --cflags --libs erd)
+else
+    echo 'skipped pkg-config: there is none'
+    found="-I$root/usr/include -L$root/usr/lib/x86_64-linux-gnu -lerd"
+fi
+read -ra words <<< "$found"
+plain cc "$example" "${words[@]}" -o "$work/shared"
+expect 'a program over the shared library' 0
+answers 'with liberd0' env LD_LIBRARY_PATH="$root/usr/lib/x86_64-linux-gnu" "$work/shared"
+plain cc -I"$root/usr/include" "$example" "$root/usr/lib/x86_64-linux-gnu/liberd.a" -o "$work/static"
+expect 'a program over the static library' 0
+answers 'with liberd.a' "$work/static"
+
+# arm64.
+if command -v qemu-aarch64 > /dev/null; then
+    for package in liberd0 liberd-dev; do
+        dpkg-deb --extract "$release/${package}_$version-1_arm64.deb" "$work/arm64"
+    done
+    below=$work/arm64/usr/lib/aarch64-linux-gnu
+    plain aarch64-linux-gnu-gcc -I"$work/arm64/usr/include" "$example" -L"$below" -lerd -o "$work/for_arm64"
+    expect 'a program for arm64' 0
+    answers 'on arm64' qemu-aarch64 -L /usr/aarch64-linux-gnu -E LD_LIBRARY_PATH="$below" "$work/for_arm64"
+else
+    echo 'skipped a program for arm64: there is no qemu-aarch64'
+fi
+
+# Windows.
+if command -v wine > /dev/null; then
+    python3 -m zipfile -e "$release/erd-$version-windows-x86_64.zip" "$work"
+    folder=$work/erd-$version-windows-x86_64
+    plain x86_64-w64-mingw32-gcc -I"$folder" "$folder/examples/erd_call.c" "$folder/erd.lib" -o "$folder/erd_call.exe"
+    expect 'a program for Windows' 0
+    env -i HOME="$work" PATH="$tools" WINEPREFIX="$WINEPREFIX" WINEDEBUG=-all wine wineboot --init > /dev/null 2>&1
+    answers 'on Windows' wine "$folder/erd_call.exe"
+else
+    echo 'skipped a program for Windows: there is no wine'
+fi
+
+counts

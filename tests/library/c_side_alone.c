@@ -1,0 +1,206 @@
+/* Tries the C side of the library alone, with calls of its own in place of the proved ones: texts of each length, outcomes
+ * without a text, and lengths that no memory has. */
+#include "../../bindings/c/erd.c"
+
+#include <stdio.h>
+
+/* What the next calls tell, and what the last of them was handed. */
+static struct told next;
+static size_t calls, last_room, last_prefer_size;
+static bool last_prefers;
+static const uint8_t *last_prefer;
+static int last_call;
+static const char *why;
+
+static uint8_t letter(size_t at) {
+    return (uint8_t)('a' + at % 26);
+}
+
+/* Fills the front of the room with a text that fits, and leaves the rest of it. */
+static struct told told_next(bool prefers, const uint8_t *prefer, size_t prefer_size, uint8_t *room, size_t room_size) {
+    calls++;
+    last_room = room_size;
+    last_prefers = prefers;
+    last_prefer = prefer;
+    last_prefer_size = prefer_size;
+    for (size_t at = 0; next.outcome <= ERD_NOT_JSON && next.length <= room_size && at < next.length; at++)
+        room[at] = letter(at);
+    return next;
+}
+
+static struct told told_report(int call, const uint8_t *bytes, bool prefers, const uint8_t *prefer, size_t prefer_size,
+                               uint8_t *room, size_t room_size) {
+    last_call = call;
+    if (bytes == NULL || prefer == NULL || room == NULL)
+        why = "a slice at null";
+    return told_next(prefers, prefer, prefer_size, room, room_size);
+}
+
+struct told erd_tell_check(const uint8_t *bytes, size_t size, bool prefers, const uint8_t *prefer, size_t prefer_size,
+                           uint8_t *room, size_t room_size) {
+    (void)size;
+    return told_report(0, bytes, prefers, prefer, prefer_size, room, room_size);
+}
+
+struct told erd_tell_canonical(const uint8_t *bytes, size_t size, bool prefers, const uint8_t *prefer, size_t prefer_size,
+                               uint8_t *room, size_t room_size) {
+    (void)size;
+    return told_report(1, bytes, prefers, prefer, prefer_size, room, room_size);
+}
+
+struct told erd_tell_check_data(const uint8_t *bytes, size_t size, bool prefers, const uint8_t *prefer, size_t prefer_size,
+                                uint8_t *room, size_t room_size) {
+    (void)size;
+    return told_report(3, bytes, prefers, prefer, prefer_size, room, room_size);
+}
+
+struct told erd_tell_compare(const uint8_t *left, size_t left_size, const uint8_t *right, size_t right_size, bool prefers,
+                             const uint8_t *prefer, size_t prefer_size, uint8_t *room, size_t room_size) {
+    (void)left_size, (void)right_size;
+    return told_report(2, left == NULL ? left : right, prefers, prefer, prefer_size, room, room_size);
+}
+
+struct told erd_tell_compare_data(const uint8_t *left, size_t left_size, const uint8_t *right, size_t right_size,
+                                  bool prefers, const uint8_t *prefer, size_t prefer_size, uint8_t *room, size_t room_size) {
+    (void)left_size, (void)right_size;
+    return told_report(4, left == NULL ? left : right, prefers, prefer, prefer_size, room, room_size);
+}
+
+enum { SIZE = 1000, CALLS = 5 };
+static const char *const names[CALLS] = {"check", "canonical", "compare", "check_data", "compare_data"};
+static const char report[SIZE];
+
+static enum erd_outcome asked(int call, const void *bytes, size_t size, const char *prefer, char **text, size_t *length) {
+    switch (call) {
+    case 0:
+        return erd_check(bytes, size, prefer, text, length);
+    case 1:
+        return erd_canonical(bytes, size, prefer, text, length);
+    case 2:
+        return erd_compare(bytes, size, bytes, size, prefer, text, length);
+    case 3:
+        return erd_check_data(bytes, size, prefer, text, length);
+    default:
+        return erd_compare_data(bytes, size, bytes, size, prefer, text, length);
+    }
+}
+
+static int passed, failed;
+
+static void said(int call, const char *what, size_t number) {
+    if (why == NULL)
+        passed++;
+    else
+        failed++, printf("FAILED  %s, %s %zu: %s\n", names[call], what, number, why);
+    why = NULL;
+}
+
+/* A text of this length comes whole, with a zero byte behind it, after one call if it fits and after two if it does not. */
+static void text_of_length(int call, size_t wanted) {
+    char *text = NULL;
+    size_t length = 7, room = call == 1 ? 2 * SIZE + 4096 : 4096;
+    next = (struct told){ERD_BAD, wanted};
+    calls = 0;
+    if (asked(call, report, SIZE, NULL, &text, &length) != ERD_BAD || text == NULL || length != wanted)
+        why = "another answer";
+    else if (last_call != call)
+        why = "another call";
+    else if (calls != (wanted > room ? 2 : 1))
+        why = "another number of calls";
+    else if (text[length] != 0)
+        why = "no zero byte at the end";
+    for (size_t at = 0; why == NULL && at < length; at++)
+        if ((uint8_t)text[at] != letter(at))
+            why = "another text";
+    erd_free(text);
+    said(call, "a text of length", wanted);
+
+    calls = 0;
+    length = 7;
+    if (asked(call, report, SIZE, NULL, NULL, &length) != ERD_BAD || length != wanted || calls != 1 || last_room != 0)
+        why = "another answer without a text";
+    said(call, "the length alone of", wanted);
+    if (asked(call, report, SIZE, NULL, &text, NULL) != ERD_BAD || text == NULL || text[wanted] != 0)
+        why = "another answer without a length";
+    erd_free(text);
+    said(call, "no length of", wanted);
+}
+
+/* Without a text there is none, whatever the length says. */
+static void no_text(int call, struct told told, enum erd_outcome wanted) {
+    char *text = (char *)"";
+    size_t length = 7;
+    next = told;
+    calls = 0;
+    if (asked(call, report, SIZE, NULL, &text, &length) != wanted || text != NULL || length != 0 || calls != 1)
+        why = "another answer";
+    said(call, "no text of length", told.length);
+}
+
+static void preference(int call, const char *prefer) {
+    char *text;
+    size_t size = prefer ? strlen(prefer) : 0;
+    next = (struct told){ERD_GOOD, 3};
+    if (asked(call, NULL, 0, prefer, &text, NULL) != ERD_GOOD || strcmp(text, "abc") != 0)
+        why = "another answer";
+    else if (last_prefers != (prefer != NULL) || last_prefer_size != size)
+        why = "another preference";
+    else if (size > 0 && memcmp(last_prefer, prefer, size) != 0)
+        why = "other bytes of the preference";
+    erd_free(text);
+    said(call, "a preference of size", size);
+}
+
+/* A report that is too long is not handed on, also if its size is so large that sums with it wrap. */
+static void too_long(int call, size_t size) {
+    char *text = (char *)"";
+    size_t length = 7;
+    next = (struct told){ERD_GOOD, 3};
+    calls = 0;
+    if (asked(call, report, size, NULL, &text, &length) != ERD_WRONG || text != NULL || length != 0 || calls != 0)
+        why = "another answer";
+    said(call, "a report of size", size);
+}
+
+/* In a comparison one report that is too long is enough. */
+static void one_too_long(int call, size_t left_size, size_t right_size) {
+    char *text = (char *)"";
+    next = (struct told){ERD_GOOD, 3};
+    calls = 0;
+    if ((call == 2 ? erd_compare : erd_compare_data)(report, left_size, report, right_size, NULL, &text, NULL) != ERD_WRONG
+        || text != NULL || calls != 0)
+        why = "another answer";
+    said(call, "reports, of which one has the size", left_size > right_size ? left_size : right_size);
+}
+
+int main(void) {
+    static char long_preference[60002];
+    static const size_t lengths[] = {0, 1, 15, 4095, 4096, 4097, 6095, 6096, 6097, 6098, 60001, 3000000};
+    memset(long_preference, 'p', sizeof long_preference - 1);
+    for (int call = 0; call < CALLS; call++) {
+        for (size_t at = 0; at < sizeof lengths / sizeof *lengths; at++)
+            text_of_length(call, lengths[at]);
+        no_text(call, (struct told){ERD_WRONG, 0}, ERD_WRONG);
+        no_text(call, (struct told){ERD_NO_MEMORY, 0}, ERD_NO_MEMORY);
+        no_text(call, (struct told){ERD_WRONG, SIZE_MAX}, ERD_WRONG);
+        no_text(call, (struct told){ERD_NO_MEMORY, 5000}, ERD_NO_MEMORY);
+        no_text(call, (struct told){ERD_GOOD, SIZE_MAX}, ERD_NO_MEMORY);
+        no_text(call, (struct told){ERD_BAD, SIZE_MAX / 2}, ERD_NO_MEMORY);
+        preference(call, NULL);
+        preference(call, "");
+        preference(call, "fourteen bytes");
+        preference(call, "fifteen bytes..");
+        preference(call, "sixteen bytes...");
+        preference(call, long_preference);
+        too_long(call, (size_t)67108864 + 1);
+        too_long(call, SIZE_MAX);
+        too_long(call, SIZE_MAX / 2 + 1);
+        too_long(call, SIZE_MAX / 2 - 2000);
+    }
+    for (int call = 2; call < CALLS; call += 2) {
+        one_too_long(call, SIZE, (size_t)67108864 + 1);
+        one_too_long(call, (size_t)67108864 + 1, SIZE);
+    }
+    printf("%d passed, %d failed\n", passed, failed);
+    return failed != 0;
+}

@@ -1,0 +1,194 @@
+/* Calls the C library as the program would be called: `library [check|canon|compare [--prefer TYPE] FILE ..]`. The words
+ * `check-data` and `compare-data` ask for the same as JSON. With `library threads FILE` several threads call at once, and with
+ * `library odd FILE` the calls are handed unusual arguments. */
+#include "../../bindings/c/erd.h"
+
+#include <pthread.h>
+#include <stdint.h>
+#include <stdio.h>
+#include <stdlib.h>
+#include <string.h>
+
+struct file {
+    char *bytes;
+    size_t size;
+};
+
+static struct file read_file(const char *name) {
+    FILE *from = name ? fopen(name, "rb") : stdin;
+    struct file file = {NULL, 0};
+    size_t room = 0;
+    if (from == NULL)
+        exit(9);
+    for (;;) {
+        if (file.size == room && (file.bytes = realloc(file.bytes, room = 2 * room + 65536)) == NULL)
+            exit(9);
+        size_t came = fread(file.bytes + file.size, 1, room - file.size, from);
+        if (came == 0)
+            break;
+        file.size += came;
+    }
+    if (from != stdin)
+        fclose(from);
+    return file;
+}
+
+static int run(const char *command, const char *prefer, const char *left_name, const char *right_name) {
+    struct file left = read_file(left_name), right = {NULL, 0};
+    char *text;
+    size_t length;
+    enum erd_outcome outcome;
+    if (strncmp(command, "compare", 7) == 0) {
+        int is_data = strcmp(command, "compare-data") == 0;
+        right = read_file(right_name);
+        outcome = (is_data ? erd_compare_data : erd_compare)(left.bytes, left.size, right.bytes, right.size, prefer, &text,
+                                                             &length);
+    } else if (strcmp(command, "check") == 0) {
+        outcome = erd_check(left.bytes, left.size, prefer, &text, &length);
+    } else if (strcmp(command, "check-data") == 0) {
+        outcome = erd_check_data(left.bytes, left.size, prefer, &text, &length);
+    } else {
+        outcome = erd_canonical(left.bytes, left.size, prefer, &text, &length);
+    }
+    int is_told = strcmp(command, "canon") == 0 && outcome != ERD_GOOD;
+    if (length > 0 && fwrite(text, 1, length, is_told ? stderr : stdout) != length)
+        return 9;
+    erd_free(text);
+    free(left.bytes);
+    free(right.bytes);
+    return outcome;
+}
+
+/* The number of calls that a thread had answered wrongly. */
+static void *many_calls(void *given) {
+    const struct file *file = given;
+    size_t wrong = 0;
+    for (int i = 0; i < 20; i++) {
+        char *form, *again;
+        size_t size, size_again;
+        wrong += erd_canonical(file->bytes, file->size, NULL, &form, &size) != ERD_GOOD;
+        wrong += erd_canonical(form, size, NULL, &again, &size_again) != ERD_GOOD;
+        wrong += size != size_again || memcmp(form, again, size) != 0;
+        wrong += erd_compare(file->bytes, file->size, form, size, "local-level", NULL, NULL) != ERD_GOOD;
+        wrong += erd_check(form, size - 1, NULL, NULL, NULL) != ERD_NOT_JSON;
+        wrong += erd_check_data(form, size, NULL, NULL, &size_again) != ERD_GOOD || size_again != 2;
+        wrong += erd_compare_data(file->bytes, file->size, form, size - 1, NULL, NULL, NULL) != ERD_NOT_JSON;
+        erd_free(form);
+        erd_free(again);
+    }
+    return (void *)wrong;
+}
+
+static int threads(const char *name) {
+    struct file file = read_file(name);
+    pthread_t each[4];
+    size_t wrong = 0;
+    for (int i = 0; i < 4; i++)
+        if (pthread_create(&each[i], NULL, many_calls, &file) != 0)
+            return 9;
+    for (int i = 0; i < 4; i++) {
+        void *found;
+        pthread_join(each[i], &found);
+        wrong += (size_t)found;
+    }
+    free(file.bytes);
+    return wrong != 0;
+}
+
+/* Whether a call left this text, and no more. */
+static int is_text(const char *text, size_t length, const char *wanted) {
+    return text != NULL && length == strlen(wanted) && strcmp(text, wanted) == 0;
+}
+
+/* The number of the first call for data that is answered wrongly, or 0. */
+static int odd_data(struct file file) {
+    char *text = "";
+    size_t length = 1;
+    if (erd_check_data(NULL, 0, NULL, &text, &length) != ERD_NOT_JSON || !is_text(text, length, "\"not JSON\""))
+        return 21;
+    erd_free(text);
+    if (erd_check_data(file.bytes, file.size, "", &text, &length) != ERD_GOOD || !is_text(text, length, "[]"))
+        return 22;
+    erd_free(text);
+    if (erd_check_data(file.bytes, file.size, "\xff", &text, &length) != ERD_WRONG || text != NULL || length != 0)
+        return 23;
+    if (erd_check_data(file.bytes, 67108865, NULL, &text, &length) != ERD_WRONG || text != NULL || length != 0)
+        return 24;
+    if (erd_compare_data(file.bytes, file.size, file.bytes, 67108865, NULL, &text, &length) != ERD_WRONG || text != NULL)
+        return 25;
+    if (erd_compare_data(file.bytes, file.size, file.bytes, file.size, "fifteen bytes..", &text, &length) != ERD_GOOD
+        || !is_text(text, length, "null"))
+        return 26;
+    erd_free(text);
+    if (erd_compare_data(file.bytes, file.size, NULL, 0, "fourteen bytes", &text, &length) != ERD_NOT_JSON
+        || !is_text(text, length, "{\"faults\":\"not JSON\",\"refused\":\"right\"}"))
+        return 27;
+    erd_free(text);
+    if (erd_compare_data(NULL, 0, file.bytes, file.size, "", &text, &length) != ERD_NOT_JSON
+        || !is_text(text, length, "{\"faults\":\"not JSON\",\"refused\":\"left\"}"))
+        return 28;
+    erd_free(text);
+    return 0;
+}
+
+/* A type of identifier of this many letters. */
+static int preferred(struct file file, size_t size) {
+    char *prefer = malloc(size + 1);
+    if (prefer == NULL)
+        return 9;
+    memset(prefer, 't', size);
+    prefer[size] = 0;
+    enum erd_outcome outcome = erd_check(file.bytes, file.size, prefer, NULL, NULL);
+    free(prefer);
+    return outcome;
+}
+
+/* The number of the first call that is answered wrongly, or 0. */
+static int odd(const char *name) {
+    struct file file = read_file(name);
+    char *text = "", *other;
+    size_t length = 1;
+    if (erd_check(NULL, 0, NULL, &text, &length) != ERD_NOT_JSON || strcmp(text, "not JSON\n") != 0 || length != 9)
+        return 1;
+    erd_free(text);
+    erd_free(NULL);
+    if (erd_check(file.bytes, file.size, "", &text, NULL) != ERD_GOOD || strcmp(text, "accepted\n") != 0)
+        return 2;
+    erd_free(text);
+    if (erd_check(file.bytes, file.size, "\xff", &text, &length) != ERD_WRONG || text != NULL || length != 0)
+        return 3;
+    if (erd_canonical(file.bytes, 67108865, NULL, &text, &length) != ERD_WRONG || text != NULL || length != 0)
+        return 4;
+    if (erd_compare(file.bytes, file.size, file.bytes, 67108865, NULL, &text, &length) != ERD_WRONG || text != NULL)
+        return 5;
+    if (erd_canonical(file.bytes, file.size, NULL, NULL, &length) != ERD_GOOD || length == 0)
+        return 6;
+    if (erd_canonical(file.bytes, file.size, NULL, &text, NULL) != ERD_GOOD || strlen(text) != length)
+        return 7;
+    if (erd_compare(file.bytes, file.size, text, length, NULL, &other, NULL) != ERD_GOOD || strcmp(other, "same\n") != 0)
+        return 8;
+    for (size_t size = 0; size <= 65; size++)
+        if (preferred(file, size) != ERD_GOOD)
+            return 9;
+    if (preferred(file, 70000) != ERD_GOOD)
+        return 10;
+    if (erd_canonical(file.bytes, SIZE_MAX, NULL, NULL, &length) != ERD_WRONG || length != 0)
+        return 11;
+    erd_free(text);
+    erd_free(other);
+    int wrong = odd_data(file);
+    free(file.bytes);
+    return wrong;
+}
+
+int main(int count, char **words) {
+    if (count == 1)
+        return run("canon", NULL, NULL, NULL);
+    if (count == 3 && strcmp(words[1], "threads") == 0)
+        return threads(words[2]);
+    if (count == 3 && strcmp(words[1], "odd") == 0)
+        return odd(words[2]);
+    int prefers = count > 4 && strcmp(words[2], "--prefer") == 0;
+    char **files = words + (prefers ? 4 : 2);
+    return run(words[1], prefers ? words[3] : NULL, files[0], files[0] ? files[1] : NULL);
+}

@@ -1,0 +1,105 @@
+"""Holds `check` against files that crowd an index under a salt that was known before their texts were chosen: for each index, under no
+salt, under fixed ones, and under the salt that the report has with other texts. Each takes at most 1.2 times the instructions of a
+file of the same size whose keys crowd nothing. An index without a salt, or with a fixed one, takes several times as many, and so does
+one whose salt leaves out what these files differ in. Beside that it compares the salt that tests/reports/colliding.py works out with
+the one that the tests of the program know. Needs valgrind, `./erd` and a C compiler. One line a case.
+"""
+import json
+import os
+import re
+import shutil
+import sys
+import tempfile
+
+from measuring import instructions
+
+sys.path.insert(0, os.path.join(os.path.dirname(os.path.abspath(__file__)), os.pardir, "reports"))
+import colliding  # noqa: E402
+import hostile_shapes  # noqa: E402
+from reports import CLASS, election, identifier, report, selection  # noqa: E402
+
+MOST = 1.2
+# So many keys, for 128 and 256 places. That of a selection with a label takes more instructions by itself.
+COUNT, LABELS = 1152, 2304
+FIXED = {"no salt": [], "a salt of zeros": [0, 0], "the salt of 1 and 2": [1, 2], "the salt of nothing": colliding.salt_of({"Election": []})}
+SALTED = "crates/erd_rows/src/tests/salts.rt"
+SMALL_BALLOT = "examples/small-ballot.json"
+
+
+def units(ids):
+    return hostile_shapes.units_named(ids)
+
+
+def persons(values):
+    made = hostile_shapes.report_of(hostile_shapes.ONE)
+    made["Person"] = [{"@id": "p%d" % i, "@type": CLASS + "Person", "ExternalIdentifier": [identifier(each)]} for i, each in enumerate(values)]
+    return made
+
+
+def elections(values):
+    made = [election("u0", ExternalIdentifier=[identifier(each)]) for each in values]
+    return {**report(hostile_shapes.ONE, "u0"), "Election": made}
+
+
+def write_ins(orders):
+    chosen = [selection("s%d" % i, "CandidateSelection", IsWriteIn=True, SequenceOrder=colliding.order_of(each)) for i, each in enumerate(orders)]
+    return hostile_shapes.report_of(hostile_shapes.ONE, Contest=[hostile_shapes.contest_of(chosen)])
+
+
+def measures(kind):
+    return lambda digits: hostile_shapes.measures(kind, digits)
+
+
+# For each index the report that has such keys, how it hashes them, how many there are, and the salts to try.
+INDEXES = {"@ids": (units, colliding.ID, COUNT, FIXED), "keys": (persons, colliding.VALUE, COUNT, FIXED),
+           "elections": (elections, colliding.VALUE, COUNT, FIXED), "orders": (write_ins, colliding.ORDER, COUNT, FIXED)}
+INDEXES.update({kind: (measures(kind), colliding.label_key(hostile_shapes.YES, kind), LABELS, {}) for kind in colliding.KINDS})
+
+
+def counted(made, folder):
+    """The instructions of `check` on a report."""
+    path = os.path.join(folder, "report")
+    with open(path, "w", encoding="utf-8") as file:
+        json.dump(made, file)
+    return instructions(["./erd", "check", path])
+
+
+def tell(is_held, words):
+    print(("ok      " if is_held else "FAILED  ") + words, flush=True)
+    return is_held
+
+
+def held(index, folder):
+    """For each salt, whether the file that crowds this index under it takes no longer."""
+    report_of, key, count, fixed = INDEXES[index]
+    others = report_of(key.others(count))
+    least = counted(others, folder)
+    for name, salt in {**fixed, "the salt of other texts": colliding.salt_of(others)}.items():
+        ratio = counted(report_of(colliding.crowded(count, salt, key, is_tagged=True)), folder) / least
+        yield tell(ratio <= MOST, "%s that crowd an index under %s: %.2f times the instructions of others" % (index, name, ratio))
+
+
+def is_known_salt():
+    """Whether the number that the test of the program has is that of the salt that is worked out here."""
+    with open(SMALL_BALLOT, encoding="utf-8") as file:
+        small = json.load(file)
+    with open(SALTED, encoding="utf-8") as file:
+        number = int(re.search(r"number\(&20u64\), (\d+)", file.read()).group(1))
+    wanted = colliding.salted(colliding.salt_of(small), [20])
+    return tell(number == wanted, "the salt of the small ballot: 20 has the number %d, and here %d" % (number, wanted))
+
+
+def main():
+    chosen = sys.argv[1:] or INDEXES
+    results = [is_known_salt()]
+    if shutil.which("valgrind"):
+        with tempfile.TemporaryDirectory() as folder:
+            results += [result for index in chosen for result in held(index, folder)]
+    else:
+        print("skipped the files that crowd an index: install the package valgrind")
+    print("%d passed, %d failed" % (sum(results), len(results) - sum(results)))
+    return 0 if all(results) else 1
+
+
+if __name__ == "__main__":
+    sys.exit(main())

@@ -1,0 +1,152 @@
+"""What stands above the verdict, and the box on what a voter sees."""
+import json
+
+from session import EXAMPLES
+
+SMALL = EXAMPLES / 'small-ballot.json'
+COUNTY = EXAMPLES / 'county.vendor-a.json'
+ENVELOPE = ['Format', 'GeneratedDate', 'Issuer', 'IssuerAbbreviation', 'VendorApplicationId', 'Notes', 'SequenceStart', 'SequenceEnd',
+            'ExternalIdentifier']
+
+
+def run(session):
+    envelope(session)
+    notes(session)
+    repeated(session)
+    same_bytes(session)
+    unused_preference(session)
+    after_election(session)
+    seen(session)
+    look_alikes(session)
+    renamed(session)
+    other_type(session)
+
+
+def small(**changes):
+    report = json.loads(SMALL.read_text(encoding='utf-8'))
+    report.update(changes)
+    return report
+
+
+def written(session, name, report):
+    return session.file(name, json.dumps(report, ensure_ascii=False))
+
+
+def headings(session):
+    return session.texts('.notice h3')
+
+
+def envelope(session):
+    """The nine members stand behind a word, with the values of both files."""
+    other = written(session, 'other.json', small(Issuer='Vendor B', SequenceEnd=2, ExternalIdentifier=[
+        {'@type': 'ElectionResults.ExternalIdentifier', 'Type': 'other', 'OtherType': 'job', 'Value': '7'}]))
+    session.equal('envelope: the verdict', session.judged(SMALL, other), 'These two files define the same ballots')
+    session.equal('envelope: its members', session.texts('.envelope p code'), ENVELOPE)
+    rows = session.browser.script("""
+        return [...document.querySelectorAll('.envelope tbody tr')].map((row) => [...row.children].map((cell) => cell.textContent))""")
+    left = small()
+    session.equal('envelope: the values', [row for row in rows if row[0] in ('Issuer', 'SequenceEnd', 'ExternalIdentifier')],
+                  [['Issuer', left['Issuer'], 'Vendor B'], ['SequenceEnd', str(left.get('SequenceEnd', 'not there')), '2'], ['ExternalIdentifier', 'not there', 'other job 7']])
+    session.equal('envelope: those that differ', session.browser.script("return document.querySelectorAll('.envelope td.differs').length"), 6)
+    session.equal('envelope: no notice', headings(session), [])
+
+
+def notes(session):
+    """Notes that differ are told above the verdict, whatever it is."""
+    other = written(session, 'other.json', small(Notes='Contest C1 is struck by court order'))
+    session.equal('notes: the verdict', session.judged(SMALL, other), 'These two files define the same ballots')
+    session.equal('notes: the notice', headings(session), ['The notes of the two files differ'])
+    session.equal('notes: both', session.texts('.notice li'), ['small-ballot.json: not there', 'other.json: Contest C1 is struck by court order'])
+    above = "return document.querySelector('.notice').compareDocumentPosition(document.getElementById('verdict')) === Node.DOCUMENT_POSITION_FOLLOWING"
+    session.equal('notes: above the verdict', session.browser.script(above), True)
+
+
+def repeated(session):
+    """Names that are written twice, with their places."""
+    text = SMALL.read_text(encoding='utf-8').replace('"FullName":"Ann Ash"', '"FullName":"Bob Elm","FullName":"Ann Ash"')
+    session.equal('names written twice: the verdict', session.judged(session.file('twice.json', text)), 'Accepted')
+    session.equal('names written twice: the notice', headings(session), ['Names are written twice in twice.json'])
+    session.equal('names written twice: the place', session.texts('.notice li'), ['/Person/0/FullName (2 times)'])
+
+
+def same_bytes(session):
+    """One file twice."""
+    session.judged(SMALL, session.file('copy.json', SMALL.read_bytes()))
+    session.equal('the same bytes', headings(session), ['The two files have the same bytes: it is one file twice, or a copy'])
+
+
+def unused_preference(session):
+    """A preference that no identifier of one file has."""
+    report = small()
+    report['GpUnit'][0]['ExternalIdentifier'].append({'@type': 'ElectionResults.ExternalIdentifier', 'Type': 'zone', 'Value': 'Z'})
+    session.judged(SMALL, written(session, 'other.json', report))
+    session.browser.script("""
+        const select = document.getElementById('prefer');
+        select.value = 'zone';
+        select.dispatchEvent(new Event('change'));""")
+    session.becomes('a preference that no identifier has', lambda: headings(session),
+                    ['No identifier of small-ballot.json has the type zone, so its objects are matched as without a preference'])
+
+
+def after_election(session):
+    """A file of results says so."""
+    session.judged(written(session, 'results.json', small(Status='certified')))
+    session.said('after the election', '' if 'its Status is “certified”' in session.text('.banner') else session.text('.banner'))
+
+
+def seen(session):
+    """Whether a voter sees a difference, for each word of the table."""
+    def changed(change):
+        report = small()
+        change(report)
+        return written(session, 'other.json', report)
+
+    cases = {
+        'The ballots differ': lambda report: report['Election'][0]['Contest'][0].update(Name='Mayor'),
+        'The ballots may differ': lambda report: report['GpUnit'][0].update(ContactInformation={'Phone': ['1']}),
+        'No difference touches what a voter sees': lambda report: report['GpUnit'][0].update(IsDistricted=True),
+    }
+    for heading, change in cases.items():
+        session.judged(SMALL, changed(change))
+        session.equal('what a voter sees: ' + heading, session.text('.seen h3'), heading)
+    session.judged(SMALL, changed(lambda report: report['Person'][0]['ExternalIdentifier'][0].update(Value='new')))
+    session.equal('what a voter sees: another identifier', session.text('.seen h3'), 'The ballots may differ')
+
+
+def look_alikes(session):
+    """Two names that look alike are told to differ, and how."""
+    report = small()
+    report['Election'][0]['Candidate'][0]['BallotName'] = '\u0410nn'
+    left = small()
+    left['Election'][0]['Candidate'][0]['BallotName'] = 'Ann'
+    session.judged(written(session, 'left.json', left), written(session, 'right.json', report))
+    session.equal('look-alikes: the letter is marked', session.texts('#first-difference ~ div tbody:last-child mark'), ['A', '\u0410'])
+    session.said('look-alikes: the reason', '' if 'a letter of another alphabet' in session.text('.alike') else session.text('.alike'))
+
+
+def renamed(session):
+    """A changed identifier: the object is found again, and what follows from it is folded."""
+    text = COUNTY.read_text(encoding='utf-8').replace('"K-12"', '"K-99"')
+    session.judged(COUNTY, session.file('renamed.json', text))
+    session.equal('another identifier: the pair', session.texts('.pairs li'),
+                  ['Candidate “Ingrith Sablewood”: local-level K-12 in the first file, local-level K-99 in the second'])
+    session.equal('another identifier: nothing else differs', session.texts('.others > .differences > li'), [])
+    session.browser.script("document.querySelector('.pairs details').open = true")
+    session.becomes('another identifier: what follows', lambda: len(session.texts('.pairs .differences > li')) > 2, True)
+
+
+def other_type(session):
+    """Another type of identifier under which fewer objects differ is offered, and chosen by a click."""
+    def with_codes(codes):
+        report = small()
+        for number, unit in enumerate(report['GpUnit'] + report['Person'] + report['Party']):
+            unit['ExternalIdentifier'].insert(0, {'@type': 'ElectionResults.ExternalIdentifier', 'Type': 'a-vendor', 'Value': '%s%d' % (codes, number)})
+        return report
+
+    session.judged(written(session, 'left.json', with_codes('x')), written(session, 'right.json', with_codes('y')))
+    before = len(session.texts('.others tbody tr'))
+    session.said('another type: it is offered', '' if 'Matched by the type local-level' in session.text('.offer') else session.text('.offer'))
+    session.browser.script("document.querySelector('.offer button').click()")
+    session.browser.until("return document.documentElement.dataset.busy === 'no' && document.getElementById('prefer').value === 'local-level'")
+    session.said('another type: it is chosen', '' if before > 0 else 'no differences before')
+    session.equal('another type: the record says so', session.texts('.record dd bdi')[-1:], ['local-level'])

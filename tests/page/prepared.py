@@ -1,0 +1,154 @@
+"""From a refused export to an accepted copy by the page alone: for the exports of the examples, and three more. Each takes at most
+five clicks and no typing. What the page writes and tells is what the Python package writes and tells."""
+import json
+import sys
+
+from session import EXAMPLES, ROOT, sha256
+
+sys.path[:0] = [str(ROOT / 'bindings' / 'python' / 'src'), str(ROOT / 'tests' / 'reports')]
+import vendor_exports  # noqa: E402
+from erd.prepare import STEPS, Preparation, steps_of  # noqa: E402
+
+MOST_CLICKS = 5
+WORDS = json.loads((ROOT / 'web' / 'texts.en.json').read_text(encoding='utf-8'))
+# The steps that a person has to tick, since a voter sees another ballot after them.
+TICKED = {'municipal.raw.json': ['gone-candidates']}
+
+
+def run(session):
+    words(session)
+    exports = {path.name: path.read_bytes() for path in sorted(EXAMPLES.glob('*.raw.json'))}
+    exports.update({f'{name}.raw.json': export() for name, export in vendor_exports.EXPORTS.items()})
+    for name, data in exports.items():
+        accepted(session, name, data)
+    unticked(session)
+    two_copies(session)
+    not_prepared(session)
+
+
+def words(session):
+    """The page has the words of the packages."""
+    found = [(step.name, *(WORDS.get(f'step.{step.name}{part}') for part in ('', '.does', '.loses'))) for step in STEPS]
+    session.equal('the words of the steps', found, [(step.name, step.title, step.does, step.loses) for step in STEPS])
+
+
+class Clicks:
+    """Counts clicks."""
+
+    def __init__(self, session):
+        self.session = session
+        self.count = 0
+
+    def on(self, selector):
+        """Clicks where it takes one click."""
+        self.count += 1
+        self.session.browser.script("document.querySelector(arguments[0]).scrollIntoView({block: 'center'})", selector)
+        self.session.click(selector)
+
+    def step(self, selector, index=0):
+        """Clicks what shows the steps of a file, and waits until they are shown."""
+        shown = f"return document.querySelectorAll('.preparing')[{index}]?.dataset.shown"
+        before = self.session.browser.script(shown)
+        self.on(selector)
+        self.session.browser.until(f"{shown} !== '{before}'")
+
+
+def begun(session, path):
+    """The steps for a file that was chosen."""
+    session.judged(path)
+    clicks = Clicks(session)
+    clicks.step('#prepare-begin-0')
+    return clicks
+
+
+def ticked(session):
+    return session.browser.script("return [...document.querySelectorAll('.prepare input:checked')].map((box) => box.dataset.step)")
+
+
+def accepted(session, name, data):
+    """One export."""
+    path = session.file(name, data)
+    clicks = begun(session, path)
+    chosen = steps_of('taken', 'chosen') + TICKED.get(name, [])
+    prepared, done = Preparation(data).prepare(chosen)
+    for step in TICKED.get(name, []):
+        clicks.step(f'#step-0-{step}')
+    session.becomes(f'{name}: the steps that are ticked', lambda: sorted(ticked(session)), sorted(it.name for it in done))
+    session.equal(f'{name}: no step that a voter sees is ticked by itself', [step for step in ticked(session) if step in steps_of('seen')],
+                  TICKED.get(name, []))
+    previewed(session, name, done)
+    clicks.on('#prepare-check-0')
+    session.becomes(f'{name}: the copy', session.verdict, 'Accepted')
+    copy = f'{name.removesuffix(".raw.json")}.prepared.json'
+    saved(session, copy, clicks)
+    session.equal(f'{name}: the saved copy', sha256(session.downloaded(copy)), sha256(prepared))
+    session.said(f'{name}: at most {MOST_CLICKS} clicks', '' if clicks.count <= MOST_CLICKS else f'{clicks.count} clicks')
+    session.equal(f'{name}: its name', session.text('#name-0 bdi'), copy)
+    session.becomes(f'{name}: the sums in the record', lambda: [session.text(f'.record .sum[data-sum="{kind}"]') for kind in ('original', 'file')],
+                    [sha256(data), sha256(prepared)])
+    steps = [f'{WORDS["step." + it.name]} ({len(it.made):,})' for it in done]
+    session.equal(f'{name}: the steps in the record', session.texts('.record .steps-done li'), steps)
+    session.equal(f'{name}: the file stays', path.read_bytes(), data)
+
+
+def saved(session, name, clicks):
+    """Saves the copy. What was saved under the name before is gone."""
+    (session.work / 'downloads' / name).unlink(missing_ok=True)
+    clicks.on('.save-copy')
+
+
+def previewed(session, name, done):
+    """Each step shows its first changes, with the value before and after."""
+    counts = session.browser.script("return [...document.querySelectorAll('.prepare details[data-preview]')].map((one) => one.dataset.preview)")
+    session.equal(f'{name}: what can be looked at', sorted(it.name for it in done), sorted(set(counts) & {it.name for it in done}))
+    first = done[-1]
+    told = first.told()['changes'][0]
+    session.browser.script("document.querySelectorAll('.prepare details').forEach((one) => { one.open = true; })")
+    place = f'.prepare details[data-preview="{first.name}"] li'
+    session.equal(f'{name}: a place', session.text(f'{place} .pointer'), told['pointer'])
+    shown = [WORDS['prepare.absent'] if text is None else text if len(text) <= 200 else text[:200] + '…' for text in (told['before'], told['after'])]
+    session.equal(f'{name}: before and after', session.texts(f'{place}:first-child dd'), shown)
+
+
+def unticked(session):
+    """A step that is taken back is not done, and the others tell what they do without it."""
+    path = EXAMPLES / 'county-general.raw.json'
+    clicks = begun(session, path)
+    clicks.step('#step-0-names')
+    session.becomes('the focus stays', lambda: session.browser.script('return document.activeElement.id'), 'step-0-names')
+    names = [step for step in steps_of('taken', 'chosen') if step != 'names']
+    clicks.on('#prepare-check-0')
+    session.becomes('a copy without identifiers', session.verdict, 'Refused: 57 faults')
+    session.equal('its steps', 'Names as identifiers' in session.text('.prepared-copy'), False)
+    saved(session, 'county-general.prepared.json', clicks)
+    session.equal('it is saved as it was judged', sha256(session.downloaded('county-general.prepared.json')),
+                  sha256(Preparation(path.read_bytes()).prepare(names)[0]))
+
+
+def two_copies(session):
+    """Both files of a comparison, prepared in the same way."""
+    path = EXAMPLES / 'state-primary.raw.json'
+    session.judged(path, session.file('other.json', path.read_bytes().replace(b'Adela Whitlock', b'Adele Whitlock')))
+    clicks = Clicks(session)
+    for index, verdict in ((0, WORDS['verdict.notCompared']), (1, WORDS['verdict.different'])):
+        clicks.step(f'#prepare-begin-{index}')
+        session.browser.script("document.getElementById('verdict').remove()")
+        clicks.on(f'#prepare-check-{index}')
+        session.becomes(f'after copy {index + 1}', session.verdict, verdict)
+    session.equal('both are told', len(session.texts('.prepared-copy')), 2)
+
+
+def not_prepared(session):
+    """What no step can mend, and what is no file for a step."""
+    session.judged(session.file('mark.json', b'\xef\xbb\xbf{"a":'))
+    session.click('#prepare-begin-0')
+    session.becomes('a mark before what is not JSON', lambda: session.text('.preparing'), WORDS['prepare.notJson'])
+    session.judged(session.file('number.json', b'5'))
+    session.click('#prepare-begin-0')
+    session.becomes('a file without a report', lambda: session.text('.preparing'), WORDS['prepare.none'])
+    session.judged(session.file('cut.json', b'{"a":'))
+    session.equal('nothing to prepare', session.texts('.prepare'), [])
+    named = {'@type': 'ElectionResults.ElectionReport', '<b>&"\u202e': None, 'Election': []}
+    session.judged(session.file('names.json', json.dumps(named)))
+    session.click('#prepare-begin-0')
+    session.becomes('names of a stranger are texts', lambda: session.texts('.prepare .pointer b'), [])

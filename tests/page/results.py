@@ -1,0 +1,485 @@
+"""The whole result of each pair of kinds: verdict, notices, cards, differences, record and saved files, as data.
+
+`results.json` has the rows: which files are chosen, and what no other program says of them, which is what objects are called and
+what is marked. All else comes from the reference program, from docs/FIXES.md and from the texts of the page (`answers.py`).
+"""
+import datetime
+import hashlib
+import json
+import os
+import pathlib
+import re
+import sys
+import urllib.parse
+import urllib.request
+import zoneinfo
+
+import answers
+from answers import FIXES, Answer, say
+from session import EXAMPLES, ROOT, SUITE, report_of_units
+
+sys.path.insert(0, str(ROOT / 'web'))
+import seen  # noqa: E402
+
+HERE = pathlib.Path(__file__).parent
+READ = (HERE / 'results.js').read_text(encoding='utf-8')
+ROWS = json.loads((HERE / 'results.json').read_text(encoding='utf-8'))
+SIDES = ('left', 'right')
+ENVELOPE = ['Format', 'GeneratedDate', 'Issuer', 'IssuerAbbreviation', 'VendorApplicationId', 'Notes', 'SequenceStart', 'SequenceEnd',
+            'ExternalIdentifier']
+LETTERS = '0123456789ABCDEFGHJKMNPQRSTVWXYZ'
+
+# What a voter sees: the words of the profile, the class of each part in the small ballot, and the list that its objects are in.
+SEEN = seen.read(ROOT / 'docs' / 'PROFILE.md')
+WORDS_OF_SEEN = ('seen', 'in doubt', 'unseen')
+CLASSES = {'report': 'ElectionReport', 'unit': 'ReportingUnit', 'party': 'Party', 'person': 'Person', 'office': 'Office', 'header': 'Header',
+           'election': 'Election', 'candidate': 'Candidate', 'contest': 'CandidateContest', 'style': 'BallotStyle'}
+LISTS = {'unit': ('ElectionReport', 'GpUnit'), 'party': ('ElectionReport', 'Party'), 'person': ('ElectionReport', 'Person'),
+         'office': ('ElectionReport', 'Office'), 'header': ('ElectionReport', 'Header'), 'election': ('ElectionReport', 'Election'),
+         'candidate': ('Election', 'Candidate'), 'contest': ('Election', 'Contest'), 'style': ('Election', 'BallotStyle')}
+
+# Of each outcome of one file the tone and the sign. Of a comparison also its heading and its sentence.
+FILE_VERDICTS = {'accepted': ('good', '✓'), 'refused': ('bad', '✗')}
+COMPARISONS = {
+    'same': ('good', '✓', 'verdict.same', 'sentence.same'),
+    'different': ('bad', '✗', 'verdict.different', 'sentence.different'),
+    'no memory': ('stop', '!', 'verdict.noMemory', 'sentence.compareNoMemory'),
+}
+STOP = ('stop', '!')
+
+# What a text of the page has to say, whatever its other words are.
+WORDS = {
+    'verdict.same': r'^(?!.*\bnot?\b).*\bsame\b', 'verdict.different': r'\bnot\b', 'verdict.accepted': r'^Accepted$',
+    'verdict.refused': r'^Refused\b', 'verdict.notJson': r'^Not JSON$', 'verdict.notCompared': r"\bcan't\b",
+    'sentence.same': r'\bcan differ only\b', 'sentence.different': r'\bdifference\b', 'sentence.accepted': r'\{name\} is accepted\b',
+    'sentence.refused': r'\{name\} is refused\b', 'sentence.notJson': r'\{name\} is not JSON\b',
+    'difference.only left': r'\{left\} only\b', 'difference.only right': r'\{right\} only\b',
+    'difference.other class': r'\{leftClass\} in \{left\} .*\{rightClass\} in \{right\}', 'record.file1': r'\bFirst\b',
+    'record.file2': r'\bSecond\b', 'record.save1': r'\bfirst\b', 'record.save2': r'\bsecond\b',
+}
+
+
+def run(session):
+    """All rows, or those of the cases that CASES names, one a line."""
+    cases = os.environ.get('CASES')
+    texts_say(session)
+    program = answers.Program()
+    for row in ROWS['rows']:
+        if cases is None or f'result: {row["name"]}, ' in cases:
+            Result(session, program, row).tried()
+    if cases is None or 'preference' in cases:
+        preferences(session)
+
+
+def texts_say(session):
+    """The texts that decide say what they are for."""
+    for key, words in WORDS.items():
+        text = answers.TEXTS[key]
+        forms = list(text.values()) if isinstance(text, dict) else [text]
+        session.said('the text ' + key, '' if all(re.search(words, form) for form in forms) else repr(text))
+
+
+def made(session, spec, name):
+    """The file of a row: an example, a case of the suite, or the small ballot with some texts replaced."""
+    path = session.work / name
+    if 'megabytes' in spec:
+        with open(path, 'wb') as file:
+            file.truncate(answers.MOST_BYTES + 1)
+        return path
+    if 'units' in spec:
+        return report_of_units(path, spec['units'])
+    place = SUITE / spec['case'] / spec.get('file', name) if 'case' in spec else EXAMPLES / spec.get('example', 'small-ballot.json')
+    text = place.read_text(encoding='utf-8')
+    for change in spec.get('changes', ()):
+        old, new = ROWS['changes'][change]
+        assert text.count(old) == 1, '%s: %d times %s' % (change, text.count(old), old)
+        text = text.replace(old, new)
+    data = text.encode()[:spec.get('cut')]
+    path.write_bytes(data)
+    return path
+
+
+class Result:
+    """One row: what is chosen, and what has to be shown."""
+
+    def __init__(self, session, program, row):
+        self.session, self.row = session, row
+        self.name = 'result: ' + row['name']
+        self.prefer = row.get('prefer')
+        self.specs = [row[side] for side in SIDES if side in row]
+        names = [f'{side}.json' for side in SIDES] if len(self.specs) == 2 else ['only.json']
+        self.paths = [made(session, spec, name) for spec, name in zip(self.specs, names)]
+        self.answers = [Answer(program, path, self.prefer, spec.get('outcome')) for spec, path in zip(self.specs, self.paths)]
+        self.compared = None
+        self.is_listed = row.get('others') is not None
+        if len(self.paths) == 2 and all(it.outcome == 'accepted' for it in self.answers):
+            self.line = program.run(self.prefer, 'compare', *self.paths)[1].decode('utf-8').rstrip('\n')
+            self.compared = row.get('compared') or ('same' if self.line == 'same' else 'different')
+
+    def tried(self):
+        """Chooses the files, reads the result, and saves what can be saved."""
+        self.choose()
+        before = datetime.datetime.now(zone(self.session))
+        self.session.open_details()
+        found = self.session.browser.script(READ)
+        wanted = self.wanted()
+        dates = [line[1] for line in found['record']['lines'] if line[0] == say('record.date')]
+        around = {date_text(before - datetime.timedelta(minutes=minutes)) for minutes in (0, 1)}
+        self.session.said(self.name + ', the date', '' if len(dates) == 1 and set(dates) <= around else f'{dates}, not {around}')
+        found['record']['lines'] = [line for line in found['record']['lines'] if line[0] != say('record.date')]
+        for part in wanted:
+            for name, one, other in parts_of(part, found[part], wanted[part]):
+                self.session.equal(f'{self.name}, {name}', one, other)
+        self.saved()
+
+    def choose(self):
+        if self.row.get('page', 'usual') == 'usual':
+            self.session.fresh()
+        else:
+            self.session.browser.open(self.session.others[self.row['page']])
+            self.session.browser.until('return document.documentElement.dataset.ready')
+        self.session.choose(0, *self.paths)
+        self.session.verdict(seconds=200)
+        gone = [path for spec, path in zip(self.specs, self.paths) if spec.get('outcome') == 'unreadable']
+        for path in gone:
+            path.unlink()
+        if self.prefer or gone:
+            choose_type(self.session, self.prefer or '')
+
+    def wanted(self):
+        tone, sign, heading, sentences = self.verdict()
+        is_one = self.compared == 'different' and len(self.entries) < 2
+        return {
+            'tone': f'banner {tone}', 'sign': sign, 'heading': heading, 'announced': heading, 'notices': self.notices(), 'sentences': sentences,
+            'envelope': (ENVELOPE + self.envelope()) if self.compared in ('same', 'different') else [], 'headings': self.headings(),
+            'seen': [self.seen()] if self.is_listed else [],
+            'faults': [self.faults(it, side) for it, side in self.each('refused')],
+            'notJson': [self.not_json(it, side) for it, side in self.each('notJson')],
+            'first': [self.entry(self.first())] if self.compared == 'different' else [], 'others': self.others(),
+            'notes': [say('difference.noOthers' if self.is_listed else 'difference.tooLarge')] if is_one else [],
+            'record': self.record(heading), 'chosen': self.chosen(), 'prefer': self.types(),
+        }
+
+    @property
+    def entries(self):
+        """All differences, if they are listed."""
+        return [self.first(), *self.row['others']] if self.is_listed else []
+
+    def envelope(self):
+        """The members of the envelope that one of the files has."""
+        reports = [json.loads(path.read_bytes()) for path in self.paths]
+        return [name for name in ENVELOPE if any(name in report for report in reports)]
+
+    def each(self, outcome):
+        return [(it, side) for it, side in zip(self.answers, SIDES) if it.outcome == outcome]
+
+    def verdict(self):
+        if self.compared:
+            tone, sign, heading, sentence = COMPARISONS[self.compared]
+            return tone, sign, say(heading), [say(sentence)]
+        sentences = [sentence for it in self.answers for sentence in self.sentences_on(it)]
+        if len(self.answers) == 2:
+            return *STOP, say('verdict.notCompared'), sentences
+        only = self.answers[0]
+        return *FILE_VERDICTS.get(only.outcome, STOP), say(f'verdict.{only.outcome}', count=len(only.faults)), sentences
+
+    @staticmethod
+    def sentences_on(it):
+        said = [say(f'sentence.{it.outcome}', name=it.name, count=len(it.faults), size=it.size, most=answers.MOST_BYTES)]
+        status = [fault for fault in it.faults if fault.words == 'not pre-election']
+        return said + [say('sentence.afterElection', status=it.status)] if status else said
+
+    def headings(self):
+        found = self.notices()
+        if self.is_listed:
+            found.append(self.seen()[0])
+        if self.compared == 'different':
+            found.append(say('difference.first'))
+            found += [say('difference.all', count=len(self.entries))] if len(self.entries) > 1 else []
+        for it in self.answers:
+            if it.outcome == 'refused':
+                found += [say('prepare.heading', name=it.name), say('faults.heading', name=it.name, count=len(it.faults))]
+            elif it.outcome == 'notJson':
+                found.append(say('notJson.heading', name=it.name))
+        if all(it.form is not None for it in self.answers):
+            found.append(say('ballots.heading'))
+        return found + [self.record_heading()]
+
+    def notices(self):
+        """Two files with the same bytes are told."""
+        sums = [it.sum for it in self.answers]
+        return [say('notice.sameBytes')] if len(sums) == 2 and sums[0] is not None and sums[0] == sums[1] else []
+
+    def seen(self):
+        """The box on what a voter sees: each difference has the word that its member has in the table of the profile."""
+        words = [self.word(entry) for entry in self.entries]
+        there = [word for word in WORDS_OF_SEEN if word in words]
+        return [say(f'seen.{there[0]}'), *(say(f'seen.count.{word}', count=words.count(word)) for word in there)]
+
+    def word(self, entry):
+        if entry['how'] != 'member':
+            holder, name = LISTS[entry['part']]
+            return SEEN[holder][name]
+        return SEEN[entry.get('class', CLASSES[entry['part']])].get(entry['member'], 'in doubt')
+
+    # ---- what is wrong with a file
+
+    def faults(self, it, side):
+        kinds = {}
+        for fault, known in zip(it.faults, self.row[side]['cards']):
+            kinds.setdefault(fault.number, []).append((fault, known))
+        return {'heading': say('faults.heading', name=it.name, count=len(it.faults)), 'kinds': say('faults.kinds', count=len(kinds)),
+                'cards': [self.card(faults) for faults in kinds.values()], 'buttons': [say('faults.save')]}
+
+    @staticmethod
+    def card(faults):
+        """A kind of fault, with its places."""
+        first = faults[0][0]
+        places = [{'trail': trail, 'pointer': fault.pointer or say('faults.emptyPointer'), 'name': fault.name or None, 'marked': marked}
+                  for fault, (trail, marked) in faults]
+        return {
+            'heading': f'{say("reason." + first.number)} {say("faults.places", count=len(faults))}', 'meaning': [first.meaning],
+            'mending': [first.mending, say('faults.origin'), first.origin], 'places': places,
+        }
+
+    def not_json(self, it, side):
+        known = self.row[side]
+        _, _, origin, mending = FIXES['not JSON']
+        where = [say('notJson.where', line=str(known['where'][0]), column=str(known['where'][1]))] if 'where' in known else []
+        return {'heading': say('notJson.heading', name=it.name), 'paragraphs': [say(f'notJson.{known["why"]}'), *where],
+                'marked': known.get('marked', ''), 'mending': [mending, say('faults.origin'), origin]}
+
+    # ---- differences
+
+    def first(self):
+        """The first difference: its line comes from the program. Where no others are listed, there is no more than that line."""
+        part, key, how = re.fullmatch(r'(\w+)(?: (\[.*\]))?: (.*)', self.line).groups()
+        member = re.fullmatch(r'member (".*")', how)
+        said = {'part': part, 'key': key and json.loads(key), 'how': 'member' if member else how, 'member': member and json.loads(member[1])}
+        return {'titles': [], **said, **(self.row.get('first') or {})}
+
+    def entry(self, entry):
+        """A difference as it is shown: its sentence, and its table."""
+        return [self.sentence_on(entry), *(self.table(entry) if self.is_listed else [])]
+
+    def other(self, entry):
+        """A difference of the list. Its table has no more than its sentence needs."""
+        sentence, *table = self.entry(entry)
+        return [sentence, *(table[-1:] if entry['how'] == 'member' else table)]
+
+    def sentence_on(self, entry):
+        title = next((f' “{it}”' for it in entry['titles'] if it), '')
+        key, classes = entry.get('key'), entry.get('classes', ['', ''])
+        member = entry.get('member')
+        return say(f'difference.{entry["how"]}', object=say(f'part.{entry["part"]}') + title + (f' ({" ".join(filter(None, key))})' if key else ''),
+                   member=member and member_words(member), left=self.answers[0].name, right=self.answers[1].name,
+                   leftClass=classes[0], rightClass=classes[1])
+
+    @staticmethod
+    def table(entry):
+        titles, key, how = entry['titles'], entry.get('key'), entry['how']
+        shown_key = key and ' '.join(filter(None, key))
+        there = [how != f'only {side}' for side in reversed(SIDES)]
+        groups = [('difference.name', titles)] if any(titles) else []
+        groups += [('difference.identifier', [shown_key if is_there else None for is_there in there])] if key else []
+        groups += [('difference.class', entry['classes'])] if how == 'other class' else []
+        rows = [[say(label), cells(texts)] for label, texts in groups]
+        values = [[value.replace('≠', sign()) for value in row] for row in entry.get('values', ())]
+        return [*rows, *([[member_words(entry['member']), *values]] if values else [])]
+
+    def others(self):
+        """The list of all differences, if there is more than one: how many objects of each kind differ, and each of them."""
+        if len(self.entries) < 2:
+            return []
+        parts = {}
+        for entry in self.entries:
+            part = parts.setdefault(entry['part'], {'only left': set(), 'only right': set(), 'objects': set(), 'members': 0})
+            part[entry['how'] if entry['how'].startswith('only') else 'objects'].add(tuple(entry['key'] or ()))
+            part['members'] += entry['how'] == 'member'
+        heads = [say('tally.kind'), say('tally.differ'), say('tally.members'), *(say('tally.only', name=it.name) for it in self.answers)]
+        rows = [[say(f'parts.{name}'), *(str(count or '') for count in (len(part['objects']), part['members'], len(part['only left']), len(part['only right'])))]
+                for name, part in parts.items()]
+        return [{'heading': say('difference.all', count=len(self.entries)), 'tallies': [heads, *rows],
+                 'entries': [self.other(entry) for entry in self.entries]}]
+
+    # ---- the record
+
+    def record_heading(self):
+        return say('record.ofCheck' if len(self.answers) == 1 else 'record.ofComparison')
+
+    def record(self, heading):
+        lines = [[say('record.verdict'), heading]]
+        for number, it in enumerate(self.answers, 1):
+            lines += self.record_of(it, number if len(self.answers) == 2 else '')
+        lines += [[say('record.prefer'), self.prefer or say('prefer.none')], [say('record.version'), f'erd {answers.VERSION}'],
+                  [say('record.page'), self.page_sum()]]
+        forms = [say('record.save' + (str(number) if len(self.answers) == 2 else ''))
+                 for number, it in enumerate(self.answers, 1) if it.form is not None]
+        return {'heading': self.record_heading(), 'lines': lines, 'buttons': [say('record.print'), *forms],
+                'phone': [say('record.phone')] if forms else [], 'filed': self.filed()}
+
+    def page_sum(self):
+        page = self.session.others.get(self.row.get('page'), self.session.address)
+        return hashlib.sha256(pathlib.Path(urllib.request.url2pathname(urllib.parse.urlparse(page).path)).read_bytes()).hexdigest()
+
+    def filed(self):
+        """What only the printed record has: the notices, the differences or the faults, and what is proved."""
+        refused = [it for it, _ in self.each('refused')]
+        headings = [say('faults.heading', name=it.name, count=len(it.faults)) for it in refused]
+        entries = [line for it in refused for line in it.lines.decode('utf-8').splitlines()]
+        if self.is_listed:
+            headings = [say('difference.all', count=len(self.entries))]
+            entries = [self.sentence_on(entry) + ''.join(values_filed(entry)) for entry in self.entries]
+        return {'headings': headings, 'entries': entries, 'paragraphs': [*self.notices(), say('record.proved'), say('record.notProved')]}
+
+    @staticmethod
+    def record_of(it, number):
+        lines = [[say(f'record.file{number}'), f'{it.name} ({say("bytes", count=it.size)})']]
+        if number:
+            lines.append([say('record.outcome'), say(f'verdict.{it.outcome}', count=len(it.faults))])
+        if it.sum:
+            lines.append([say('record.fileSum'), it.sum])
+        if it.form is not None:
+            lines.append([say('record.formSum'), it.form_sum, code_of(it.form_sum)])
+        return lines
+
+    def chosen(self):
+        shown = [f'{it.name} ({size_text(it.size)})' for it in self.answers]
+        return shown + [say('files.none')] * (2 - len(shown))
+
+    def types(self):
+        """The type that is chosen, and all that are offered."""
+        types = sorted(set().union(*(it.types for it in self.answers)))
+        none = say('prefer.none')
+        return [(self.prefer or none) if types else None, none, *types]
+
+    # ---- what is saved
+
+    def saved(self):
+        lists = [it for it in self.answers if it.outcome == 'refused']
+        forms = [it for it in self.answers if it.form is not None]
+        for it, button in zip(lists, self.buttons(say('faults.save'))):
+            self.session.equal(f'{self.name}, the saved faults of {it.name}', self.download(button, 'faults.txt'), it.lines)
+        for number, it in enumerate(self.answers, 1):
+            if it in forms:
+                label = say('record.save' + (str(number) if len(self.answers) == 2 else ''))
+                name = it.name.replace('.json', '.canonical.json')
+                for button in self.buttons(label):
+                    self.session.equal(f'{self.name}, the saved form of {it.name}', self.download(button, name), it.form)
+
+    def buttons(self, label):
+        return self.session.browser.script('return [...document.querySelectorAll("#result button")].filter((one) => one.textContent === arguments[0])', label)
+
+    def download(self, button, name):
+        (self.session.work / 'downloads' / name).unlink(missing_ok=True)
+        self.session.browser.script('arguments[0].scrollIntoView()', button)
+        button.click()
+        return self.session.downloaded(name)
+
+
+def parts_of(name, found, wanted):
+    """The cases of a part: its name, and what is found and wanted there. Lines of the record, and fields of cards and of their
+    places, are cases of their own."""
+    if name == 'record':
+        for label in dict.fromkeys(line[0] for line in wanted['lines']):
+            yield f'record, {label}', *([line[1:] for line in it['lines'] if line[0] == label] for it in (found, wanted))
+        yield 'record', *({**it, 'lines': [line[0] for line in it['lines']]} for it in (found, wanted))
+    elif name == 'faults' and wanted:
+        cards = [[card for section in it for card in section['cards']] for it in (found, wanted)]
+        for field in ('heading', 'meaning', 'mending'):
+            yield f'faults, {field}', *([card.get(field) for card in it] for it in cards)
+        for field in ('trail', 'pointer', 'name', 'marked'):
+            yield f'faults, {field}', *([[place.get(field) for place in card['places']] for card in it] for it in cards)
+        yield 'faults', *([[section['heading'], section['kinds'], section['buttons']] for section in it] for it in (found, wanted))
+    else:
+        yield name, found, wanted
+
+
+def values_filed(entry):
+    """The values of a difference as the printed record has them."""
+    nothing = say('difference.notThere')
+    for row in entry.get('values', ()):
+        if nothing in row or not any('≠' in value for value in row):
+            continue
+        left, right = (value.replace('≠', '') for value in row)
+        moved = re.fullmatch(r'\d+\. (.*)(moved from \d+ to \d+)', right)
+        yield f'{moved[1]} {moved[2]}' if moved else f'{left or nothing} / {right or nothing}'
+
+
+def sign():
+    """The sign of what differs, with its word for screen readers."""
+    return '≠' + say('difference.sign')
+
+
+def member_words(name):
+    """A member in plain words, and as the standard names it."""
+    known = f'member.{name}'
+    return f'{say(known)} ({name})' if known in answers.TEXTS else name
+
+
+def code_of(digits):
+    """The code of a sum for the phone: its first 80 bits, five in each letter."""
+    bits = int(digits[:20], 16)
+    letters = ''.join(LETTERS[bits >> 75 - 5 * place & 31] for place in range(16))
+    return ' '.join(letters[at:at + 4] for at in range(0, 16, 4))
+
+
+def cells(texts):
+    """The cells of two texts: those that differ have a sign, and one that is not there has words."""
+    before = '' if texts[0] == texts[1] else sign()
+    return [say('difference.notThere') if text is None else before + text for text in texts]
+
+
+def size_text(size):
+    return say('bytes', count=size) if size < 1_000_000 else say('megabytes', size=f'{round(size / 1e5) / 10:,}'.removesuffix('.0'))
+
+
+def zone(session):
+    """The time zone of the browser."""
+    return zoneinfo.ZoneInfo(session.zone)
+
+
+def date_text(moment):
+    """A date and a time as the record has them."""
+    offset = moment.utcoffset() // datetime.timedelta(minutes=1)
+    sign = '−' if offset < 0 else '+'
+    return f'{moment:%Y-%m-%d %H:%M} (UTC{sign}{abs(offset) // 60:02}:{abs(offset) % 60:02})'
+
+
+def choose_type(session, kind):
+    """Chooses a preferred type, and waits for the verdict under it."""
+    session.browser.script("""
+        document.getElementById('verdict')?.remove();
+        const select = document.getElementById('prefer');
+        select.value = arguments[0];
+        select.dispatchEvent(new Event('change'));""", kind)
+    session.verdict()
+
+
+def preferences(session):
+    """A preference is that of the files for which it was chosen: it goes as soon as another file is chosen."""
+    case = SUITE / 'prefer-key-of-the-preferred-type'
+    others = {
+        'another file': lambda: session.choose(1, EXAMPLES / 'small-ballot.json'),
+        'two other files': lambda: session.choose(0, EXAMPLES / 'small-ballot.json', EXAMPLES / 'one-unit.json'),
+        'a file removed': lambda: remove(session),
+        'an example': lambda: session.browser.script("""
+            document.getElementById('verdict').remove();
+            document.querySelector('#examples button').click();"""),
+    }
+    for name, act in others.items():
+        session.judged(case / 'left.json', case / 'right.json')
+        choose_type(session, 'local-level')
+        found = session.browser.script(READ)
+        session.equal(f'a preference before {name}', [found['prefer'][0], {line[0]: line[1] for line in found['record']['lines']}[say('record.prefer')]],
+                      2 * ['local-level'])
+        act()
+        session.verdict()
+        found = session.browser.script(READ)
+        session.equal(f'no preference after {name}', [found['prefer'][0], {line[0]: line[1] for line in found['record']['lines']}[say('record.prefer')]],
+                      2 * [say('prefer.none')])
+
+
+def remove(session):
+    session.browser.script("document.getElementById('verdict').remove();")
+    session.click('#remove-1')

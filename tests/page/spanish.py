@@ -1,0 +1,45 @@
+"""The page in Spanish: its language is switched, and all of it follows."""
+import json
+
+from session import EXAMPLES, ROOT
+
+TEXTS = {lang: json.loads((ROOT / 'web' / ('texts.%s.json' % lang)).read_text(encoding='utf-8')) for lang in ('en', 'es')}
+COUNTY = [EXAMPLES / ('county.vendor-%s.json' % vendor) for vendor in 'ab']
+
+
+def run(session):
+    switched(session)
+    faults(session)
+
+
+def speak(session, language):
+    session.browser.script("""
+        const select = document.getElementById('language');
+        select.value = arguments[0];
+        select.dispatchEvent(new Event('change'));""", language)
+
+
+def switched(session):
+    """The start, and a verdict that is shown: in Spanish, and back in English."""
+    session.judged(*COUNTY)
+    speak(session, 'es')
+    session.becomes('Spanish: the verdict', session.verdict, TEXTS['es']['verdict.same'])
+    session.equal('Spanish: the language', session.browser.script('return document.documentElement.lang'), 'es')
+    for selector, key in (('h1', 'title'), ('#files-heading', 'files.heading'), ('#examples button', 'example.same'), ('#record', 'record.ofComparison')):
+        session.equal('Spanish: ' + key, session.text(selector), TEXTS['es'][key])
+    session.open_details()
+    english = [text for key, text in TEXTS['en'].items() if isinstance(text, str) and len(text) > 20 and '{' not in text]
+    shown = session.browser.script("return document.body.innerText")
+    session.equal('Spanish: nothing in English', [text for text in english if text in shown], [])
+    speak(session, 'en')
+    session.becomes('Spanish: and back', session.verdict, TEXTS['en']['verdict.same'])
+
+
+def faults(session):
+    """The explanations of faults."""
+    session.fresh()
+    speak(session, 'es')
+    session.browser.script("document.querySelectorAll('#examples button')[2].click()")
+    session.becomes('Spanish: a refused file', session.verdict, 'Rechazado: 3 errores')
+    session.said('Spanish: an explanation', '' if 'Una referencia nombra un @id que ningún objeto del archivo tiene.' in session.text('.faults') else 'there is none')
+    speak(session, 'en')

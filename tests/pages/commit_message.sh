@@ -1,0 +1,31 @@
+#!/usr/bin/env bash
+# Tries the hook that asks for a commit message with a body (.githooks/commit-msg), in a real repository. One line a case.
+set -u
+. "$(dirname "$0")/../shared/start.sh" || exit 1
+command -v git > /dev/null || { echo 'skipped the hook for messages: there is no git'; counts; exit; }
+export HOME=$work GIT_CONFIG_NOSYSTEM=1 GIT_AUTHOR_NAME=a GIT_AUTHOR_EMAIL=a@a.example GIT_COMMITTER_NAME=a GIT_COMMITTER_EMAIL=a@a.example
+hooks=$PWD/.githooks
+git init -q "$work/clone"
+git -C "$work/clone" config core.hooksPath "$hooks"
+
+# passes MESSAGE, refused MESSAGE WORDS: what becomes of a commit with this message
+passes() {
+    said "passes: $(head -n 1 <<< "$1")" "$(git -C "$work/clone" commit -q --allow-empty --cleanup=verbatim -m "$1" 2>&1)"
+}
+refused() {
+    local words
+    words=$(git -C "$work/clone" commit -q --allow-empty --cleanup=verbatim -m "$1" 2>&1) && words='it passed'
+    said "refused: $2" "$(grep -qF "$2" <<< "$words" || echo "$words")"
+}
+
+passes $'Sort each family once\n\nNumbers and order both come from one table.'
+passes $'fixup! Sort each family once'
+passes $'Sort each family twice\n\nTwo lines\nof a body.\n\nSigned-off-by: a <a@a.example>'
+refused 'Sort each family once' 'there is no body that says why'
+refused $'Sort each family once\n\n# a comment alone' 'there is no body that says why'
+refused $'Sort each family once\n\nSigned-off-by: a <a@a.example>' 'there is no body that says why'
+refused $'Sort each family once\nas each was sorted twice.' 'no empty line follows the subject'
+refused $'sort each family once\n\nWhy.' 'the subject begins with a small letter'
+refused $'Sort each family once.\n\nWhy.' 'the subject ends with a full stop'
+refused "$(printf 'S%.0s' {1..73})"$'\n\nWhy.' 'the subject is longer than 72 characters'
+counts

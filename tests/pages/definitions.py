@@ -1,0 +1,211 @@
+"""Holds docs/DEFINITIONS.md against the definitions in `specs/`, and public contracts against `specs/code/`.
+
+The rows of the page are made from the comments that stand before the definitions, and the order of the files is that of
+each `Lib.antt`. What a comment ends with in brackets is its source. With `--write` the rows of the page are written anew;
+what else stands on the page is written by hand.
+
+A reader may skip `specs/code/`: no clause of a public function or trait cites a definition from there, and no other
+definition in `specs/` does. What a source imports from `specs/Words.antt` is passed on from other files of `specs/`, so that
+file may not name `specs/code/` either: a source then imports from there by lines of its own, which are read here.
+"""
+
+import pathlib
+import re
+import sys
+
+ROOT = pathlib.Path(__file__).resolve().parents[2]
+PAGE = ROOT / 'docs' / 'DEFINITIONS.md'
+CRATES = ['erd_tables', 'erd_index', 'erd_check', 'erd_text', 'erd_meaning', 'erd_normal', 'erd_compare', 'erd_canon', 'erd_program', 'erd_c']
+HEAD = ['| Definition | What it says | From |', '|---|---|---|']
+CODE = 'What private functions answer, step by step; a reader may skip it. What each file says stands in its first lines.'
+
+# Where the definitions of a file come from, if their comments do not say: the file, or one of its definitions.
+PROFILE = 'profile'
+SOURCES = {
+    'erd_c/Told': 'this project',
+    'erd_canon/Bytes.IsNotJson': 'RFC 8259, as `serde_json` reads it',
+    'erd_canon/DataAnswers': 'docs/DATA.md',
+    'erd_canon/DataValues': 'docs/DATA.md',
+    'erd_canon/ReadLines': 'the grammar of `clap`',
+    'erd_canon/Subcommands': 'this project',
+    'erd_canon/Writing': 'this project',
+    'erd_check/Faults.is_text': 'RFC 8259, section 3',
+    'erd_check/Faults.is_array': 'RFC 8259, section 3',
+    'erd_check/Faults.is_object': 'RFC 8259, section 3',
+    'erd_check/Faults.is_empty_array': 'RFC 8259, section 3',
+    'erd_check/Faults.lacks': 'RFC 8259, section 3',
+    'erd_check/Numbers': 'the reading of `serde_json`',
+    'erd_check/Paths': 'this project',
+    'erd_check/Trees': 'RFC 8259',
+    'erd_check/Trees.IsNumber': 'the reading of `serde_json`',
+    'erd_check/Trees.IsShallow': 'the reading of `serde_json`',
+    'erd_check/Trees.IsNoDeeper': 'the reading of `serde_json`',
+    'erd_check/Values': 'RFC 8259, section 5',
+    'erd_check/Visits': 'this project',
+    'erd_compare/DifferenceData': 'docs/DATA.md',
+    'erd_compare/DifferenceLine.key_as_json': 'RFC 8259',
+    'erd_index/Salts': 'this project',
+    'erd_meaning/Hashes': 'this project',
+    'erd_meaning/Lookups.id_in': "the standard's rule of references",
+    'erd_meaning/Lookups.election_in': 'class Election',
+    'erd_meaning/Lookups.FindsId': "the standard's rule of references",
+    'erd_meaning/Meaning.Content': 'classes BallotStyle and OrderedHeader',
+    'erd_meaning/Meaning.Node': 'classes BallotStyle and OrderedHeader',
+    'erd_meaning/NumberedNames': 'this project',
+    'erd_meaning/Objects.has_id': "the standard's rule of references",
+    'erd_meaning/Objects.owner_at': "the standard's rule of references",
+    'erd_meaning/Objects.is_owned': "the standard's rule of references",
+    'erd_meaning/Places': 'this project',
+    'erd_meaning/RankedNames': 'this project',
+    'erd_meaning/Records.content_inside': 'classes BallotStyle and OrderedHeader',
+    'erd_meaning/Records.is_header_class': 'classes OrderedContest and OrderedHeader',
+    'erd_meaning/Records.node_of': 'classes BallotStyle and OrderedHeader',
+    'erd_meaning/Records.nodes_of': 'classes BallotStyle and OrderedHeader',
+    'erd_program/Engines': 'this project',
+    'erd_program/Files': 'this project',
+    'erd_program/Messages': 'this project',
+    'erd_program/Program': 'this project',
+    'erd_program/World': 'this project',
+    'erd_tables/Classes.class_name': 'the class names of the standard',
+    'erd_tables/Classes.text_of_class': 'the name space of the standard',
+    'erd_tables/Classes.classes': 'the classes of the standard that the profile covers',
+    'erd_tables/Classes.class_of_text': '`@type` of the standard',
+    'erd_tables/Classes.NamesItsClass': '`@type` of the standard',
+    'erd_tables/Families': 'this project',
+    'erd_tables/Rows.selection_rows': 'class ContestSelection',
+    'erd_text/Tokens': 'RFC 8259',
+}
+
+DEFINITION = re.compile(r'(?:  )?(?:abbrev pub|pub data|pub record|pub)\s+([^\s:({]+)')
+
+
+def definitions(path):
+    """The public definitions of a file, each with the words of its comment. Of several that stand together as `mutual`,
+    one without a comment goes with the one before it."""
+    found = []
+    comment = []
+    for line in path.read_text(encoding='utf-8').splitlines():
+        text = line.strip()
+        match = DEFINITION.match(line)
+        if text.startswith('-- ----') or not text:
+            comment = []
+        elif text.startswith('--'):
+            comment.append(text[2:].strip())
+        elif match and match.group(1) not in ('use', 'mod') and not is_field(line, path):
+            if comment or not line.startswith(' '):
+                found.append((match.group(1), ' '.join(comment)))
+            comment = []
+        elif text not in ('mutual', 'abbrev mutual'):
+            comment = []
+    return found
+
+
+def is_field(line, path):
+    """Whether a line that begins with `pub` is a field of a record: it is set in, and no part of a `mutual` block."""
+    if not line.startswith('  '):
+        return False
+    before = path.read_text(encoding='utf-8').split(line + '\n')[0].splitlines()
+    outer = next((text for text in reversed(before) if text and not text.startswith((' ', '--'))), '')
+    return outer not in ('mutual', 'abbrev mutual')
+
+
+def row(crate, name, definition, comment):
+    """A row of the page: the words of the comment, and its source."""
+    words, source = comment, None
+    match = re.fullmatch(r'(.*?) \(([^()]*)\)(;.*)?', comment)
+    if match and is_source(match.group(2)):
+        words, source = match.group(1) + (match.group(3) or ''), match.group(2)
+    if re.match(r'class [A-Z]', words):
+        words, source = 'members of ' + words, source or class_of(words)
+    source = source or SOURCES.get(f'{crate}/{name}.{definition}') or SOURCES.get(f'{crate}/{name}') or PROFILE
+    return f'| `{definition}` | {words} | {source} |'
+
+
+def is_source(words):
+    return re.match(r"profile|class|RFC|the standard|this project(?!'s word)|`", words) is not None
+
+
+def class_of(comment):
+    """The class that rows of the member table are of."""
+    return re.match(r'class [A-Za-z]+', comment).group(0)
+
+
+def modules(path):
+    """The files that a list of modules names, in its order."""
+    return [name for name in re.findall(r'^pub mod (\w+)', path.read_text(encoding='utf-8'), re.M) if name != 'code']
+
+
+def rows_of_crate(crate, headings):
+    """The table of a crate. Its headings are those of the page, or the first words of the file."""
+    specs = ROOT / 'crates' / crate / 'specs'
+    lines = list(HEAD)
+    for name in modules(specs / 'Lib.antt'):
+        path = f'crates/{crate}/specs/{name}.antt'
+        lines.append(headings.get(path) or f'| **{path}** | **{first_words(specs / (name + ".antt"))}** | |')
+        lines += [row(crate, name, definition, comment) for definition, comment in definitions(specs / f'{name}.antt')]
+    if (specs / 'code.antt').exists():
+        files = ', '.join(f'**{name}.antt**' for name in modules(specs / 'code.antt'))
+        lines.append(f'| **crates/{crate}/specs/code/**: {files} | **{CODE}** | |')
+    return lines
+
+
+def first_words(path):
+    """The first sentence of a file."""
+    words = ' '.join(line[2:].strip() for line in path.read_text(encoding='utf-8').split('\nuse ')[0].splitlines() if line.startswith('--'))
+    return words.split('. ')[0].rstrip('.') + '.'
+
+
+def made_anew(page):
+    """The page with its rows made anew."""
+    headings = {match.group(1): match.group(0) for match in re.finditer(r'^\| \*\*(crates/\S+\.antt)\*\* \| \*\*.*$', page, re.M)}
+    for crate in CRATES:
+        table = '\n'.join(rows_of_crate(crate, headings))
+        page = re.sub(rf'(?<=^## {crate}\n\n)(?:\|.*\n)+', lambda _: table + '\n', page, flags=re.M)
+    return page
+
+
+CODE_IMPORT = re.compile(r'^\s*(?:(?:ghost|pub|unfoldable pub) )?use Rattle\.\w+\.specs\.code\.\w+(?:\.\{([^}]*)\})?', re.M)
+PUBLIC = re.compile(r'^(?: {4})?pub (?:fn|trait) (\w+)(.*?)\n(?: {4})?(?:\{|\}|\{\})$', re.M | re.S)
+
+
+def code_cited():
+    """Where a public contract, or a definition outside `specs/code/`, cites a definition of `specs/code/`."""
+    found = []
+    for path in sorted(ROOT.glob('crates/*/src/**/*.rt')):
+        text = path.read_text(encoding='utf-8')
+        names = {name.strip().split(' as ')[-1] for names in CODE_IMPORT.findall(text) for name in names.split(',') if name}
+        for function in PUBLIC.finditer(text):
+            cited = names & set(re.findall(r'[^\s(){}[\],.]+', function.group(2)))
+            found += [f'{path.relative_to(ROOT)}: {function.group(1)} cites {name}' for name in sorted(cited)]
+    for path in sorted(ROOT.glob('crates/*/specs/*.antt')):
+        if CODE_IMPORT.search(path.read_text(encoding='utf-8')):
+            found.append(f'{path.relative_to(ROOT)} rests on specs/code')
+    return found
+
+
+def main():
+    page = PAGE.read_text(encoding='utf-8')
+    new = made_anew(page)
+    if '--write' in sys.argv[1:]:
+        PAGE.write_text(new, encoding='utf-8')
+        return 0
+    old_lines, new_lines = set(page.splitlines()), set(new.splitlines())
+    for line in page.splitlines():
+        if line not in new_lines:
+            print(f'docs/DEFINITIONS.md has, and specs/ have not: {line}')
+    for line in new.splitlines():
+        if line not in old_lines:
+            print(f'specs/ have, and docs/DEFINITIONS.md has not: {line}')
+    agree = page == new
+    print(f'{"passed" if agree else "FAILED"}: the definitions of docs/DEFINITIONS.md')
+    cited = code_cited()
+    for line in cited:
+        print(line)
+    print(f'{"FAILED" if cited else "passed"}: public contracts can be read without specs/code')
+    passed = int(agree) + int(not cited)
+    print(f'{passed} passed, {2 - passed} failed')
+    return int(passed < 2)
+
+
+if __name__ == '__main__':
+    sys.exit(main())

@@ -1,0 +1,82 @@
+"""Holds the examples in doc comments against the crate `uses`: each public call of the library has one, and its lines stand
+one after another in a source of `uses`, where they are run. Only white space may differ. One line a case that fails, and at the
+end the counts.
+
+A public call is a function or a method of a type or trait that the root of a crate names. Laws take no arguments and run
+nothing, and a `Log` is seen by contracts alone, so these have no example.
+"""
+
+import pathlib
+import re
+import sys
+
+ROOT = pathlib.Path(__file__).resolve().parents[2]
+CRATES = ['erd_tables', 'erd_index', 'erd_check', 'erd_text', 'erd_meaning', 'erd_normal', 'erd_compare', 'erd_canon']
+CALL = re.compile(r'^( *)(pub )?fn (\w+)(?:<[^(]*>)?\(([^)]*)', re.M)
+OWNER = re.compile(r"^(?:impl(?:<[^{]*?>)? (?:\w+(?:<[^{]*>)? for )?|pub trait )(\w+)", re.M)
+
+
+def bare(text):
+    return re.sub(r'\s', '', text)
+
+
+def names_at_root(crate):
+    """What the root of a crate hands out: the names in its `pub use` lines."""
+    root = (ROOT / 'crates' / crate / 'src' / 'lib.rt').read_text(encoding='utf-8')
+    names = set()
+    for items in re.findall(r'^pub use [\w:]*?::(\{[^}]*\}|\w+);', root, re.M):
+        names.update(re.findall(r'\w+', items))
+    return names
+
+
+def doc_before(text, end):
+    """The lines of the doc comment that stands before an item, without their slashes."""
+    lines = []
+    for line in reversed(text[:end].splitlines()):
+        line = line.strip()
+        if line.startswith('///'):
+            lines.append(line[3:].removeprefix(' '))
+        elif not line.startswith('#['):
+            break
+    return '\n'.join(reversed(lines))
+
+
+def calls_of(crate):
+    """Each public call of a crate with its doc comment."""
+    names = names_at_root(crate)
+    for path in sorted((ROOT / 'crates' / crate / 'src').rglob('*.rt')):
+        text = path.read_text(encoding='utf-8')
+        for call in CALL.finditer(text):
+            indent, public, name, arguments = call.groups()
+            owners = [found for found in OWNER.finditer(text) if found.start() < call.start()]
+            owner = owners[-1] if indent and owners else None
+            if owner is None:
+                is_call = public and name in names and arguments.strip()
+            else:
+                is_trait = owner.group(0).startswith('pub trait')
+                is_call = (public or is_trait) and owner.group(1) in names - {'Log'}
+            if is_call:
+                yield f'{crate}::{owner.group(1) + "::" if owner else ""}{name}', doc_before(text, call.start())
+
+
+def main():
+    sources = [bare(path.read_text(encoding='utf-8')) for path in (ROOT / 'crates' / 'uses' / 'src').rglob('*.rt')]
+    passed = failed = 0
+    for crate in CRATES:
+        for name, doc in calls_of(crate):
+            examples = re.findall(r'^```\n(.*?)^```$', doc, re.M | re.S)
+            if not examples:
+                why = 'has no example'
+            elif not all(any(bare(example) in source for source in sources) for example in examples):
+                why = 'has an example that is not in the crate uses'
+            else:
+                passed += 1
+                continue
+            failed += 1
+            print(f'FAILED: {name} {why}')
+    print(f'{passed} passed, {failed} failed')
+    return int(failed > 0 or passed == 0)
+
+
+if __name__ == '__main__':
+    sys.exit(main())

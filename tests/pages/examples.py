@@ -1,0 +1,279 @@
+"""Runs every session of README.md and the pages for users, and every example of docs/FIXES.md, docs/DATA.md and erd.h, and compares
+what they give with what the pages show. `ERD=..` names another program than ./erd, such as
+`ERD='python3 reference/erd_reference.py'`. One line a case that fails, and at the end the counts.
+
+An example is the words `**Example.** .. at `PLACE`..` with its blocks: two fragments of JSON and the lines that `erd` writes. A
+fragment is the object at the place, or some of its members. A session is a block with the commands after `$ ` and their output. What
+a command `erd-prepare` writes has to mean the same where the export is rearranged.
+"""
+
+import copy
+import itertools
+import json
+import os
+import pathlib
+import random
+import re
+import shlex
+import shutil
+import subprocess
+import sys
+import tempfile
+
+ROOT = pathlib.Path(__file__).resolve().parents[2]
+sys.path[:0] = [str(ROOT / 'tests' / 'shared'), str(ROOT / 'tests' / 'reports')]
+import texts_of_data  # noqa: E402
+from exports import rearranged  # noqa: E402
+
+SESSIONS = ('README.md', 'docs/USING.md', 'docs/FIXES.md', 'docs/WALKTHROUGH.md')
+BASE = 'examples/county.vendor-a.json'
+DATA_PAGES = ('docs/DATA.md', 'bindings/c/erd.h')
+
+
+def read(path):
+    return (ROOT / path).read_text(encoding='utf-8')
+
+
+def run(command, folder):
+    """What a command of a shell writes, standard error after standard output."""
+    done = subprocess.run(['bash', '-c', command], cwd=folder, capture_output=True, text=True, timeout=60, check=False)
+    return done.stdout + done.stderr
+
+
+def workshop(folder):
+    """Makes a folder with the examples, and the programs `erd` and `erd-prepare` on the path."""
+    for name in ('examples', 'contrib'):
+        shutil.copytree(ROOT / name, folder / name)
+    (folder / 'reference').mkdir()
+    shutil.copy(ROOT / 'reference' / 'erd_reference.py', folder / 'reference')
+    program = shlex.split(os.environ.get('ERD', str(ROOT / 'erd')))
+    program = [str(ROOT / word) if (ROOT / word).exists() else word for word in program]
+    (folder / 'bin').mkdir()
+    package = shlex.quote(str(ROOT / 'bindings' / 'python' / 'src'))
+    for name, words in (('erd', f'exec {shlex.join(program)}'), ('erd-prepare', f'PYTHONPATH={package} exec python3 -B -m erd.prepare')):
+        (folder / 'bin' / name).write_text(f'#!/bin/sh\n{words} "$@"\n', encoding='utf-8')
+        (folder / 'bin' / name).chmod(0o755)
+    os.environ['PATH'] = f'{folder / "bin"}:{os.environ["PATH"]}'
+
+
+# ---- sessions
+
+
+def commands_of(block):
+    """Each command of a session with the output that the page shows. A command goes on to the end of its here-document."""
+    lines = block.splitlines(keepends=True)
+    while lines:
+        command = lines.pop(0)
+        if not command.startswith('$ '):
+            raise ValueError(f'a session begins with {command!r}')
+        end = re.search(r"<<'(\w+)'", command)
+        while end and lines and command.splitlines()[-1] != end.group(1):
+            command += lines.pop(0)
+        output = ''
+        while lines and not lines[0].startswith('$ '):
+            output += lines.pop(0)
+        yield command[2:], output
+
+
+def sessions(folder):
+    for page in SESSIONS:
+        for block in re.findall(r'^```console\n(.*?)^```$', read(page), re.M | re.S):
+            for command, output in commands_of(block):
+                yield f'{page}: $ {command.splitlines()[0]}', output, run(command, folder)
+                yield from rearranged_recipe(page, command, folder)
+
+
+def rearranged_recipe(page, command, folder):
+    """What a recipe prepares is the same if the export lists its objects in another order and has other system names."""
+    recipe = re.fullmatch(r'(erd-prepare (?:.* )?)(\S+\.json) > (\S+)(?: 2> \S+)?\n', command)
+    if recipe is None or run(f'erd check {recipe[3]}', folder) != 'accepted\n':
+        return
+    report = json.loads((folder / recipe[2]).read_text(encoding='utf-8-sig'))
+    for number in range(3):
+        written(folder, 'other.json', rearranged(report, random.Random(number)))
+        words = re.sub(r'--report \S+ ', '', recipe[1])
+        run(f'{words} other.json > other-prepared.json', folder)
+        said = run(f'erd compare {recipe[3]} other-prepared.json', folder)
+        yield f'{page}: $ {command.strip()} after rearrangement {number + 1}', 'same\n', said
+
+
+def demonstration(folder):
+    """What `make demo` shows is the session of the README."""
+    wanted = re.search(r'^## First run$.*?^```console\n(.*?)^```$', read('README.md'), re.M | re.S).group(1)
+    yield 'examples/demo.sh', wanted, run(f'ERD={shlex.quote(str(folder / "bin" / "erd"))} {ROOT}/examples/demo.sh', folder)
+
+
+# ---- answers as data
+
+
+def damaged(report, faults):
+    """The report with these faults, of the reasons that the pages show."""
+    for fault in faults:
+        *way, last = fault['place'] if fault['reason'] != texts_of_data.MISSING_MEMBER else [*fault['place'], fault['name']]
+        holder = report
+        for step in way:
+            holder = holder[step]
+        if fault['reason'] == texts_of_data.MISSING_MEMBER:
+            del holder[last]
+        else:
+            holder[last] = {4: 1.5, 8: 'certified'}[fault['reason']]
+    return report
+
+
+def differing(report, difference):
+    """The report with another text or number in the member of the contest that has the key."""
+    changed = [contest for election in report['Election'] for contest in election['Contest']
+               if difference['key'][2] in (name['Value'] for name in contest['ExternalIdentifier'])]
+    changed[0][difference['member']] += 1 if isinstance(changed[0][difference['member']], int) else ' (changed)'
+    return report
+
+
+def lines_of_differences(folder, answer):
+    """The text that the differences stand for, and what the reference program lists for two reports that are made for them."""
+    base = json.loads(read('examples/small-ballot.json'))
+    written(folder, 'whole.json', base)
+    for difference in answer:
+        base = differing(base, difference)
+    written(folder, 'data.json', base)
+    program = shlex.quote(str(ROOT / 'reference' / 'erd_reference.py'))
+    return texts_of_data.differences_text(answer), run(f'python3 {program} differences whole.json data.json', folder)
+
+
+def line_of_data(folder, answer):
+    """What the program writes for reports that are made for the answer."""
+    base = json.loads(read('examples/small-ballot.json' if 'key' in answer else BASE))
+    written(folder, 'whole.json', base)
+    if isinstance(answer, list):
+        written(folder, 'data.json', damaged(base, answer))
+        return run('erd check data.json', folder)
+    written(folder, 'data.json', differing(base, answer) if 'key' in answer else damaged(base, answer['faults']))
+    return run(f'erd compare {"whole.json data.json" if "key" in answer else "data.json whole.json"}', folder)
+
+
+def examples_of_data(folder):
+    """Each answer that a page shows is one that a report can have. `..` stands for what is left out."""
+    for page in DATA_PAGES:
+        for text in re.findall(r'^(?: \*     |(?=[\[{]))([\[{].*)$', read(page), re.M):
+            if '..' in text:
+                continue
+            answer = json.loads(text)
+            if isinstance(answer, list) and 'how' in answer[0]:
+                yield f'{page}: {text}', *lines_of_differences(folder, answer)
+                continue
+            answer = [answer] if 'place' in answer else answer
+            lines = texts_of_data.check_text(answer) if isinstance(answer, list) else texts_of_data.compare_text(answer)
+            yield f'{page}: {text}', lines, line_of_data(folder, answer)
+
+
+# ---- fragments
+
+
+def steps_of(place):
+    return [int(step) if step.isdigit() else step for step in re.findall(r'[A-Za-z]+|\d+', place)]
+
+
+def with_fragment(report, place, fragment, taken_out=()):
+    """A copy of the report with the fragment at the place: in place of the object there, or as some of its members."""
+    report = copy.deepcopy(report)
+    holder = {'report': report}
+    *way, last = ['report', *steps_of(place)]
+    for step in way:
+        holder = holder[step]
+    if fragment.lstrip().startswith('{'):
+        holder[last] = json.loads(fragment)
+        return report
+    members = json.loads('{' + fragment + '}')
+    for name in taken_out:
+        holder[last].pop(name, None)
+    holder[last].update(members)
+    return report
+
+
+def names_of(fragment):
+    return set() if fragment.lstrip().startswith('{') else set(json.loads('{' + fragment + '}'))
+
+
+def written(folder, name, report):
+    (folder / name).write_text(json.dumps(report), encoding='utf-8')
+
+
+def examples_of_reasons(folder):
+    """For each heading with an example: the fault, that its mending is accepted, and that the lines of jq show something."""
+    page = read('docs/FIXES.md')
+    for heading, body in re.findall(r'^## (\d+\. [^\n]*)\n(.*?)(?=^## |\Z)', page, re.M | re.S):
+        place = re.search(r'^\*\*Example\.\*\* .*?at `(\.[^`]*)`(?: of `([^`]*)`)?', body, re.M)
+        before, lines, after = re.findall(r'^```(?:json)?\n(.*?)^```$', body.split('**Example.**')[1], re.M | re.S)
+        base = json.loads(read(place.group(2) or BASE))
+        taken_out = names_of(before) | names_of(after)
+        written(folder, 'before.json', with_fragment(base, place.group(1), before, taken_out))
+        written(folder, 'after.json', with_fragment(base, place.group(1), after, taken_out))
+        yield f'{heading}, before', lines, run('erd check before.json', folder)
+        yield f'{heading}, after', 'accepted\n', run('erd check after.json', folder)
+        shown = body.split('**Show it.**')[1].split('\n\n')[0]
+        for command in re.findall(r'`((?:jq|grep) .*? FILE)`', shown):
+            output = run(command.replace('FILE', 'before.json'), folder)
+            yield f'{heading}: {command} shows something', True, output.strip() not in ('', 'null') and 'error' not in output
+
+
+def examples_of_differences(folder):
+    page = read('docs/FIXES.md').split('\n## Differences that')[1]
+    for heading, body in re.findall(r'^### ([^\n]*)\n(.*?)(?=^### |\Z)', page, re.M | re.S):
+        place = re.search(r'^\*\*Example\.\*\* .*?at `(\.[^`]*)`', body, re.M).group(1)
+        left, right, line = re.findall(r'^```(?:json)?\n(.*?)^```$', body, re.M | re.S)
+        base = json.loads(read(BASE))
+        taken_out = names_of(left) | names_of(right)
+        written(folder, 'left.json', with_fragment(base, place, left, taken_out))
+        written(folder, 'right.json', with_fragment(base, place, right, taken_out))
+        yield heading, line, run('erd compare left.json right.json', folder)
+
+
+def rows_of_letter(folder):
+    """Each rule of docs/VENDORS.md: what it calls refused is refused at its place, and what it calls accepted is accepted."""
+    base = json.loads(read(BASE))
+    for rule, place, bad, good in re.findall(r'^\| ([^|]*) \| `(\.[^`]*)` \| `([^|]*)` \| `([^|]*)` \|$', read('docs/VENDORS.md'), re.M):
+        for name, fragment in (('before.json', bad), ('after.json', good)):
+            written(folder, name, with_fragment(base, place, fragment, names_of(bad) if name == 'after.json' else ()))
+        pointer = ''.join(f'/{step}' for step in steps_of(place))
+        faults = run('erd check before.json', folder).splitlines()
+        yield f'docs/VENDORS.md: {rule} Refused', True, bool(faults) and all(line.startswith(pointer) for line in faults)
+        yield f'docs/VENDORS.md: {rule} Accepted', 'accepted\n', run('erd check after.json', folder)
+
+
+def headings():
+    """The reasons of docs/PROFILE.md are the headings of docs/FIXES.md, each with its paragraphs, and the rows of its table."""
+    section = read('docs/PROFILE.md').split('### The reasons')[1].split('\n### ')[0]
+    reasons = re.findall(r'^\| (\d+) \| .* \| `(.*?)(?: NAME)?` \|$', section, re.M)
+    wanted = ['not JSON', *(f'{number}. {words}' for number, words in reasons)]
+    page = read('docs/FIXES.md')
+    found = re.findall(r'^## (not JSON|\d+\. .*)$', page, re.M)
+    yield 'the headings of docs/FIXES.md', wanted, found
+    rows = re.findall(r'^\| \[(?:(\d+\.) )?`(.*?)`\]', page, re.M)
+    yield 'the table of docs/FIXES.md', wanted, [f'{number} {words}'.strip() for number, words in rows]
+    labels = ['What it means', 'Where it comes from', 'How to mend it', 'Show it', 'Example']
+    for heading in found:
+        body = page.split(f'\n## {heading}\n')[1].split('\n## ')[0]
+        yield f'the paragraphs of {heading}', labels, re.findall(r'^\*\*(.*?)\.\*\*', body, re.M)
+
+
+def main():
+    passed = failed = 0
+    with tempfile.TemporaryDirectory() as name:
+        folder = pathlib.Path(name)
+        workshop(folder)
+        cases = [headings(), rows_of_letter(folder), examples_of_differences(folder), examples_of_data(folder), demonstration(folder)]
+        if shutil.which('jq'):
+            cases += [examples_of_reasons(folder), sessions(folder)]
+        else:
+            print('skipped the sessions and the reasons: there is no jq')
+        for title, wanted, found in itertools.chain(*cases):
+            if wanted == found:
+                passed += 1
+            else:
+                failed += 1
+                print(f'FAILED: {title}: the page has\n{wanted}\nand not\n{found}')
+    print(f'{passed} passed, {failed} failed')
+    return int(failed > 0)
+
+
+if __name__ == '__main__':
+    sys.exit(main())

@@ -1,0 +1,235 @@
+"""Holds what several pages and texts say against the one place that has it: the member table of docs/PROFILE.md against the
+rows of `specs/`, what a voter sees against the member table, the limit on bytes against the constant of the code, exit statuses
+against their definition, what the table of reasons names against the code, and links against the pages. One line a case that
+fails, and at the end the counts.
+"""
+
+import os
+import pathlib
+import re
+import shutil
+import subprocess
+import sys
+
+ROOT = pathlib.Path(__file__).resolve().parents[2]
+sys.dont_write_bytecode = True
+sys.path[:0] = [str(ROOT / 'tests' / 'reports'), str(ROOT / 'web')]
+import seen  # noqa: E402
+from member_table import table_of_page  # noqa: E402
+
+SPECS = ROOT / 'crates' / 'erd_tables' / 'specs'
+
+# A member whose required array may not be empty, or is told of by reason 12 alone, has a note behind it in the page.
+NOTES = {'(reason 12)', '(not empty)'}
+FAMILIES = {'unit', 'party', 'person', 'office', 'header', 'candidate', 'contest', 'style', 'selection'}
+
+
+def read(path):
+    return (ROOT / path).read_text(encoding='utf-8')
+
+
+# ---- the member table, as the definitions have it
+
+
+def rows_by_name():
+    """Each named list of rows: its members with their kinds, and the lists that it goes on with."""
+    lists = {}
+    for name, body in re.findall(r'^(\w+_rows) =\n?((?:.*\n)+?)(?=\n|\Z)', (SPECS / 'Rows.antt').read_text(encoding='utf-8'), re.M):
+        members = re.findall(r'\(codes "([^"]+)" is ([^)]+)\)', body)
+        lists[name] = (members, re.findall(r'\b(\w+_rows)\b', body))
+    return lists
+
+
+def members_of_rows(lists, name):
+    members, others = lists[name]
+    found = {member: kind.replace('family.', '').lower() for member, kind in members}
+    for other in others:
+        found.update(members_of_rows(lists, other))
+    return found
+
+
+def table_of_specs():
+    """For each class the kind of each listed member, and the members that it requires."""
+    text = read('crates/erd_tables/specs/Rows.antt') + (SPECS / 'Table.antt').read_text(encoding='utf-8')
+    lists = rows_by_name()
+    rows = dict(re.findall(r'^rows_of_class class\.(\w+) = (\w+_rows)', text, re.M))
+    required = {
+        name: set(re.findall(r'codes "([^"]+)"', body))
+        for name, body in re.findall(r'^required_names class\.(\w+) = (.*)$', text, re.M)
+    }
+    return {name: (members_of_rows(lists, list_name), required[name]) for name, list_name in rows.items()}
+
+
+# ---- the member table, as the page has it
+
+
+def told_by_reason_12(name, kind):
+    """Whether an absent member is told in the second phase alone, and so is not required by the table of the shape."""
+    return name == 'ExternalIdentifier' and kind == 'identifiers'
+
+
+def compare_tables():
+    specs, page = table_of_specs(), table_of_page()
+    yield 'the classes of the member table', sorted(specs), sorted(page)
+    for name in sorted(specs):
+        members, required = specs[name]
+        needed, optional = page.get(name, ({}, {}))
+        yield f'the members of {name}', members, {**needed, **optional}
+        listed = sorted(member for member, kind in needed.items() if not told_by_reason_12(member, kind))
+        yield f'what {name} requires', sorted(required), listed
+
+
+# ---- what a voter sees
+
+
+def envelope_of_page():
+    """The members of the report that the member table has in the row of the envelope."""
+    row = re.search(r'^\| ElectionReport, the envelope \| none \| (.*?) \|$', read('docs/PROFILE.md'), re.M).group(1)
+    return set(re.findall(r'`(\w+)`', row))
+
+
+def compare_seen():
+    """Each member of the member table has one word, and that of what is not compared if it is not part of the meaning."""
+    words, page, envelope = seen.read(ROOT / 'docs' / 'PROFILE.md'), table_of_page(), envelope_of_page()
+    yield 'the members of the table', 174, sum(map(len, words.values()))
+    yield 'the classes of what a voter sees', sorted(page), sorted(words)
+    for name, (needed, optional) in page.items():
+        members = {**needed, **optional}
+        yield f'what a voter sees of {name}', sorted(members), sorted(words.get(name, {}))
+        outside = {member for member, kind in members.items() if kind == 'outside'} | (envelope if name == 'ElectionReport' else set())
+        found = {member for member, word in words.get(name, {}).items() if word == 'not compared'}
+        yield f'what is not compared in {name}', sorted(outside), sorted(found)
+
+
+# ---- the limit on bytes
+
+
+def compare_limits():
+    limit = int(re.search(r'pub const MOST_BYTES: usize = ([\d_]+);', read('crates/erd_canon/src/devices/source.rt')).group(1).replace('_', ''))
+    pages = sorted({*ROOT.glob('*.md'), *ROOT.glob('docs/*.md'), *ROOT.glob('docs/*.1'), *ROOT.glob('bindings/**/*.[ch]'), *ROOT.glob('tests/*.sh'), *ROOT.glob('crates/*/src/**/*.rt'), *ROOT.glob('crates/*/specs/*.antt')})
+    for page in pages:
+        numbers = {int(re.sub('[,_]', '', number)) for number in re.findall(r'\b6\d[,_]?\d{3}[,_]?\d{3}\b', page.read_text(encoding='utf-8'))}
+        if numbers:
+            yield f'the limit on bytes in {page.relative_to(ROOT)}', {limit}, numbers
+    mebibytes = re.search(r'\((\d+) MiB\)', read('docs/PROFILE.md'))
+    yield 'the limit in MiB', limit, int(mebibytes.group(1)) * 2**20
+
+
+# ---- the table of reasons
+
+
+def text_of_reasons():
+    """The text of each reason, by its number, as docs/PROFILE.md has it."""
+    section = read('docs/PROFILE.md').split('### The reasons')[1].split('\n### ')[0]
+    return {int(number): text for number, text in re.findall(r'^\| (\d+) \| .* \| `(.*?)(?: NAME)?` \|$', section, re.M)}
+
+
+def compare_reasons():
+    """Each definition, function and test that docs/DEFINITIONS.md names for a reason is there."""
+    texts = text_of_reasons()
+    yield 'the numbers of the reasons', list(range(1, 19)), sorted(texts)
+    section = read('docs/DEFINITIONS.md').split('## The reasons')[1].split('\n## ')[0]
+    specs, judges = (''.join(read(path) for path in re.findall(pattern, section)) for pattern in (r'`(crates/\S+\.antt)`', r'`(crates/\S+\.rt)`'))
+    rows = re.findall(r'^\| (\d+) \|.*\| (.*) \| (.*) \| (.*) \|$', section, re.M)
+    yield 'the rows of the reasons', sorted(texts), [int(row[0]) for row in rows]
+    for number, definitions, functions, tests in rows:
+        missing = [name for name in re.findall(r'`(\w+)`', definitions) if not re.search(rf'\bpub (?:data |record )?{name}\b', specs)]
+        missing += [name for name in re.findall(r'`(\w+)`', functions) if not re.search(rf'\bfn {name}\b', judges)]
+        for name in re.findall(r'`(\w+)`', tests):
+            if texts[int(number)] not in read(f'crates/erd_rows/src/tests/{name}.rt'):
+                missing.append(name)
+        yield f'what stands behind reason {number}', [], missing
+
+
+# ---- exit statuses
+
+
+def numbers_of(pattern, text):
+    return [int(number) for number in re.findall(pattern, text, re.M)]
+
+
+def compare_statuses():
+    specs = read('crates/erd_canon/specs/Statuses.antt')
+    numbers = dict(re.findall(r'^(?:outcome|fault)_status (\w+) = (\d)$', specs, re.M))
+    words = {text: int(numbers[name]) for name, text in re.findall(r'^fault_words (\w+) = codes "(.*)"$', specs, re.M)}
+    statuses = sorted({int(number) for number in numbers.values()})
+    using = read('docs/USING.md')
+    yield 'the statuses of docs/USING.md', statuses, sorted(set(numbers_of(r'^\| (\d) \|', using)))
+    told = {text: int(number) for number, text in re.findall(r'^\| (\d) \| .* \| `([a-z ]+)` \|$', using, re.M)}
+    yield 'the texts of faults in docs/USING.md', words, {text: told.get(text) for text in words}
+    help_texts = read('crates/erd_canon/src/commands/help.rt').split('Exit status:\n')[1:]
+    yield 'the lists of statuses in the help', 4, len(help_texts)
+    for text in help_texts:
+        yield 'the statuses of the help', statuses, numbers_of(r'^  (\d)  ', text.split('\n\n')[0])
+    manual = read('docs/erd.1').split('.SH EXIT STATUS')[1].split('.SH ')[0]
+    yield 'the statuses of docs/erd.1', statuses, numbers_of(r'^\.B (\d)$', manual)
+    texts = [text for text in re.findall(r'^\.B ([a-z ]+)$', manual, re.M) if text in words]
+    yield 'the texts of faults in docs/erd.1', sorted(words), sorted(set(texts))
+    yield 'the statuses of bindings/c/erd.h', statuses, numbers_of(r'^    ERD_\w+ = (\d)', read('bindings/c/erd.h'))
+
+
+# ---- links
+
+
+def pages():
+    """The pages of the repository: those at the top, and those in its folders, apart from what is built."""
+    return {path.relative_to(ROOT) for path in (*ROOT.glob('*.md'), *ROOT.glob('*/*.md'), *ROOT.glob('bindings/*/*.md'))}
+
+
+def anchor(heading):
+    """The anchor that a heading of a page has."""
+    return re.sub(r'[^\w -]', '', heading.lower()).replace(' ', '-')
+
+
+def links(page):
+    """The targets of the links of a page, as paths from the top, each with its anchor."""
+    text = re.sub(r'^```.*?^```$', '', read(page), flags=re.M | re.S)
+    for target in re.findall(r'\]\(((?!https?:)[^)]+)\)', text) + re.findall(r'<img src="([^"]+)"', text):
+        path, _, name = target.partition('#')
+        yield (pathlib.Path(os.path.normpath(page.parent / path)) if path else page), name
+
+
+def compare_links():
+    reached, waiting = set(), [pathlib.Path('README.md')]
+    while waiting:
+        page = waiting.pop()
+        if page not in reached and page.suffix == '.md' and (ROOT / page).exists():
+            reached.add(page)
+            waiting += [path for path, _ in links(page)]
+    yield 'the pages that links lead to from README.md', sorted(map(str, pages())), sorted(map(str, reached))
+    for page in sorted(pages()):
+        broken = []
+        for path, name in links(page):
+            headings = re.findall(r'^#+ (.*)$', read(path), re.M) if path.suffix == '.md' and (ROOT / path).exists() else []
+            if not (ROOT / path).exists() or name and name not in map(anchor, headings):
+                broken.append(f'{path}#{name}')
+        named = re.findall(r'`((?:docs/|conformance/|\.\./)?[A-Z]+\.md|docs/[\w.]+)`', read(page))
+        broken += [name for name in named if not any((ROOT / way).exists() for way in (name, page.parent / name))]
+        yield f'the links of {page} that lead nowhere', [], broken
+
+
+# ---- the kit
+
+
+def compare_kit():
+    """The README names the kit with which the code is proved."""
+    if shutil.which('rt'):
+        version = subprocess.run(['rt', 'version'], capture_output=True, text=True, check=False).stdout.strip()
+        yield 'the kit of README.md', [version], re.findall(r'proved with `(.*?)`', read('README.md'))
+
+
+def main():
+    passed = failed = 0
+    for name, wanted, found in [*compare_tables(), *compare_seen(), *compare_limits(), *compare_reasons(), *compare_statuses(),
+                                *compare_links(), *compare_kit()]:
+        if wanted == found:
+            passed += 1
+        else:
+            failed += 1
+            print(f'FAILED: {name}: {found} is there, and not {wanted}')
+    print(f'{passed} passed, {failed} failed')
+    return int(failed > 0)
+
+
+if __name__ == '__main__':
+    sys.exit(main())

@@ -1,0 +1,64 @@
+"""Holds the first table of docs/GATE.md against tests/gate.sh, and its seconds against those of the last run of the gate here, which
+leaves them in out/gate-costs. One line a case that fails, and at the end the counts."""
+import pathlib
+import re
+import sys
+
+ROOT = pathlib.Path(__file__).resolve().parents[2]
+COSTS = ROOT / 'out' / 'gate-costs'
+# One machine takes two fifths more than another, and a part of some seconds varies by more than that.
+MOST, SLACK = 1.5, 15
+EDITS = 'tests/bodies/try_edits.py --gate CRATE'
+
+
+def plain(command):
+    """A command as the page has it."""
+    command = re.sub(r'^python3 ', '', command)
+    return EDITS if command.startswith('tests/bodies/try_edits.py --gate') else command
+
+
+def rows():
+    """The commands of each row of the page, and its seconds."""
+    table = (ROOT / 'docs' / 'GATE.md').read_text(encoding='utf-8').split('\n\n')[2]
+    for names, seconds in re.findall(r'^\| (`.*?) \| ([\d,]+) \|', table, re.M):
+        yield [plain(name) for name in re.findall(r'`([^`]*)`', names)], int(seconds.replace(',', ''))
+
+
+def parts():
+    """The commands of the gate's lanes."""
+    text = (ROOT / 'tests' / 'gate.sh').read_text(encoding='utf-8')
+    found = {plain(command) for line in re.findall(r"^(?:lane| {4}).*'.*$", text, re.M)
+             for command in re.findall(r"'([^']*)'", line) if '/' in command and ': ' not in command}
+    return found | {EDITS}
+
+
+def cases():
+    listed = [name for names, _ in rows() for name in names]
+    yield 'the parts that the page has', sorted(listed), sorted(parts())
+    if not COSTS.exists():
+        print('skipped the seconds of the gate: there is no run of it here')
+        return
+    spent = {}
+    for line in COSTS.read_text(encoding='utf-8').splitlines():
+        seconds, command = line.split('\t')
+        spent[plain(command)] = spent.get(plain(command), 0) + int(seconds)
+    for names, told in rows():
+        found = sum(spent.get(name, 0) for name in names)
+        is_near = not all(name in spent for name in names) or found <= told * MOST + SLACK and told <= found * MOST + SLACK
+        yield 'the seconds of %s' % ', '.join(names), told if is_near else found, told
+
+
+def main():
+    passed = failed = 0
+    for name, wanted, found in cases():
+        passed += wanted == found
+        failed += wanted != found
+        if wanted != found:
+            what = (set(map(str, wanted)) ^ set(map(str, found))) if isinstance(wanted, list) else f'{found} on the page, and {wanted} here'
+            print(f'FAILED: {name}: {what}')
+    print(f'{passed} passed, {failed} failed')
+    return int(failed > 0)
+
+
+if __name__ == '__main__':
+    sys.exit(main())

@@ -1,0 +1,76 @@
+#!/usr/bin/env bash
+# Tries contrib/confined.sh, the recipe of docs/SERVICE.md, with honest files, with the worst files of SECURITY.md, and with
+# programs that do what erd doesn't. One line a case.
+set -u
+. "$(dirname "$0")/../shared/start.sh" || exit 1
+. tests/shared/commands.sh
+for tool in prlimit timeout python3; do
+    command -v "$tool" > /dev/null || { echo "skipped the recipe for a service: there is no $tool"; counts; exit; }
+done
+export ERD=$PWD/erd
+one=examples/one-unit.json
+
+# confined NAME STATUS WORD ..: a run ends with this status
+confined() {
+    local name=$1 wanted=$2
+    shift 2
+    run contrib/confined.sh "$@"
+    said "$name" "$([ "$status" -eq "$wanted" ] || echo "status $status, not $wanted; $(head -c 200 "$work/err")")"
+}
+
+# with_or_without NAME: what holds in a room and without one
+with_or_without() {
+    confined "$1: accepted" 0 check "$one"
+    equal "$1: the word" "$(cat "$work/out")" accepted
+    confined "$1: the canonical form" 0 canon "$one"
+    same_bytes "$1: its bytes" "$work/out" examples/one-unit.canonical.json
+    confined "$1: the same" 0 compare --prefer local-level examples/county.vendor-a.json examples/county.vendor-b.json
+    confined "$1: a difference" 1 compare examples/county.vendor-a.json "$one"
+    confined "$1: not JSON" 2 check README.md
+    confined "$1: a file that is missing" 3 check "$work/nosuch"
+    confined "$1: a folder" 3 check "$work"
+    confined "$1: no command" 3
+    OUTPUT=1000 confined "$1: a longer output" 125 canon examples/county.vendor-a.json
+    equal "$1: its beginning" "$(stat -c %s "$work/out")" 1000
+    OUTPUT=$(stat -c %s examples/one-unit.canonical.json) confined "$1: an output that just fits" 0 canon "$one"
+    MEMORY=60000000 confined "$1: many faults below many arrays" 4 check "$work/deep.json"
+    equal "$1: its words" "$(cat "$work/err")" 'no memory'
+    MEMORY=100000000 TIME=2 OUTPUT=2000000000 confined "$1: 10 GB of lines" 124 check "$work/name.json"
+    MEMORY=100000000 OUTPUT=100000 confined "$1: the beginning of 10 GB" 125 check "$work/name.json"
+    ERD=$work/spins TIME=1 confined "$1: a program without end" 124 check "$one"
+}
+
+python3 - "$work" << 'END' || exit 1
+import json, pathlib, sys
+sys.path.insert(0, 'tests/reports')
+import hostile_shapes
+work = pathlib.Path(sys.argv[1])
+work.joinpath('name.json').write_text(json.dumps(hostile_shapes.faults_below_a_name(100000)))
+deep = [1.5] * 50000
+for _ in range(120):
+    deep = [deep]
+report = json.loads(pathlib.Path('examples/one-unit.json').read_text())
+work.joinpath('deep.json').write_text(json.dumps({**report, 'Extra': deep}))
+END
+printf '#!/bin/sh\nwhile :; do :; done\n' > "$work/spins"
+cat > "$work/writes" << 'END'
+#!/bin/bash
+{ echo x > /tmp/erd-was-here; echo x > "$HOME/erd-was-here"; } 2> /dev/null && echo 'it wrote a file'
+{ exec 9<> "/dev/tcp/127.0.0.1/$ERD_PORT"; } 2> /dev/null && echo 'it opened a connection'
+[ ! -e /home ] && [ ! -e /etc/passwd ] || echo 'it sees other files'
+exit 0
+END
+chmod +x "$work/spins" "$work/writes"
+
+export SANDBOX=no
+with_or_without 'limits alone'
+if command -v bwrap > /dev/null && bwrap --ro-bind / / --unshare-all true 2> /dev/null; then
+    export SANDBOX=yes
+    with_or_without 'in a room'
+    ERD=$work/writes confined 'a program that writes, connects and looks around' 0 check "$one"
+    equal 'what it reached' "$(cat "$work/out")none" none
+else
+    echo 'skipped the room: there is no bwrap, or it may not run here'
+    SANDBOX=yes confined 'no room, where one is asked for' 3 check "$one"
+fi
+counts

@@ -1,0 +1,90 @@
+# For the scripts that try what is handed on: runs commands and looks at what they left.
+# A script that sources this has $work: start.sh makes it.
+
+# run COMMAND ..: leaves the status in $status, and what was written in $work/out and $work/err
+run() {
+    "$@" < /dev/null > "$work/out" 2> "$work/err"
+    status=$?
+}
+
+# expect NAME STATUS: the last run ended with the status
+expect() {
+    said "$1" "$([ "$status" -eq "$2" ] || echo "status $status, not $2; $(tail -n 3 "$work/err")")"
+}
+
+# expect_text NAME STATUS TEXT: the last run ended with the status, and wrote the text to standard output
+expect_text() {
+    local why=''
+    [ "$status" -eq "$2" ] || why+="status $status, not $2; "
+    [ "$(cat "$work/out")" = "$3" ] || why+="it wrote '$(head -c 200 "$work/out")'; "
+    [ -z "$why" ] || why+=$(tail -n 3 "$work/err")
+    said "$1" "$why"
+}
+
+# same_bytes NAME FILE FILE: two files have the same bytes
+same_bytes() {
+    said "$1" "$(cmp "$2" "$3" 2>&1)"
+}
+
+# equal NAME FOUND WANTED: two texts are equal, and not empty
+equal() {
+    local why=''
+    [ -n "$3" ] || why+='nothing is wanted; '
+    [ "$2" = "$3" ] || why+="'$2' is there, and not '$3'"
+    said "$1" "$why"
+}
+
+# there NAME MODE FILE: a plain file has this mode, and something in it
+there() {
+    local why=''
+    if [ ! -s "$3" ] || [ -L "$3" ]; then
+        why='it is missing or empty'
+    elif [ "$(stat -c %a "$3")" != "$2" ]; then
+        why="its mode is $(stat -c %a "$3"), not $2"
+    fi
+    said "$1" "$why"
+}
+
+# listed NAME KEPT FOLDER: the archive of tar on standard input has exactly the modes, owners and paths of a kept list, below FOLDER.
+# With WRITE=yes the list is written anew, to be looked at as a change.
+listed() {
+    tar --list --verbose --numeric-owner --quoting-style=literal | awk -v folder="$3/" '{
+        found = $1 " " $2 " "
+        sub(/^[^ ]+ +[^ ]+ +[^ ]+ [^ ]+ [^ ]+ /, "")
+        print found (index($0, folder) == 1 ? "./" substr($0, length(folder) + 1) : $0)
+    }' | LC_ALL=C sort > "$work/listed"
+    [ -z "${WRITE:-}" ] || cp "$work/listed" "$2"
+    said "$1" "$(diff "$2" "$work/listed" 2>&1 | grep '^[<>]\|^diff' | head -n 5 | tr '\n' ' ')"
+}
+
+# had TOOL: whether the tool is here; where it isn't, root gets the Debian package of this name
+had() {
+    command -v "$1" > /dev/null && return
+    [ "$(id -u)" -eq 0 ] && command -v apt-get > /dev/null || return
+    echo "$1 is missing, and is installed"
+    from_debian "$1" > "$work/apt" 2>&1
+    command -v "$1" > /dev/null
+}
+
+# from_debian PACKAGE: installs the package of Debian
+from_debian() {
+    local -x DEBIAN_FRONTEND=noninteractive
+    apt-get -o DPkg::Lock::Timeout=300 update
+    apt-get -o DPkg::Lock::Timeout=300 install -y --no-install-recommends "$1"
+}
+
+# version_told FOLDER: the source, its version and the version that the changelog of Debian in this folder tells
+version_told() {
+    gzip -dc "$1/changelog.Debian.gz" | sed -n '1s/^\(.*\) (\(.*\)) .*/\1 \2/p; s/^  \* Version \([0-9.]*[0-9]\)\. .*/\1/p' | paste -sd ' '
+}
+
+# works NAME PROGRAM EXAMPLES: the program does what it is for, on these examples
+works() {
+    run "$2" check "$3/one-unit.json"
+    expect_text "$1: check" 0 accepted
+    run "$2" canon "$3/county.vendor-b.json"
+    expect "$1: canon" 0
+    same_bytes "$1: the canonical form" "$work/out" examples/county.canonical.json
+    run "$2" compare --prefer local-level "$3/county.vendor-a.json" "$3/county.vendor-b.json"
+    expect_text "$1: compare" 0 same
+}
