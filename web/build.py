@@ -16,10 +16,12 @@ import sys
 # The build leaves no files beside its sources.
 sys.dont_write_bytecode = True
 import fixes  # noqa: E402
+import seen  # noqa: E402
 
 ROOT = pathlib.Path(__file__).resolve().parent.parent
 SCRIPTS = ROOT / 'web' / 'scripts'
 LANGUAGE = 'en'
+LANGUAGES = {'en': ROOT / 'docs' / 'FIXES.md', 'es': ROOT / 'web' / 'fixes.es.md'}
 STYLES = ('style.css', 'results.css', 'print.css')
 EXAMPLES = ('county.vendor-a.json', 'county.vendor-b.json')
 MOST_BYTES = 1_000_000
@@ -62,7 +64,7 @@ def scoped(path, text):
 
 def constant(path):
     """The constant that stands for a module."""
-    return path.resolve().stem + '_module'
+    return re.sub(r'\W', '_', str(path.resolve().relative_to(ROOT).with_suffix(''))) + '_module'
 
 
 def without_comments(text):
@@ -101,10 +103,19 @@ def policy(style, script):
     ))
 
 
-def tables(texts):
-    """The tables that the scripts read: texts, fixes and the version."""
-    words = {'texts': texts, 'fixes': fixes.read(ROOT / 'docs' / 'FIXES.md'), 'version': version()}
-    return json_text(words)
+def texts_of(language):
+    """The texts of a language, which has each text that English has."""
+    texts, english = (json.loads((ROOT / 'web' / ('texts.%s.json' % one)).read_text(encoding='utf-8')) for one in (language, 'en'))
+    if texts.keys() != english.keys():
+        raise BuildError('texts that only one of en and %s has: %s' % (language, ', '.join(sorted(texts.keys() ^ english.keys()))))
+    return texts
+
+
+def tables(texts, template):
+    """The tables that the scripts read: texts, fixes, what a voter sees, and what the page makes its own sum from."""
+    explanations = {language: fixes.read(path) for language, path in LANGUAGES.items()}
+    return json_text({'texts': texts, 'fixes': explanations, 'seen': seen.read(ROOT / 'docs' / 'PROFILE.md'), 'version': version(),
+                      'language': LANGUAGE, 'template': template})
 
 
 def version():
@@ -113,9 +124,10 @@ def version():
 
 def page(wasm):
     """The whole page."""
-    texts = json.loads((ROOT / 'web' / ('texts.%s.json' % LANGUAGE)).read_text(encoding='utf-8'))
+    texts = {language: texts_of(language) for language in LANGUAGES}
     style = '\n' + '\n'.join((ROOT / 'web' / name).read_text(encoding='utf-8') for name in STYLES)
     script = in_script(joined('page.mjs'))
+    template = (ROOT / 'web' / 'page.html').read_text(encoding='utf-8')
     examples = {name: (ROOT / 'examples' / name).read_text(encoding='utf-8') for name in EXAMPLES}
     parts = {
         'language': LANGUAGE,
@@ -124,13 +136,12 @@ def page(wasm):
         'script': script,
         'policy': html.escape(policy(style, script), quote=False),
         'worker': in_script(joined('worker.mjs')),
-        'tables': tables(texts),
+        'tables': tables(texts, template),
         'wasm': packed(wasm),
         'examples': packed(json.dumps(examples, ensure_ascii=False).encode()),
     }
-    template = (ROOT / 'web' / 'page.html').read_text(encoding='utf-8')
     return re.sub(r'\{\{(text:)?([\w.]+)\}\}',
-                  lambda found: html.escape(texts[found[2]]) if found[1] else parts[found[2]], template)
+                  lambda found: html.escape(texts[LANGUAGE][found[2]]) if found[1] else parts[found[2]], template)
 
 
 def main(words):

@@ -1,8 +1,18 @@
-"""Reads docs/FIXES.md: for each reason what it means, where it comes from and how it is mended."""
+"""Reads docs/FIXES.md, and fixes.es.md, which is some of it in Spanish: for each reason what it means, where it comes from and how it is mended."""
 import re
 
 REASONS = ['not JSON'] + [str(number) for number in range(1, 19)]
-LABELS = {'What it means.': 'meaning', 'Where it comes from.': 'origin', 'How to mend it.': 'mending'}
+LABELS = {
+    'What it means.': 'meaning', 'Where it comes from.': 'origin', 'How to mend it.': 'mending',
+    'Qué significa.': 'meaning', 'De dónde viene.': 'origin', 'Cómo se corrige.': 'mending',
+}
+
+# The explanations of texts that look alike, by their headings: which ways to look alike they are for.
+ALIKE = {
+    'Two spellings of one letter': ('spelling', 'blanks'), 'Dos maneras de escribir una letra': ('spelling', 'blanks'),
+    'Letters of another alphabet, and marks that are not seen': ('letters', 'hidden', 'marks'),
+    'Letras de otro alfabeto, y marcas que no se ven': ('letters', 'hidden', 'marks'),
+}
 
 
 class FixesError(Exception):
@@ -10,7 +20,7 @@ class FixesError(Exception):
 
 
 def read(path):
-    """For each reason its paragraphs, each a list of texts and of pieces of code."""
+    """For each reason its paragraphs, each a list of texts and of pieces of code; and those of texts that look alike."""
     text = path.read_text(encoding='utf-8')
     sections = {}
     for heading, body in re.findall(r'^## (.+)\n((?:(?!## ).*\n?)*)', text, re.M):
@@ -19,7 +29,17 @@ def read(path):
             sections[found[1] or found[2]] = section(heading, body)
     if sorted(sections) != sorted(REASONS):
         raise FixesError('%s has sections for %s' % (path.name, ', '.join(sections)))
-    return sections
+    return sections | {'alike': alike(text)}
+
+
+def alike(text):
+    """For each way to look alike its first paragraph."""
+    found = {}
+    for heading, paragraph in re.findall(r'^### (.+)\n\n(.+)$', text, re.M):
+        found.update({way: [pieces(paragraph)] for way in ALIKE.get(heading, ())})
+    if len(found) != 5:
+        raise FixesError('the explanations of texts that look alike are those of %s' % ', '.join(found))
+    return found
 
 
 def section(heading, body):
@@ -28,7 +48,7 @@ def section(heading, body):
         found = re.fullmatch(r'\*\*([^*]+)\*\* (.*)', paragraph, re.S)
         if found and found[1] in LABELS:
             paragraphs[LABELS[found[1]]] = [pieces(found[2])]
-    if sorted(paragraphs) != sorted(LABELS.values()):
+    if sorted(paragraphs) != sorted(set(LABELS.values())):
         raise FixesError('the section %s has only %s' % (heading, ', '.join(paragraphs)))
     return paragraphs
 

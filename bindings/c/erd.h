@@ -59,7 +59,7 @@ enum erd_outcome erd_compare(const void *left, size_t left_size, const void *rig
  * with an object for each fault, in the order of the lines of erd_check; the empty array if the report is accepted; or the
  * string "not JSON". An object looks like
  *
- *     {"name":"Status","place":["Election",0,"Contest",2],"reason":2}
+ *     {"name":"Name","place":["Election",0,"Contest",2],"reason":2}
  *
  * `place` has the names of members as strings and positions in arrays, counted from 0, as numbers. `reason` is the number of
  * the reason, from 1 to 18, in docs/PROFILE.md. `name` is the name of the missing member; only reason 2 has it.
@@ -84,7 +84,7 @@ enum erd_outcome erd_compare_data(const void *left, size_t left_size, const void
 /* Frees a text that one of these calls returned. Null is allowed, and does nothing. */
 void erd_free(char *text);
 
-/* Returns the version of the library, such as "0.1.0". It is not freed. */
+/* Returns the version of the library, ERD_VERSION. It is not freed. */
 const char *erd_version(void);
 
 #ifdef __cplusplus

@@ -66,7 +66,7 @@ export class Compared {
     get text(): string;
 }
 
-/** The three calls. Each throws a `TypeError` if an argument is wrong. */
+/** The three calls. Each throws a `TypeError` if an argument is wrong, and a `TrapError` if the module stops. */
 export class Erd {
     constructor(module: WebAssembly.Module);
     /**
@@ -92,6 +92,24 @@ export class Erd {
 /** Loads the proved code: `erd.wasm` beside this file, or the module that is handed in. */
 export function load(source?: Uint8Array | ArrayBuffer | WebAssembly.Module): Promise<Erd>;
 
+/** A name that is written more than once in one object. */
+export interface RepeatedName {
+    /** The way from the root of the report to the member. */
+    place: (string | number)[];
+    /** The place as a JSON Pointer (RFC 6901). */
+    pointer: string;
+    /** How often the name is written in its object. */
+    times: number;
+}
+
+/**
+ * The names that are written more than once in one object, in the order in which their objects end. `erd` reads the last value of
+ * such a name; another program may read the first. This list is not part of what is proved.
+ * @param options `most`: how many are listed; 1,000 if it is left out, and all if it is null
+ * @throws {SyntaxError} if the report is not JSON
+ */
+export function repeatedNames(report: Report, options?: { most?: number | null }): RepeatedName[];
+
 /** The most bytes that a report may have: 67,108,864. */
 export const MOST_BYTES: number;
 
@@ -103,4 +121,9 @@ export class TooLongError extends RangeError {
 /** A call ran out of memory. The next call begins with fresh memory. */
 export class NoMemoryError extends Error {
     readonly code: 'NO_MEMORY';
+}
+
+/** The module stopped in the middle of a call, which the proved code never does: the engine, or the module, is broken. */
+export class TrapError extends Error {
+    readonly code: 'TRAP';
 }

@@ -2,6 +2,8 @@
 import { Erd } from './lib/calls.mjs';
 
 export { Erd, MOST_BYTES, NoMemoryError, TooLongError } from './lib/calls.mjs';
+export { TrapError } from './lib/engine.mjs';
+export { repeatedNames } from './lib/repeated.mjs';
 export { Canonical, Checked, Compared } from './lib/results.mjs';
 
 /**

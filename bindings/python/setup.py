@@ -3,19 +3,22 @@ src/erd; no code is compiled here."""
 
 import os
 
-from setuptools import setup
+from setuptools import Distribution, setup
 from wheel.bdist_wheel import bdist_wheel
+
+
+class OfOnePlatform(Distribution):
+    """The package has a shared library, so it belongs where compiled modules stand."""
+
+    def has_ext_modules(self):
+        return True
 
 
 class Wheel(bdist_wheel):
     """A wheel for every Python 3 of one platform."""
 
-    def finalize_options(self):
-        super().finalize_options()
-        self.root_is_pure = False
-
     def get_tag(self):
         return 'py3', 'none', os.environ['ERD_PLATFORM']
 
 
-setup(version=os.environ['ERD_VERSION'], cmdclass={'bdist_wheel': Wheel})
+setup(version=os.environ['ERD_VERSION'], cmdclass={'bdist_wheel': Wheel}, distclass=OfOnePlatform)

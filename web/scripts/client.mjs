@@ -10,6 +10,7 @@ export class Client {
     #worker = null;
     #waiting = new Map();
     #number = 0;
+    #opened = null;
 
     /**
      * @param {() => Worker} makeWorker
@@ -21,6 +22,12 @@ export class Client {
         this.#begin();
     }
 
+    /** The files that all further questions are about, for a worker that begins anew too. */
+    open(opened) {
+        this.#opened = opened;
+        this.ask('open', opened).catch(() => {});
+    }
+
     /** Asks a question. `tell` is told of progress. */
     ask(kind, question, tell = () => {}) {
         const number = ++this.#number;
@@ -28,6 +35,12 @@ export class Client {
             this.#waiting.set(number, { resolve, reject, tell });
             this.#worker.postMessage({ number, kind, question });
         });
+    }
+
+    /** Begins anew with another first question. */
+    restart(start) {
+        this.#start = start;
+        this.cancel();
     }
 
     /** Ends the worker, with all that it was asked, and begins another one. */
@@ -40,6 +53,9 @@ export class Client {
         this.#worker.addEventListener('message', ({ data }) => this.#heard(data));
         this.#worker.addEventListener('error', (event) => this.#end(new Error(event.message || 'the worker has ended')));
         this.ask('start', this.#start).catch(() => {});
+        if (this.#opened !== null) {
+            this.ask('open', this.#opened).catch(() => {});
+        }
     }
 
     #end(error) {

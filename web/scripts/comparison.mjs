@@ -1,16 +1,25 @@
-// The first difference of two files, and the list of all others.
-import { element, long, saidWith, theirs } from './dom.mjs';
-import { GrowingList } from './growing.mjs';
-import { say } from './texts.mjs';
+// A difference of two files: in plain words, and with both values beside each other.
+import { paragraphs } from './faults.mjs';
+import { element, long, saidWith, theirs, withWhole } from './dom.mjs';
+import { say, sayIfKnown } from './texts.mjs';
+import { textOfTriple } from './values.mjs';
+import { beginningOf, endOf } from './visible.mjs';
 
-const AT_ONCE = 50;
 const LONGEST_LINE = 400;
+const AROUND = 80;
 const LONGEST_TITLE = 60;
 const ROWS_AROUND = 2;
 const MOST_ROWS = 400;
 const DEEPEST = 8;
 
-/** The first difference in plain words, with the values of both files beside each other. */
+let explanations = null;
+
+/** Takes the explanations that stand behind texts which look alike. */
+export function useExplanations(fixes) {
+    explanations = fixes;
+}
+
+/** The first difference in plain words, with the values of both files beside each other where they are known. */
 export function firstDifference(first, names) {
     const groups = first.titles === undefined ? [] : [...objectGroups(first), ...memberGroups(first)];
     return element('section', { 'aria-labelledby': 'first-difference' },
@@ -18,26 +27,8 @@ export function firstDifference(first, names) {
         element('p', { class: 'sentence' }, sentence(first, names)), groups.length === 0 ? null : table(groups, names));
 }
 
-/**
- * The section of all other differences.
- * @param {import('./client.mjs').Client} client
- * @param {number} count
- * @param {string[]} names
- */
-export async function otherDifferences(client, count, names) {
-    const list = new GrowingList(element('ol', { class: 'differences' }), {
-        count,
-        atOnce: AT_ONCE,
-        entries: async (from, some) => (await client.ask('more', { from, count: some })).map((entry) => otherDifference(entry, names)),
-        label: (some) => say('difference.more', { count: some, all: count }),
-        focus: 'summary',
-    });
-    return element('section', { 'aria-labelledby': 'other-differences', class: 'others' },
-        element('h3', { id: 'other-differences' }, say('difference.others', { count })),
-        element('p', { class: 'note' }, say('difference.notProved')), ...await list.begun());
-}
-
-function otherDifference(entry, names) {
+/** A difference of the list: its sentence, and its values when it is opened. */
+export function differenceEntry(entry, names) {
     const details = element('details', {}, element('summary', {}, sentence(entry, names)));
     const groups = entry.rows === null ? objectGroups(entry) : memberGroups(entry);
     details.addEventListener('toggle', () => details.append(table(groups, names)), { once: true });
@@ -46,27 +37,39 @@ function otherDifference(entry, names) {
 
 // ---- the sentence
 
-function sentence({ part, how, member, titles, classes, keyText }, names) {
-    const nodes = { object: object(part, titles ?? [], keyText ?? null), member: code(member ?? ''), left: theirs(names[0]),
+export function sentence({ part, key, how, member, titles, classes }, names) {
+    const nodes = { object: object(part, titles ?? [], key), member: memberWords(member ?? ''), left: theirs(names[0]),
         right: theirs(names[1]), leftClass: code(classes?.[0] ?? ''), rightClass: code(classes?.[1] ?? '') };
     return saidWith(`difference.${how}`, nodes);
 }
 
-function object(part, titles, keyText) {
+export function object(part, titles, key) {
+    const keyText = textOfKeyIn({ key });
     const title = titles.find((text) => text !== null) ?? null;
     return element('strong', {}, say(`part.${part}`),
         ...(title === null ? [] : [' ', saidWith('trail.title', { title: long(title, LONGEST_TITLE) })]),
         ...(keyText === null ? [] : [' ', saidWith('difference.key', { key: long(keyText, LONGEST_TITLE) })]));
 }
 
+function textOfKeyIn({ key }) {
+    return key === null ? null : textOfTriple(key);
+}
+
 function code(text) {
     return element('code', {}, long(text, LONGEST_TITLE));
+}
+
+// A member in plain words, with the name that the standard has for it. A carried member has its name alone.
+function memberWords(name) {
+    const words = sayIfKnown(`member.${name}`);
+    return words === undefined ? element('span', {}, code(name)) : element('span', {}, `${words} (`, code(name), ')');
 }
 
 // ---- the table: groups of rows, each group with a heading
 
 // What the object is called in each file, its identifier, and its class if the classes differ.
-function objectGroups({ how, titles, classes, keyText }) {
+function objectGroups({ how, titles, classes, key }) {
+    const keyText = textOfKeyIn({ key });
     const there = classes.map((name) => name !== null);
     const groups = [['difference.name', titles], ['difference.identifier', there.map((is) => (is ? keyText : null))]];
     if (how === 'other class') {
@@ -78,7 +81,7 @@ function objectGroups({ how, titles, classes, keyText }) {
 
 function textCell(text, texts) {
     const same = texts[0] === texts[1];
-    return lineCell(text === null ? null : { text, indent: 0 }, same, () => absent('difference.notThere'));
+    return lineCell(text === null ? null : { text, indent: 0 }, same, undefined, () => absent('difference.notThere'));
 }
 
 // The member's value in each file.
@@ -88,7 +91,7 @@ function memberGroups({ how, member, rows, there }) {
     }
     const lacking = ['left', 'right'].map((side, index) => (rows.every((row) => row[side] === null)
         ? absent(there[index] ? 'difference.empty' : 'difference.notThere') : null));
-    return [{ heading: code(member), rows: [...lackingRow(lacking), ...shownRows(rows)] }];
+    return [{ heading: memberWords(member), rows: [...lackingRow(lacking), ...shownRows(rows)] }];
 }
 
 function lackingRow(lacking) {
@@ -99,24 +102,36 @@ function lackingRow(lacking) {
 // The rows that differ, with some equal ones around them.
 function shownRows(rows) {
     const shown = [];
-    let hidden = 0;
+    let hidden = [];
     const close = () => {
-        if (hidden > 0) {
-            shown.push(gap('difference.equalLines', hidden));
-            hidden = 0;
-        }
+        shown.push(...hidden.length === 1 ? rowShown(hidden[0]) : hidden.length > 1 ? [gap('difference.equalLines', hidden.length)] : []);
+        hidden = [];
     };
     rows.slice(0, MOST_ROWS).forEach((row, at) => {
         if (isNearDifference(rows, at)) {
             close();
-            shown.push(element('tr', { class: row.same ? 'same' : 'differs' },
-                lineCell(row.left, row.same), lineCell(row.right, row.same)));
+            shown.push(...rowShown(row));
         } else {
-            hidden++;
+            hidden.push(row);
         }
     });
     close();
     return rows.length > MOST_ROWS ? [...shown, gap('difference.moreLines', rows.length - MOST_ROWS)] : shown;
+}
+
+function rowShown({ left, right, same, moved, pieces, alike }) {
+    const row = element('tr', { class: same ? 'same' : 'differs' },
+        lineCell(left, same, pieces?.left), lineCell(right, same, pieces?.right));
+    if (moved !== undefined) {
+        row.lastElementChild.append(element('div', { class: 'move' }, say('value.moved', moved)));
+    }
+    return alike === undefined || alike.length === 0 ? [row]
+        : [row, element('tr', {}, element('td', { colspan: '2', class: 'alike' }, ...alike.map(whyShown)))];
+}
+
+// Why two texts look alike, with the explanation of docs/FIXES.md to open.
+function whyShown(way) {
+    return element('details', {}, element('summary', {}, say(`alike.${way}`)), ...paragraphs(explanations.alike[way]));
 }
 
 function isNearDifference(rows, at) {
@@ -127,14 +142,37 @@ function gap(key, count) {
     return element('tr', {}, element('td', { colspan: '2', class: 'gap' }, say(key, { count })));
 }
 
-function lineCell(line, same, otherwise = () => null) {
+// A line of a value. Where the pieces of two lines are known, those that differ are marked.
+function lineCell(line, same, pieces, otherwise = () => null) {
     if (line === null) {
         return element('td', {}, otherwise());
     }
-    const shown = element('div', {}, long(line.text, LONGEST_LINE));
+    const number = line.number === undefined ? null : `${line.number}. `;
+    const shown = element('div', {}, number, ...pieces === undefined ? [long(line.text, LONGEST_LINE)] : piecesShown(line.text, pieces));
     shown.style.paddingInlineStart = `${Math.min(line.indent, DEEPEST) * 1.25}rem`;
-    return same ? element('td', {}, shown)
-        : element('td', { class: 'changed' }, element('span', { class: 'sign', 'aria-hidden': 'true' }, '≠'), shown);
+    return same ? element('td', {}, shown) : element('td', { class: 'changed' }, differsSign(), shown);
+}
+
+// The sign of a difference, with a word for screen readers.
+function differsSign() {
+    return element('span', { class: 'sign' }, element('span', { 'aria-hidden': 'true' }, '≠'),
+        element('span', { class: 'visually-hidden' }, say('difference.sign')));
+}
+
+// A line with what differs marked. Of a long line, what stands around that.
+function piecesShown(text, pieces) {
+    const isLong = text.length > LONGEST_LINE;
+    const marked = pieces.map(({ text: part, changed }, index) => (changed ? element('mark', {}, long(part, LONGEST_LINE))
+        : theirs(isLong ? around(part, index > 0, index < pieces.length - 1) : part)));
+    return isLong ? [withWhole(text, marked)] : marked;
+}
+
+// The ends of an equal part that stand next to what differs.
+function around(text, isBehind, isBefore) {
+    if (text.length <= 2 * AROUND) {
+        return text;
+    }
+    return `${isBehind ? beginningOf(text, AROUND) : ''}…${isBefore ? endOf(text, AROUND) : ''}`;
 }
 
 function absent(key) {

@@ -1,5 +1,5 @@
 // Why bytes are not JSON, for a reader. That they are not comes from the proved code; this only helps to find out why.
-import { NotJson, Scanner } from './scanner.mjs';
+import { NotJson, Scanner } from '../../bindings/js/lib/scanner.mjs';
 
 // How files of other kinds begin.
 const BEGINNINGS = [
@@ -9,6 +9,9 @@ const BEGINNINGS = [
     ['zip', [0x50, 0x4b, 0x03, 0x04]],
     ['gzip', [0x1f, 0x8b]],
     ['pdf', [0x25, 0x50, 0x44, 0x46]],
+    ['image', [0x89, 0x50, 0x4e, 0x47]],
+    ['image', [0xff, 0xd8, 0xff]],
+    ['image', [0x47, 0x49, 0x46, 0x38]],
 ];
 
 const BLOCK = 1 << 16;
@@ -27,10 +30,15 @@ export function whyNotJson(bytes) {
         return { why: 'empty', at: null };
     }
     if (/^\s*</.test(beginningOf(bytes))) {
-        return { why: 'markup', at: null };
+        return { why: markupOf(beginningOf(bytes)), at: null };
     }
     const wrong = firstNotUtf8(bytes);
     return wrong === null ? whereItStops(bytes) : { why: 'notUtf8', at: wrong };
+}
+
+// The XML form of the standard, a web page, or other markup.
+function markupOf(beginning) {
+    return /<(\w+:)?ElectionReport\b/.test(beginning) ? 'xmlForm' : /^\s*<(!doctype html|html)\b/i.test(beginning) ? 'webPage' : 'markup';
 }
 
 function beginningOf(bytes) {

@@ -44,10 +44,12 @@ export function theirs(text, kept = '') {
 
 /** A text from a file. If it is long, its beginning, with a button for the whole. */
 export function long(text, most, kept = '') {
-    if (text.length <= most) {
-        return theirs(text, kept);
-    }
-    const holder = element('span', {}, theirs(beginningOf(text, most) + '…', kept), ' ');
+    return text.length <= most ? theirs(text, kept) : withWhole(text, [theirs(beginningOf(text, most) + '…', kept)], kept);
+}
+
+/** What is shown of a text from a file, with a button for the whole. */
+export function withWhole(text, shown, kept = '') {
+    const holder = element('span', {}, ...shown, ' ');
     const whole = text.length <= MOST_SHOWN
         ? button(say('long.show', { count: text.length }), () => holder.replaceChildren(box(text, kept)), { class: 'small' })
         : button(say('long.save', { count: text.length }), () => save(new Blob([text]), 'text.txt'), { class: 'small' });

@@ -1,5 +1,5 @@
 // Reads a canonical form and writes values of it, with whole numbers kept as they are.
-import { Scanner, Visitor, textOf } from './scanner.mjs';
+import { Scanner, Visitor, textOf } from '../../bindings/js/lib/scanner.mjs';
 
 /**
  * The value of a canonical form. Whole numbers that a number of JavaScript can't hold become BigInt.

@@ -1,5 +1,5 @@
 // The part of a file that a fault speaks of, with some lines around it.
-import { textOf } from './scanner.mjs';
+import { textOf } from '../../bindings/js/lib/scanner.mjs';
 
 const LINES_AROUND = 2;
 const BYTES_AROUND = 240;

@@ -1,6 +1,6 @@
 // Shows an excerpt of a file: numbers of lines, and the part that is spoken of, marked.
 import { box, button, element, save, theirs } from './dom.mjs';
-import { textOf } from './scanner.mjs';
+import { textOf } from '../../bindings/js/lib/scanner.mjs';
 import { say } from './texts.mjs';
 
 // Line feeds and tabs are part of how a file is laid out.

@@ -1,11 +1,11 @@
-// The faults of a file as cards.
+// The faults of a file as cards, one for each kind: what it means, how it is mended, and its places.
 import { button, element, long, saidWith, save, theirs } from './dom.mjs';
 import { excerptShown } from './excerpts.mjs';
 import { GrowingList } from './growing.mjs';
 import { say, sayIfKnown } from './texts.mjs';
 
-/** How many cards are shown at once. */
-const AT_ONCE = 20;
+/** How many places of a kind are shown at once. */
+const AT_ONCE = 10;
 const LONGEST_TITLE = 60;
 const LONGEST_POINTER = 200;
 
@@ -20,64 +20,78 @@ export class FaultCards {
         this.client = client;
         this.fixes = fixes;
         this.file = file;
-        this.explained = new Set();
     }
 
     /** The section of the file. */
     async section() {
         const { index, name, count } = this.file;
         const heading = `faults-${index}`;
-        const list = new GrowingList(element('ol', { class: 'cards' }), {
-            count,
-            atOnce: AT_ONCE,
-            entries: (from, some) => this.cards(from, some),
-            label: (some) => say('faults.more', { count: some, all: count }),
-            focus: 'h4',
-        });
+        const { kinds, told } = await this.client.ask('kinds', { index });
+        const cards = await Promise.all(kinds.map((kind) => this.card(kind)));
         return element('section', { 'aria-labelledby': heading, class: 'faults' },
             element('h3', { id: heading }, saidWith('faults.heading', { name: theirs(name) }, { count })),
-            element('p', {}, say('faults.phases')), ...await list.begun(), this.saveButton());
-    }
-
-    async cards(from, count) {
-        const cards = await this.client.ask('cards', { index: this.file.index, from, count });
-        return cards.map((card, at) => this.card(card, from + at + 1));
+            element('p', {}, say('faults.phases')), element('p', { class: 'kinds' }, say('faults.kinds', { count: kinds.length })),
+            told < count ? element('p', {}, say('faults.first', { count: told })) : null,
+            element('ol', { class: 'cards' }, ...cards), this.saveButton());
     }
 
     saveButton() {
         const saved = async () => save(new Blob([await this.client.ask('lines', { index: this.file.index })]), 'faults.txt');
-        return element('p', {}, button(say('faults.save'), saved), ' ', element('span', { class: 'note' }, say('faults.saveNote')));
+        return element('p', { class: 'save' }, button(say('faults.save'), saved), ' ', element('span', { class: 'note' }, say('faults.saveNote')));
     }
 
-    card(card, number) {
-        const fix = this.fixes[card.reason];
-        const heading = element('h4', { tabindex: '-1' }, `${number}. `, say(`reason.${card.reason}`),
-            card.name === undefined ? null : element('span', {}, ' ', long(card.name, LONGEST_TITLE)));
-        return element('li', { class: 'card' }, heading, ...paragraphs(fix.meaning), place(card),
-            card.excerpt === null ? null : this.excerpt(card), this.mending(card.reason, fix));
+    async card({ reason, count, names }) {
+        const fix = this.fixes[reason];
+        const list = new GrowingList(element('ol', { class: 'places' }), {
+            count,
+            atOnce: AT_ONCE,
+            entries: (from, some) => this.places(reason, from, some),
+            label: (some) => say('faults.more', { count: some, all: count }),
+            focus: '.place',
+        });
+        return element('li', { class: 'card', 'data-reason': String(reason) },
+            element('h4', { tabindex: '-1' }, say(`reason.${reason}`), ' ', element('span', { class: 'count' }, say('faults.places', { count }))),
+            ...paragraphs(fix.meaning), names.length === 0 ? null : namesShown(names), this.mending(fix), ...await list.begun());
     }
 
-    excerpt(card) {
+    async places(reason, from, count) {
+        const places = await this.client.ask('places', { index: this.file.index, reason, from, count });
+        return places.map((place, at) => this.place(place, from + at === 0));
+    }
+
+    // Where a fault is, and the part of the file, which is open for the first fault of a kind.
+    place(fault, open) {
+        const excerpt = fault.excerpt === null ? null
+            : element('details', { open }, element('summary', {}, say('faults.part')), this.excerpt(fault));
+        return element('li', {}, where(fault), excerpt);
+    }
+
+    excerpt({ excerpt, start, end }) {
         const { index } = this.file;
-        return excerptShown(card.excerpt, () => this.client.ask('part', { index, start: card.start, end: card.end }));
+        return excerptShown(excerpt, () => this.client.ask('part', { index, start, end }));
     }
 
-    // The first card of each reason shows at once how it is mended.
-    mending(reason, fix) {
-        const open = !this.explained.has(reason);
-        this.explained.add(reason);
-        return element('details', { open }, element('summary', {}, say('faults.mend')),
+    mending(fix) {
+        return element('details', { open: true }, element('summary', {}, say('faults.mend')),
             ...paragraphs(fix.mending), element('p', { class: 'label' }, say('faults.origin')), ...paragraphs(fix.origin));
     }
 }
 
-// Where a fault is: the trail for a reader, and the pointer for a vendor.
-function place({ trail, pointer }) {
+// The members that the faults of a kind are about.
+function namesShown(names) {
+    const shown = names.map(([name, count], index) => element('span', {}, index === 0 ? '' : ', ',
+        element('code', {}, long(name, LONGEST_TITLE)), ` (${say('faults.times', { count })})`));
+    return element('p', { class: 'names' }, element('span', { class: 'label' }, say('faults.names')), ' ', ...shown);
+}
+
+/** Where a fault or a change is: the trail for a reader, and the pointer for a vendor. */
+export function where({ trail, pointer, name }) {
     const steps = trail.length === 0 ? [say('trail.report')] : trail.map((step) => element('span', {}, ...words(step)));
     const shownPointer = pointer === '' ? say('faults.emptyPointer') : element('code', {}, long(pointer, LONGEST_POINTER));
-    return element('div', { class: 'place' },
+    const missing = name === undefined ? [] : [element('span', { class: 'label' }, say('faults.missing')), element('code', {}, long(name, LONGEST_TITLE))];
+    return element('div', { class: 'place', tabindex: '-1' },
         element('span', { class: 'label' }, say('faults.where')), element('ol', { class: 'trail' }, ...steps.map((step) => element('li', {}, step))),
-        element('span', { class: 'label' }, say('faults.pointer')), element('span', {}, shownPointer));
+        ...missing, element('span', { class: 'label' }, say('faults.pointer')), element('span', { class: 'pointer' }, shownPointer));
 }
 
 /** A step of a trail in words. */

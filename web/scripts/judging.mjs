@@ -1,33 +1,16 @@
-// Judges one file or two. It runs in the worker, keeps what it has found, and answers questions about it.
-import { MOST_BYTES, NoMemoryError } from '../../bindings/js/lib/calls.mjs';
-import { allDifferences } from './differences.mjs';
-import { whyNotJson } from './diagnosis.mjs';
-import { readCanonical } from './exact.mjs';
-import { excerptOf, Lines } from './excerpt.mjs';
+// Judges one file or two. It runs in the worker, keeps what it has found, and answers questions about it. Each answer is made
+// when it is asked for, so that the verdict waits for nothing else.
+import { BallotAnswers } from './ballot_answers.mjs';
+import { Differences } from './difference_groups.mjs';
+import { excerptOf } from './excerpt.mjs';
 import { Meaning } from './meaning.mjs';
 import { foundPlaces } from './places.mjs';
+import { preparingOf } from './preparing.mjs';
+import { isNoMemory, Side } from './side.mjs';
 import { trailOf } from './trail.mjs';
-import { typesIn } from './types.mjs';
-import { rowsOfDifference } from './rows.mjs';
 
 /** The most bytes of two canonical forms whose differences are all listed. */
 const MOST_LISTED = 80_000_000;
-
-/** One file, and what is known of it. */
-class Side {
-    constructor(file) {
-        this.file = file;
-        this.bytes = null;
-        this.checked = null;
-        this.canonical = null;
-        this.lines = null;
-    }
-
-    linesOfFile() {
-        this.lines ??= new Lines(this.bytes);
-        return this.lines;
-    }
-}
 
 /** A judgement of one file or two, under one preference. */
 export class Judgement {
@@ -35,154 +18,179 @@ export class Judgement {
      * @param {import('../../bindings/js/lib/calls.mjs').Erd} erd
      * @param {Blob[]} files
      * @param {string | null} prefer
-     * @param {(progress: object) => void} tell is told what is done now
+     * @param {Record<string, Record<string, string>>} seen what a voter sees: the table of docs/PROFILE.md
      */
-    constructor(erd, files, prefer, tell) {
+    constructor(erd, files, prefer, seen) {
         this.erd = erd;
         this.prefer = prefer;
-        this.tell = tell;
-        this.sides = files.map((file) => new Side(file));
-        this.differences = null;
-        this.first = null;
+        this.seen = seen;
+        this.sides = files.map((file, index) => new Side(file, index));
     }
 
-    /** Reads and judges each file, and compares two that are accepted. */
-    async judge() {
-        const files = [];
-        for (const [index, side] of this.sides.entries()) {
-            files.push(await this.judgeFile(side, index));
+    /** Reads and judges each file, and compares two that are accepted. `tell` is told what is done now. */
+    async verdict(tell) {
+        for (const side of this.sides) {
+            await side.open(tell);
         }
-        const comparable = files.length === 2 && files.every(({ outcome }) => outcome === 'accepted');
-        return { files, comparison: comparable ? this.compare() : null };
+        const readable = this.sides.filter((side) => side.outcome === null);
+        const compared = readable.length === 2 ? this.compared(tell) : null;
+        for (const side of this.sides.filter(({ outcome }) => outcome === null)) {
+            side.judge(this.erd, this.prefer, tell);
+        }
+        return { files: this.sides.map((side) => side.told()), comparison: this.comparison(compared) };
     }
 
-    async judgeFile(side, index) {
-        const { size } = side.file;
-        if (size > MOST_BYTES) {
-            return { size, outcome: 'tooLong' };
-        }
+    // Compares both files. A refused file gets its outcome from the comparison, and both do if they are accepted.
+    compared(tell) {
+        tell({ stage: 'comparing' });
+        const [left, right] = this.sides;
         try {
-            side.bytes = await this.read(side.file, index);
-        } catch {
-            return { size, outcome: 'unreadable' };
-        }
-        this.tell({ stage: 'checking', index });
-        const sum = sha256(side.bytes);
-        const verdict = await this.orNoMemory(() => this.verdict(side));
-        return { size: side.bytes.length, sha256: await sum, ...verdict };
-    }
-
-    async verdict(side) {
-        const judged = this.erd.canonical(side.bytes, { prefer: this.prefer });
-        side.checked = judged;
-        side.canonical = judged.bytes;
-        if (judged.outcome === 'not JSON') {
-            return { outcome: 'notJson', trouble: this.trouble(side) };
-        }
-        const types = typesIn(side.bytes);
-        return judged.accepted
-            ? { outcome: 'accepted', types, canonical: { size: judged.bytes.length, sha256: await sha256(judged.bytes) } }
-            : { outcome: 'refused', types, faults: judged.faults.length };
-    }
-
-    async orNoMemory(ask) {
-        try {
-            return await ask();
+            const compared = this.erd.compare(left.bytes, right.bytes, { prefer: this.prefer });
+            if (compared.side === null) {
+                this.sides.forEach((side) => (side.outcome = 'accepted'));
+            } else if (compared.side === 'left') {
+                left.take(compared);
+            } else {
+                left.outcome = 'accepted';
+                right.take(compared);
+            }
+            return compared;
         } catch (error) {
-            if (error instanceof NoMemoryError || error instanceof RangeError) {
-                return { outcome: 'noMemory' };
+            if (isNoMemory(error)) {
+                return null;
             }
             throw error;
         }
     }
 
-    async read(file, index) {
-        const bytes = new Uint8Array(file.size);
-        let done = 0;
-        const reader = file.stream().getReader();
-        for (let part = await reader.read(); !part.done; part = await reader.read()) {
-            bytes.set(part.value, done);
-            done += part.value.length;
-            this.tell({ stage: 'reading', index, done, total: file.size });
+    comparison(compared) {
+        if (this.sides.length < 2 || this.sides.some(({ outcome }) => outcome !== 'accepted')) {
+            return null;
         }
-        return bytes.subarray(0, done);
+        if (compared === null) {
+            return { noMemory: true };
+        }
+        return compared.same ? { same: true } : { same: false, first: compared.difference };
     }
 
-    trouble(side) {
-        const { why, at } = whyNotJson(side.bytes);
-        if (at === null) {
-            return { why };
+    /** The sums of each file and of its canonical form, and what is known of its envelope and of its identifiers. */
+    async sums(_question, tell) {
+        const sums = [];
+        for (const side of this.sides) {
+            sums.push({ ...await side.formSums(this.erd, this.prefer, tell), ...side.facts() });
         }
-        const lines = side.linesOfFile();
-        return { why, line: lines.of(at), column: lines.column(at), excerpt: excerptOf(lines, at, Math.min(at + 1, side.bytes.length)) };
+        return sums;
     }
 
-    compare() {
-        this.tell({ stage: 'comparing' });
-        const [left, right] = this.sides.map((side) => side.bytes);
-        try {
-            const { same, difference } = this.erd.compare(left, right, { prefer: this.prefer });
-            return same ? { same } : { same, ...this.listed(difference) };
-        } catch (error) {
-            if (error instanceof NoMemoryError) {
-                return { noMemory: true };
-            }
-            throw error;
+    /** What is known of all differences; null where the files are too large for a list. */
+    list(_question, tell) {
+        const forms = this.sides.map((side) => side.canonical(this.erd, this.prefer, tell));
+        if (forms.includes(null) || forms[0].length + forms[1].length > MOST_LISTED) {
+            return null;
         }
+        tell({ stage: 'listing' });
+        this.differences = new Differences(this.meanings(tell), this.seen);
+        return this.differences.told();
     }
 
-    // The first difference, and how many others there are.
-    listed(first) {
-        this.first = first;
-        const [left, right] = this.sides.map((side) => side.canonical.length);
-        if (left + right > MOST_LISTED) {
-            return { first: { ...first, rows: null }, others: null };
-        }
-        this.tell({ stage: 'listing' });
-        this.meanings = this.sides.map((side) => new Meaning(readCanonical(side.canonical), this.prefer));
-        const isFirst = (entry) => entry.part === first.part && entry.how === first.how && entry.member === first.member
-            && String(entry.key) === String(first.key);
-        this.differences = allDifferences(...this.meanings).filter((entry) => !isFirst(entry));
-        return { first: { ...first, ...rowsOfDifference(this.meanings, first) }, others: this.differences.length };
+    /** Some of the differences of a group, as what the page shows. */
+    more(question) {
+        return this.differences.some(question);
     }
 
-    /** Some of the faults of a side, as what a card shows. */
-    cards({ index, from, count }) {
+    /** The types of identifier that lead to fewer differences, the one with the fewest first. */
+    types({ types }, tell) {
+        tell({ stage: 'types' });
+        return this.differences.underTypes(types, this.prefer);
+    }
+
+    // What the canonical forms say.
+    meanings(tell = () => {}) {
+        this.keptMeanings ??= this.sides.map((side) => new Meaning(side.report(this.erd, this.prefer, tell), this.prefer));
+        return this.keptMeanings;
+    }
+
+    // What the ballots look like.
+    ballots(tell) {
+        this.keptBallots ??= new BallotAnswers(this.meanings(tell));
+        return this.keptBallots;
+    }
+
+    /** The languages of the ballots. */
+    languages(_question, tell) {
+        return this.ballots(tell).languages();
+    }
+
+    /** Some of the ballot styles. */
+    styles(question, tell) {
+        return this.ballots(tell).styles(question);
+    }
+
+    /** One ballot. */
+    ballot(question, tell) {
+        return this.ballots(tell).ballot(question);
+    }
+
+    /** The kinds of the faults of a side, with their counts, and how many faults these have together. */
+    kinds({ index }) {
         const side = this.sides[index];
-        const faults = side.checked.faults.slice(from, from + count);
-        const found = foundPlaces(side.bytes, faults.map((fault) => fault.place));
-        return faults.map((fault, at) => this.card(side, fault, found[at]));
+        const kinds = side.kinds.map(({ reason, faults, names }) => ({ reason, count: faults.length, names }));
+        return { kinds, told: side.checked.faults.length };
     }
 
-    card(side, fault, found) {
+    /** Some of the faults of one kind, as what the page shows. */
+    places({ index, reason, from, count }) {
+        const side = this.sides[index];
+        const faults = side.kinds.find((kind) => kind.reason === reason).faults.slice(from, from + count);
+        const found = foundPlaces(side.bytes, faults.map((fault) => fault.place));
+        return faults.map((fault, at) => this.place(side, fault, found[at]));
+    }
+
+    place(side, fault, found) {
         const trail = trailOf(found, fault.place);
         const { start, end } = found === null ? { start: 0, end: 0 } : found.range;
-        return { ...fault, trail, start, end, excerpt: found === null ? null : excerptOf(side.linesOfFile(), start, end) };
+        return { ...fault, trail, start, end, excerpt: found === null ? null : excerptOf(side.lines, start, end) };
     }
 
-    /** Some of the differences after the first one. */
-    more({ from, count }) {
-        return this.differences.slice(from, from + count).map((entry) => ({ ...entry, ...rowsOfDifference(this.meanings, entry) }));
+    /** What steps do to a copy of a side; null if it is not JSON. */
+    preparation({ index, steps }) {
+        const preparing = this.preparing(index);
+        return preparing === null ? null : preparing.told(steps);
+    }
+
+    /** The copy on which these steps were done. */
+    preparedCopy({ index, steps }) {
+        return this.preparing(index).copied(steps);
+    }
+
+    /** Each change of these steps, as JSON. */
+    preparedChanges({ index, steps }) {
+        return this.preparing(index).changes(steps);
+    }
+
+    preparing(index) {
+        const side = this.sides[index];
+        side.preparing ??= preparingOf(side.bytes);
+        return side.preparing;
     }
 
     /** The canonical form of a side. */
-    canonicalOf({ index }) {
-        return this.sides[index].canonical;
+    canonical({ index }, tell) {
+        return this.sides[index].canonical(this.erd, this.prefer, tell);
     }
 
-    /** The lines that the program writes for a side. */
-    linesOf({ index }) {
-        return this.sides[index].checked.text;
+    /** The lines that the program writes for a side, as bytes. */
+    lines({ index }) {
+        return this.erd.written('erd_check', [this.sides[index].bytes], { prefer: this.prefer }).bytes;
+    }
+
+    /** The first of these lines. */
+    firstLines({ index, count }) {
+        return this.sides[index].checked.faults.slice(0, count).map(({ line }) => line);
     }
 
     /** The bytes of a part of a file. */
     part({ index, start, end }) {
         return this.sides[index].bytes.slice(start, end);
     }
-}
-
-/** The SHA-256 of bytes, in hexadecimal digits. */
-export async function sha256(bytes) {
-    const digest = new Uint8Array(await crypto.subtle.digest('SHA-256', bytes));
-    return Array.from(digest, (byte) => byte.toString(16).padStart(2, '0')).join('');
 }

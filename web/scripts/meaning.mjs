@@ -1,7 +1,8 @@
 // What a canonical form says, as records by key: docs/PROFILE.md, "What a report means". It serves to show values and to list
 // all differences; the first difference itself comes from the proved code.
+import { ENVELOPE } from './envelope.mjs';
 import { compactText } from './exact.mjs';
-import { orderOfKeys, orderOfTexts, textOfKey } from './order.mjs';
+import { orderOfKeys, orderOfTexts, textOfKey } from '../../bindings/js/lib/order.mjs';
 import { textOfLabel } from './trail.mjs';
 
 /** The parts of a meaning, in the order of their differences. */
@@ -9,8 +10,6 @@ export const PARTS = ['report', 'unit', 'party', 'person', 'office', 'header', '
 
 const PARTS_OF_REPORT = { GpUnit: 'unit', Party: 'party', Person: 'person', Office: 'office', Header: 'header' };
 const PARTS_OF_ELECTION = { Candidate: 'candidate', Contest: 'contest', BallotStyle: 'style' };
-const ENVELOPE = ['Format', 'GeneratedDate', 'Issuer', 'IssuerAbbreviation', 'VendorApplicationId', 'Notes', 'SequenceStart',
-    'SequenceEnd', 'ExternalIdentifier'];
 const OUTSIDE_RECORD = {
     report: new Set(['@type', 'Election', ...Object.keys(PARTS_OF_REPORT), ...ENVELOPE]),
     election: new Set(['@type', ...Object.keys(PARTS_OF_ELECTION)]),
@@ -42,10 +41,18 @@ export class Thing {
 export class Meaning {
     constructor(report, prefer) {
         this.prefer = prefer;
+        this.report = report;
         this.things = new Map(PARTS.map((part) => [part, new Map()]));
         this.named = new Map();
         this.selections = new Map();
+        this.aliases = new Map();
+        this.hasTwins = false;
         this.addReport(report);
+    }
+
+    /** The same meaning, in which a reference to an object with one of these names counts as one to another object. */
+    withAliases(aliases) {
+        return Object.assign(Object.create(Meaning.prototype), this, { aliases });
     }
 
     addReport(report) {
@@ -66,7 +73,9 @@ export class Meaning {
     }
 
     add(thing) {
-        this.things.get(thing.part).set(textOfKey(thing.key), thing);
+        const things = this.things.get(thing.part);
+        this.hasTwins ||= things.has(textOfKey(thing.key));
+        things.set(textOfKey(thing.key), thing);
         if (Object.hasOwn(thing.object, '@id')) {
             this.named.set(thing.object['@id'], thing);
         }
@@ -93,7 +102,7 @@ export class Meaning {
         const members = Object.entries(thing.object).filter(([name]) => !outside.has(name));
         const record = new Map(members.map(([name, value]) => [name, this.comparable(name, value)]));
         if (thing.election !== null) {
-            record.set('ElectionId', textOfKey(thing.election));
+            record.set('ElectionId', this.aliasOf(textOfKey(['election', thing.election])));
         }
         return record;
     }
@@ -127,7 +136,14 @@ export class Meaning {
     // One text for what a reference names.
     keyOfReference(reference) {
         const thing = this.named.get(reference);
-        return thing === undefined ? this.selectionName(this.selections.get(reference)) : textOfKey([thing.part, thing.key]);
+        if (thing === undefined) {
+            return this.selectionName(this.selections.get(reference));
+        }
+        return this.aliasOf(textOfKey([thing.part, thing.key]));
+    }
+
+    aliasOf(text) {
+        return this.aliases.get(text) ?? text;
     }
 
     // The record of a selection, with its name.

@@ -1,156 +1,148 @@
-// The page: which files are chosen, what is asked of the worker, and what is shown of its answer.
+// The page: it asks the worker about the files that are chosen, and shows what it answers.
+import { Choice } from './choice.mjs';
 import { Cancelled, Client } from './client.mjs';
-import { firstDifference, otherDifferences } from './comparison.mjs';
 import { element, saidWith, theirs } from './dom.mjs';
 import { embedded } from './embedded.mjs';
-import { EXAMPLES, filesOfExample } from './examples.mjs';
-import { excerptShown } from './excerpts.mjs';
-import { FaultCards, paragraphs } from './faults.mjs';
-import { recordOf, sizeText } from './record.mjs';
-import { say, useTexts } from './texts.mjs';
-import { banner, sentenceOn, verdictOf } from './verdict.mjs';
+import { firstLanguage, offerLanguages, useLanguage } from './languages.mjs';
+import { ManyFiles } from './many.mjs';
+import { sumOfPage } from './page_sum.mjs';
+import { Result } from './result.mjs';
+import { say } from './texts.mjs';
+import { banner } from './verdict.mjs';
 
 const $ = (id) => document.getElementById(id);
-const SIDES = [0, 1];
 
 class Page {
     constructor(data) {
         this.data = data;
-        this.client = new Client(workerOf, { wasm: data.wasm, texts: data.texts, language: document.documentElement.lang });
-        this.files = [null, null];
+        this.client = new Client(workerOf, this.start());
+        this.choice = new Choice(data.examples, { changed: (how) => this.chosen(how), many: (files) => this.survey(files) });
         this.prefer = null;
         this.run = 0;
     }
 
+    // What a worker needs first.
+    start() {
+        const { lang } = document.documentElement;
+        return { wasm: this.data.wasm, texts: this.data.texts[lang], language: lang, seen: this.data.seen };
+    }
+
+    /** Puts the page into another language, and judges anew what is shown. */
+    speak(language) {
+        useLanguage(this.data.texts, language);
+        this.client.restart(this.start());
+        $('many-files').replaceChildren();
+        $('prefer-choice').hidden = true;
+        this.choice.relabel();
+        this.judge();
+    }
+
     begin() {
-        for (const side of SIDES) {
-            $(`input-${side}`).addEventListener('change', ({ target }) => this.choose(side, [...target.files]));
-            $(`remove-${side}`).addEventListener('click', () => this.remove(side));
-        }
+        offerLanguages($('language'), Object.keys(this.data.texts), document.documentElement.lang, (language) => this.speak(language));
+        this.choice.begin();
         $('cancel').addEventListener('click', () => this.cancel());
         $('prefer').addEventListener('change', ({ target }) => this.preferred(target));
-        $('examples').append(...EXAMPLES.map(({ name }) => element('li', {}, element('button',
-            { type: 'button', click: () => this.example(name) }, say(`example.${name}`)))));
-        this.takeDrops();
-        this.showFiles();
         document.documentElement.dataset.ready = 'yes';
     }
 
-    takeDrops() {
-        const over = (is) => document.body.classList.toggle('dropping', is);
-        addEventListener('dragover', (event) => {
-            event.preventDefault();
-            over(true);
-        });
-        addEventListener('dragleave', (event) => over(event.relatedTarget !== null));
-        addEventListener('drop', (event) => {
-            event.preventDefault();
-            over(false);
-            const slot = event.target.closest?.('[data-slot]');
-            this.dropped(slot === null || slot === undefined ? null : Number(slot.dataset.slot), [...event.dataTransfer.files]);
-        });
-    }
-
-    // Files that were dropped outside the two slots go into the first free one; if there is none, they begin anew.
-    dropped(slot, files) {
-        const free = this.files.indexOf(null);
-        if (slot === null && free < 0) {
-            this.files = [null, null];
-        }
-        this.choose(slot ?? Math.max(free, 0), files);
-    }
-
-    choose(side, files) {
-        if (files.length === 0) {
-            return;
-        }
-        $('files-message').hidden = files.length <= 2;
-        if (files.length > 2) {
-            this.say(say('files.tooMany'));
-            return;
-        }
-        if (files.length === 2) {
-            this.files = files;
-        } else {
-            this.files[side] = files[0];
+    // A table of many files stays while two of them are compared.
+    chosen({ ofTable = false } = {}) {
+        if (!ofTable) {
+            $('many-files').replaceChildren();
         }
         this.prefer = null;
+        $('prefer-choice').hidden = true;
         this.judge();
     }
 
-    remove(side) {
-        this.files = side === 0 ? [this.files[1], null] : [this.files[0], null];
-        this.prefer = null;
+    // A type that the page offers, by its difference.
+    prefers(type) {
+        $('prefer').value = type;
+        this.prefer = type;
         this.judge();
-        $('input-0').focus();
-    }
-
-    example(name) {
-        const files = filesOfExample(name, this.data.examples);
-        this.files = [files[0], files[1] ?? null];
-        this.prefer = null;
-        this.judge();
+        $('prefer').focus();
     }
 
     preferred({ value, selectedIndex }) {
         this.prefer = selectedIndex === 0 ? null : value;
-        this.judge({ sameFiles: true });
+        this.judge();
     }
 
     cancel() {
         this.client.cancel();
-        $('input-0').focus();
+        this.choice.focus();
     }
 
-    showFiles() {
-        if (this.files[0] === null && this.files[1] !== null) {
-            this.files.reverse();
+    /** Judges each of many files, and shows a table of them. */
+    async survey(files) {
+        const isCurrent = this.beginRun();
+        this.choice.slots = [null, null];
+        this.choice.show();
+        $('prefer-choice').hidden = true;
+        this.setBusy(true);
+        const many = new ManyFiles($('many-files'), files, {
+            client: this.client, compare: (pair) => this.choice.pair(pair), say: (text) => this.say(text),
+        });
+        try {
+            await many.judge(null, (progress) => this.progress(progress, []), isCurrent);
+        } catch (error) {
+            if (isCurrent()) {
+                this.failed(error, { hasVerdict: false });
+            }
         }
-        for (const side of SIDES) {
-            const file = this.files[side];
-            $(`name-${side}`).replaceChildren(...(file === null ? [say('files.none')]
-                : [theirs(file.name), ` (${sizeText(file.size)})`]));
-            $(`remove-${side}`).hidden = file === null;
-            $(`input-${side}`).value = '';
+        if (isCurrent()) {
+            this.setBusy(false);
         }
     }
 
-    get chosen() {
-        return this.files.filter((file) => file !== null);
-    }
-
-    /** Judges the files that are chosen, and shows what was found. An older run that has not ended is given up. */
-    async judge({ sameFiles = false } = {}) {
+    // Gives up what was asked before. Tells whether nothing else was asked since.
+    beginRun() {
         const run = ++this.run;
-        this.showFiles();
         $('result').replaceChildren();
-        if (!sameFiles) {
-            $('prefer-choice').hidden = true;
-        }
         if (this.busy) {
             this.client.cancel();
         }
-        if (this.chosen.length === 0) {
-            this.setBusy(false);
+        return () => run === this.run;
+    }
+
+    /** Judges the files that are chosen, and shows what was found. An older run that has not ended is given up. */
+    async judge() {
+        const isCurrent = this.beginRun();
+        this.choice.show();
+        this.setBusy(this.choice.files.length > 0);
+        if (!this.busy) {
             return;
         }
-        const started = performance.now();
-        this.setBusy(true);
         this.say(say('progress.start'));
+        const { files } = this.choice;
+        this.client.open({ files, prefer: this.prefer });
+        const result = new Result({
+            client: this.client, data: { ...this.data, fixes: this.data.fixes[document.documentElement.lang] }, holder: $('result'),
+            names: files.map((file) => file.name), files, prefer: this.prefer,
+            isCurrent, tell: (progress) => isCurrent() && this.progress(progress, files),
+            offerTypes: (types) => this.offerTypes(types), prefers: (type) => this.prefers(type),
+            takesCopy: (index, copy) => this.choice.exchange(index, copy),
+        });
+        await this.shown(result, isCurrent);
+        if (isCurrent()) {
+            this.setBusy(false);
+        }
+    }
+
+    async shown(result, isCurrent) {
+        const started = performance.now();
         try {
-            const question = { files: this.chosen, prefer: this.prefer };
-            const answer = await this.client.ask('judge', question, (progress) => run === this.run && this.progress(progress));
-            if (run === this.run) {
-                await this.show(answer);
+            const verdict = await result.verdict();
+            if (isCurrent()) {
                 document.documentElement.dataset.milliseconds = String(Math.round(performance.now() - started));
+                this.say(verdict);
+                $('verdict').scrollIntoView({ block: 'nearest' });
+                await result.rest();
             }
         } catch (error) {
-            if (run === this.run) {
-                this.failed(error);
+            if (isCurrent()) {
+                this.failed(error, result);
             }
-        }
-        if (run === this.run) {
-            this.setBusy(false);
         }
     }
 
@@ -160,8 +152,7 @@ class Page {
         document.documentElement.dataset.busy = busy ? 'yes' : 'no';
     }
 
-    progress({ stage, index, done, total }) {
-        const name = index === undefined ? '' : this.chosen[index].name;
+    progress({ stage, index, done, total, name = index === undefined ? '' : files[index].name }, files) {
         $('stage').replaceChildren(saidWith(`progress.${stage}`, { name: theirs(name) }));
         if (total > 0) {
             $('meter').value = done / total;
@@ -170,8 +161,12 @@ class Page {
         }
     }
 
-    failed(error) {
+    failed(error, result) {
         const cancelled = error instanceof Cancelled;
+        if (result.hasVerdict) {
+            result.stopped(cancelled ? null : error);
+            return;
+        }
         const title = say(cancelled ? 'verdict.cancelled' : 'verdict.failed');
         const sentence = element('p', {}, say(cancelled ? 'sentence.cancelled' : 'sentence.failed'));
         $('result').replaceChildren(banner({ tone: 'stop', title }, sentence,
@@ -179,74 +174,14 @@ class Page {
         this.say(title);
     }
 
-    async show(answer) {
-        const names = this.chosen.map((file) => file.name);
-        const verdict = verdictOf(answer);
-        const sentences = this.sentences(answer, names);
-        const sections = [...await this.troubles(answer, names), ...await this.comparison(answer, names)];
-        const record = recordOf({
-            answer, names, prefer: this.prefer, version: this.data.version, verdict: verdict.title, date: new Date(),
-        }, this.client);
-        $('result').replaceChildren(banner(verdict, ...sentences), ...sections, record);
-        this.offerTypes(answer);
-        this.say(verdict.title);
-        $('verdict').scrollIntoView({ block: 'nearest' });
-    }
-
-    sentences({ files, comparison }, names) {
-        if (comparison?.noMemory) {
-            return [element('p', {}, say('sentence.compareNoMemory'))];
-        }
-        return comparison === null ? files.map((file, index) => sentenceOn(file, names[index]))
-            : [element('p', {}, say(comparison.same ? 'sentence.same' : 'sentence.different'))];
-    }
-
-    /** What is wrong with each file. */
-    async troubles({ files }, names) {
-        const sections = [];
-        for (const [index, file] of files.entries()) {
-            if (file.outcome === 'refused') {
-                const known = { index, name: names[index], count: file.faults };
-                sections.push(await new FaultCards(this.client, this.data.fixes, known).section());
-            } else if (file.outcome === 'notJson') {
-                sections.push(this.notJson(file.trouble, names[index], index));
-            }
-        }
-        return sections;
-    }
-
-    notJson({ why, line, column, excerpt }, name, index) {
-        const heading = `not-json-${index}`;
-        const fix = this.data.fixes['not JSON'];
-        const where = line === undefined ? null : element('p', {}, say('notJson.where', { line: String(line), column: String(column) }));
-        return element('section', { class: 'card', 'aria-labelledby': heading },
-            element('h3', { id: heading }, saidWith('notJson.heading', { name: theirs(name) })),
-            element('p', {}, say(`notJson.${why}`)), where,
-            excerpt === undefined ? null : excerptShown(excerpt, () => Promise.resolve(new Uint8Array(0))),
-            element('details', {}, element('summary', {}, say('faults.mend')), ...paragraphs(fix.mending),
-                element('p', { class: 'label' }, say('faults.origin')), ...paragraphs(fix.origin)));
-    }
-
-    async comparison({ comparison }, names) {
-        if (comparison === null || comparison.same || comparison.noMemory) {
-            return [];
-        }
-        const first = firstDifference(comparison.first, names);
-        if (comparison.others === null) {
-            return [first, element('p', { class: 'note' }, say('difference.tooLarge'))];
-        }
-        return comparison.others === 0 ? [first, element('p', {}, say('difference.noOthers'))]
-            : [first, await otherDifferences(this.client, comparison.others, names)];
-    }
-
     /** Offers the types of identifier that the files have. The choice stays as it is while a user goes through it. */
-    offerTypes({ files }) {
+    offerTypes(types) {
         if (!$('prefer-choice').hidden) {
             return;
         }
-        const types = [...new Set(files.flatMap((file) => file.types ?? []))].sort();
         const options = types.map((type) => element('option', { value: type }, theirs(type).textContent));
         $('prefer').replaceChildren(element('option', { value: '' }, say('prefer.none')), ...options);
+        $('prefer').value = this.prefer ?? '';
         $('prefer-choice').hidden = types.length === 0;
     }
 
@@ -265,8 +200,9 @@ function workerOf() {
 
 async function begin() {
     const data = await embedded();
-    useTexts(data.texts, document.documentElement.lang);
-    new Page(data).begin();
+    const pageSum = await sumOfPage(data);
+    useLanguage(data.texts, firstLanguage(Object.keys(data.texts), navigator.languages, data.language));
+    new Page({ ...data, pageSum }).begin();
 }
 
 begin().catch((error) => {

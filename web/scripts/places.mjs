@@ -1,5 +1,5 @@
 // Finds places of a report in its bytes, all of them in one walk.
-import { Scanner, Visitor, textOf } from './scanner.mjs';
+import { Scanner, Visitor, textOf } from '../../bindings/js/lib/scanner.mjs';
 
 // The members that say what an object is to a reader.
 const TITLE_MEMBERS = new Set(['Name', 'BallotName', 'FullName', 'LastName', 'Selection', 'Type', 'Value', 'Language', '@type']);

@@ -1,22 +1,33 @@
-// The record of a judgement: what two offices read to each other, and what is printed.
+// The record of a judgement: what two offices read to each other, and what is printed and filed.
 import { button, element, save, theirs } from './dom.mjs';
+import { copyRecorded } from './prepare_copy.mjs';
+import { sumShown } from './sums.mjs';
 import { numberText, say } from './texts.mjs';
 
 /**
  * The section of the record.
- * @param {{answer: object, names: string[], prefer: string | null, version: string, verdict: string, date: Date}} known
+ * @param {{files: object[], names: string[], prefer: string | null, version: string, pageSum: string, verdict: string,
+ *     date: Date, findings: HTMLElement | null, notices: NodeList[]}} known `findings` are the differences or the faults, and
+ *     `notices` what stands above the verdict, both for print
  * @param {import('./client.mjs').Client} client
  */
 export function recordOf(known, client) {
-    const { answer, names } = known;
-    const files = answer.files.map((file, index) => fileRows(file, names[index], index, answer.files.length));
+    const { files, names } = known;
+    const rows = files.map((file, index) => fileRows(file, names[index], index, names.length));
     return element('section', { class: 'record', 'aria-labelledby': 'record' },
-        element('h3', { id: 'record' }, say(files.length === 1 ? 'record.ofCheck' : 'record.ofComparison')),
-        answer.files.some((file) => file.canonical) ? element('p', { class: 'screen' }, say('record.phone')) : null,
-        element('dl', {}, ...entry('record.verdict', element('strong', {}, known.verdict)), ...files.flat(),
+        element('h3', { id: 'record' }, say(names.length === 1 ? 'record.ofCheck' : 'record.ofComparison')),
+        files.some((file) => file.canonical) ? element('p', { class: 'screen' }, say('record.phone')) : null,
+        element('dl', {}, ...entry('record.verdict', element('strong', {}, known.verdict)), ...rows.flat(),
             ...entry('record.prefer', known.prefer === null ? say('prefer.none') : theirs(known.prefer)),
-            ...entry('record.date', dateText(known.date)), ...entry('record.version', `erd ${known.version}`)),
-        signatures(), buttons(answer, names, client));
+            ...entry('record.date', dateText(known.date)), ...entry('record.version', `erd ${known.version}`),
+            ...entry('record.page', sumShown(known.pageSum, 'page', false))),
+        filed(known), signatures(), buttons(files, names, client));
+}
+
+// What only the printed record has.
+function filed({ notices, findings }) {
+    return element('div', { class: 'filed' }, ...notices.map((heading) => element('p', {}, element('strong', {}, ...heading))), findings,
+        element('p', {}, say('record.proved')), element('p', {}, say('record.notProved')));
 }
 
 function fileRows(file, name, index, count) {
@@ -25,8 +36,9 @@ function fileRows(file, name, index, count) {
     return [
         heading,
         ...(count === 1 ? [] : entry('record.outcome', say(`verdict.${file.outcome}`, { count: file.faults ?? 0 }))),
-        ...(file.sha256 === undefined ? [] : entry('record.fileSum', sum(file.sha256))),
-        ...(file.canonical === undefined ? [] : entry('record.formSum', sum(file.canonical.sha256, 'form'))),
+        ...(file.sha256 === undefined ? [] : entry('record.fileSum', sumShown(file.sha256, 'file', false))),
+        ...(file.canonical === undefined ? [] : entry('record.formSum', sumShown(file.canonical.sha256, 'form', true))),
+        ...(file.copied === undefined ? [] : copyRecorded(file.copied).flatMap(([key, value]) => entry(key, value))),
     ];
 }
 
@@ -34,19 +46,14 @@ function entry(key, value) {
     return [element('div', {}, element('dt', {}, say(key)), element('dd', {}, value))];
 }
 
-// A sum in groups of four digits, as it is read aloud. Copied, it has no spaces.
-function sum(digits, kind = 'file') {
-    return element('code', { class: 'sum', 'data-sum': kind }, ...digits.match(/.{4}/g).map((group) => element('span', {}, group)));
-}
-
 function signatures() {
     return element('div', { class: 'signatures', 'aria-hidden': 'true' }, ...['record.office', 'record.name', 'record.signature']
         .map((key) => element('p', {}, say(key))));
 }
 
-function buttons(answer, names, client) {
-    const forms = answer.files.map((file, index) => (file.canonical === undefined ? null : button(
-        answer.files.length === 1 ? say('record.save') : say(`record.save${index + 1}`), async () => {
+function buttons(files, names, client) {
+    const forms = files.map((file, index) => (file.canonical === undefined ? null : button(
+        files.length === 1 ? say('record.save') : say(`record.save${index + 1}`), async () => {
             const name = `${names[index].replace(/\.json$/i, '')}.canonical.json`;
             save(new Blob([await client.ask('canonical', { index })]), name);
         })));

@@ -1,5 +1,8 @@
 // The texts of the page, from one table. `web/texts.en.json` is the table in English.
 
+// How numbers are written: as in the United States, in each language.
+const LOCALES = { en: 'en-US', es: 'es-US' };
+
 let table = {};
 let plurals = new Intl.PluralRules('en');
 let numbers = new Intl.NumberFormat('en');
@@ -8,7 +11,7 @@ let numbers = new Intl.NumberFormat('en');
 export function useTexts(texts, language) {
     table = texts;
     plurals = new Intl.PluralRules(language);
-    numbers = new Intl.NumberFormat(language);
+    numbers = new Intl.NumberFormat(LOCALES[language] ?? language);
 }
 
 /**

@@ -1,5 +1,5 @@
 // The types of identifier that a file has, so that the page can offer them as the preferred one.
-import { Scanner, textOf } from './scanner.mjs';
+import { Scanner, textOf } from '../../bindings/js/lib/scanner.mjs';
 
 const NAME = new TextEncoder().encode('"ExternalIdentifier"');
 const MOST_TYPES = 100;

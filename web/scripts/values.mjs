@@ -1,12 +1,13 @@
 // The value of a member as lines for a reader: one line for each object that it names, text that it has, or entry of a list.
 import { compactText } from './exact.mjs';
 import { isReference } from './meaning.mjs';
-import { orderOfTexts } from './order.mjs';
+import { orderOfTexts } from '../../bindings/js/lib/order.mjs';
 import { say } from './texts.mjs';
 
 /**
- * A line of a value. Lines are alike if their objects have equal keys, whatever the objects are called.
- * @typedef {{text: string, like: string, indent: number}} Line
+ * A line of a value. Lines are alike if their objects have equal keys, whatever the objects are called. A line of a list whose
+ * order counts has its number in it.
+ * @typedef {{text: string, like: string, indent: number, number?: number}} Line
  */
 
 /** Shows values of one report. */
@@ -33,7 +34,7 @@ export class Values {
             return value.flatMap((entry, index) => this.content(entry, index + 1));
         }
         if (name === 'OrderedContestSelectionIds') {
-            return value.map((reference) => this.reference(reference));
+            return value.map((reference, index) => ({ ...this.reference(reference), number: index + 1 }));
         }
         if (isReference(name)) {
             return [value].flat().map((reference) => this.reference(reference)).sort((one, other) => orderOfTexts(one.like, other.like));
@@ -76,7 +77,7 @@ export class Values {
             ...this.lines('OrderedContent', OrderedContent ?? []),
         ];
         const carried = Object.entries(others).filter(([name]) => name !== '@type');
-        return [after(`${number}. `, this.reference(ContestId ?? HeaderId)), ...below.map(indented), ...this.members(carried)];
+        return [{ ...this.reference(ContestId ?? HeaderId), number }, ...below.map(indented), ...this.members(carried)];
     }
 
     identifier(identifier) {

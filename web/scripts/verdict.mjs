@@ -1,8 +1,10 @@
 // The verdict on one file or two, in a heading and a sentence.
-import { element, saidWith, theirs } from './dom.mjs';
+import { element, long, saidWith, theirs } from './dom.mjs';
+import { envelopeDetails } from './notices.mjs';
 import { say } from './texts.mjs';
 
 const MOST_BYTES = 67108864;
+const LONGEST_STATUS = 60;
 const TONES = { accepted: 'good', refused: 'bad' };
 
 /**
@@ -30,8 +32,20 @@ export function banner({ tone, title }, ...sentences) {
         element('div', {}, element('h2', { id: 'verdict', tabindex: '-1' }, title), ...sentences));
 }
 
-/** A sentence on one file. */
-export function sentenceOn(file, name) {
-    const { outcome, faults, size } = file;
-    return element('p', {}, saidWith(`sentence.${outcome}`, { name: theirs(name) }, { count: faults ?? 0, size, most: MOST_BYTES }));
+/** The sentences below the heading. */
+export function sentencesOn({ files, comparison }, names) {
+    if (comparison === null) {
+        return files.map((file, index) => sentenceOn(file, names[index]));
+    }
+    if (comparison.noMemory) {
+        return [element('p', {}, say('sentence.compareNoMemory'))];
+    }
+    return [element('p', {}, say(comparison.same ? 'sentence.same' : 'sentence.different')), envelopeDetails()];
+}
+
+function sentenceOn(file, name) {
+    const { outcome, faults, size, status } = file;
+    const said = element('p', {}, saidWith(`sentence.${outcome}`, { name: theirs(name) }, { count: faults ?? 0, size, most: MOST_BYTES }));
+    return status === undefined ? said
+        : element('div', {}, said, element('p', {}, saidWith('sentence.afterElection', { status: long(status, LONGEST_STATUS) })));
 }

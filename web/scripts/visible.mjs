@@ -35,3 +35,9 @@ export function beginningOf(text, length) {
     const end = /[\ud800-\udbff]/.test(text[length - 1]) ? length - 1 : length;
     return text.slice(0, end);
 }
+
+/** The last characters of a text, without a half of a surrogate pair at the beginning. */
+export function endOf(text, length) {
+    const start = text.length - length;
+    return text.slice(/[\udc00-\udfff]/.test(text[start]) ? start + 1 : start);
+}

@@ -1,33 +1,47 @@
 // The worker: it does all that takes time, so that the page stays alive.
 import { Erd } from '../../bindings/js/lib/calls.mjs';
 import { Judgement } from './judging.mjs';
+import { surveyed } from './survey.mjs';
 import { useTexts } from './texts.mjs';
 
-let module = null;
+let started = null;
 let judgement = null;
 
+// What a judgement is asked. Each question waits until its files are judged, since a worker may begin anew after it was ended.
+const QUESTIONS = ['sums', 'list', 'more', 'types', 'languages', 'styles', 'ballot', 'kinds', 'places', 'canonical', 'lines', 'firstLines', 'part', 'preparation',
+    'preparedCopy', 'preparedChanges'];
+
 const ANSWERS = {
-    async start({ wasm, texts, language }) {
+    async start({ wasm, texts, language, seen }) {
         useTexts(texts, language);
-        module = await WebAssembly.compile(wasm);
+        started = { module: await WebAssembly.compile(wasm), seen };
     },
-    judge({ files, prefer }, tell) {
-        judgement = new Judgement(new Erd(module), files, prefer, tell);
-        return judgement.judge();
+    open({ files, prefer }) {
+        judgement = new Judgement(new Erd(started.module), files, prefer, started.seen);
     },
-    cards: (question) => judgement.cards(question),
-    more: (question) => judgement.more(question),
-    canonical: (question) => judgement.canonicalOf(question),
-    lines: (question) => judgement.linesOf(question),
-    part: (question) => judgement.part(question),
+    verdict: (_question, tell) => judged(tell),
+    survey: ({ file, prefer }) => surveyed(new Erd(started.module), file, prefer),
 };
+
+function judged(tell) {
+    judgement.answer ??= judgement.verdict(tell);
+    return judgement.answer;
+}
+
+async function answered(kind, question, tell) {
+    if (QUESTIONS.includes(kind)) {
+        await judged(tell);
+        return judgement[kind](question, tell);
+    }
+    return ANSWERS[kind](question, tell);
+}
 
 // Questions are answered one after another.
 let last = Promise.resolve();
 
 addEventListener('message', ({ data: { number, kind, question } }) => {
     const tell = (progress) => postMessage({ number, progress });
-    last = last.then(() => ANSWERS[kind](question, tell)).then(
+    last = last.then(() => answered(kind, question, tell)).then(
         (answer) => postMessage({ number, answer }),
         (error) => postMessage({ number, error: String(error) }),
     );

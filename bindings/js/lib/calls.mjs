@@ -2,6 +2,7 @@
 import { Engine, OUTCOME } from './engine.mjs';
 import { checkedOf, comparedOf, withCanonical, withoutCanonical } from './results.mjs';
 
+
 /** The most bytes that a report may have. */
 export const MOST_BYTES = 67108864;
 
@@ -83,8 +84,8 @@ export class Erd {
     }
 }
 
-// The bytes of a report. A view of other numbers than bytes is refused, since its bytes depend on the machine.
-function bytesOf(report, what) {
+/** The bytes of a report. A view of other numbers than bytes is refused, since its bytes depend on the machine. */
+export function bytesOf(report, what) {
     if (report instanceof Uint8Array) {
         return report;
     }

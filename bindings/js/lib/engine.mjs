@@ -6,6 +6,15 @@ export const OUTCOME = { good: 0, bad: 1, notJson: 2, wrong: 3, noMemory: 4 };
 // Memory of WebAssembly can't shrink. So an instance whose memory has grown beyond this is not kept for the next call.
 const BYTES_KEPT = 64 * 1024 * 1024;
 
+/** The module trapped, which the proved code never does: the engine, or the module, is broken. */
+export class TrapError extends Error {
+    constructor(cause) {
+        super(`trap: the module stopped: ${cause.message}`, { cause });
+        this.name = 'TrapError';
+        this.code = 'TRAP';
+    }
+}
+
 /** A module, and an instance of it. The instance is made again after a call that took much memory, or that failed. */
 export class Engine {
     #module;
@@ -49,7 +58,7 @@ export class Engine {
     }
 }
 
-// Makes one call; null if there is no memory for it. The module traps if its stack is exhausted.
+// Makes one call; null if there is no memory for it.
 function answerOf(exports, name, reports, prefer) {
     try {
         const room = new Room(exports);
@@ -61,10 +70,10 @@ function answerOf(exports, name, reports, prefer) {
         room.givenBack();
         return { outcome, bytes };
     } catch (error) {
-        if (error instanceof RoomError || error instanceof WebAssembly.RuntimeError || error instanceof RangeError) {
+        if (error instanceof RoomError || error instanceof RangeError) {
             return null;
         }
-        throw error;
+        throw error instanceof WebAssembly.RuntimeError ? new TrapError(error) : error;
     }
 }
 

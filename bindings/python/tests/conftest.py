@@ -15,7 +15,7 @@ def top():
 
 
 def pytest_generate_tests(metafunc):
-    """Gives each conformance case to a test that asks for one."""
+    """Gives each conformance case to a test that asks for one; `conformance/make` makes their folders."""
     if 'case' in metafunc.fixturenames:
-        cases = sorted(path.parent for path in (TOP / 'conformance').glob('*/why'))
+        cases = sorted(path.parent for path in (TOP / 'out' / 'conformance').glob('*/why'))
         metafunc.parametrize('case', cases, ids=[path.name for path in cases])

@@ -1,6 +1,7 @@
 """What the calls take and refuse, and what their results say."""
 
 import doctest
+import json
 import threading
 
 import pytest
@@ -79,3 +80,20 @@ def test_several_threads(top):
     for thread in threads:
         thread.join()
     assert found == [wanted] * 80
+
+
+def test_repeated_names(top):
+    for row in json.loads((top / 'tests' / 'forms' / 'repeated_names.json').read_text(encoding='utf-8')):
+        if row['names'] is None:
+            with pytest.raises(ValueError):
+                erd.repeated_names(row['report'])
+        else:
+            found = erd.repeated_names(row['report'].encode('utf-8'))
+            assert [[name.pointer, name.times] for name in found] == row['names'], row['report']
+
+
+def test_the_first_repeated_names():
+    report = '[' + ','.join(['{"a":1,"a":2}'] * 1001) + ']'
+    assert len(erd.repeated_names(report)) == 1000
+    assert len(erd.repeated_names(report, most=None)) == 1001
+    assert erd.repeated_names(report, most=2)[1].place == (1, 'a')

@@ -75,6 +75,24 @@ def test_csv_and_table(run, ballots):
     assert table.endswith('\n6 files, 3 accepted, in 2 groups\n')
 
 
+def test_a_group_for_each_meaning(run, top, tmp_path):
+    # Some of so many sums begin alike.
+    report = (top / 'examples' / 'one-unit.json').read_bytes()
+    folder = tmp_path / 'units'
+    folder.mkdir()
+    for number in range(40):
+        (folder / f'{number:02}.json').write_bytes(report.replace(b'"U1"', b'"U%d"' % (number % 20)))
+    rows = json.loads(run('--json', folder).stdout)
+    assert [row['group'] for row in rows] == [number % 20 + 1 for number in range(40)]
+
+
+@pytest.mark.parametrize('name', ['=1+1.json', '+1.json', '-1.json', '@x.json', '\t=1.json'])
+def test_no_name_is_a_formula(run, tmp_path, name):
+    (tmp_path / name).write_bytes(b'{}')
+    row, = csv.DictReader(io.StringIO(run('--csv', '--', name, cwd=tmp_path).stdout, newline=''))
+    assert row['file'] == "'" + name
+
+
 def test_names_of_files_do_not_paint_the_terminal(run, ballots):
     (ballots / 'x\x1b[31m\n.json').write_bytes(b'{}')
     assert '\x1b' not in run(ballots).stdout
@@ -91,7 +109,7 @@ def test_what_cannot_be_read_is_a_row(run, ballots):
     assert rows['gone.json']['verdict'] == 'cannot open'
 
 
-def test_a_process_that_ends_is_a_row(run, ballots, tmp_path):
+def test_a_process_that_ends_is_a_row(run, ballots, tmp_path, monkeypatch):
     # A process that the system stops, as for its memory, ends with no answer.
     (tmp_path / 'sitecustomize.py').write_text(
         'import erd, os\n'
@@ -100,11 +118,8 @@ def test_a_process_that_ends_is_a_row(run, ballots, tmp_path):
         '    if report == b"": os._exit(9)\n'
         '    return real(report, **more)\n'
         'erd.canonical = canonical\n')
-    os.environ['PYTHONPATH'] = str(tmp_path)
-    try:
-        rows = rows_by_name(run('--json', '--jobs', 2, ballots))
-    finally:
-        del os.environ['PYTHONPATH']
+    monkeypatch.setenv('PYTHONPATH', os.pathsep.join([str(tmp_path), os.environ.get('PYTHONPATH', '')]))
+    rows = rows_by_name(run('--json', '--jobs', 2, ballots))
     assert rows['empty.json']['verdict'] == 'the process ended'
     assert rows['a.json']['verdict'] == rows['c.json']['verdict'] == 'accepted'
 
@@ -156,3 +171,25 @@ def test_cluster(run, ballots, tmp_path):
             it.terminate()
         for it in started:
             it.wait()
+
+
+def test_prepare(run, top, tmp_path):
+    folder = tmp_path / 'exports'
+    folder.mkdir()
+    export = (top / 'examples' / 'state-primary.raw.json').read_bytes()
+    (folder / 'export.json').write_bytes(export)
+    (folder / 'again.json').write_bytes(export.replace(b'Adela Whitlock', b'Adele Whitlock'))
+    (folder / 'broken.json').write_bytes(b'{')
+    rows = rows_by_name(run('--json', folder))
+    assert [rows[name]['verdict'] for name in ('export.json', 'again.json', 'broken.json')] == ['refused', 'refused', 'not JSON']
+    assert 'prepared' not in rows['export.json']
+    rows = rows_by_name(run('--json', '--prepare', 'taken,chosen', '--jobs', 2, folder))
+    assert [rows[name]['verdict'] for name in ('export.json', 'again.json', 'broken.json')] == ['accepted', 'accepted', 'not JSON']
+    assert [rows[name]['group'] for name in ('again.json', 'export.json')] == [1, 2]
+    assert rows['export.json']['prepared'].startswith('outside 18, coordinates 3, ')
+    assert (folder / 'export.json').read_bytes() == export
+    table = run('--prepare', 'outside', folder).stdout
+    assert table.splitlines()[0].endswith('prepared by') and 'outside 18' in table
+    rows = list(csv.DictReader(io.StringIO(run('--csv', '--prepare', 'outside', folder).stdout)))
+    assert {row['prepared'] for row in rows} == {'outside 18', ''}
+    assert run('--prepare', 'nosuch', folder).returncode == 3

@@ -18,15 +18,22 @@ def test_answers(case):
     prefer = preference(case)
     if (case / 'input.json').exists():
         report = (case / 'input.json').read_bytes()
+        lines = (case / 'check.txt').read_text('utf-8')
         found = erd.check(report, prefer=prefer)
-        assert found.text == (case / 'check.txt').read_text('utf-8')
+        assert found.text == lines
+        assert (found.accepted, bool(found)) == (lines == 'accepted\n', lines == 'accepted\n')
+        assert found.is_json == (lines != 'not JSON\n')
         form = erd.canonical(report, prefer=prefer)
         assert form.check == found
+        assert (form.accepted, bool(form)) == (lines == 'accepted\n', lines == 'accepted\n')
         canonical = case / 'canonical.json'
         assert form.form == (canonical.read_bytes() if canonical.exists() else None)
     else:
         left, right = ((case / name).read_bytes() for name in ('left.json', 'right.json'))
-        assert erd.compare(left, right, prefer=prefer).text == (case / 'compare.txt').read_text('utf-8')
+        lines = (case / 'compare.txt').read_text('utf-8')
+        found = erd.compare(left, right, prefer=prefer)
+        assert found.text == lines
+        assert (found.same, bool(found)) == (lines == 'same\n', lines == 'same\n')
 
 
 @pytest.mark.parametrize('name', ['one-unit.json', 'county.vendor-b.json', 'small-ballot.json'])

@@ -25,9 +25,11 @@ import json
 from typing import Optional, Union
 
 from .library import BAD, GOOD, TooLong, call, version
+from .repeats import RepeatedName, repeated_names
 from .results import Canonical, Check, Comparison, Difference, Fault, check_of, comparison_of
 
-__all__ = ['Canonical', 'Check', 'Comparison', 'Difference', 'Fault', 'TooLong', 'canonical', 'check', 'compare', 'version']
+__all__ = ['Canonical', 'Check', 'Comparison', 'Difference', 'Fault', 'RepeatedName', 'TooLong', 'canonical', 'check', 'compare',
+           'repeated_names', 'version']
 
 Report = Union[bytes, bytearray, memoryview, str]
 
@@ -84,3 +86,10 @@ def bytes_of_type(prefer: Optional[str]) -> Optional[bytes]:
     if '\0' in prefer:
         raise ValueError('prefer has a zero character in it')
     return prefer.encode('utf-8')
+
+
+def __getattr__(name: str) -> str:
+    """`erd.__version__` is the version of the library, which is loaded when something asks for it."""
+    if name == '__version__':
+        return version()
+    raise AttributeError(name)

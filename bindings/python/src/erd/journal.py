@@ -22,25 +22,26 @@ def folder() -> Path:
 
 
 def stamp(file: str) -> Optional[List[int]]:
-    """Returns the size and the time of the last change of a file, by which a file that has changed is judged anew."""
+    """Returns the size of a file and when it was written and changed, by which a file that has changed is judged anew."""
     try:
         found = os.stat(file)
     except OSError:
         return None
-    return [found.st_size, found.st_mtime_ns]
+    return [found.st_size, found.st_mtime_ns, found.st_ctime_ns]
 
 
 class Journal:
     """A file with a line for each row. Its name follows from what the run was asked for, and the version of the library."""
 
-    def __init__(self, names: Iterable[str], prefer: Optional[str], pattern: str, keeps: bool) -> None:
-        asked = [[os.path.abspath(name) for name in names], prefer, pattern, version()]
+    def __init__(self, names: Iterable[str], prefer: Optional[str], pattern: str, keeps: bool, steps: Iterable[str] = ()) -> None:
+        asked = [[os.path.abspath(name) for name in names], prefer, pattern, version(), *steps]
         name = hashlib.sha256(json.dumps(asked).encode('utf-8', 'surrogatepass')).hexdigest()[:32]
         self.path = folder() / f'{name}.jsonl'
         self.path.parent.mkdir(parents=True, exist_ok=True)
         if not keeps:
             self.remove()
         self.out = None
+        self.stamps: Dict[str, Optional[List[int]]] = {}
 
     def __enter__(self) -> Journal:
         return self
@@ -49,19 +50,23 @@ class Journal:
         if self.out is not None:
             self.out.close()
 
-    def rows(self, files: Iterable[str]) -> List[Dict[str, object]]:
-        """Returns the rows of these files, but for files that have changed since. A last line that was cut off is passed over."""
+    def look_at(self, files: Iterable[str]) -> None:
+        """Takes the stamps of the files of this run, before one of them is read: what changes after that is judged anew."""
+        self.stamps = {file: stamp(file) for file in files}
+
+    def rows(self) -> List[Dict[str, object]]:
+        """Returns the rows of the files of this run, but for files that have changed since. A last line that was cut off is
+        passed over."""
         found: Dict[str, Dict[str, object]] = {}
         try:
             lines = self.path.read_text('utf-8', 'surrogatepass').splitlines()
         except OSError:
             return []
-        wanted = set(files)
         for line in lines:
             try:
                 kept = json.loads(line)
                 row = kept['row']
-                if row['file'] in wanted and kept['stamp'] is not None and kept['stamp'] == stamp(row['file']):
+                if kept['stamp'] is not None and kept['stamp'] == self.stamps.get(row['file']):
                     found[row['file']] = row
             except (ValueError, KeyError, TypeError):
                 continue
@@ -72,7 +77,7 @@ class Journal:
         if self.out is None:
             self.out = open(self.path, 'a', encoding='utf-8', errors='surrogatepass', buffering=1)
             self.out.write('\n')
-        self.out.write(json.dumps({'row': row, 'stamp': stamp(str(row['file']))}) + '\n')
+        self.out.write(json.dumps({'row': row, 'stamp': self.stamps.get(str(row['file']))}) + '\n')
 
     def remove(self) -> None:
         """Takes the journal away, once the run is whole."""

@@ -4,9 +4,10 @@ from __future__ import annotations
 
 import hashlib
 from dataclasses import dataclass
-from typing import Optional
+from typing import Optional, Sequence
 
 from . import TooLong, __main__ as program, canonical
+from .prepare import NotJson, prepare
 
 ACCEPTED, REFUSED, NOT_JSON = 'accepted', 'refused', 'not JSON'
 STATUS_OF = {ACCEPTED: 0, REFUSED: 1, NOT_JSON: 2, 'no memory': 4}
@@ -21,6 +22,8 @@ class Row:
     faults: int = 0
     sha256: Optional[str] = None
     group: Optional[int] = None
+    prepared: Optional[str] = None
+    """Which steps changed something before the file was judged, if any were asked for."""
 
     @property
     def status(self) -> int:
@@ -28,11 +31,18 @@ class Row:
         return STATUS_OF.get(self.verdict, 3)
 
 
-def judge(file: str, prefer: Optional[str]) -> Row:
-    """Reads one file and judges it. Whatever goes wrong is the verdict."""
+def judge(file: str, prefer: Optional[str], steps: Sequence[str] = ()) -> Row:
+    """Reads one file and judges it, or a copy on which these steps were done. Whatever goes wrong is the verdict."""
+    told = None
     try:
         with program.Input(file) as opened:
-            result = canonical(program.read(opened.handle), prefer=prefer)
+            data = program.read(opened.handle)
+        if steps:
+            data, done = prepare(data, steps)
+            told = ', '.join(f'{step.name} {len(step.made)}' for step in done if step.made)
+        result = canonical(data, prefer=prefer)
+    except NotJson:
+        return Row(file, NOT_JSON)
     except TooLong:
         return Row(file, 'too long')
     except MemoryError:
@@ -42,5 +52,5 @@ def judge(file: str, prefer: Optional[str]) -> Row:
     except Exception as error:  # a row of its own, so that one file cannot end the run
         return Row(file, f'{type(error).__name__}: {error}')
     if result.form is not None:
-        return Row(file, ACCEPTED, sha256=hashlib.sha256(result.form).hexdigest())
-    return Row(file, REFUSED if result.check.is_json else NOT_JSON, len(result.check.faults))
+        return Row(file, ACCEPTED, sha256=hashlib.sha256(result.form).hexdigest(), prepared=told)
+    return Row(file, REFUSED if result.check.is_json else NOT_JSON, len(result.check.faults), prepared=told)

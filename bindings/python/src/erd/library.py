@@ -5,6 +5,7 @@ from __future__ import annotations
 import ctypes
 import os
 import sys
+from functools import lru_cache
 from pathlib import Path
 from typing import Optional, Tuple
 
@@ -32,38 +33,41 @@ def path_of_library() -> str:
 
 def load(path: str) -> ctypes.CDLL:
     """Loads the library and declares its calls."""
-    library = ctypes.CDLL(path)
+    loaded = ctypes.CDLL(path)
     text = [ctypes.POINTER(ctypes.c_void_p), ctypes.POINTER(ctypes.c_size_t)]
     report = [ctypes.c_char_p, ctypes.c_size_t]
     for call, reports in (('erd_check_data', 1), ('erd_canonical', 1), ('erd_compare_data', 2)):
-        function = getattr(library, call)
+        function = getattr(loaded, call)
         function.argtypes = report * reports + [ctypes.c_char_p] + text
         function.restype = ctypes.c_int
-    library.erd_free.argtypes = [ctypes.c_void_p]
-    library.erd_free.restype = None
-    library.erd_version.argtypes = []
-    library.erd_version.restype = ctypes.c_char_p
-    return library
+    loaded.erd_free.argtypes = [ctypes.c_void_p]
+    loaded.erd_free.restype = None
+    loaded.erd_version.argtypes = []
+    loaded.erd_version.restype = ctypes.c_char_p
+    return loaded
 
 
-LIBRARY = load(path_of_library())
+@lru_cache(maxsize=None)
+def library() -> ctypes.CDLL:
+    """Returns the library, which is loaded when something calls it. What only prepares files needs none."""
+    return load(path_of_library())
 
 
 def version() -> str:
     """Returns the version of the library."""
-    return LIBRARY.erd_version().decode('ascii')
+    return library().erd_version().decode('ascii')
 
 
 def call(name: str, reports: Tuple[bytes, ...], prefer: Optional[bytes]) -> Tuple[int, bytes]:
     """Calls the library, and returns the outcome and the text."""
     text, length = ctypes.c_void_p(), ctypes.c_size_t()
     arguments = [value for report in reports for value in (report, len(report))]
-    outcome = getattr(LIBRARY, name)(*arguments, prefer, ctypes.byref(text), ctypes.byref(length))
+    outcome = getattr(library(), name)(*arguments, prefer, ctypes.byref(text), ctypes.byref(length))
     try:
         if outcome == NO_MEMORY:
             raise MemoryError('out of memory')
         if outcome == WRONG:
             raise TooLong()
-        return outcome, ctypes.string_at(text.value, length.value)
+        return outcome, bytes((ctypes.c_char * length.value).from_address(text.value))
     finally:
-        LIBRARY.erd_free(text)
+        library().erd_free(text)

@@ -1,6 +1,6 @@
 """Judges many files at once, and groups those that define the same ballots.
 
-python -m erd.many FOLDER.. [--json | --csv] [--prefer TYPE] [--jobs N] [--scheduler ADDRESS] [--resume]
+python -m erd.many FOLDER.. [--json | --csv] [--prefer TYPE] [--prepare STEPS] [--jobs N] [--scheduler ADDRESS] [--resume]
 
 Two accepted files define the same ballots if and only if their canonical forms are equal. So files of one group have one SHA-256
 of their canonical forms. A file that cannot be judged is a row with its reason, and the run goes on.
@@ -14,12 +14,14 @@ import json
 import os
 import sys
 from dataclasses import asdict
+from functools import partial
 from pathlib import Path
 from typing import Dict, Iterable, Iterator, List, Optional, TextIO
 
 from . import __main__ as program
 from .journal import Journal
 from .judging import Row, judge
+from .prepare.__main__ import names_of
 from .running import run_here, run_on_cluster
 
 def files_below(names: Iterable[str], pattern: str) -> List[str]:
@@ -45,10 +47,18 @@ def shown(text: str) -> str:
     return ''.join(it if it.isprintable() else f'\\u{{{ord(it):x}}}' for it in text)
 
 
+def were_prepared(rows: List[Row]) -> bool:
+    """Returns whether copies were judged, on which steps were done."""
+    return any(row.prepared is not None for row in rows)
+
+
 def write_table(rows: List[Row], out: TextIO) -> None:
     """Writes the rows as a table for a person."""
-    heads = ('file', 'verdict', 'faults', 'sha256 of the canonical form', 'group')
-    lines = [(shown(row.file), shown(row.verdict), str(row.faults or ''), row.sha256 or '', str(row.group or '')) for row in rows]
+    heads = ['file', 'verdict', 'faults', 'sha256 of the canonical form', 'group', 'prepared by']
+    lines = [[shown(row.file), shown(row.verdict), str(row.faults or ''), row.sha256 or '', str(row.group or ''), row.prepared or '']
+             for row in rows]
+    if not were_prepared(rows):
+        heads, lines = heads[:-1], [line[:-1] for line in lines]
     widths = [max(map(len, column)) for column in zip(heads, *lines)]
     for line in (heads, *lines):
         out.write('  '.join(cell.ljust(width) for cell, width in zip(line, widths)).rstrip() + '\n')
@@ -59,15 +69,22 @@ def write_table(rows: List[Row], out: TextIO) -> None:
 
 def write_json(rows: List[Row], out: TextIO) -> None:
     """Writes the rows as a JSON array."""
-    json.dump([asdict(row) for row in rows], out, indent=1)
+    left_out = () if were_prepared(rows) else ('prepared',)
+    json.dump([{name: value for name, value in asdict(row).items() if name not in left_out} for row in rows], out, indent=1)
     out.write('\n')
+
+
+def no_formula(text: str) -> str:
+    """Returns the text, with an apostrophe before it if a spreadsheet could take it for a formula."""
+    return "'" + text if text.startswith(('=', '+', '-', '@', '\t', '\r')) else text
 
 
 def write_csv(rows: List[Row], out: TextIO) -> None:
     """Writes the rows as CSV."""
-    writer = csv.DictWriter(out, ['file', 'verdict', 'faults', 'sha256', 'group'], lineterminator='\n')
+    names = ['file', 'verdict', 'faults', 'sha256', 'group', *(['prepared'] if were_prepared(rows) else [])]
+    writer = csv.DictWriter(out, names, lineterminator='\n', extrasaction='ignore')
     writer.writeheader()
-    writer.writerows(asdict(row) for row in rows)
+    writer.writerows({**asdict(row), 'file': no_formula(row.file), 'verdict': no_formula(row.verdict)} for row in rows)
 
 
 class Progress:
@@ -106,6 +123,8 @@ def parser() -> argparse.ArgumentParser:
     form.add_argument('--json', dest='write', action='store_const', const=write_json, help='write a JSON array')
     form.add_argument('--csv', dest='write', action='store_const', const=write_csv, help='write CSV')
     words.add_argument('--prefer', metavar='TYPE', type=program.not_empty, help='the type of identifier that keys follow')
+    words.add_argument('--prepare', metavar='STEPS', type=names_of, default=[], help='judge a copy of each file on which these steps '
+                       'of erd-prepare were done: names of steps or of groups, with commas between them; the files stay as they are')
     words.add_argument('--pattern', default='*.json', help='which files of a folder are judged (default: %(default)s)')
     words.add_argument('--jobs', type=int, default=os.cpu_count() or 1, metavar='N', help='how many processes (default: one a core)')
     words.add_argument('--scheduler', metavar='ADDRESS', help='run on the Dask cluster with this scheduler; its workers open the '
@@ -118,14 +137,16 @@ def parser() -> argparse.ArgumentParser:
 def rows_of(words: argparse.Namespace, files: List[str], journal: Journal) -> Iterator[Row]:
     """Gives a row for each file as it is known: first those that a run before has judged, then the others."""
     known: Dict[str, Row] = {}
+    journal.look_at(files)
     if words.resume:
-        known = {it['file']: Row(**it) for it in journal.rows(files)}
+        known = {it['file']: Row(**it) for it in journal.rows()}
     yield from known.values()
     left = [it for it in files if it not in known]
+    judged = partial(judge, steps=tuple(words.prepare)) if words.prepare else judge
     if words.scheduler:
-        rows = run_on_cluster(words.scheduler, judge, left, words.prefer)
+        rows = run_on_cluster(words.scheduler, judged, left, words.prefer)
     else:
-        rows = run_here(words.jobs, judge, left, words.prefer)
+        rows = run_here(words.jobs, judged, left, words.prefer)
     for row in rows:
         journal.add(asdict(row))
         yield row
@@ -138,7 +159,7 @@ def main(arguments: Optional[List[str]] = None) -> int:
         else files_below(words.names, words.pattern)
     progress = Progress(len(files))
     rows = []
-    with Journal(words.names, words.prefer, words.pattern, keeps=words.resume) as journal:
+    with Journal(words.names, words.prefer, words.pattern, keeps=words.resume, steps=words.prepare) as journal:
         try:
             for row in rows_of(words, files, journal):
                 rows.append(row)

@@ -3,6 +3,7 @@
 from __future__ import annotations
 
 import multiprocessing
+import sys
 import uuid
 from concurrent.futures import FIRST_COMPLETED, Future, ProcessPoolExecutor, wait
 from concurrent.futures.process import BrokenProcessPool
@@ -83,7 +84,11 @@ def alone(judge: Judge, file: str, prefer: Optional[str]) -> Row:
 def run_on_cluster(address: str, judge: Judge, files: List[str], prefer: Optional[str]) -> Iterator[Row]:
     """Gives a row for each file, judged by the workers of a Dask cluster. The files of a task that failed as a whole are judged
     one at a time, and one that fails again has the failure as its verdict."""
-    from distributed import Client, as_completed
+    try:
+        from distributed import Client, as_completed
+    except ImportError:
+        sys.stderr.write("--scheduler needs the package distributed: python -m pip install 'erd[cluster]' installs it\n")
+        raise SystemExit(3) from None
 
     run = uuid.uuid4().hex
     with Client(address) as client:

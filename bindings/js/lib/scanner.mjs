@@ -1,5 +1,5 @@
-// Reads JSON text by its bytes, so that the page can show a part of a file as it is written, and say where bytes stop being
-// JSON. Its rules are those of docs/PROFILE.md, "Reading". The verdict never comes from here.
+// Walks over JSON text by its bytes: for a tree that keeps numbers as they are written, for a part of a file as it is written, and
+// to say where bytes stop being JSON. Its rules are those of docs/PROFILE.md, "Reading". The verdict never comes from here.
 
 /** The most levels of arrays and objects. */
 const MOST_LEVELS = 127;

@@ -1,0 +1,155 @@
+// What the command `erd-prepare` reads and writes.
+import { closeSync, openSync } from 'node:fs';
+import { bytesOfFile, opened, Stop, write } from '../files.mjs';
+import { repeatedNames } from '../repeated.mjs';
+import { pointerOf } from '../words.mjs';
+import { Preparation, STEPS, stepsOf, told } from './prepared.mjs';
+import { GROUP_WORDS, LEFT_WORDS, STEP_WORDS } from './step_words.mjs';
+import { withoutMark } from './tree.mjs';
+
+const STANDARD_OUTPUT = 1;
+const STANDARD_ERROR = 2;
+const MOST_LEFT = 10;
+
+export const USAGE = `Writes a copy of a report on which steps were done that make an export ready for erd
+
+Usage: erd-prepare [--steps NAMES] [--without NAMES] [--report REPORT] FILE > PREPARED
+       erd-prepare --list [FILE]
+
+  --steps NAMES    which steps are done: names of steps or of groups, with commas between them (default: taken)
+  --without NAMES  which of these are not done
+  --report REPORT  also write each change to this file, as JSON
+  --list           list all steps, or those that would do something to FILE
+  -h, --help       print this help
+
+The groups are taken (${GROUP_WORDS.taken.toLowerCase()}), chosen (${GROUP_WORDS.chosen.toLowerCase()})
+and seen (${GROUP_WORDS.seen.toLowerCase()}). FILE stays as it is. What was done is told on standard error.
+
+Exit status:
+  0  written
+  2  not JSON
+  3  wrong arguments, a file that cannot be opened, more than 67,108,864 bytes, a failed read or write
+`;
+
+/** The arguments are wrong. */
+export class PrepareUsage extends Error {
+    constructor(message) {
+        super(`erd-prepare: ${message}\n\n${USAGE.split('\n').slice(2, 4).join('\n')}`);
+    }
+}
+
+const VALUED = ['--steps', '--without', '--report'];
+
+/** What the arguments ask for. */
+export function argumentsOf(words) {
+    const asked = { steps: ['taken'], without: [], report: null, lists: false, helps: false, files: [] };
+    const left = [...words];
+    while (left.length > 0) {
+        const [name, ...rest] = left.shift().split('=');
+        if (VALUED.includes(name)) {
+            const value = rest.length > 0 ? rest.join('=') : left.shift();
+            if (value === undefined || value === '') {
+                throw new PrepareUsage(`${name} needs a value`);
+            }
+            asked[name.slice(2)] = name === '--report' ? value : value.split(',');
+        } else if (name === '--list' || name === '--help' || name === '-h') {
+            asked[name === '--list' ? 'lists' : 'helps'] = true;
+        } else if (name === '--') {
+            asked.files.push(...left.splice(0));
+        } else if (name.startsWith('-') && name !== '-') {
+            throw new PrepareUsage(`there is no option ${name}`);
+        } else {
+            asked.files.push([name, ...rest].join('='));
+        }
+    }
+    if (!asked.helps && (asked.files.length > 1 || (asked.files.length === 0 && !asked.lists))) {
+        throw new PrepareUsage('one FILE is needed');
+    }
+    return asked;
+}
+
+/** The names of steps that these words stand for: names of steps and of groups. */
+export function namesOf(words) {
+    return words.flatMap((word) => {
+        if (Object.hasOwn(GROUP_WORDS, word)) {
+            return stepsOf(word);
+        }
+        if (!STEPS.some(({ name }) => name === word)) {
+            throw new PrepareUsage(`there is no step ${word}`);
+        }
+        return [word];
+    });
+}
+
+/** Does what the arguments ask for, and returns the status. */
+export function run(words) {
+    const { steps, without, report, lists, helps, files: [file] } = argumentsOf(words);
+    if (helps) {
+        write(STANDARD_OUTPUT, USAGE);
+        return 0;
+    }
+    const not = new Set(namesOf(without));
+    const names = namesOf(steps).filter((name) => !not.has(name));
+    if (file === undefined) {
+        write(STANDARD_OUTPUT, STEPS.map(listed).join(''));
+        return 0;
+    }
+    const bytes = bytesOfFile(opened([file])[0]);
+    const preparation = new Preparation(bytes);
+    if (lists) {
+        const { steps: found } = preparation.prepare(stepsOf('taken', 'chosen'), { tellsOthers: true });
+        write(STANDARD_OUTPUT, found.filter(({ made }) => made.length > 0).map(counted).join(''));
+        return 0;
+    }
+    const { bytes: prepared, steps: done } = preparation.prepare(names);
+    write(STANDARD_ERROR, [...repeats(bytes), ...done.flatMap(linesOf)].map((line) => `${line}\n`).join(''));
+    if (report !== null) {
+        writeFile(report, `${JSON.stringify(done.map(told), null, 1)}\n`);
+    }
+    write(STANDARD_OUTPUT, prepared);
+    return 0;
+}
+
+function writeFile(name, text) {
+    let handle;
+    try {
+        handle = openSync(name, 'w');
+    } catch {
+        throw new Stop('cannot open');
+    }
+    write(handle, text);
+    closeSync(handle);
+}
+
+function listed({ name, group, title, does, loses }) {
+    return `${name} (${group}): ${title}. ${does} ${loses}\n`;
+}
+
+function counted({ name, made }) {
+    const { group, title } = STEPS.find((step) => step.name === name);
+    return `${String(made.length).padStart(6)}  ${name.padEnd(18)}  ${group.padEnd(6)}  ${title}\n`;
+}
+
+function repeats(bytes) {
+    const names = repeatedNames(withoutMark(bytes), { most: null });
+    return names.length === 0 ? []
+        : [`${names.length} names are written twice in one object, first ${visible(names[0].pointer)}: the last value of each counts`];
+}
+
+/** What a step did, as lines for a person. */
+export function linesOf({ name, made, left }) {
+    const [, does, loses] = STEP_WORDS[name];
+    const lines = made.length === 0 ? [] : [`${name}: ${made.length}, first ${placeText(made[0].place)}. ${does} ${loses}`];
+    const shown = left.slice(0, MOST_LEFT).map(({ place, why }) => `${name}: left ${placeText(place)}: ${LEFT_WORDS[why]}`);
+    const more = left.length > MOST_LEFT ? [`${name}: left ${left.length - MOST_LEFT} more`] : [];
+    return [...lines, ...shown, ...more];
+}
+
+function placeText(place) {
+    return place.length === 0 ? 'the file itself' : visible(pointerOf(place));
+}
+
+// A stranger's names may hold what a terminal acts on.
+function visible(text) {
+    return text.replace(/[\p{C}\p{Zl}\p{Zp}]/gu, (letter) => `\\u{${letter.codePointAt(0).toString(16)}}`);
+}

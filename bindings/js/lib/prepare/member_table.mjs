@@ -1,0 +1,104 @@
+// The member table of docs/PROFILE.md. tests/prepare/steps.py holds it against the page.
+
+/** What the text of each `@type` begins with. */
+export const PREFIX = 'ElectionResults.';
+
+const KEYED_BY = 'ExternalIdentifier Identifiers';
+const ENVELOPE = 'Format Word; GeneratedDate Word; Issuer Word; IssuerAbbreviation Word; VendorApplicationId Word; Notes Word; '
+    + 'SequenceStart Whole; SequenceEnd Whole; ExternalIdentifier Identifiers';
+const PARTY = ['Name Label', `${KEYED_BY}; Abbreviation Label; Slogan Label; LeaderPersonIds Many person; PartyScopeGpUnitIds Many unit`];
+const CONTEST = ['Name Label; ElectionDistrictId One unit', `${KEYED_BY}; Abbreviation Label; BallotTitle Label; BallotSubTitle Label; `
+    + 'HasRotation Flag; VoteVariation Word; OtherVoteVariation Word; ContestSelection Keyed selection; OtherCounts Outside'];
+const MEASURE = [CONTEST[0], `${CONTEST[1]}; SummaryText Label; FullText Label; ProStatement Label; ConStatement Label; `
+    + 'EffectOfAbstain Label; PassageThreshold Label; Type Word; OtherType Word'];
+const SELECTION = `SequenceOrder Whole; ${KEYED_BY}; VoteCounts Outside`;
+
+// The members of each class that it requires, and the others.
+const ROWS = {
+    ElectionReport: ['Status Word; Election Elections', 'IsTest Flag; TestType Word; GpUnit Keyed unit; Party Keyed party; '
+        + `Person Keyed person; Office Keyed office; Header Keyed header; OfficeGroup Outside; ${ENVELOPE}`],
+    Election: ['Name Label; Type Word; StartDate Word; EndDate Word; ElectionScopeId One unit',
+        `OtherType Word; ${KEYED_BY}; Candidate Keyed candidate; Contest Keyed contest; BallotStyle Keyed style`],
+    ReportingUnit: ['Type Word', `${KEYED_BY}; OtherType Word; Name Label; Number Word; ComposingGpUnitIds Many unit; `
+        + 'AuthorityIds Many person; IsDistricted Flag; IsMailOnly Flag; ElectionAdministration Outside; PartyRegistration Outside'],
+    Party: PARTY,
+    Coalition: [PARTY[0], `${PARTY[1]}; ContestId One contest; ContestIds Many contest; PartyIds Many party`],
+    Person: ['', `${KEYED_BY}; FullName Label; FirstName Word; LastName Word; Title Label; Profession Label; PartyId One party`],
+    Office: ['Name Label', `${KEYED_BY}; Description Label; IsPartisan Flag; ElectionDistrictId One unit; `
+        + 'OfficeHolderPersonIds Many person'],
+    Header: ['Name Label', KEYED_BY],
+    Candidate: ['BallotName Label', `${KEYED_BY}; CampaignSlogan Label; FileDate Word; IsIncumbent Flag; IsTopTicket Flag; `
+        + 'PartyId One party; PersonId One person; PreElectionStatus Word'],
+    PartyContest: CONTEST,
+    CandidateContest: [`${CONTEST[0]}; VotesAllowed Whole`, `${CONTEST[1]}; NumberElected Whole; NumberRunoff Whole; `
+        + 'OfficeIds Many office; PrimaryPartyIds Many party'],
+    BallotMeasureContest: MEASURE,
+    RetentionContest: [`${MEASURE[0]}; CandidateId One candidate`, `${MEASURE[1]}; OfficeId One office`],
+    CandidateSelection: ['', `${SELECTION}; CandidateIds Many candidate; EndorsementPartyIds Many party; IsWriteIn Flag`],
+    BallotMeasureSelection: ['Selection Label', SELECTION],
+    PartySelection: ['PartyIds Many party', SELECTION],
+    BallotStyle: ['GpUnitIds Many unit', `${KEYED_BY}; PartyIds Many party; OrderedContent Content`],
+    OrderedContest: ['ContestId One contest', 'OrderedContestSelectionIds Ordered'],
+    OrderedHeader: ['HeaderId One header', 'OrderedContent Content'],
+    ExternalIdentifier: ['Type Word; Value Word', 'OtherType Word'],
+    InternationalizedText: ['Text Languages', ''],
+    LanguageString: ['Language Word; Content Word', ''],
+};
+
+/** The classes of each family. */
+export const FAMILIES = {
+    unit: ['ReportingUnit'], party: ['Party', 'Coalition'], person: ['Person'], office: ['Office'], header: ['Header'],
+    candidate: ['Candidate'], contest: ['CandidateContest', 'BallotMeasureContest', 'RetentionContest', 'PartyContest'],
+    style: ['BallotStyle'], selection: ['CandidateSelection', 'BallotMeasureSelection', 'PartySelection'],
+};
+const NAMED = new Set(Object.values(FAMILIES).flat());
+
+// The classes of the objects in a member of each kind that has objects; those of a Keyed array are the classes of its family.
+const CLASSES_IN = {
+    Label: ['InternationalizedText'],
+    Identifiers: ['ExternalIdentifier'], Languages: ['LanguageString'], Elections: ['Election'],
+    Content: ['OrderedContest', 'OrderedHeader'],
+};
+
+/** The kinds of members whose value is an array. */
+export const ARRAYS = ['Many', 'Identifiers', 'Languages', 'Keyed', 'Elections', 'Content', 'Ordered'];
+
+function membersOf(cells, required) {
+    return cells.split('; ').filter((words) => words !== '').map((words) => {
+        const [name, kind, family = null] = words.split(' ');
+        return [name, { kind, family, required }];
+    });
+}
+
+/** For each class, what the table says of each member that it lists: `kind`, `family` and `required`. */
+export const TABLE = new Map(Object.entries(ROWS).map(([name, [required, optional]]) => [name, new Map([
+    ['@type', { kind: 'ClassText', family: null, required: true }],
+    ...(NAMED.has(name) ? [['@id', { kind: 'Identity', family: null, required: false }]] : []),
+    ...membersOf(required, true), ...membersOf(optional, false),
+])]));
+
+/** For each class, the members in which objects of the table stand: what the table says of them, and the `classes` there. */
+export const HOLDERS = new Map([...TABLE].map(([className, members]) => [className, new Map([...members]
+    .filter(([, { kind }]) => kind === 'Keyed' || kind in CLASSES_IN)
+    .map(([name, member]) => [name, { ...member, classes: member.kind === 'Keyed' ? FAMILIES[member.family] : CLASSES_IN[member.kind] }]))]));
+
+const STRANGE_IDENTITY = { kind: 'StrangeIdentity', family: null, required: false };
+const STRANGE_REFERENCE = { kind: 'StrangeReference', family: null, required: false };
+const CARRIED = { kind: 'Carried', family: null, required: false };
+
+/** Whether a name ends as the names of references do. */
+export function endsAsReference(name) {
+    return name.endsWith('Id') || name.endsWith('Ids');
+}
+
+/** What the table says of a member of a class. */
+export function memberOf(className, name) {
+    const listed = TABLE.get(className).get(name);
+    if (listed !== undefined) {
+        return listed;
+    }
+    if (name === '@id') {
+        return STRANGE_IDENTITY;
+    }
+    return endsAsReference(name) ? STRANGE_REFERENCE : CARRIED;
+}

@@ -1,0 +1,160 @@
+// Prepares a report: a fixed list of steps, of which a caller chooses.
+import { MOST_BYTES } from '../calls.mjs';
+import { pointerOf } from '../words.mjs';
+import { Changes } from './changes.mjs';
+import { STEP_WORDS } from './step_words.mjs';
+import { writeClassNames } from './steps/class_names.mjs';
+import { tellCodesApart } from './steps/codes.mjs';
+import { takeOutCoordinates } from './steps/coordinates.mjs';
+import { takeOutCounts } from './steps/counts.mjs';
+import { putCountiesInFront } from './steps/county_codes.mjs';
+import { takeOutDevices } from './steps/devices.mjs';
+import { takeOutEmptyLists } from './steps/empty_lists.mjs';
+import { takeOutEmptyTexts } from './steps/empty_texts.mjs';
+import { takeOutGoneCandidates } from './steps/gone_candidates.mjs';
+import { writeKinds } from './steps/kinds.mjs';
+import { nameObjects } from './steps/names.mjs';
+import { takeOutNulls } from './steps/nulls.mjs';
+import { takeOutOutside } from './steps/outside.mjs';
+import { namePartyLines } from './steps/party_lines.mjs';
+import { takeOutRepeated } from './steps/repeated_entries.mjs';
+import { takeOutSharedCodes } from './steps/shared_codes.mjs';
+import { takeOutStrayIds } from './steps/stray_ids.mjs';
+import { tellIdsApart } from './steps/twin_ids.mjs';
+import { takeOutUnusedPersons } from './steps/unused_persons.mjs';
+import { takeOutUnusedStyles } from './steps/unused_styles.mjs';
+import { takeVendorIdentifiers } from './steps/vendor_identifiers.mjs';
+import { renameVendorMembers } from './steps/vendor_texts.mjs';
+import { writeWholeNumbers } from './steps/whole_numbers.mjs';
+import { numberWriteIns } from './steps/write_in_lines.mjs';
+import { compactText, copyOf, hasMark, indentedText, readTree } from './tree.mjs';
+
+/** The step that concerns the bytes and not the tree. */
+export const MARK_STEP = 'byte-order-mark';
+
+// The steps in the order in which they are done, whatever order a caller names them in. `act` changes a tree of its own in place.
+const TREE_STEPS = [
+    ['nulls', 'taken', takeOutNulls],
+    ['kinds', 'chosen', writeKinds],
+    ['class-names', 'chosen', writeClassNames],
+    ['twin-ids', 'chosen', tellIdsApart],
+    ['outside', 'taken', takeOutOutside],
+    ['counts', 'taken', takeOutCounts],
+    ['devices', 'taken', takeOutDevices],
+    ['coordinates', 'taken', takeOutCoordinates],
+    ['whole-numbers', 'chosen', writeWholeNumbers],
+    ['stray-ids', 'taken', takeOutStrayIds],
+    ['vendor-identifiers', 'chosen', takeVendorIdentifiers],
+    ['vendor-texts', 'chosen', renameVendorMembers],
+    ['repeated', 'chosen', takeOutRepeated],
+    ['gone-candidates', 'seen', takeOutGoneCandidates],
+    ['unused-styles', 'seen', takeOutUnusedStyles],
+    ['unused-persons', 'taken', takeOutUnusedPersons],
+    ['empty-lists', 'taken', takeOutEmptyLists],
+    ['empty-texts', 'taken', takeOutEmptyTexts],
+    ['names', 'chosen', nameObjects],
+    ['county-codes', 'chosen', putCountiesInFront],
+    ['shared-codes', 'chosen', takeOutSharedCodes],
+    ['codes', 'chosen', tellCodesApart],
+    ['write-in-lines', 'chosen', numberWriteIns],
+    ['party-lines', 'chosen', namePartyLines],
+].map(([name, group, act]) => ({ name, group, act }));
+
+/** Every step in order: its name, its group (`taken`, `chosen` or `seen`) and its words. */
+export const STEPS = [{ name: MARK_STEP, group: 'taken' }, ...TREE_STEPS].map(({ name, group }) => {
+    const [title, does, loses] = STEP_WORDS[name];
+    return { name, group, title, does, loses };
+});
+
+/** The names of the steps of these groups. */
+export function stepsOf(...groups) {
+    return STEPS.filter(({ group }) => groups.includes(group)).map(({ name }) => name);
+}
+
+/** Does one step on a copy of the tree. @returns {{tree: unknown, made: object[], left: object[]}} */
+export function doStep(tree, name) {
+    const copy = copyOf(tree);
+    const { made, left } = actOn(copy, TREE_STEPS.find((step) => step.name === name));
+    return { tree: made.length === 0 ? tree : copy, made, left };
+}
+
+function actOn(tree, step, changes = new Changes()) {
+    if (tree instanceof Map) {
+        step.act(tree, changes);
+    }
+    return changes;
+}
+
+/** A file that is being prepared. */
+export class Preparation {
+    /**
+     * @param {Uint8Array} bytes
+     * @throws {import('../scanner.mjs').NotJson} if they are not JSON
+     */
+    constructor(bytes) {
+        this.bytes = bytes;
+        this.tree = readTree(bytes);
+        this.hasMark = hasMark(bytes);
+    }
+
+    /**
+     * Does these steps, in the fixed order, on a copy. Each step that changes or leaves something is told; with `tellsOthers` those too
+     * that are not chosen: what they would do at their turn. `changesOf` makes what keeps the changes of a step on a tree.
+     * @param {Iterable<string>} names
+     * @returns {{bytes: Uint8Array, steps: {name: string, chosen: boolean, made: object[], left: object[]}[]}}
+     */
+    prepare(names, { tellsOthers = false, changesOf = () => new Changes() } = {}) {
+        const chosen = new Set(names);
+        const unknown = [...chosen].find((name) => !STEPS.some((step) => step.name === name));
+        if (unknown !== undefined) {
+            throw new RangeError(`no step has the name ${JSON.stringify(unknown)}`);
+        }
+        const tree = copyOf(this.tree);
+        const steps = this.#markStep(chosen.has(MARK_STEP));
+        for (const step of TREE_STEPS.filter(({ name }) => tellsOthers || chosen.has(name))) {
+            const isChosen = chosen.has(step.name);
+            const own = isChosen ? tree : copyOf(tree);
+            const { made, left } = actOn(own, step, changesOf(own));
+            if (made.length > 0 || left.length > 0) {
+                steps.push({ name: step.name, chosen: isChosen, made, left });
+            }
+        }
+        const told = steps.filter((step) => tellsOthers || step.chosen);
+        return { bytes: this.#written(tree, told), steps: told };
+    }
+
+    #markStep(isChosen) {
+        const made = this.hasMark ? [{ place: [], before: '\ufeff', after: undefined }] : [];
+        return made.length > 0 ? [{ name: MARK_STEP, chosen: isChosen, made, left: [] }] : [];
+    }
+
+    // A file of which nothing was changed keeps its bytes.
+    #written(tree, steps) {
+        const done = steps.filter((step) => step.chosen && step.made.length > 0).map(({ name }) => name);
+        if (done.every((name) => name === MARK_STEP)) {
+            return done.length > 0 ? this.bytes.subarray(3) : this.bytes;
+        }
+        const mark = this.hasMark && !done.includes(MARK_STEP) ? '\ufeff' : '';
+        return encoded(mark, tree, this.bytes.includes(0x0a));
+    }
+}
+
+// A file of several lines stays one of several lines, unless it would be too long for erd.
+function encoded(mark, tree, hasLines) {
+    const encoder = new TextEncoder();
+    const bytes = encoder.encode(hasLines ? `${mark}${indentedText(tree)}\n` : mark + compactText(tree));
+    return hasLines && bytes.length > MOST_BYTES ? encoder.encode(mark + compactText(tree)) : bytes;
+}
+
+/** What a step did, as plain data: each place as a JSON Pointer, with the compact text of the value before and after. */
+export function told({ name, chosen, made, left }) {
+    return {
+        step: name, chosen, count: made.length,
+        changes: made.map(({ place, before, after }) => ({ pointer: pointerOf(place), before: textOrNull(before), after: textOrNull(after) })),
+        left: left.map(({ place, why }) => ({ pointer: pointerOf(place), why })),
+    };
+}
+
+function textOrNull(value) {
+    return value === undefined ? null : compactText(value);
+}

@@ -1,0 +1,124 @@
+"""The command `erd-prepare`: writes a copy of a report on which the chosen steps were done, and says what each did.
+
+python -m erd.prepare [--steps NAMES] [--without NAMES] [--report REPORT] FILE > PREPARED
+python -m erd.prepare --list [FILE]
+"""
+
+from __future__ import annotations
+
+import argparse
+import json
+import sys
+from typing import List, Optional
+
+from .. import __main__ as program
+from ..repeats import repeated_names, visible
+from .prepared import STEPS, Done, Preparation, pointer_of, steps_of
+from .step_words import GROUP_WORDS, LEFT_WORDS, STEP_WORDS
+from .tree import NotJson, without_mark
+
+MOST_LEFT = 10
+NOT_JSON = 2
+
+
+def parser() -> argparse.ArgumentParser:
+    """Returns the parser of the command line."""
+    groups = ', '.join(f'{name} ({words.lower()})' for name, words in GROUP_WORDS.items())
+    words = program.Parser(prog='erd-prepare', allow_abbrev=False, description=(
+        'Writes a copy of a report on which steps were done that make an export ready for erd. FILE stays as it is. What was done is '
+        f'told on standard error. The groups of steps are {groups}.'))
+    words.add_argument('--steps', metavar='NAMES', type=names_of, default=steps_of('taken'),
+                       help='which steps are done: names of steps or of groups, with commas between them (default: taken)')
+    words.add_argument('--without', metavar='NAMES', type=names_of, default=[], help='which of these are not done')
+    words.add_argument('--report', metavar='REPORT', help='also write each change to this file, as JSON')
+    words.add_argument('--list', action='store_true', dest='lists', help='list all steps, or those that would do something to FILE')
+    words.add_argument('file', nargs='?', metavar='FILE')
+    return words
+
+
+def names_of(text: str) -> List[str]:
+    """Returns the names of steps that a text stands for: names of steps and of groups, with commas between them."""
+    names: List[str] = []
+    for word in text.split(','):
+        if word not in GROUP_WORDS and word not in STEP_WORDS:
+            raise argparse.ArgumentTypeError(f'there is no step {word}')
+        names += steps_of(word) if word in GROUP_WORDS else [word]
+    return names
+
+
+def counted(done: Done) -> str:
+    """Returns a line of the list of a file."""
+    group, title = next((step.group, step.title) for step in STEPS if step.name == done.name)
+    return f'{len(done.made):6}  {done.name:18}  {group:6}  {title}\n'
+
+
+def place_text(place: tuple) -> str:
+    """Returns a place for a person."""
+    return visible(pointer_of(place)) if place else 'the file itself'
+
+
+def lines_of(done: Done) -> List[str]:
+    """Returns what a step did, as lines for a person."""
+    _, does, loses = STEP_WORDS[done.name]
+    lines = [f'{done.name}: {len(done.made)}, first {place_text(done.made[0].place)}. {does} {loses}'] if done.made else []
+    lines += [f'{done.name}: left {place_text(place)}: {LEFT_WORDS[why]}' for place, why in done.left[:MOST_LEFT]]
+    return lines + ([f'{done.name}: left {len(done.left) - MOST_LEFT} more'] if len(done.left) > MOST_LEFT else [])
+
+
+def repeats(data: bytes) -> List[str]:
+    """Returns a line about names that are written twice, if there are any."""
+    names = repeated_names(without_mark(data), most=None)
+    return [f'{len(names)} names are written twice in one object, first {visible(names[0].pointer)}: the last value of each counts'
+            ] if names else []
+
+
+def answer(words: argparse.Namespace) -> int:
+    """Does what the command line asks for, and returns the exit status."""
+    if words.file is None:
+        text = ''.join(f'{step.name} ({step.group}): {step.title}. {step.does} {step.loses}\n' for step in STEPS)
+        program.write(sys.stdout.buffer, text.encode('utf-8'))
+        return 0
+    with program.Input(words.file) as file:
+        data = program.read(file.handle)
+    preparation = Preparation(data)
+    if words.lists:
+        _, found = preparation.prepare(steps_of('taken', 'chosen'), tells_others=True)
+        program.write(sys.stdout.buffer, ''.join(counted(done) for done in found if done.made).encode('utf-8'))
+        return 0
+    prepared, steps = preparation.prepare(set(words.steps) - set(words.without))
+    told = [*repeats(data), *(line for done in steps for line in lines_of(done))]
+    program.write(sys.stderr.buffer, ''.join(f'{line}\n' for line in told).encode('utf-8'))
+    if words.report is not None:
+        write_report(words.report, steps)
+    program.write(sys.stdout.buffer, prepared)
+    return 0
+
+
+def write_report(name: str, steps: List[Done]) -> None:
+    """Writes each change to a file."""
+    text = json.dumps([done.told() for done in steps], ensure_ascii=False, indent=1) + '\n'
+    try:
+        with open(name, 'wb') as file:
+            program.write(file, text.encode('utf-8'))
+    except OSError:
+        raise program.Stop('cannot open') from None
+
+
+def main(arguments: Optional[List[str]] = None) -> int:
+    """Runs the command line, and returns the exit status."""
+    made = parser()
+    words = made.parse_args(arguments)
+    if words.file is None and not words.lists:
+        made.error('one FILE is needed')
+    try:
+        return answer(words)
+    except NotJson:
+        stop = program.Stop('not JSON', NOT_JSON)
+    except program.Stop as caught:
+        stop = caught
+    sys.stderr.write(f'{stop}\n')
+    return stop.status
+
+
+if __name__ == '__main__':
+    sys.exit(main())

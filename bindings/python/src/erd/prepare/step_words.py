@@ -1,0 +1,157 @@
+"""What each step is called, does and gives up, in words for a person. The package for JavaScript has the same words."""
+
+from __future__ import annotations
+
+from typing import Dict, Tuple
+
+GROUP_WORDS = {
+    'taken': 'Taken out: no ballot has it',
+    'chosen': 'Written: what a voter sees stays as it is',
+    'seen': 'Changes what a voter sees',
+}
+"""The groups of steps."""
+
+STEP_WORDS: Dict[str, Tuple[str, str, str]] = {
+    'byte-order-mark': (
+        'A byte order mark',
+        'Takes out the three bytes that Windows programs write before a file.',
+        'Nothing is lost.',
+    ),
+    'nulls': (
+        'Members without a value',
+        'Takes out each member whose value is null.',
+        'Lost: that the export wrote null there.',
+    ),
+    'class-names': (
+        'Names of classes',
+        'Writes the "@type" of objects that lack it or lack its prefix, where only one class is possible.',
+        'Nothing is lost.',
+    ),
+    'kinds': (
+        'Numbers and lists in another form',
+        'Writes numbers and truth values without quotes, texts with quotes, and one value as a list, as the standard asks '
+        'for.',
+        'Nothing is lost: the values stay the same.',
+    ),
+    'twin-ids': (
+        'System names that recur',
+        'Puts the sort of object in front of each "@id" that objects of several sorts have, and of the references to it.',
+        'Nothing is lost: system names count for nothing.',
+    ),
+    'outside': (
+        'Groups of offices, administration, registration',
+        'Takes out OfficeGroup, ElectionAdministration and PartyRegistration.',
+        'Lost: who runs elections in a unit, how many voters it has, and how offices are sorted for display.',
+    ),
+    'counts': (
+        'Vote counts of zero',
+        'Takes out VoteCounts and OtherCounts in which every number is zero.',
+        'Nothing is lost. Counts that are not zero stay: ask where they come from.',
+    ),
+    'devices': (
+        'Machines among the units',
+        'Takes each ReportingDevice out of the units, and out of the lists of units.',
+        'Lost: which machines count the ballots.',
+    ),
+    'coordinates': (
+        'Coordinates',
+        'Takes out each LatLng.',
+        'Lost: where on the map a place is.',
+    ),
+    'whole-numbers': (
+        'Whole numbers with a fraction of zeros',
+        'Writes numbers such as 1.0 as 1.',
+        'Nothing is lost.',
+    ),
+    'stray-ids': (
+        'System names where none belongs',
+        'Takes out each "@id" of an object to which nothing can refer, such as an election.',
+        'Nothing is lost: system names count for nothing.',
+    ),
+    'vendor-identifiers': (
+        "Numbers of the vendor's database",
+        'Makes such a number, as in VendorContestId, an identifier of an object that has none.',
+        'The other system needs the same numbers, or the two files differ.',
+    ),
+    'vendor-texts': (
+        "Members of the vendor's own",
+        'Gives members such as VendorContestId a name that ends in Code, so that they are plain texts.',
+        'Nothing is lost. If the other file lacks the member, the two files differ in it.',
+    ),
+    'empty-lists': (
+        'Lists without an entry',
+        'Takes out each member whose value is an empty list.',
+        'Lost, in members that erd does not know: that there was a list.',
+    ),
+    'empty-texts': (
+        'Texts without a translation',
+        'Takes out each text that has no translation and that the standard does not require.',
+        'Lost: that there was such a text.',
+    ),
+    'repeated': (
+        'Entries that a list has twice',
+        'Takes out each entry that is the same as an earlier one.',
+        'Look into the source: another entry may have been meant.',
+    ),
+    'gone-candidates': (
+        'Lines of candidates who are gone',
+        'Takes out each line whose candidates are no longer in the file, on the ballots too.',
+        'A voter no longer sees these lines.',
+    ),
+    'unused-styles': (
+        'Ballot styles of no unit',
+        'Takes out each ballot style whose list of units is empty.',
+        'If a precinct was forgotten, its ballot is gone.',
+    ),
+    'unused-persons': (
+        'Persons to whom nothing refers',
+        'Takes out each person whom no candidate, office, party or unit names.',
+        'Lost: these persons. Most of them ran the election.',
+    ),
+    'county-codes': (
+        'Numbers that begin again in each county',
+        'Puts the code of the county in front of the numbers of its precincts.',
+        'Prepare the other file in the same way.',
+    ),
+    'shared-codes': (
+        'Codes that several objects share',
+        'Takes out a code that several objects have, such as the FIPS code of the county, where an object has a code of its '
+        'own.',
+        'Lost: the shared code of these objects.',
+    ),
+    'names': (
+        'Names as identifiers',
+        'Gives each object without an identifier its name as one.',
+        'Prepare the other file in the same way. A corrected name then counts as another object.',
+    ),
+    'codes': (
+        'Codes that recur',
+        'Puts the election, the party, the district, the county or the contest in front of codes that several objects have.',
+        'Prepare the other file in the same way.',
+    ),
+    'write-in-lines': (
+        'Several write-in lines',
+        'Numbers the write-in lines of a contest among themselves, in their order on the ballot.',
+        'Prepare the other file in the same way.',
+    ),
+    'party-lines': (
+        'One candidate on several lines',
+        'Gives the lines of one candidate for several parties the codes of the parties as identifiers.',
+        'Prepare the other file in the same way.',
+    ),
+}
+"""The words of each step: its title, what it does, and what it gives up or what to look at."""
+
+LEFT_WORDS = {
+    'counted': 'it has counts that are not zero, so the file may be a report of results',
+    'requiredText': 'the standard requires this text: ask for its content',
+    'twinIds': 'another object of the same sort has this @id',
+    'sharedNumber': 'another object has the same number',
+    'namesObject': 'it names an object of the file by its system name',
+    'nameTaken': 'the object has a member of the new name already',
+    'someGone': 'only some of its candidates are gone',
+    'noName': 'it has no name',
+    'noCounty': 'it is not in one county',
+    'nothingTells': 'nothing tells it from another one',
+}
+"""Why a step left something as it is."""

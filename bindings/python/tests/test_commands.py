@@ -1,0 +1,78 @@
+"""The commands on the whole suite: `python -m erd` in this process, and `python -m erd.many` on all reports of one preference."""
+
+import hashlib
+import json
+import subprocess
+import sys
+
+import pytest
+
+from erd.__main__ import main
+
+VERDICTS = {'accepted\n': 'accepted', 'not JSON\n': 'not JSON'}
+STATUSES = {'accepted\n': 0, 'same\n': 0, 'not JSON\n': 2, 'left: not JSON\n': 2, 'right: not JSON\n': 2}
+MOST_BYTES = 67108864
+
+
+@pytest.fixture
+def run(capsysbinary):
+    """Runs the command, and returns its status and what it wrote."""
+    def run(*words):
+        status = main(list(map(str, words)))
+        out, err = capsysbinary.readouterr()
+        return status, out.decode('utf-8'), err.decode('utf-8')
+    return run
+
+
+def text_of(file):
+    """The text of a file; None if there is no such file."""
+    return file.read_text('utf-8') if file.exists() else None
+
+
+def preference(case):
+    """The words of a case's preference; none if it has none."""
+    line = text_of(case / 'prefer')
+    return [] if line is None else ['--prefer', line.rstrip('\n')]
+
+
+def test_command(run, case):
+    lines = text_of(case / 'check.txt')
+    if lines is None:
+        lines = text_of(case / 'compare.txt')
+        found = run('compare', *preference(case), case / 'left.json', case / 'right.json')
+        assert found == (STATUSES.get(lines, 1), lines, '')
+        return
+    status = STATUSES.get(lines, 1)
+    assert run('check', *preference(case), case / 'input.json') == (status, lines, '')
+    form = text_of(case / 'canonical.json')
+    wanted = (status, '', lines) if form is None else (0, form, '')
+    assert run('canon', *preference(case), case / 'input.json') == wanted
+
+
+@pytest.mark.parametrize('size, wanted', [(MOST_BYTES, (2, 'not JSON\n', '')), (MOST_BYTES + 1, (3, '', 'too long\n'))])
+def test_most_bytes(run, tmp_path, size, wanted):
+    report = tmp_path / 'blanks'
+    report.write_bytes(b' ' * size)
+    assert run('check', report) == wanted
+
+
+def rows_of_suite(top):
+    """For each preference of the suite the files that have it, each with the row that it must have."""
+    rows = {}
+    for case in sorted(path.parent for path in (top / 'out' / 'conformance').glob('prefer-*/check.txt')):
+        lines, form = text_of(case / 'check.txt'), text_of(case / 'canonical.json')
+        row = {
+            'verdict': VERDICTS.get(lines, 'refused'),
+            'faults': 0 if lines in VERDICTS else len(lines.splitlines()),
+            'sha256': None if form is None else hashlib.sha256(form.encode('utf-8')).hexdigest(),
+        }
+        rows.setdefault(tuple(preference(case)), {})[str(case / 'input.json')] = row
+    return rows
+
+
+def test_many_under_each_preference(top, tmp_path, monkeypatch):
+    monkeypatch.setenv('XDG_STATE_HOME', str(tmp_path))
+    for words, wanted in rows_of_suite(top).items():
+        ran = subprocess.run([sys.executable, '-m', 'erd.many', '--json', '--jobs', '1', *words, *wanted], capture_output=True)
+        found = {row['file']: {name: row[name] for name in ('verdict', 'faults', 'sha256')} for row in json.loads(ran.stdout)}
+        assert found == wanted, words

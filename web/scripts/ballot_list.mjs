@@ -1,0 +1,153 @@
+// The section of ballots: a list of ballot styles that can be narrowed by a precinct, each built when it is opened.
+import { ballotShown } from './ballot_view.mjs';
+import { button, element, theirs } from './dom.mjs';
+import { GrowingList } from './growing.mjs';
+import { say } from './texts.mjs';
+import { beginningOf } from './visible.mjs';
+
+const AT_ONCE = 50;
+const MOST_NAMES = 12;
+const MOST_PRINTED = 2000;
+const LONGEST_NAMES = 400;
+
+/** All that is known and asked for the ballots of one file or two. */
+export class BallotList {
+    /**
+     * @param {import('./client.mjs').Client} client
+     * @param {{files: number, tell: (progress: object) => void}} known
+     */
+    constructor(client, { files, tell }) {
+        this.client = client;
+        this.isPair = files === 2;
+        this.tell = tell;
+        this.holder = element('div', {});
+        this.lang = '';
+    }
+
+    /** The section. Its content is made when it is opened. */
+    section() {
+        const details = element('details', { id: 'ballots' }, element('summary', {}, element('h3', {}, say('ballots.heading'))), this.holder);
+        details.addEventListener('toggle', () => this.begin(), { once: true });
+        return element('section', { class: 'ballots', 'aria-label': say('ballots.heading') }, details);
+    }
+
+    async begin() {
+        this.languages = await this.client.ask('languages', {}, this.tell);
+        this.lists = element('div', {});
+        this.holder.append(element('p', { class: 'note' }, say('ballots.note'), ' ', this.isPair ? say('ballots.noteTwo') : ''),
+            this.controls(), this.lists);
+        await this.fill();
+    }
+
+    controls() {
+        const filter = element('input', { type: 'search', id: 'ballot-filter', autocomplete: 'off' });
+        filter.addEventListener('input', () => this.narrowed(filter.value));
+        const options = ['', ...this.languages].map((lang) => element('option', { value: lang },
+            lang === '' ? say('ballots.allLanguages') : theirs(lang).textContent));
+        const language = element('select', { id: 'ballot-language' }, ...options);
+        language.addEventListener('change', () => this.speak(language.value));
+        return element('div', { class: 'controls screen' },
+            element('p', {}, element('label', { for: 'ballot-filter' }, say('ballots.filter')), ' ', filter),
+            this.languages.length < 2 ? null : element('p', {}, element('label', { for: 'ballot-language' }, say('ballots.language')), ' ', language),
+            element('p', {}, button(say('ballots.printAll'), () => this.printAll())));
+    }
+
+    // Waits until a reader has stopped typing.
+    narrowed(words) {
+        clearTimeout(this.waiting);
+        this.waiting = setTimeout(() => this.fill(words), 200);
+    }
+
+    async fill(words = '') {
+        this.words = words;
+        const { counts } = await this.styles(null, 0, 0);
+        if (words !== this.words) {
+            return;
+        }
+        const groups = this.isPair ? [['differing', false], ['same', true]] : [['all', false]];
+        const lists = await Promise.all(groups.filter(([group]) => counts[group] > 0).map(([group, folded]) => this.list(group, counts[group], folded)));
+        const shown = lists.length > 0 ? lists : [element('p', { class: 'none' }, say('ballots.none'))];
+        const told = this.isPair ? [element('p', {}, say('ballots.counts', { changed: counts.differing, all: counts.differing + counts.same }))] : [];
+        this.lists.replaceChildren(...told, ...shown);
+    }
+
+    styles(group, from, count) {
+        return this.client.ask('styles', { words: this.words, group, from, count }, this.tell);
+    }
+
+    async list(group, count, folded) {
+        const list = new GrowingList(element('ol', { class: 'styles' }), {
+            count,
+            atOnce: AT_ONCE,
+            entries: async (from, some) => (await this.styles(group, from, some)).entries.map((entry) => this.entry(entry)),
+            label: (some) => say('ballots.more', { count: some, all: count }),
+            focus: 'summary',
+        });
+        const begun = await list.begun();
+        return folded ? element('details', {}, element('summary', {}, say('ballots.same', { count })), ...begun) : element('div', {}, ...begun);
+    }
+
+    // A ballot style: what it is called, and the ballot when it is opened.
+    entry({ key, code, units, parties, mark }) {
+        const names = units.length > MOST_NAMES ? [...units.slice(0, MOST_NAMES), '…'] : units;
+        const summary = element('summary', {}, element('strong', {}, cut(code)), ' ', cut(names.join(', ')),
+            parties.length === 0 ? null : element('span', {}, ' (', cut(parties.join(', ')), ')'),
+            this.isPair ? element('span', { class: `badge ${mark}`.trim() }, say(`ballots.mark.${mark}`)) : null);
+        const holder = element('div', {});
+        const details = element('details', { class: 'style', 'data-key': key }, summary, holder);
+        details.addEventListener('toggle', () => this.build(key, holder), { once: true });
+        return element('li', {}, details);
+    }
+
+    async build(key, holder) {
+        const ballot = await this.ballot(key);
+        const print = button(say('ballots.printOne'), () => this.print([ballot.cloneNode(true)]), { class: 'small screen' });
+        holder.replaceChildren(ballot, element('p', { class: 'screen' }, print));
+    }
+
+    async ballot(key) {
+        const ballot = ballotShown(await this.client.ask('ballot', { key }, this.tell));
+        this.spoken(ballot);
+        return ballot;
+    }
+
+    /** Shows one language alone, or all. */
+    speak(lang) {
+        this.lang = lang;
+        this.spoken(this.holder);
+    }
+
+    // Texts without a language stay.
+    spoken(node) {
+        for (const text of node.querySelectorAll('.text[data-lang]')) {
+            text.hidden = this.lang !== '' && text.dataset.lang !== '' && text.dataset.lang !== this.lang;
+        }
+    }
+
+    // Prints the ballots that the list has, those that are not shown yet too.
+    async printAll() {
+        const { entries } = await this.styles('all', 0, MOST_PRINTED);
+        const ballots = [];
+        for (const { key } of entries) {
+            ballots.push(await this.ballot(key));
+        }
+        this.print(ballots);
+    }
+
+    print(ballots) {
+        const pages = element('div', { class: 'print-pages' }, ...ballots);
+        document.body.append(pages);
+        document.documentElement.dataset.print = 'ballots';
+        const over = () => {
+            pages.remove();
+            delete document.documentElement.dataset.print;
+        };
+        addEventListener('afterprint', over, { once: true });
+        print();
+    }
+}
+
+// The beginning of a long text.
+function cut(text) {
+    return theirs(text.length > LONGEST_NAMES ? `${beginningOf(text, LONGEST_NAMES)}…` : text);
+}

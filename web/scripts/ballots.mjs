@@ -1,0 +1,160 @@
+// The ballots of a report, each as a voter would meet it: headers, contests and selections in the order of the ballot, in each
+// language of the file. They are made from the canonical form. This is the page's own reading, and no proof covers it.
+import { say, sayIfKnown } from './texts.mjs';
+import { textOfKey } from '../../bindings/js/lib/order.mjs';
+import { textOfTriple } from './values.mjs';
+
+/**
+ * A label in its languages; the language of a plain text is empty.
+ * @typedef {{lang: string, text: string}[]} Label
+ * A line of what is printed. `own` marks words of the page.
+ * @typedef {{role: string, label: Label, own?: boolean}} Line
+ * A header, a contest or a selection. `id` is equal for the same one in two files.
+ * @typedef {{kind: string, id: string, depth: number, lines: Line[], selections?: Item[], unlisted?: boolean}} Item
+ */
+
+const TITLES = ['BallotTitle', 'Name'];
+const STATEMENTS = ['SummaryText', 'FullText', 'ProStatement', 'ConStatement', 'EffectOfAbstain', 'PassageThreshold'];
+
+/** The ballots of one report. */
+export class Ballots {
+    /** @param {import('./meaning.mjs').Meaning} meaning */
+    constructor(meaning) {
+        this.meaning = meaning;
+        this.styles = meaning.things.get('style');
+        this.contests = new Map();
+    }
+
+    /** What tells one ballot style from another: its code, its units and its parties. Null if there is none under this text. */
+    head(keyText) {
+        const style = this.styles.get(keyText);
+        return style === undefined ? null : {
+            code: textOfTriple(style.key),
+            units: this.namesOf(style.object.GpUnitIds),
+            parties: this.namesOf(style.object.PartyIds ?? []),
+        };
+    }
+
+    namesOf(references) {
+        return references.map((reference) => this.nameOf(this.meaning.named.get(reference))).sort();
+    }
+
+    nameOf(thing) {
+        return thing.title ?? textOfTriple(thing.key);
+    }
+
+    /** The first lines of a ballot: its election, its units and its parties. */
+    lines(keyText) {
+        const style = this.styles.get(keyText);
+        const { units, parties } = this.head(keyText);
+        const { Name, StartDate } = this.meaning.thing('election', style.election).object;
+        return [
+            { role: 'election', label: labelOf(Name) }, plainLine('date', StartDate), plainLine('units', units.join(', ')),
+            ...(parties.length > 0 ? [plainLine('parties', parties.join(', '))] : []),
+        ];
+    }
+
+    /** What stands on a ballot, in its order. */
+    items(keyText) {
+        return this.content(this.styles.get(keyText).object.OrderedContent ?? [], 0);
+    }
+
+    content(entries, depth) {
+        return entries.flatMap((entry) => (Object.hasOwn(entry, 'HeaderId')
+            ? [this.header(entry, depth), ...this.content(entry.OrderedContent ?? [], depth + 1)] : [this.contestOn(entry, depth)]));
+    }
+
+    header({ HeaderId }, depth) {
+        const { key, object } = this.meaning.named.get(HeaderId);
+        return { kind: 'header', id: textOfKey(['header', key]), depth, lines: [{ role: 'title', label: labelOf(object.Name) }] };
+    }
+
+    // A contest with those selections that the ballot lists. A ballot that lists none has all of them, in no order.
+    contestOn({ ContestId, OrderedContestSelectionIds }, depth) {
+        const { id, lines, selections } = this.contest(ContestId);
+        const unlisted = OrderedContestSelectionIds === undefined;
+        const listed = unlisted ? [...selections.values()] : OrderedContestSelectionIds.map((reference) => selections.get(reference));
+        return { kind: 'contest', id, depth, lines, selections: listed, unlisted };
+    }
+
+    // A contest and its selections by their names in the file. Many ballots have the same one.
+    contest(reference) {
+        if (!this.contests.has(reference)) {
+            const { key, object } = this.meaning.named.get(reference);
+            const selections = (object.ContestSelection ?? []).map((selection) => [selection['@id'], this.selection(selection)]);
+            this.contests.set(reference, { id: textOfKey(['contest', key]), lines: this.linesOfContest(object), selections: new Map(selections) });
+        }
+        return this.contests.get(reference);
+    }
+
+    linesOfContest(contest) {
+        const title = TITLES.find((name) => Object.hasOwn(contest, name));
+        return [
+            { role: 'title', label: labelOf(contest[title]) },
+            ...linesOf(contest, ['BallotSubTitle']),
+            ...howToVote(contest),
+            ...this.retained(contest),
+            ...linesOf(contest, STATEMENTS),
+        ];
+    }
+
+    // Who is to stay in office.
+    retained({ CandidateId }) {
+        return CandidateId === undefined ? [] : [{ role: 'candidate', label: labelOf(this.meaning.named.get(CandidateId).object.BallotName) }];
+    }
+
+    selection(selection) {
+        const names = this.namesOfSelection(selection);
+        const writeIn = selection.IsWriteIn === true ? [ownLine('writeIn', say('ballot.writeIn'))] : [];
+        const lines = [...names, ...writeIn];
+        return {
+            kind: 'selection', id: this.meaning.selectionName(selection), depth: 0,
+            lines: lines.length > 0 ? lines : [ownLine('writeIn', say('value.noName'))],
+        };
+    }
+
+    namesOfSelection({ CandidateIds, PartyIds, EndorsementPartyIds, Selection }) {
+        const candidates = topFirst((CandidateIds ?? []).map((reference) => this.meaning.named.get(reference).object));
+        const parties = new Set(EndorsementPartyIds ?? candidates.map(({ PartyId }) => PartyId).filter((party) => party !== undefined));
+        return [
+            ...candidates.map(({ BallotName }) => ({ role: 'name', label: labelOf(BallotName) })),
+            ...(Selection === undefined ? [] : [{ role: 'name', label: labelOf(Selection) }]),
+            ...(PartyIds ?? []).map((reference) => this.party(reference, 'name')),
+            ...[...parties].map((reference) => this.party(reference, 'party')),
+        ];
+    }
+
+    party(reference, role) {
+        return { role, label: labelOf(this.meaning.named.get(reference).object.Name) };
+    }
+}
+
+// The candidates of a selection are a set. Of a ticket, the top comes first.
+function topFirst(candidates) {
+    return [...candidates.filter(({ IsTopTicket }) => IsTopTicket === true), ...candidates.filter(({ IsTopTicket }) => IsTopTicket !== true)];
+}
+
+function linesOf(object, names) {
+    return names.filter((name) => Object.hasOwn(object, name)).map((name) => ({ role: name, label: labelOf(object[name]) }));
+}
+
+// How many votes a voter has, or else how votes are counted.
+function howToVote({ VotesAllowed, VoteVariation, OtherVoteVariation }) {
+    const lines = VotesAllowed === undefined ? [] : [ownLine('votes', say('ballot.votes', { count: Number(VotesAllowed) }))];
+    const way = OtherVoteVariation ?? VoteVariation;
+    return way === undefined ? lines : [...lines, ownLine('variation', say('ballot.way', { way: sayIfKnown(`variation.${way}`) ?? way }))];
+}
+
+/** @returns {Label} */
+export function labelOf(value) {
+    return typeof value === 'string' ? [{ lang: '', text: value }]
+        : value.Text.map(({ Language, Content }) => ({ lang: Language, text: Content })).sort((one, other) => (one.lang < other.lang ? -1 : 1));
+}
+
+function plainLine(role, text) {
+    return { role, label: [{ lang: '', text }] };
+}
+
+function ownLine(role, text) {
+    return { ...plainLine(role, text), own: true };
+}

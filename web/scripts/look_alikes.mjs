@@ -1,0 +1,44 @@
+// Why two texts that differ look alike: docs/FIXES.md, "Differences that people don't see".
+
+// Letters of other alphabets that look like Latin ones, each behind the Latin letter. Only letters that most fonts draw alike.
+const LIKE_LATIN = {
+    A: 'АΑ', B: 'ВΒ', C: 'СϹ', E: 'ЕΕ', H: 'НΗ', I: 'ІΙ', J: 'Ј', K: 'КΚ', M: 'МΜ', N: 'Ν', O: 'ОΟ', P: 'РΡ', S: 'Ѕ', T: 'ТΤ', X: 'ХΧ',
+    Y: 'ҮΥ', Z: 'Ζ',
+    a: 'а', c: 'сϲ', d: 'ԁ', e: 'е', h: 'һ', i: 'і', j: 'ј', o: 'оο', p: 'рρ', s: 'ѕ', x: 'х', y: 'у', v: 'ν', w: 'ԝ',
+};
+const LATIN = new Map(Object.entries(LIKE_LATIN).flatMap(([letter, others]) => [...others].map((other) => [other, letter])));
+const IGNORED = /[\p{Default_Ignorable_Code_Point}\p{Cf}]/gu;
+const QUOTES = /[‘’‚‛′`´]/g;
+const DOUBLE_QUOTES = /[“”„‟″]/g;
+const DASHES = /[‐‑‒–—−]/g;
+
+// Each way to see past a difference, with the key of its text, the plainest first.
+const WAYS = [
+    ['spelling', (text) => text.normalize('NFC')],
+    ['hidden', (text) => text.replace(IGNORED, '')],
+    ['blanks', (text) => text.replace(/\s+/g, ' ').trim()],
+    ['letters', (text) => text.replace(/./gu, (letter) => LATIN.get(letter) ?? letter)],
+    ['marks', (text) => text.replace(QUOTES, "'").replace(DOUBLE_QUOTES, '"').replace(DASHES, '-')],
+];
+
+/**
+ * Why two different texts look alike; an empty list if they don't.
+ * @returns {('spelling' | 'hidden' | 'blanks' | 'letters' | 'marks')[]}
+ */
+export function whyAlike(left, right) {
+    if (left === right || plain(left) !== plain(right)) {
+        return [];
+    }
+    const found = WAYS.filter(([, way]) => differsIn(way, left, right)).map(([key]) => key);
+    return found.length > 0 ? found : ['spelling'];
+}
+
+function plain(text) {
+    return WAYS.reduce((before, [, way]) => way(before), text);
+}
+
+// Whether the texts differ in what this way alone sees past: what all other ways leave is not equal.
+function differsIn(way, left, right) {
+    const others = (text) => WAYS.filter(([, one]) => one !== way).reduce((before, [, one]) => one(before), text);
+    return others(left) !== others(right);
+}

@@ -1,0 +1,128 @@
+// Many files at once: a table of verdicts, in which files that mean the same are of one group. Any two can be compared.
+import { csvOf } from './csv.mjs';
+import { button, element, save, theirs } from './dom.mjs';
+import { sizeText } from './record.mjs';
+import { codeOf } from './sums.mjs';
+import { say } from './texts.mjs';
+
+/** The columns, with what each sorts by. */
+const COLUMNS = [
+    ['name', ({ name }) => name], ['size', ({ size }) => size],
+    ['verdict', ({ outcome, faults }) => `${outcome} ${String(faults ?? 0).padStart(12, '0')}`],
+    ['group', ({ group }) => group ?? Infinity], ['code', ({ canonical }) => canonical?.sha256 ?? '~'],
+];
+
+export class ManyFiles {
+    /**
+     * @param {HTMLElement} holder
+     * @param {{file: File, name: string}[]} files
+     * @param {{client: import('./client.mjs').Client, compare: (files: File[]) => void, say: (text: string) => void}} known
+     */
+    constructor(holder, files, known) {
+        Object.assign(this, known);
+        this.holder = holder;
+        this.rows = files.map(({ file, name }) => ({ file, name, size: file.size, outcome: null }));
+        this.chosen = [];
+        this.sorted = { column: 0, falling: false };
+    }
+
+    /** Judges each file, one after another, and shows what is known. */
+    async judge(prefer, tell, isCurrent) {
+        for (const [index, row] of this.rows.entries()) {
+            tell({ stage: 'survey', name: row.name, done: index, total: this.rows.length });
+            Object.assign(row, await this.client.ask('survey', { file: row.file, prefer }));
+            if (!isCurrent()) {
+                return;
+            }
+        }
+        this.group();
+        this.show();
+        this.say(this.summary());
+    }
+
+    // Files with one canonical form are of one group. Groups are counted from the largest one on.
+    group() {
+        const groups = new Map();
+        for (const row of this.rows.filter(({ canonical }) => canonical !== undefined)) {
+            groups.set(row.canonical.sha256, [...groups.get(row.canonical.sha256) ?? [], row]);
+        }
+        const ranked = [...groups.values()].sort((one, other) => other.length - one.length);
+        ranked.forEach((rows, index) => rows.forEach((row) => Object.assign(row, { group: index + 1, groupSize: rows.length })));
+        this.groups = ranked.length;
+    }
+
+    summary() {
+        const accepted = this.rows.filter(({ outcome }) => outcome === 'accepted').length;
+        return `${say('many.accepted', { count: accepted, all: this.rows.length })} ${say('many.groups', { count: this.groups })}`;
+    }
+
+    show() {
+        this.table = element('tbody', {});
+        const heads = COLUMNS.map(([key], index) => element('th', { scope: 'col', 'aria-sort': 'none' },
+            button(say(`many.${key}`), () => this.sort(index), { class: 'small' })));
+        this.heads = heads;
+        this.note = element('p', { class: 'screen' }, say('many.choose'));
+        this.holder.replaceChildren(element('section', { class: 'many', 'aria-labelledby': 'many' },
+            element('h2', { id: 'many', tabindex: '-1' }, say('many.heading', { count: this.rows.length })),
+            element('p', {}, this.summary()), element('p', { class: 'note' }, say('many.note')), this.note,
+            element('div', { class: 'scrolled', tabindex: '0', role: 'group', 'aria-label': say('many.caption') },
+                element('table', {}, element('caption', { class: 'visually-hidden' }, say('many.caption')),
+                    element('thead', {}, element('tr', {}, ...heads, element('th', { scope: 'col', class: 'screen' }, say('many.compare')))), this.table)),
+            element('p', { class: 'buttons screen' }, button(say('many.print'), () => this.print(), { class: 'main' }),
+                button(say('many.save'), () => save(new Blob([csvOf(this.records())], { type: 'text/csv' }), 'ballots.csv')))));
+        this.fill();
+    }
+
+    // Sorts by a column; by the same one again, the other way round.
+    sort(column) {
+        this.sorted = { column, falling: this.sorted.column === column && !this.sorted.falling };
+        this.fill();
+    }
+
+    fill() {
+        const { column, falling } = this.sorted;
+        const [, valueOf] = COLUMNS[column];
+        const order = (one, other) => (one < other ? -1 : one > other ? 1 : 0) * (falling ? -1 : 1);
+        const rows = [...this.rows].sort((one, other) => order(valueOf(one), valueOf(other)));
+        this.heads.forEach((head, index) => head.setAttribute('aria-sort', index !== column ? 'none' : falling ? 'descending' : 'ascending'));
+        this.table.replaceChildren(...rows.map((row) => this.row(row)));
+    }
+
+    row(row) {
+        const { name, size, outcome, faults, group, groupSize, canonical } = row;
+        const choose = button(say(this.chosen.includes(row) ? 'many.chosen' : 'many.chooseOne'), () => this.choose(row),
+            { class: 'small', 'aria-pressed': String(this.chosen.includes(row)), 'aria-label': say('many.chooseName', { name: theirs(name).textContent }) });
+        return element('tr', { 'data-row': String(this.rows.indexOf(row)) }, element('th', { scope: 'row' }, theirs(name)),
+            element('td', {}, sizeText(size)), element('td', {}, say(`verdict.${outcome}`, { count: faults ?? 0 })),
+            element('td', {}, group === undefined ? '' : groupSize === 1 ? say('many.alone', { group }) : say('many.same', { group, count: groupSize })),
+            element('td', {}, canonical === undefined ? '' : element('code', {}, codeOf(canonical.sha256))),
+            element('td', { class: 'screen' }, choose));
+    }
+
+    // The second file that is chosen is compared with the first one.
+    choose(row) {
+        this.chosen = this.chosen.includes(row) ? this.chosen.filter((one) => one !== row) : [...this.chosen, row];
+        this.note.textContent = say(this.chosen.length === 1 ? 'many.chooseOther' : 'many.choose');
+        this.say(this.note.textContent);
+        if (this.chosen.length === 2) {
+            const files = this.chosen.map(({ file }) => file);
+            this.chosen = [];
+            this.compare(files);
+        }
+        this.fill();
+        this.table.querySelector(`[data-row="${this.rows.indexOf(row)}"] button`)?.focus();
+    }
+
+    records() {
+        const heads = ['file', 'bytes', 'verdict', 'faults', 'group', 'sha256', 'canonical_sha256'];
+        const rows = this.rows.map(({ name, size, outcome, faults, group, sha256, canonical }) => [name, size, outcome, faults ?? '', group ?? '',
+            sha256 ?? '', canonical?.sha256 ?? '']);
+        return [heads, ...rows];
+    }
+
+    print() {
+        document.documentElement.dataset.print = 'many';
+        addEventListener('afterprint', () => delete document.documentElement.dataset.print, { once: true });
+        print();
+    }
+}

@@ -1,0 +1,138 @@
+// Prepares a copy of a refused file: the steps that apply, what each would change, and what is done with the copy.
+import { button, element, saidWith, save, theirs } from './dom.mjs';
+import { where } from './faults.mjs';
+import { sumShown } from './sums.mjs';
+import { numberText, say } from './texts.mjs';
+
+const GROUPS = ['taken', 'chosen', 'seen'];
+
+// What is known of each copy that this page has made: the name and the sum of its file, and the steps.
+const COPIES = new WeakMap();
+
+/** What is known of a file that is a copy; undefined if it is none. */
+export function copyKnown(file) {
+    return COPIES.get(file);
+}
+
+/** The section of a refused file in which a copy is prepared. */
+export class CopyMaker {
+    /**
+     * @param {import('./client.mjs').Client} client
+     * @param {{index: number, name: string, takesCopy: (index: number, copy: File) => void}} known
+     */
+    constructor(client, known) {
+        Object.assign(this, known);
+        this.client = client;
+        this.body = element('div', { class: 'preparing', 'data-shown': '0' });
+    }
+
+    section() {
+        const heading = `prepare-${this.index}`;
+        const begin = button(say('prepare.begin'), () => this.show(null), { class: 'main', id: `prepare-begin-${this.index}` });
+        this.body.append(element('p', {}, begin));
+        return element('section', { class: 'prepare screen', 'aria-labelledby': heading },
+            element('h3', { id: heading }, saidWith('prepare.heading', { name: theirs(this.name) })),
+            element('p', {}, say('prepare.note')), this.body);
+    }
+
+    /** Asks what these steps do, and shows it. The focus stays where it was. */
+    async show(names, focus = null) {
+        this.body.setAttribute('aria-busy', 'true');
+        const steps = await this.client.ask('preparation', { index: this.index, steps: names }).catch(() => undefined);
+        this.body.setAttribute('aria-busy', 'false');
+        this.body.dataset.shown = String(Number(this.body.dataset.shown) + 1);
+        if (!steps?.length) {
+            const why = steps === undefined ? 'sentence.failed' : steps === null ? 'prepare.notJson' : 'prepare.none';
+            this.body.replaceChildren(element('p', { tabindex: '-1' }, say(why)));
+            this.body.firstChild.focus();
+            return;
+        }
+        const groups = GROUPS.map((group) => this.group(group, steps.filter((step) => step.group === group)));
+        this.body.replaceChildren(...groups.filter((group) => group !== null), this.buttons(steps.some(({ chosen, count }) => chosen && count > 0)));
+        (document.getElementById(focus) ?? this.body.querySelector('input'))?.focus();
+    }
+
+    group(group, steps) {
+        return steps.length === 0 ? null : element('fieldset', { class: group },
+            element('legend', {}, say(`prepare.group.${group}`)), element('ul', { class: 'steps' }, ...steps.map((step) => this.step(step))));
+    }
+
+    step(step) {
+        const id = `step-${this.index}-${step.name}`;
+        const box = element('input', { type: 'checkbox', id, 'data-step': step.name, checked: step.chosen, change: () => this.show(this.names(), id) });
+        return element('li', {},
+            element('p', {}, element('label', { for: id }, box, ' ', element('strong', {}, say(`step.${step.name}`))),
+                step.count === 0 ? null : element('span', { class: 'count' }, ` ${say('prepare.count', { count: step.count })}`)),
+            element('p', { class: 'note' }, say(`step.${step.name}.does`), ' ', say(`step.${step.name}.loses`)),
+            step.count === 0 ? null : preview(step), step.leftCount === 0 ? null : leftOf(step));
+    }
+
+    names() {
+        return [...this.body.querySelectorAll('input:checked')].map((box) => box.dataset.step);
+    }
+
+    buttons(isChanged) {
+        return element('p', { class: 'buttons' },
+            button(say('prepare.check'), () => this.check(), { class: 'main', id: `prepare-check-${this.index}`, disabled: !isChanged }),
+            button(say('prepare.save'), async () => save(await this.copy(), this.copyName), { disabled: !isChanged }),
+            button(say('prepare.saveChanges'), async () => save(new Blob([await this.client.ask('preparedChanges', this.question())]),
+                `${this.copyName.replace(/\.json$/, '')}.changes.json`), { disabled: !isChanged }));
+    }
+
+    question() {
+        return { index: this.index, steps: this.names() };
+    }
+
+    get copyName() {
+        return `${this.name.replace(/(\.raw)?\.json$/i, '')}.prepared.json`;
+    }
+
+    async copy() {
+        const { bytes, ...known } = await this.client.ask('preparedCopy', this.question());
+        const copy = new File([bytes], this.copyName, { type: 'application/json' });
+        COPIES.set(copy, { name: this.name, ...known });
+        return copy;
+    }
+
+    async check() {
+        this.takesCopy(this.index, await this.copy());
+    }
+}
+
+// The first changes of a step, before and after.
+function preview({ name, made, count }) {
+    const rows = made.map(({ before, after, ...place }) => element('li', {}, where(place), element('dl', { class: 'change' },
+        element('div', {}, element('dt', {}, say('prepare.before')), element('dd', {}, valueShown(before))),
+        element('div', {}, element('dt', {}, say('prepare.after')), element('dd', {}, valueShown(after))))));
+    return element('details', { 'data-preview': name }, element('summary', {}, say('prepare.preview')), element('ol', {}, ...rows),
+        count > made.length ? element('p', { class: 'note' }, say('prepare.more', { count: count - made.length })) : null);
+}
+
+function valueShown(text) {
+    return text === null ? element('em', {}, say('prepare.absent')) : element('code', {}, theirs(text));
+}
+
+function leftOf({ left, leftCount }) {
+    const rows = left.map(({ why, ...place }) => element('li', {}, where(place), element('p', {}, say(`step.left.${why}`))));
+    return element('details', {}, element('summary', {}, say('prepare.left', { count: leftCount })), element('ol', {}, ...rows));
+}
+
+/** What stands above the verdict on a copy: where it comes from, and a button that saves it. */
+export function copyNotice(file, known) {
+    return element('section', { class: 'prepared-copy', 'aria-label': say('prepare.isCopy') },
+        element('p', {}, saidWith('prepare.copyOf', { name: theirs(known.name) })), stepsShown(known),
+        element('p', { class: 'buttons screen' }, button(say('prepare.save'), () => save(file, file.name), { class: 'save-copy' })));
+}
+
+function stepsShown({ steps }) {
+    return element('ul', { class: 'steps-done' }, ...steps.map(({ name, count }) => element('li', {}, `${say(`step.${name}`)} (${numberText(count)})`)));
+}
+
+/** What the record has of a copy: a label and a value each. */
+export function copyRecorded(known) {
+    return [
+        ['record.preparedOf', theirs(known.name)],
+        ['record.preparedSum', sumShown(known.original, 'original', false)],
+        ['record.preparedSteps', stepsShown(known)],
+    ];
+}

@@ -1,0 +1,31 @@
+// What is wrong with files that are refused or not JSON. What helps to mend a refused file stands here too, a section each.
+import { element, saidWith, theirs } from './dom.mjs';
+import { excerptShown } from './excerpts.mjs';
+import { FaultCards, paragraphs } from './faults.mjs';
+import { CopyMaker } from './prepare_copy.mjs';
+import { say } from './texts.mjs';
+
+/** The sections of all files that have any. */
+export async function troublesOf(files, names, client, { fixes, takesCopy }) {
+    const sections = await Promise.all(files.map((file, index) => sectionsOf(file, { index, name: names[index], client, fixes, takesCopy })));
+    return sections.flat();
+}
+
+async function sectionsOf(file, { index, name, client, fixes, takesCopy }) {
+    const preparing = () => new CopyMaker(client, { index, name, takesCopy }).section();
+    if (file.outcome === 'notJson') {
+        return [...(file.trouble.why === 'byteOrderMark' ? [preparing()] : []), notJson(file.trouble, name, index, fixes['not JSON'])];
+    }
+    return file.outcome === 'refused' ? [preparing(), await new FaultCards(client, fixes, { index, name, count: file.faults }).section()] : [];
+}
+
+function notJson({ why, line, column, excerpt }, name, index, fix) {
+    const heading = `not-json-${index}`;
+    const where = line === undefined ? null : element('p', {}, say('notJson.where', { line: String(line), column: String(column) }));
+    return element('section', { class: 'card', 'aria-labelledby': heading },
+        element('h3', { id: heading }, saidWith('notJson.heading', { name: theirs(name) })),
+        element('p', {}, say(`notJson.${why}`)), where,
+        excerpt === undefined ? null : excerptShown(excerpt, () => Promise.resolve(new Uint8Array(0))),
+        element('details', {}, element('summary', {}, say('faults.mend')), ...paragraphs(fix.mending),
+            element('p', { class: 'label' }, say('faults.origin')), ...paragraphs(fix.origin)));
+}

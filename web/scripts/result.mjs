@@ -1,0 +1,138 @@
+// What the page shows of one judgement: the verdict as soon as it is there, and then all that follows from it.
+import { BallotList } from './ballot_list.mjs';
+import { firstDifference, useExplanations } from './comparison.mjs';
+import { differenceList, typeOffer } from './difference_list.mjs';
+import { element, saidWith, theirs } from './dom.mjs';
+import { differencesFiled, faultsFiled, MOST_FILED } from './findings.mjs';
+import { envelopeTable, fileNotices, notesNotice, sameBytesNotice } from './notices.mjs';
+import { copyKnown, copyNotice } from './prepare_copy.mjs';
+import { recordOf } from './record.mjs';
+import { troublesOf } from './refused.mjs';
+import { seenBox } from './seen_box.mjs';
+import { say } from './texts.mjs';
+import { banner, sentencesOn, verdictOf } from './verdict.mjs';
+
+/** The parts of a result, in their order. */
+const PARTS = ['notices', 'verdict', 'copies', 'seen', 'offer', 'differences', 'troubles', 'ballots', 'note', 'record'];
+
+export class Result {
+    /**
+     * @param {{client: import('./client.mjs').Client, data: object, holder: HTMLElement, names: string[], files: File[], prefer: string | null,
+     *     isCurrent: () => boolean, tell: (progress: object) => void, offerTypes: (types: string[]) => void,
+     *     prefers: (type: string) => void, takesCopy: (index: number, copy: File) => void}} known `prefers` judges again under a
+     *     type of identifier, and `takesCopy` judges a prepared copy in place of a file
+     */
+    constructor(known) {
+        Object.assign(this, known);
+        useExplanations(this.data.fixes);
+        this.date = new Date();
+        this.hasVerdict = false;
+        this.listed = null;
+    }
+
+    /** Shows the verdict, and returns its heading. */
+    async verdict() {
+        this.answer = await this.client.ask('verdict', {}, this.tell);
+        if (!this.isCurrent()) {
+            return '';
+        }
+        this.parts = Object.fromEntries(PARTS.map((name) => [name, element('div', { 'data-part': name })]));
+        this.verdictShown = verdictOf(this.answer);
+        this.put('verdict', banner(this.verdictShown, ...sentencesOn(this.answer, this.names)));
+        this.put('copies', ...this.files.filter(copyKnown).map((file) => copyNotice(file, copyKnown(file))));
+        if (this.answer.comparison?.first) {
+            this.put('differences', firstDifference(this.answer.comparison.first, this.names));
+        }
+        this.holder.replaceChildren(...Object.values(this.parts));
+        this.hasVerdict = true;
+        return this.verdictShown.title;
+    }
+
+    /** Shows what follows from the verdict. */
+    async rest() {
+        this.put('troubles', ...await troublesOf(this.answer.files, this.names, this.client, { fixes: this.data.fixes, takesCopy: this.takesCopy }));
+        this.sums = await this.client.ask('sums', {}, this.tell);
+        if (!this.isCurrent()) {
+            return;
+        }
+        this.types = [...new Set(this.sums.flatMap(({ types }) => types ?? []))].sort();
+        this.offerTypes(this.types);
+        this.showNotices();
+        await this.showRecord();
+        this.showBallots();
+        if (this.answer.comparison?.first) {
+            await this.list();
+        }
+    }
+
+    // The ballots of all files, if all are accepted.
+    showBallots() {
+        if (this.sums.every(({ canonical }) => canonical !== undefined)) {
+            this.put('ballots', new BallotList(this.client, { files: this.names.length, tell: this.tell }).section());
+        }
+    }
+
+    async list() {
+        this.listed = await this.client.ask('list', {}, this.tell);
+        if (!this.isCurrent()) {
+            return;
+        }
+        if (this.listed === null) {
+            this.put('note', element('p', { class: 'note' }, say('difference.tooLarge')));
+            return;
+        }
+        this.put('seen', seenBox(this.listed));
+        this.put('differences', firstDifference(this.listed.first, this.names), await differenceList(this.client, this.listed, this.names));
+        await this.showRecord();
+        const types = await this.client.ask('types', { types: this.types }, this.tell);
+        if (this.isCurrent()) {
+            this.put('offer', typeOffer(types, this.listed.count, this.prefers));
+        }
+    }
+
+    // What stands above the verdict, and the envelopes behind it.
+    showNotices() {
+        const envelopes = this.sums.map(({ envelope }) => envelope);
+        const isCompared = this.answer.comparison !== null && !envelopes.includes(undefined);
+        this.put('notices', sameBytesNotice(this.sums), isCompared ? notesNotice(envelopes, this.names) : null,
+            ...this.sums.flatMap((sums, index) => fileNotices(sums, this.names[index], index, this.prefer)));
+        if (isCompared) {
+            this.parts.verdict.querySelector('.envelope')?.append(envelopeTable(envelopes, this.names));
+        }
+    }
+
+    async showRecord() {
+        const findings = await this.findings();
+        if (!this.isCurrent()) {
+            return;
+        }
+        this.put('record', recordOf({
+            files: this.answer.files.map((file, index) => ({ ...file, ...this.sums[index], copied: copyKnown(this.files[index]) })), names: this.names, prefer: this.prefer,
+            version: this.data.version, pageSum: this.data.pageSum, verdict: this.verdictShown.title, date: this.date, findings,
+            notices: [...this.parts.notices.querySelectorAll('h3')].map((heading) => heading.cloneNode(true).childNodes),
+        }, this.client));
+    }
+
+    // What the record has of the differences or the faults.
+    async findings() {
+        if (this.listed) {
+            const entries = await this.client.ask('more', { group: 'all', from: 0, count: MOST_FILED });
+            return differencesFiled(entries, this.listed.count, this.names);
+        }
+        const refused = this.answer.files.map((file, index) => ({ ...file, index })).filter(({ outcome }) => outcome === 'refused');
+        const parts = await Promise.all(refused.map(async ({ index, faults }) => faultsFiled(
+            await this.client.ask('firstLines', { index, count: MOST_FILED }), faults, this.names[index])));
+        return parts.length === 0 ? null : element('div', {}, ...parts);
+    }
+
+    /** The rest was cancelled, or failed by an error. The verdict stays. */
+    stopped(error) {
+        const said = error === null ? say('sentence.restCancelled')
+            : saidWith('sentence.restFailed', { error: theirs(String(error.message)) });
+        this.put('note', element('p', { class: 'note', id: 'stopped' }, said));
+    }
+
+    put(name, ...nodes) {
+        this.parts[name].replaceChildren(...nodes.filter((node) => node !== null));
+    }
+}
