@@ -4,7 +4,7 @@
 # bench`, `make bench-instructions` and `make bench-hostile` measure the program.
 # `make install` and `make uninstall` put it on this machine and take it away; `make deb` and `make release` make files to hand
 # on; `make library` makes the C library, `make portable` the library for other machines, `make page` the page, and `make same`
-# builds again and compares. docs/INSTALL.md describes these.
+# builds again and compares, and `make site` makes the pages as HTML. docs/INSTALL.md describes these.
 SHELL := /bin/bash
 SOURCES := crates.txt $(shell find crates \
     \( -path crates/erd_rows -o -path crates/round_trip -o -path crates/erd_c -o -path crates/uses \) -prune \
@@ -19,57 +19,58 @@ bash_completions = $(datarootdir)/bash-completion/completions
 zsh_completions = $(datarootdir)/zsh/site-functions
 fish_completions = $(datarootdir)/fish/vendor_completions.d
 
-INSTALL = install
-INSTALL_PROGRAM = $(INSTALL) -m 755
-INSTALL_DATA = $(INSTALL) -m 644
-DOCUMENTS = CHANGELOG.md LICENSE-MIT LICENSE-APACHE
-PAGES = docs/USING.md docs/FIXES.md docs/WALKTHROUGH.md docs/PROFILE.md
-EXAMPLES = $(wildcard examples/*.json examples/*.jq) examples/README.md
+INSTALL_PROGRAM = install -m 755
+INSTALL_DATA = install -m 644
+DOCUMENTS = CHANGELOG.md LICENSE-MIT LICENSE-APACHE THIRD-PARTY-NOTICES
+PAGES = docs/USING.md docs/FIXES.md docs/WALKTHROUGH.md docs/VENDORS.md docs/PROFILE.md
+EXAMPLES = $(wildcard examples/*.json) examples/README.md
 SCRIPTS = $(wildcard contrib/*)
 
-# Stops where one of these tools is missing.
-needs = @for tool in $(1); do \
-    command -v $$tool > /dev/null || { echo "make: $$tool is missing" >&2; exit 1; }; \
-done
+# Stops where one of these tools is missing, and names the package that has it.
+needs = @packaging/needed.sh $(1)
 
-.PHONY: demo try test edits agree bench bench-instructions bench-hostile round-trip fuzz install uninstall deb tarball release library portable page javascript same
+.PHONY: demo try test edits agree bench bench-instructions bench-hostile round-trip fuzz install uninstall deb tarball release library portable page javascript profiled same site
 
 erd: $(SOURCES)
 	$(call needs,rt cc cmp)
-	@tests/build.sh
+	@packaging/build.sh
 
 demo: erd
 	@examples/demo.sh
 
+# As root it installs what is missing of packaging/debian-packages.txt first, but not with INSTALL=no.
 test:
 	$(call needs,rt cc cmp python3)
+	@[ "$(INSTALL)" = no ] || [ "$$(id -u)" -ne 0 ] || packaging/install_packages.sh
 	@tests/gate.sh
 
 # FILE=.. is a report, and COMMAND=.. one of canon and check; it is canon where none is given.
 try:
 	$(call needs,rt cc)
-	@tests/try.sh $(FILE) $(COMMAND)
+	@packaging/try.sh "$$FILE" "$$COMMAND"
 
-# CRATE=.. names the crates whose edits are tried, or edits as CRATE/EDIT. With none, all are tried.
+# CRATE=.. names the crates whose edits are tried, or edits as CRATE/EDIT, and LIST=.. the lists of wrong lines, or lines as LIST/LINE.
+# With neither, all edits and all wrong lines are tried.
 edits:
 	$(call needs,rt python3)
-	@tests/edits.py $(CRATE)
+	$(if $(LIST),,@tests/bodies/try_edits.py $(CRATE))
+	$(if $(CRATE),,@tests/bodies/wrong_lines.py $(LIST))
 
 agree: erd
 	$(call needs,python3)
-	@python3 tests/agree.py $(or $(N),2000) $(SEED)
+	@python3 tests/program/agrees_with_reference.py $(or $(N),2000) $(SEED)
 
 bench: erd round-trip
 	$(call needs,python3)
-	@python3 tests/bench.py
+	@python3 tests/measures/time_and_memory.py
 
 bench-instructions: erd round-trip
 	$(call needs,python3 valgrind)
-	@python3 tests/instructions.py --original
+	@python3 tests/measures/instructions.py --original
 
 bench-hostile: erd round-trip
 	$(call needs,python3)
-	@python3 tests/hostile.py
+	@python3 tests/measures/hostile.py
 
 # The program beside which erd is measured.
 round-trip:
@@ -80,27 +81,29 @@ round-trip:
 # MINUTES=.. is how long, in place of the one minute of the gate.
 fuzz: library
 	$(call needs,python3)
-	@MINUTES=$(MINUTES) tests/fuzz.sh
+	@MINUTES=$(MINUTES) tests/fuzz/fuzz.sh
 
+# Everything in quotes, since a prefix may have a blank.
 install: erd
-	$(INSTALL) -d $(addprefix $(DESTDIR),$(bindir) $(mandir)/man1 $(bash_completions) $(zsh_completions) \
-	    $(fish_completions) $(addprefix $(docdir)/,docs examples contrib))
-	$(INSTALL_PROGRAM) erd $(DESTDIR)$(bindir)/erd
-	$(INSTALL_DATA) docs/erd.1 $(DESTDIR)$(mandir)/man1/erd.1
-	$(INSTALL_DATA) $(DOCUMENTS) $(DESTDIR)$(docdir)
-	$(INSTALL_DATA) $(PAGES) $(DESTDIR)$(docdir)/docs
-	$(INSTALL_DATA) $(EXAMPLES) $(DESTDIR)$(docdir)/examples
-	$(INSTALL_DATA) $(SCRIPTS) $(DESTDIR)$(docdir)/contrib
-	$(INSTALL_DATA) packaging/completions/erd.bash $(DESTDIR)$(bash_completions)/erd
-	$(INSTALL_DATA) packaging/completions/_erd $(DESTDIR)$(zsh_completions)/_erd
-	$(INSTALL_DATA) packaging/completions/erd.fish $(DESTDIR)$(fish_completions)/erd.fish
+	install -d "$(DESTDIR)$(bindir)" "$(DESTDIR)$(mandir)/man1" "$(DESTDIR)$(bash_completions)" "$(DESTDIR)$(zsh_completions)" \
+	    "$(DESTDIR)$(fish_completions)" "$(DESTDIR)$(docdir)/docs" "$(DESTDIR)$(docdir)/examples" "$(DESTDIR)$(docdir)/contrib"
+	$(INSTALL_PROGRAM) erd "$(DESTDIR)$(bindir)/erd"
+	$(INSTALL_DATA) docs/erd.1 "$(DESTDIR)$(mandir)/man1/erd.1"
+	$(INSTALL_DATA) $(DOCUMENTS) "$(DESTDIR)$(docdir)"
+	$(INSTALL_DATA) $(PAGES) "$(DESTDIR)$(docdir)/docs"
+	$(INSTALL_DATA) $(EXAMPLES) "$(DESTDIR)$(docdir)/examples"
+	$(INSTALL_DATA) $(SCRIPTS) "$(DESTDIR)$(docdir)/contrib"
+	$(INSTALL_DATA) packaging/completions/erd.bash "$(DESTDIR)$(bash_completions)/erd"
+	$(INSTALL_DATA) packaging/completions/_erd "$(DESTDIR)$(zsh_completions)/_erd"
+	$(INSTALL_DATA) packaging/completions/erd.fish "$(DESTDIR)$(fish_completions)/erd.fish"
 
 # Takes away the files of `make install`, and of its folders those of erd alone.
 uninstall:
-	rm -f $(DESTDIR)$(bindir)/erd $(DESTDIR)$(mandir)/man1/erd.1
-	rm -f $(addprefix $(DESTDIR)$(docdir)/,$(DOCUMENTS) $(PAGES) $(EXAMPLES) $(SCRIPTS))
-	rm -f $(DESTDIR)$(bash_completions)/erd $(DESTDIR)$(zsh_completions)/_erd $(DESTDIR)$(fish_completions)/erd.fish
-	rmdir $(addprefix $(DESTDIR)$(docdir)/,docs examples contrib) $(DESTDIR)$(docdir) 2> /dev/null || true
+	rm -f "$(DESTDIR)$(bindir)/erd" "$(DESTDIR)$(mandir)/man1/erd.1"
+	cd "$(DESTDIR)$(docdir)" 2> /dev/null && rm -f $(DOCUMENTS) $(PAGES) $(EXAMPLES) $(SCRIPTS) || true
+	rm -f "$(DESTDIR)$(bash_completions)/erd" "$(DESTDIR)$(zsh_completions)/_erd" "$(DESTDIR)$(fish_completions)/erd.fish"
+	rmdir "$(DESTDIR)$(docdir)/docs" "$(DESTDIR)$(docdir)/examples" "$(DESTDIR)$(docdir)/contrib" "$(DESTDIR)$(docdir)" \
+	    2> /dev/null || true
 
 deb: erd
 	$(call needs,dpkg-deb dpkg-shlibdeps gzip)
@@ -129,10 +132,21 @@ page: library
 	@packaging/portable/wasm.sh
 	@python3 web/build.py out/portable/erd.wasm
 
+# All pages as HTML with the page, the conformance suite and, where there is a release, its sums, in out/site.
+site: page
+	$(call needs,pandoc python3)
+	@packaging/conformance.sh
+	@python3 packaging/site.py
+
 javascript: library
 	$(call needs,npm)
 	@packaging/portable/wasm.sh
 	@packaging/portable/javascript.sh
 
+# The program once more, laid out by a profile: out/profiled/erd.
+profiled: erd
+	$(call needs,rt)
+	@packaging/profiled.sh
+
 same: erd library
-	@tests/same.sh
+	@tests/forms/same_bytes.sh

@@ -13,6 +13,8 @@ import re
 import subprocess
 import sys
 
+import kit_libraries
+
 ROOT = pathlib.Path(__file__).resolve().parent.parent
 EITHER = 'MIT OR Apache-2.0'
 SUPPLIER = 'Organization: The maintainers of erd'
@@ -29,28 +31,14 @@ def package(name, version, licence, **more):
             'filesAnalyzed': False, 'licenseConcluded': licence, 'licenseDeclared': licence, 'copyrightText': 'NOASSERTION', **more}
 
 
-def kit_libraries(kit):
-    """The libraries of the kit that the crates stand on, with those that these stand on."""
-    lines = [line.split('#')[0] for line in (ROOT / 'crates.txt').read_text(encoding='utf-8').splitlines()]
-    own = {line.split(':')[0].split()[0] for line in lines if ':' in line}
-    wanted = {name for line in lines if ':' in line for name in line.split(':')[1].split()} - own
-    return sorted(wanted | {'std'})
-
-
-def licence_of(folder):
-    """The licence of a library of the kit, by the licence files in its folder."""
-    names = {path.name for path in folder.glob('LICENSE*')}
-    if {'LICENSE-MIT', 'LICENSE-APACHE'} <= names:
-        return EITHER
-    return 'NOASSERTION'
-
-
 def from_kit(kit):
     """The kit's compiler and the libraries of the kit as packages."""
     said = subprocess.run(['rt', 'version'], capture_output=True, text=True, check=True).stdout.split()
     yield package('rattle-kit', said[0], 'NOASSERTION', comment='The compiler and the prover.')
-    for name in kit_libraries(kit):
-        yield package(name, said[0], licence_of(kit / 'rattle' / name), comment='A proved library of the kit.')
+    for name in kit_libraries.libraries_below(kit):
+        licence = kit_libraries.licence_of(kit / 'rattle' / name)
+        words = 'A library of the kit.' if licence else 'A library of the kit, whose files name no licence.'
+        yield package(name, said[0], licence or 'NOASSERTION', comment=words)
 
 
 def version_of_debian(name):

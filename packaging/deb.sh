@@ -13,7 +13,7 @@ documents=$root/usr/share/doc/erd
 make --no-print-directory -s install PREFIX=/usr DESTDIR="$root"
 
 # Debian has the licenses in `copyright`, and the changelogs and manual pages compressed.
-rm "$documents"/LICENSE-*
+rm "$documents"/LICENSE-* "$documents/THIRD-PARTY-NOTICES"
 mv "$documents/CHANGELOG.md" "$documents/changelog"
 documented "$root" erd
 gzip -9n "$documents/changelog" "$root/usr/share/man/man1/erd.1"

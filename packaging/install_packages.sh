@@ -1,6 +1,6 @@
 #!/usr/bin/env bash
 # Installs the packages of debian-packages.txt, all at once in three tries, or else each group that can be had. It needs root, and
-# where something is missing it says so and ends well: the tests tell what they skip.
+# where something is missing it says so and ends with status 0: the tests say what they skip.
 set -u
 cd "$(dirname "$0")/.." || exit 1
 list=packaging/debian-packages.txt
@@ -14,7 +14,7 @@ installed() {
 }
 
 mapfile -t packages < <(grep -v '^#' "$list" | grep .)
-# A package is there, too, where the command of its name is: npm and rustc often come from elsewhere.
+# A package counts as installed if there is a command of its name: npm and rustc often come from elsewhere.
 missing=()
 for package in "${packages[@]}"; do
     [ "$(dpkg-query -W -f '${db:Status-Status}' "$package" 2> /dev/null)" = installed ] || command -v "$package" > /dev/null ||

@@ -15,7 +15,8 @@ gathered() {
     cp -RP "out/portable/$1" "$work/$2"
     mkdir "$work/$2/examples"
     cp examples/calling/* "$work/$2/examples"
-    cp LICENSE-MIT LICENSE-APACHE docs/CALLING.md "$work/$2"
+    cp LICENSE-MIT LICENSE-APACHE THIRD-PARTY-NOTICES "$work/$2"
+    python3 packaging/pages_apart.py "$work/$2" docs/CALLING.md docs/DATA.md
 }
 
 for processor in x86_64 aarch64; do

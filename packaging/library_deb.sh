@@ -51,7 +51,8 @@ root=$work/liberd-dev
 mkdir -p "$root/$below/pkgconfig" "$root/usr/include"
 cp -P "$made/liberd.so" "$made/liberd.a" "$root/$below"
 cp "$made/erd.h" "$root/usr/include"
-sed "s|^libdir=.*|libdir=\${prefix}/lib/$processor-linux-gnu|" "$made/pkgconfig/erd.pc" > "$root/$below/pkgconfig/erd.pc"
+sed "/^#/d; s|^prefix=.*|prefix=/usr|; s|^libdir=.*|libdir=\${prefix}/lib/$processor-linux-gnu|; s|^includedir=.*|includedir=\${prefix}/include|" \
+    "$made/pkgconfig/erd.pc" > "$root/$below/pkgconfig/erd.pc"
 documented "$root" liberd-dev
 gzip -9nc CHANGELOG.md > "$root/usr/share/doc/liberd-dev/changelog.gz"
 overridden "$root" liberd-dev

@@ -22,7 +22,7 @@ wheel() {
     cp -r bindings/python "$folder"
     rm -rf "$folder/tests" "$folder"/src/erd/__pycache__
     cp "$2" "$folder/src/erd/$3"
-    cp LICENSE-MIT LICENSE-APACHE "$folder"
+    cp LICENSE-MIT LICENSE-APACHE THIRD-PARTY-NOTICES "$folder"
     dated "$folder"
     (cd "$folder" && ERD_PLATFORM=$1 ERD_VERSION=$version /usr/bin/python3 setup.py -q bdist_wheel -d "$wheels") \
         > "$work/log" 2>&1 || { cat "$work/log" >&2; exit 1; }

@@ -10,6 +10,7 @@ rm -rf "$release" "$release.new"
 
 packaging/deb.sh
 packaging/tarball.sh
+packaging/conformance.sh
 packaging/portable/make.sh
 packaging/library_deb.sh amd64
 packaging/library_deb.sh arm64

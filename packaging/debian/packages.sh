@@ -4,7 +4,7 @@ revision=$version-1
 
 # documented ROOT PACKAGE: gives the package in this folder its copyright and its changelog of Debian
 documented() {
-    local documents=$1/usr/share/doc/$2 expat copyright
+    local documents=$1/usr/share/doc/$2 expat copyright notices
     mkdir -p "$documents"
     cat > "$documents/changelog.Debian" << END
 erd ($revision) unstable; urgency=medium
@@ -15,8 +15,10 @@ erd ($revision) unstable; urgency=medium
 END
     gzip -9n "$documents/changelog.Debian"
     expat=$(sed -e 's/^/ /; s/^ $/ ./' <(tail -n +5 LICENSE-MIT))
+    notices=$(python3 packaging/notices.py --debian | sed -e 's/^[[:space:]]*$/./; s/^/ /')
     copyright=$(cat packaging/debian/copyright)
-    printf '%s\n' "${copyright/@EXPAT@/"$expat"}" > "$documents/copyright"
+    copyright=${copyright/@EXPAT@/"$expat"}
+    printf '%s\n' "${copyright/@NOTICES@/"$notices"}" > "$documents/copyright"
 }
 
 # depends ROOT FILE ..: the packages that these files are linked with, for the field Depends

@@ -6,7 +6,7 @@ made=out/portable
 parts=$made/parts
 mkdir -p "$parts"
 
-# llvm NAME WORD ..: a tool of LLVM, all of which are in one file of the kit, by the name that it is called by
+# llvm NAME WORD ..: runs a tool of LLVM. The kit has all of them in one file, which acts by the name under which it is called
 llvm() {
     (exec -a "$1" "$kit/toolchain/bin/clang" "${@:2}")
 }

@@ -12,7 +12,7 @@ work=$(mktemp -d)
 trap 'rm -rf "$work"' EXIT
 mkdir "$work/erd"
 cp -R bindings/js/. "$work/erd"
-cp LICENSE-MIT LICENSE-APACHE "$made/erd.wasm" "$work/erd"
+cp LICENSE-MIT LICENSE-APACHE THIRD-PARTY-NOTICES "$made/erd.wasm" "$work/erd"
 chmod 644 "$work/erd/erd.wasm"
 dated "$work/erd"
 (cd "$work/erd" && HOME=$work npm pack --silent --offline --ignore-scripts --no-update-notifier --pack-destination "$made" > "$work/packed")

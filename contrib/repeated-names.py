@@ -1,0 +1,154 @@
+#!/usr/bin/env python3
+"""Lists the names that are written more than once in one object of a JSON file.
+
+usage: repeated-names.py FILE ..
+
+JSON says nothing of an object in which a name is written twice. erd reads the last value of such a name, and passes over the
+others; another program may read the first. So two files can mean the same to erd, and another thing to someone else. This
+script needs Python 3 and nothing else. It prints a line for each such name: the file, the place as a JSON Pointer, and how
+often the name is written. It is no part of what is proved.
+
+The exit status is 0 if no name is repeated, 1 if one is, 2 if a file is not JSON, and 3 if one cannot be read.
+"""
+
+from __future__ import annotations
+
+import json
+import sys
+from dataclasses import dataclass
+from typing import Iterator, List, NoReturn, Optional, Tuple, Union
+
+Step = Union[str, int]
+MOST_NAMES = 1000
+
+
+@dataclass(frozen=True)
+class RepeatedName:
+    """A name that is written more than once in one object, and its last place in JSON Pointer's steps."""
+
+    place: Tuple[Step, ...]
+    times: int
+
+    @property
+    def pointer(self) -> str:
+        """The place as a JSON Pointer (RFC 6901)."""
+        return ''.join('/' + str(step).replace('~', '~0').replace('/', '~1') for step in self.place)
+
+
+class _Object:
+    """An object that has a repeated name, or an object inside it that has one."""
+
+    __slots__ = ('parent', 'steps')
+
+    def __init__(self) -> None:
+        self.parent: Optional[_Object] = None
+        self.steps: Tuple[Step, ...] = ()
+
+    def place(self) -> Tuple[Step, ...]:
+        """Returns the steps from the root to this object."""
+        groups = []
+        node: Optional[_Object] = self
+        while node is not None:
+            groups.append(node.steps)
+            node = node.parent
+        return tuple(step for steps in reversed(groups) for step in steps)
+
+
+class _Reader:
+    """Meets each object when it ends, and keeps what leads to a repeated name."""
+
+    def __init__(self) -> None:
+        self.found: List[Tuple[_Object, str, int]] = []
+
+    def object(self, members: List[Tuple[str, object]]) -> Optional[_Object]:
+        """Stands for an object with these members: None if nothing in it is repeated."""
+        this = _Object()
+        leads_on = [_leads_on(value, this, (name,)) for name, value in members]
+        times = _times([name for name, _ in members])
+        self.found.extend((this, name, count) for name, count in times.items() if count > 1)
+        return this if any(leads_on) or len(times) < len(members) else None
+
+
+def _times(names: List[str]) -> dict:
+    times: dict = {}
+    for name in names:
+        times[name] = times.get(name, 0) + 1
+    return times
+
+
+def _leads_on(value: object, parent: Optional[_Object], steps: Tuple[Step, ...]) -> bool:
+    """Returns whether the value leads to a repeated name, after telling each object in it how it is reached."""
+    if isinstance(value, _Object):
+        value.parent, value.steps = parent, steps
+        return True
+    if isinstance(value, list):
+        found = [_leads_on(entry, parent, (*steps, position)) for position, entry in enumerate(value)
+                 if isinstance(entry, (_Object, list))]
+        return any(found)
+    return False
+
+
+def _no_number(word: str) -> NoReturn:
+    raise ValueError(f'{word} is not JSON')
+
+
+def repeated_names(report: Union[bytes, bytearray, memoryview, str], *, most: Optional[int] = MOST_NAMES) -> List[RepeatedName]:
+    """Returns the names that are written more than once in one object, in the order in which their objects end; the first
+    `most` of them, or all if that is None.
+
+    Raises ValueError if the report is not JSON. It says nothing about the meaning of the report: `erd` reads the last value
+    of such a name.
+
+    >>> [(name.pointer, name.times) for name in repeated_names('{"a": [{"b": 1, "b": 2}], "c": 3}')]
+    [('/a/0/b', 2)]
+    """
+    text = report if isinstance(report, str) else bytes(report).decode('utf-8')
+    reader = _Reader()
+    try:
+        root = json.loads(text, object_pairs_hook=reader.object, parse_constant=_no_number,
+                          parse_int=_nothing, parse_float=_nothing)
+    except RecursionError:
+        raise ValueError('nested too deeply') from None
+    _leads_on(root, None, ())
+    return [RepeatedName((*node.place(), name), times) for node, name, times in reader.found[:most]]
+
+
+def _nothing(_: str) -> None:
+    return None
+
+
+def visible(text: str) -> str:
+    """Returns the text with each character that a terminal may act on as an escape."""
+    return ''.join(letter if letter.isprintable() else f'\\u{{{ord(letter):x}}}' for letter in text)
+
+
+def lines(name: str) -> Iterator[str]:
+    """Yields a line for each repeated name of a file."""
+    with open(name, 'rb') as file:
+        report = file.read()
+    for found in repeated_names(report, most=None):
+        yield visible(f'{name}: {found.pointer}: written {found.times} times; erd reads the last value')
+
+
+def main(names: List[str]) -> int:
+    """Prints the repeated names of the files, and returns the exit status."""
+    if not names or names[0] in ('-h', '--help'):
+        print(__doc__.strip(), file=sys.stdout if names else sys.stderr)
+        return 0 if names else 3
+    status = 0
+    for name in names:
+        try:
+            for line in lines(name):
+                print(line)
+                status = max(status, 1)
+        except OSError as error:
+            print(visible(f'{name}: {error.strerror}'), file=sys.stderr)
+            status = 3
+        except ValueError:
+            print(visible(f'{name}: not JSON'), file=sys.stderr)
+            status = max(status, 2)
+    return status
+
+
+if __name__ == '__main__':
+    sys.exit(main(sys.argv[1:]))

@@ -1,0 +1,180 @@
+#!/usr/bin/env python3
+"""Makes the site in out/site: each page of the repository as plain HTML, the page for a browser, the conformance suite, the sums of a
+release where there is one, and a search that needs no server. It needs Debian's package pandoc.
+
+usage: site.py
+
+`docs/` and the other pages stay the source. A link to a page leads to its HTML, and a file that a page names is copied.
+"""
+import html
+import html.parser
+import json
+import os
+import pathlib
+import re
+import shutil
+import subprocess
+import sys
+
+ROOT = pathlib.Path(__file__).resolve().parent.parent
+SITE = ROOT / 'out' / 'site'
+NEW = ROOT / 'out' / 'site.new'
+PARTS = ROOT / 'packaging' / 'site'
+# What the head of each page leads to.
+HEAD = [('README.md', 'erd'), ('docs/USING.md', 'Use it'), ('docs/FIXES.md', 'Mend a file'), ('docs/INSTALL.md', 'Get it'),
+        ('docs/PROMISES.md', 'What is proved'), ('docs/PROFILE.md', 'The rules')]
+LEFT_OUT = ('third_party/', 'crates/', 'bindings/python/src')
+
+
+def pages():
+    """The pages of the repository."""
+    listed = subprocess.run(['git', 'ls-files', '--cached', '--others', '--exclude-standard', '*.md'], cwd=ROOT, capture_output=True,
+                            text=True, check=True).stdout.split('\n')
+    return sorted(pathlib.PurePosixPath(name) for name in listed if name and not name.startswith(LEFT_OUT))
+
+
+def html_of(page):
+    """Where the HTML of a page stands in the site."""
+    return pathlib.PurePosixPath('index.html') if str(page) == 'README.md' else page.with_suffix('.html')
+
+
+def relative(place, page):
+    """A link from the HTML of a page to a place in the site."""
+    return os.path.relpath(place, html_of(page).parent)
+
+
+def link_from(page, target, known):
+    """The link of a page as it is in the site. A file of the repository is copied there."""
+    if re.match(r'[a-z]+:|#', target):
+        return target
+    name, sharp, anchor = target.partition('#')
+    place = pathlib.PurePosixPath(os.path.normpath(page.parent / name))
+    if place in known:
+        return relative(html_of(place), page) + sharp + anchor
+    source = ROOT / place
+    if source.is_file():
+        (NEW / place).parent.mkdir(parents=True, exist_ok=True)
+        shutil.copy(source, NEW / place)
+    elif not source.is_dir():
+        raise FileNotFoundError('%s: %s' % (page, target))
+    return relative(place, page) if source.is_file() else relative(html_of(known_below(place, known)), page)
+
+
+def known_below(folder, known):
+    """The page that describes a folder."""
+    for page in known:
+        if page.parent == folder and page.name == 'README.md':
+            return page
+    return pathlib.PurePosixPath('README.md')
+
+
+def body_of(page, known):
+    """The HTML of a page, with the links of the site and with tables that can be scrolled."""
+    words = ['pandoc', '--from', 'gfm', '--to', 'html5', '--no-highlight', '--wrap=none', str(ROOT / page)]
+    made = subprocess.run(words, capture_output=True, text=True, check=True).stdout
+    made = re.sub(r'(href|src)="([^"]*)"',
+                  lambda found: '%s="%s"' % (found.group(1), html.escape(link_from(page, html.unescape(found.group(2)), known))), made)
+    return made.replace('<table', '<div class="wide"><table').replace('</table>', '</table></div>')
+
+
+def whole(page, title, body, below=''):
+    """A page of the site."""
+    def there(place):
+        return html.escape(os.path.relpath(place, page.parent))
+
+    head = ' '.join('<a href="%s">%s</a>' % (there(html_of(pathlib.PurePosixPath(name))), words) for name, words in HEAD)
+    return ('<!DOCTYPE html>\n<html lang="en">\n<head>\n<meta charset="utf-8">\n'
+            '<meta name="viewport" content="width=device-width, initial-scale=1">\n<title>%s</title>\n'
+            '<link rel="stylesheet" href="%s">\n</head>\n<body>\n<header>%s <a href="%s">Everything here</a>\n'
+            '<form action="%s"><label>Search <input name="words" type="search"></label></form></header>\n<main>\n%s\n</main>\n%s</body>\n'
+            '</html>\n') % (html.escape(title), there('style.css'), head, there('contents.html'), there('search.html'), body, below)
+
+
+class Sections(html.parser.HTMLParser):
+    """The sections of a page: the anchor, the heading and the text of each."""
+
+    def __init__(self):
+        super().__init__()
+        self.found = [{'anchor': '', 'heading': '', 'text': ''}]
+        self.is_heading = False
+
+    def handle_starttag(self, tag, attributes):
+        if re.fullmatch('h[1-6]', tag):
+            self.found.append({'anchor': dict(attributes).get('id') or '', 'heading': '', 'text': ''})
+            self.is_heading = True
+
+    def handle_endtag(self, tag):
+        self.is_heading = self.is_heading and not re.fullmatch('h[1-6]', tag)
+        self.handle_data(' ')
+
+    def handle_data(self, data):
+        self.found[-1]['heading' if self.is_heading else 'text'] += data
+
+
+def sections_of(page, title, body):
+    """What the search has of a page."""
+    reader = Sections()
+    reader.feed(body)
+    for found in reader.found:
+        text, heading = (' '.join(found[name].split()) for name in ('text', 'heading'))
+        if text or heading:
+            yield {'page': str(html_of(page)), 'anchor': found['anchor'], 'text': text,
+                   'heading': title if heading in ('', title) else '%s: %s' % (title, heading)}
+
+
+def title_of(page):
+    """The first heading of a page."""
+    found = re.search(r'^# (.*)$', (ROOT / page).read_text(encoding='utf-8'), re.M)
+    return found.group(1).replace('`', '') if found else str(page)
+
+
+def write(place, text):
+    (NEW / place).parent.mkdir(parents=True, exist_ok=True)
+    (NEW / place).write_text(text, encoding='utf-8')
+
+
+def files():
+    """The files beside the pages: each with what it is. What has not been made is told on standard error."""
+    version = (ROOT / 'VERSION').read_text(encoding='utf-8').strip()
+    wanted = [('portable/erd.html', 'erd.html', 'the page that checks and compares files in a browser'),
+              ('erd-%s-conformance.tar.gz' % version, None, 'the conformance suite, a folder for each case'),
+              ('release/SHA256SUMS', None, 'the sums of the release'),
+              ('release/erd-%s.spdx.json' % version, None, 'its bill of materials')]
+    for source, name, words in wanted:
+        path = ROOT / 'out' / source
+        if path.exists():
+            shutil.copy(path, NEW / (name or path.name))
+            yield name or path.name, words
+        else:
+            print('site: there is no out/%s' % source, file=sys.stderr)
+
+
+def contents(known):
+    """The page that lists all others."""
+    rows = ''.join('<li><a href="%s">%s</a>: %s</li>' % (html_of(page), html.escape(title_of(page)), page) for page in known)
+    made = ''.join('<li><a href="%s">%s</a>: %s</li>' % (name, name, words) for name, words in files())
+    return '<h1>Everything here</h1>\n<h2>Files</h2>\n<ul>%s</ul>\n<h2>Pages</h2>\n<ul>%s</ul>' % (made, rows)
+
+
+def main():
+    shutil.rmtree(NEW, ignore_errors=True)
+    NEW.mkdir(parents=True)
+    known, found = pages(), []
+    for page in known:
+        title, body = title_of(page), body_of(page, known)
+        write(html_of(page), whole(html_of(page), title, body))
+        found += sections_of(page, title, body)
+    write('contents.html', whole(pathlib.PurePosixPath('contents.html'), 'Everything here', contents(known)))
+    write('search.html', whole(pathlib.PurePosixPath('search.html'), 'Search', '<h1>Search</h1>\n<p id="count" role="status"></p>\n<ol id="found"></ol>',
+                               '<script src="sections.js"></script>\n<script src="search.js"></script>\n'))
+    write('sections.js', 'const sections = %s;\n' % json.dumps(found, ensure_ascii=False, indent=0))
+    for name in ('style.css', 'search.js'):
+        shutil.copy(PARTS / name, NEW / name)
+    shutil.rmtree(SITE, ignore_errors=True)
+    NEW.rename(SITE)
+    print('out/site: %d pages' % len(known))
+    return 0
+
+
+if __name__ == '__main__':
+    sys.exit(main())
