@@ -25,6 +25,7 @@ Python orders texts by code points, and that is the order of their UTF-8 bytes. 
 bytes, everywhere' is the order of `sorted`, of `min` and of `<`.
 """
 
+import itertools
 import json
 import os
 import sys
@@ -799,32 +800,33 @@ def node_of(resolved, value):
 
 
 def first_difference(left, right):
-    """'The first difference is at the least part, then the least key, at which only one report has a record or the two
-    records differ.' None if the reports mean the same."""
+    """'The first entry' of the list. None if the reports mean the same: 'it is empty if and only if the reports mean
+    the same.'"""
+    return next(differences(left, right), None)
+
+
+def differences(left, right):
+    """The lines of the list, one after another. 'It rises by part, then by key, then by name.'"""
     left_meaning = meaning_of(left)
     right_meaning = meaning_of(right)
     for part in PARTS:
         for key in sorted(left_meaning[part].keys() | right_meaning[part].keys(), key=no_key_first):
-            difference = difference_of(left_meaning[part].get(key), right_meaning[part].get(key))
-            if difference is not None:
-                return difference_line(part, key, difference)
-    return None
+            for difference in differences_of(left_meaning[part].get(key), right_meaning[part].get(key)):
+                yield difference_line(part, key, difference)
 
 
-def difference_of(left, right):
-    """'`only left` or `only right`, where one report alone has a record; `other class`, where the classes differ,
-    before any member; `member NAME`, the least name at which the two records differ. It may be a name that only one
-    of them has.'"""
+def differences_of(left, right):
+    """'`only left` or `only right`, where one report alone has a record; `other class`, where the classes differ.'
+    'Where the records have one class, it has `member NAME` for each name at which they differ.' 'It may be a name that
+    only one of them has.'"""
     if right is None:
-        return 'only left'
+        return ['only left']
     if left is None:
-        return 'only right'
+        return ['only right']
     if left.class_name != right.class_name:
-        return 'other class'
-    for name in sorted(left.members.keys() | right.members.keys()):
-        if name not in left.members or name not in right.members or left.members[name] != right.members[name]:
-            return 'member ' + compact_text(name)
-    return None
+        return ['other class']
+    return ['member ' + compact_text(name) for name in sorted(left.members.keys() | right.members.keys())
+            if name not in left.members or name not in right.members or left.members[name] != right.members[name]]
 
 
 def difference_line(part, key, difference):
@@ -923,7 +925,7 @@ def run_canon(handle, preference):
     return status
 
 
-def run_compare(left_handle, right_handle, preference):
+def run_two(left_handle, right_handle, preference, lines_of):
     """'`compare` writes the lines of the first refused report alone, the left one before the right one. Each of these
     lines begins with `left: ` or `right: `. The right report is judged only if the left one is accepted.' 'It then
     reads the left file, then the right one.'"""
@@ -938,12 +940,22 @@ def run_compare(left_handle, right_handle, preference):
     if status != 0:
         write_lines(STANDARD_OUTPUT, [side + line for line in lines])
         return status
-    difference = first_difference(left, right)
-    write_lines(STANDARD_OUTPUT, ['same' if difference is None else difference])
-    return 0 if difference is None else 1
+    found = lines_of(left, right)
+    write_lines(STANDARD_OUTPUT, found or ['same'])
+    return 1 if found else 0
 
 
-FILES_OF = {'check': 1, 'canon': 1, 'compare': 2}
+def run_compare(left_handle, right_handle, preference):
+    """'`compare LEFT RIGHT` writes `same`; or the line of the first difference; or the lines of the refused report.'"""
+    return run_two(left_handle, right_handle, preference, lambda left, right: list(itertools.islice(differences(left, right), 1)))
+
+
+def run_differences(left_handle, right_handle, preference):
+    """The same with all of the list. The packages have this command, and `erd` has not."""
+    return run_two(left_handle, right_handle, preference, lambda left, right: list(differences(left, right)))
+
+
+FILES_OF = {'check': 1, 'canon': 1, 'compare': 2, 'differences': 2}
 
 USAGE = 'usage: erd < report | erd check|canon [--prefer TYPE] FILE | erd compare [--prefer TYPE] LEFT RIGHT'
 
@@ -1011,7 +1023,7 @@ def run(words):
         raise Stop(USAGE)
     preference, files = words_of_command(command, rest)
     handles = [open_input(name) for name in files]
-    runner = {'check': run_check, 'canon': run_canon, 'compare': run_compare}[command]
+    runner = {'check': run_check, 'canon': run_canon, 'compare': run_compare, 'differences': run_differences}[command]
     return runner(*handles, preference)
 
 

@@ -1,5 +1,5 @@
 // Checks a report, or compares two: `ErdCall FILE` or `ErdCall LEFT RIGHT`. Writes the text and ends with the status, as the
-// program erd does. The name "erd" stands for erd.dll on Windows and for liberd.so on Linux.
+// program erd does. It calls erd.dll on Windows, and liberd.so.0 elsewhere.
 using System;
 using System.IO;
 using System.Runtime.InteropServices;
@@ -7,26 +7,57 @@ using System.Text;
 
 static class Erd
 {
-    [DllImport("erd", CallingConvention = CallingConvention.Cdecl)]
-    static extern int erd_check(byte[] bytes, UIntPtr size, byte[] prefer, out IntPtr text, out UIntPtr length);
+    static class OnWindows
+    {
+        const string Library = "erd.dll";
 
-    [DllImport("erd", CallingConvention = CallingConvention.Cdecl)]
-    static extern int erd_compare(byte[] left, UIntPtr leftSize, byte[] right, UIntPtr rightSize, byte[] prefer,
-                                  out IntPtr text, out UIntPtr length);
+        [DllImport(Library, CallingConvention = CallingConvention.Cdecl)]
+        internal static extern int erd_check(byte[] bytes, UIntPtr size, byte[] prefer, out IntPtr text, out UIntPtr length);
 
-    [DllImport("erd", CallingConvention = CallingConvention.Cdecl)]
-    static extern void erd_free(IntPtr text);
+        [DllImport(Library, CallingConvention = CallingConvention.Cdecl)]
+        internal static extern int erd_compare(byte[] left, UIntPtr leftSize, byte[] right, UIntPtr rightSize, byte[] prefer,
+                                               out IntPtr text, out UIntPtr length);
+
+        [DllImport(Library, CallingConvention = CallingConvention.Cdecl)]
+        internal static extern void erd_free(IntPtr text);
+    }
+
+    // The same for Linux. Each call names its library in the program text, so there are two sets.
+    static class OnLinux
+    {
+        const string Library = "liberd.so.0";
+
+        [DllImport(Library, CallingConvention = CallingConvention.Cdecl)]
+        internal static extern int erd_check(byte[] bytes, UIntPtr size, byte[] prefer, out IntPtr text, out UIntPtr length);
+
+        [DllImport(Library, CallingConvention = CallingConvention.Cdecl)]
+        internal static extern int erd_compare(byte[] left, UIntPtr leftSize, byte[] right, UIntPtr rightSize, byte[] prefer,
+                                               out IntPtr text, out UIntPtr length);
+
+        [DllImport(Library, CallingConvention = CallingConvention.Cdecl)]
+        internal static extern void erd_free(IntPtr text);
+    }
+
+    static readonly bool IsWindows = Environment.OSVersion.Platform == PlatformID.Win32NT;
 
     public static int Check(byte[] report, string prefer, out byte[] text)
     {
-        int outcome = erd_check(report, Size(report), Utf8(prefer), out IntPtr at, out UIntPtr length);
+        IntPtr at;
+        UIntPtr length;
+        int outcome = IsWindows
+            ? OnWindows.erd_check(report, Size(report), Utf8(prefer), out at, out length)
+            : OnLinux.erd_check(report, Size(report), Utf8(prefer), out at, out length);
         text = Taken(at, length);
         return outcome;
     }
 
     public static int Compare(byte[] left, byte[] right, string prefer, out byte[] text)
     {
-        int outcome = erd_compare(left, Size(left), right, Size(right), Utf8(prefer), out IntPtr at, out UIntPtr length);
+        IntPtr at;
+        UIntPtr length;
+        int outcome = IsWindows
+            ? OnWindows.erd_compare(left, Size(left), right, Size(right), Utf8(prefer), out at, out length)
+            : OnLinux.erd_compare(left, Size(left), right, Size(right), Utf8(prefer), out at, out length);
         text = Taken(at, length);
         return outcome;
     }
@@ -43,7 +74,10 @@ static class Erd
             return new byte[0];
         var text = new byte[(int)(ulong)length];
         Marshal.Copy(at, text, 0, text.Length);
-        erd_free(at);
+        if (IsWindows)
+            OnWindows.erd_free(at);
+        else
+            OnLinux.erd_free(at);
         return text;
     }
 }
