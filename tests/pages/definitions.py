@@ -1,4 +1,5 @@
-"""Holds docs/DEFINITIONS.md against the definitions in `specs/`, and public contracts against `specs/code/`.
+"""Holds docs/DEFINITIONS.md against the definitions in `specs/`, and public contracts against `specs/code/`. No two definitions
+have one name, and lines of comments have at most 130 characters.
 
 The rows of the page are made from the comments that stand before the definitions, and the order of the files is that of
 each `Lib.antt`. What a comment ends with in brackets is its source. With `--write` the rows of the page are written anew;
@@ -183,6 +184,20 @@ def code_cited():
     return found
 
 
+def named_twice(page):
+    """The names that stand in more than one row: one name would have two meanings."""
+    names = re.findall(r'^\| `([^`]+)` \|', page, re.M)
+    return sorted({name for name in names if names.count(name) > 1})
+
+
+def long_comments():
+    """Where a line of comment in the crates is longer than 130 characters."""
+    paths = [path for ending in ('rt', 'antt') for path in ROOT.glob(f'crates/**/*.{ending}') if 'out' not in path.parts]
+    return [f'{path.relative_to(ROOT)}:{number}' for path in sorted(paths)
+            for number, line in enumerate(path.read_text(encoding='utf-8').split('\n'), 1)
+            if len(line) > 130 and re.match(r'\s*(?://|--)', line)]
+
+
 def main():
     page = PAGE.read_text(encoding='utf-8')
     new = made_anew(page)
@@ -202,9 +217,17 @@ def main():
     for line in cited:
         print(line)
     print(f'{"FAILED" if cited else "passed"}: public contracts can be read without specs/code')
-    passed = int(agree) + int(not cited)
-    print(f'{passed} passed, {2 - passed} failed')
-    return int(passed < 2)
+    twice = named_twice(new)
+    for name in twice:
+        print(f'{name} is defined twice')
+    print(f'{"FAILED" if twice else "passed"}: one name is one definition')
+    wide = long_comments()
+    for place in wide:
+        print(f'{place} is a comment of more than 130 characters')
+    print(f'{"FAILED" if wide else "passed"}: lines of comments fit')
+    passed = sum((agree, not cited, not twice, not wide))
+    print(f'{passed} passed, {4 - passed} failed')
+    return int(passed < 4)
 
 
 if __name__ == '__main__':

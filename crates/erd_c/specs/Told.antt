@@ -35,7 +35,7 @@ pub record IsTelling (outcome : Outcome) (text : List ℕ) (told : Told) (before
   pub put : IsPut text before after
 
 -- The call tells some outcome and some text, and these two are an answer.
-pub record IsTold (Answers : Outcome → List ℕ → Type 0) (told : Told) (before after : List ℕ) : Type 0 where
+pub record IsAnswerTold (Answers : Outcome → List ℕ → Type 0) (told : Told) (before after : List ℕ) : Type 0 where
   pub outcome : Outcome
   pub text : List ℕ
   pub answers : Answers outcome text
@@ -53,7 +53,7 @@ IsWrong prefers prefer longest = ((prefers ≡ true) × ¬ IsUtf8 prefer) ⊎ (m
 -- All that a call tells. With an outcome of 0, 1 or 2 it tells an answer. With 3 or 4 it has no text. It is 3 if and only if
 -- the arguments are wrong.
 pub record IsCall (Answers : Outcome → List ℕ → Type 0) (Wrong : Type 0) (told : Told) (before after : List ℕ) : Type 0 where
-  pub answered : told.outcome < 3 → IsTold Answers told before after
+  pub answered : told.outcome < 3 → IsAnswerTold Answers told before after
   pub silent : 3 ≤ told.outcome → HasNoText told before after
   pub wrong : (told.outcome ≡ 3) ↔ Wrong
   pub known : told.outcome ≤ 4

@@ -1,6 +1,6 @@
 -- The headline, in one record. Two accepted reports have equal canonical bytes if and only if they mean the same, and if and
--- only if they say the same. Canonical bytes are accepted, mean what the report means, and are their own canonical bytes. Renaming identifiers or reordering the
--- entries of sets changes no byte.
+-- only if they say the same. Canonical bytes are accepted, mean what the report means, and are their own canonical bytes.
+-- Renaming identifiers or reordering the entries of sets changes no byte.
 use Rattle.std.specs.Prelude.{ℕ, ◌≡◌, ◌↔◌, List}
 use Rattle.serde_json.specs.Data.{Data}
 use Rattle.erd_meaning.specs.Keys.{Preference}
@@ -37,7 +37,8 @@ KeepsForm π b c =
     (d : List ℕ) (t u : Data) (changes : List Change) → IsTreeOf b t → IsTreeOf d u → IsRearrangement changes t u → IsCanonicalBytes π d c
 
 -- The headline for one report b and its canonical bytes c: their form; that they are accepted, with the meaning of the report;
--- that equal bytes are equal meanings, and are reports that say the same; that they are their own form; and that no rearrangement of the report changes them.
+-- that equal bytes are equal meanings, and are reports that say the same; that they are their own form; and that no
+-- rearrangement of the report changes them.
 pub record Headline (π : Preference) (b c : List ℕ) : Type 0 where
   pub form : IsCanonicalBytes π b c
   pub accepted : MeanTheSame π b c

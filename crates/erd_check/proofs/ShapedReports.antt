@@ -59,7 +59,8 @@ has_numbers =
     ind-Value (λ v. HasNumbers (view v)) (λ x y is.
     subst HasNumbers (sym (fold-roll-Value Data view_step x)) (subst (λ z. HasNumbers (view_step (map-Value Value Data view z))) is (layer y)))
 
--- ---- what is asked of the values of a report, and of a value that gives no reason: its number is whole and in range, and an array of which nothing is asked inside is empty
+-- ---- what is asked of the values of a report, and of a value that gives no reason: its number is whole and in range, and an
+-- array of which nothing is asked inside is empty
 
 -- a value that gives no reason
 pub record IsRight (w : Want) (repeated : Bool) (d : Data) : Type 0 where

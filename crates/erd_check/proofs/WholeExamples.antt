@@ -214,7 +214,8 @@ empty_array : Has (one_unit_report status (unit ++ codes ",\"Name\":{\"@type\":\
 unfolding serde_json_on_literals
 empty_array = (refl, refl, untrue, untrue)
 
--- the later of two equal entries, whatever other fault it has; numbers that are not whole are equal to none; references are judged later
+-- the later of two equal entries, whatever other fault it has; numbers that are not whole are equal to none; references are
+-- judged later
 repeated : Has (with_report_member (codes "\"ExternalIdentifier\":[{\"b\":1,\"a\":2},{\"a\":2,\"b\":1}]")) (Name (codes "ExternalIdentifier") ∷ At 1 ∷ []) Repeated
     × Has (with_report_member (codes "\"ExternalIdentifier\":[{\"b\":1,\"a\":2},{\"a\":2,\"b\":1}]")) (Name (codes "ExternalIdentifier") ∷ At 1 ∷ []) (MissingMember (codes "@type"))
     × HasNot (with_report_member (codes "\"ExternalIdentifier\":[{\"b\":1,\"a\":2},{\"a\":2,\"b\":1}]")) (Name (codes "ExternalIdentifier") ∷ At 0 ∷ []) Repeated

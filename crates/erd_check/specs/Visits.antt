@@ -93,8 +93,8 @@ abbrev mutual
   AreMembersKnown Known s no_members = ⊤
   AreMembersKnown Known s (member k d ms) = IfSome (want_of_name s k) (λ v. IsKnown Known v d) × AreMembersKnown Known s ms
 
--- Nothing is told of a member, nor of the values inside it, wherever its object stands. The object, what is asked of the member, and
--- its value are given.
+-- Nothing is told of a member, nor of the values inside it, wherever its object stands. The object, what is asked of the
+-- member, and its value are given.
 abbrev pub IsSilentMember : Telling → Data → Want → Data → Type 0
 IsSilentMember tells owner w d = (outer : Data) (p : List Step) → told_at tells outer owner p w false d ≡ []
 

@@ -92,8 +92,8 @@ fn has_references(want: Want) -> bool
     )
 }
 
-/// Returns whether the shape asks for a text and no more than this one: a word, an `@id`, a label, a reference, or an `@type` that
-/// names a class with the role.
+/// Returns whether the shape asks for a text and no more than this one: a word, an `@id`, a label, a reference, or an `@type`
+/// that names a class with the role.
 fn is_sound_text(want: Want, text: &str) -> bool
     ensures silent { result ≡ true → reasons want false (string text.now) ≡ [] }
     ensures in_range { IsAskedInRange want (string text.now) }

@@ -51,8 +51,8 @@ pub trait Visitor {
     // True for a visitor that passes over no object of which the table asks something, unless its members stand in order.
     ghost is_thorough: { Self → Bool };
 
-    /// Returns `true` only if the walk may pass over a member: then the visitor has nothing to tell of its value, nor of the values
-    /// inside it. `want` is what is asked of the member, and `owner` is the object that has it.
+    /// Returns `true` only if the walk may pass over a member: then the visitor has nothing to tell of its value, nor of the
+    /// values inside it. `want` is what is asked of the member, and `owner` is the object that has it.
     ///
     /// # Errors
     ///

@@ -54,6 +54,6 @@ pub use Rattle.erd_compare.specs.declared.difference.Part.{Part, Part as part}
 pub use Rattle.erd_compare.specs.declared.objects.least_name.MemberPair.{MemberPair}
 pub use Rattle.erd_compare.specs.declared.objects.ways.Ways.{Ways, Ways as ways}
 pub use Rattle.erd_compare.specs.declared.ranks.common_ranks.CommonRanks.{CommonRanks}
-pub use Rattle.erd_compare.specs.declared.ranks.common_ranks.Side.{Side}
-pub use Rattle.erd_compare.specs.declared.ranks.common_ranks.Side.TheVariants.{Left, Right}
+pub use Rattle.erd_compare.specs.declared.ranks.common_ranks.ComparedReport.{ComparedReport}
+pub use Rattle.erd_compare.specs.declared.ranks.common_ranks.ComparedReport.TheVariants.{Left, Right}
 pub use Rattle.erd_compare.specs.declared.values.chosen_members.Choice.TheVariants.{BesideText, Carried}

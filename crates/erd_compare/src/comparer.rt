@@ -7,7 +7,7 @@ ghost use Rattle.erd_compare.specs.code.CommonRanks.{AreAllCommonRanks, AreCommo
 ghost use Rattle.erd_compare.specs.code.KeyedDifferences.{IsComparable, holder_key_in, is_ranked, key_in_role};
 ghost use Rattle.erd_compare.specs.code.RankedSides.{AreCommonByRank, on_side};
 
-use crate::ranks::common_ranks::{CommonRanks, Side};
+use crate::ranks::common_ranks::{CommonRanks, ComparedReport};
 use crate::ranks::name_numbers::NameNumbers;
 use crate::ranks::role_objects::{election_of, rank_at};
 use erd_meaning::Report;
@@ -86,13 +86,13 @@ impl<'a> Comparer<'a> {
     }
 
     /// Returns the report on a side.
-    pub(crate) fn on(&self, side: Side) -> &'a Report<'a>
+    pub(crate) fn on(&self, side: ComparedReport) -> &'a Report<'a>
         ensures same { result.now ≡ on_side side self.now.left self.now.right }
         ensures bounded { IsBounded (view (on_side side self.now.left self.now.right).tree) }
     {
         match side {
-            Side::Left => self.left,
-            Side::Right => self.right,
+            ComparedReport::Left => self.left,
+            ComparedReport::Right => self.right,
         }
     }
 
@@ -105,7 +105,7 @@ impl<'a> Comparer<'a> {
     }
 
     /// Returns the common rank of the key of the object with a role at a position, if it has a key.
-    pub(crate) fn rank_at(&self, side: Side, role: Role, position: usize) -> Option<usize>
+    pub(crate) fn rank_at(&self, side: ComparedReport, role: Role, position: usize) -> Option<usize>
         requires ranked { is_ranked role ≡ true }
         ensures { result ≡ option_map (rank_of_key self.now.left self.now.right role)
             (key_in_role (on_side side self.now.left self.now.right).prefer role (view (on_side side self.now.left self.now.right).tree) position) }
@@ -116,7 +116,12 @@ impl<'a> Comparer<'a> {
 
     /// Returns the common rank of the key of the election that holds the object with a role at a position, if there is one
     /// with a key.
-    pub(crate) fn holder_rank(&self, side: Side, role: Role, position: usize) -> Option<usize>
+    pub(crate) fn holder_rank(
+        &self,
+        side: ComparedReport,
+        role: Role,
+        position: usize,
+    ) -> Option<usize>
         ensures { result ≡ option_map (rank_of_key self.now.left self.now.right Election)
             (holder_key_in (on_side side self.now.left self.now.right).prefer role (view (on_side side self.now.left self.now.right).tree) position) }
     {
@@ -125,13 +130,13 @@ impl<'a> Comparer<'a> {
     }
 
     /// Returns the number of the name of the selection at a position, if there is such a selection and it has a name.
-    pub(crate) fn name_number_at(&self, side: Side, position: usize) -> Option<usize>
+    pub(crate) fn name_number_at(&self, side: ComparedReport, position: usize) -> Option<usize>
         ensures { result ≡ option_and_then (λ o. number_of_selection self.now.left self.now.right side o.value)
             (slice_get (objects family.Selection (view (on_side side self.now.left self.now.right).tree)) position) }
     {
         let numbers = match side {
-            Side::Left => &self.names.left,
-            Side::Right => &self.names.right,
+            ComparedReport::Left => &self.names.left,
+            ComparedReport::Right => &self.names.right,
         };
         match numbers.get(position) {
             Some(number) => *number,

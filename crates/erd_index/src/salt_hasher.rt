@@ -39,8 +39,8 @@ impl SaltHasher {
         value.hash(&mut self.second);
     }
 
-    /// Feeds a text, so that no other text is fed alike, whatever follows it: a word of what stands for its length and of the bytes
-    /// after its whole words, its length if that is long, and the whole words.
+    /// Feeds a text, so that no other text is fed alike, whatever follows it: a word of what stands for its length and of the
+    /// bytes after its whole words, its length if that is long, and the whole words.
     ///
     /// ```
     /// hasher.feed_text("gp1");

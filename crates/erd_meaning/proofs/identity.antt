@@ -1,4 +1,5 @@
--- The claim: the walk over a report meets each election and each object once, in the order of places, and tells exactly the faults of identity.
+-- The claim: the walk over a report meets each election and each object once, in the order of places, and tells exactly the
+-- faults of identity.
 pub mod MetObjects
 pub mod ObjectPlaces
 pub mod ObjectFamilies

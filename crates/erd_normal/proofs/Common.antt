@@ -75,10 +75,10 @@ pub use Rattle.erd_text.specs.Tokens.{value_tokens, items_tokens, members_tokens
 pub use Rattle.erd_text.proofs.RisingOrders.{compact_cmp_total}
 pub use Rattle.erd_meaning.specs.declared.keys.key.Key.{Key}
 pub use Rattle.erd_normal.specs.Canonical.{kind_wanted, HasNoEmptyArray, keys_of, keys_referred, RisesAs, AreSetsInOrder, id_prefix, canonical_id, canonical_selection_id, HasCanonicalEnvelope, HasCanonicalIds, IsCanonical, IsCanonicalFormOf}
-pub use Rattle.erd_normal.specs.Laws.{keys_in, ids_in, names_in, NamesAgree, ReferencesAgree, ObjectsAgree, CanonicalIsUnique, RearrangedMeansTheSame, PreferencesAgree, HaveSameNames, MeanAlike}
+pub use Rattle.erd_normal.specs.Laws.{placed_keys, ids_in, names_in, NamesAgree, ReferencesAgree, ObjectsAgree, CanonicalIsUnique, RearrangedMeansTheSame, PreferencesAgree, HaveSameNames, MeanAlike}
 pub use Rattle.erd_normal.specs.Rearranged.{Renaming, replaced_text, is_id_text, renamed_value, renamed_items, renamed_members, renamed, changed_at, member_changed, item_changed, swapped, exchanged, HasEntries, Change, a_renaming, an_exchange, IsAllowed, changed, IsRearrangement, IsRenaming}
 pub use Rattle.erd_normal.specs.SameLaws.{SaysItself, SaysBack, SaysInTurn, ExchangedSaysTheSame, ReferencesNameTheSame, RenamedSaysTheSame, RearrangedSaysTheSame, HasSoundEnvelope, HasDistinctIds, SameIsAccepted, IsUsed}
-pub use Rattle.erd_normal.specs.SaysTheSame.{Sides, StandsFor, IsUnused, is_array_kind, is_envelope, an_empty_array, of_the_envelope, an_unused_id, not_asked, a_null, a_flag, a_number, a_text, an_id, a_list, a_set, an_object, no_entry, one_entry, no_member, in_both, left_only, right_only, MayBeAbsent, Same, SameEntries, SameMembers, SaysTheSame}
+pub use Rattle.erd_normal.specs.SaysTheSame.{Sides, NameOneThing, IsUnused, is_array_kind, is_envelope, an_empty_array, of_the_envelope, an_unused_id, not_asked, a_null, a_flag, a_number, a_text, an_id, a_list, a_set, an_object, no_entry, one_entry, no_member, in_both, left_only, right_only, MayBeAbsent, Same, SameEntries, SameMembers, SaysTheSame}
 pub use Rattle.erd_normal.specs.code.Building.{first_if, member_tokens, put_all, put_in, id_of_rank}
 pub use Rattle.erd_normal.specs.code.DueMembers.{due_value, due_list, IsBeforeAll, NamesRise, AreDue, WritesThrough}
 pub use Rattle.erd_normal.specs.code.ElectionParts.{in_order_of_keys, rising_objects, rising_elections, part_at, objects_in_part, positions_in_part, part_seen}

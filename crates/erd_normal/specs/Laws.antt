@@ -32,8 +32,8 @@ pub record MeanAlike (π : Preference) (t u : Data) : Type 0 where
 -- ---- the first law
 
 -- The keys of the objects of a family, in the order of their places.
-abbrev pub keys_in : Preference → Family → Data → List (Option Key)
-keys_in π f t = map (λ o. key_of π o.value) (objects f t)
+abbrev pub placed_keys : Preference → Family → Data → List (Option Key)
+placed_keys π f t = map (λ o. key_of π o.value) (objects f t)
 
 -- The `@id` texts of the objects of a family, in the order of their places.
 abbrev pub ids_in : Family → Data → List (Option (List ℕ))
@@ -47,7 +47,7 @@ names_in π t contest = map (λ o. name_of π t o.value) (selections_of_contest 
 -- the same list of `@id` texts, and each contest the same list of selection names.
 pub record HaveSameNames (π : Preference) (t u : Data) : Type 0 where
   pub election_keys : map (λ e. key_of π e.value) (elections t) ≡ map (λ e. key_of π e.value) (elections u)
-  pub keys : (f : Family) → IsTrue (has_keys f) → keys_in π f t ≡ keys_in π f u
+  pub keys : (f : Family) → IsTrue (has_keys f) → placed_keys π f t ≡ placed_keys π f u
   pub names : map (names_in π t) (contests t) ≡ map (names_in π u) (contests u)
   pub ids : (f : Family) → ids_in f t ≡ ids_in f u
 

@@ -59,13 +59,13 @@ RearrangedSaysTheSame =
 -- ---- acceptance
 
 -- The place lies in a member of the report's envelope.
-abbrev pub is_in_envelope : List Step → Bool
-is_in_envelope (Name n ∷ p) = is_envelope_name n
-is_in_envelope p = false
+abbrev pub begins_in_envelope : List Step → Bool
+begins_in_envelope (Name n ∷ p) = is_envelope_name n
+begins_in_envelope p = false
 
 -- The envelope of the report has no fault of shape.
 abbrev pub HasSoundEnvelope : Data → Type 0
-HasSoundEnvelope u = (p : List Step) (r : Reason) → IsTrue (is_in_envelope p) → ¬ ShapeFault u p r
+HasSoundEnvelope u = (p : List Step) (r : Reason) → IsTrue (begins_in_envelope p) → ¬ ShapeFault u p r
 
 -- No object of the report has the `@id` of an earlier one, of whatever family.
 abbrev pub HasDistinctIds : Data → Type 0

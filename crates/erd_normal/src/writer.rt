@@ -155,8 +155,8 @@ impl<'a> Writer<'a> {
         part_at(&self.orders.selections.rising, contest)
     }
 
-    /// Returns the rank of the contest of the selection that has the `@id`, and the rank of the selection there. Returns `None` if
-    /// no selection has it.
+    /// Returns the rank of the contest of the selection that has the `@id`, and the rank of the selection there. Returns `None`
+    /// if no selection has it.
     pub(crate) fn selection_ranks(&self, id: &str) -> Option<(usize, usize)>
         ensures { string (option_map_or (λ r. canonical_selection_id r.0 r.1) result []) ≡ normal_selection_reference self.now.prefer (view self.now.tree) (string id.now) }
     {

@@ -82,7 +82,7 @@ IsReadExactly words found = (request : Request) (name : List ℕ) → HasPlainWo
     → MatchResult found (λ answer. answer ≡ request) (λ fault. fault ≡ line.Memory)
 
 -- Some line was read from the words, and the program answered it.
-pub record IsAnswered {F File I O E : Type 0} (known : Outside F File I O E) (words : List (List ℕ)) (status : ℕ) (world : BeforeAfter (World F I O E)) : Type 0 where
+pub record AreWordsAnswered {F File I O E : Type 0} (known : Outside F File I O E) (words : List (List ℕ)) (status : ℕ) (world : BeforeAfter (World F I O E)) : Type 0 where
   pub found : Result Request LineFault
   pub exact : IsReadExactly words found
   pub read : IsLineRead words found
@@ -96,7 +96,7 @@ words_given texts (Err fault) = Err fault
 -- What the program does: it answers the words of its command line. If it has none, since the system gave words that are
 -- not text or memory ran out, it says so.
 abbrev pub IsProgramRun : {F File I O E : Type 0} → Outside F File I O E → Result (List (List ℕ)) WorldFault → ℕ → BeforeAfter (World F I O E) → Type 0
-IsProgramRun known (Ok words) status world = IsAnswered known words status world
+IsProgramRun known (Ok words) status world = AreWordsAnswered known words status world
 IsProgramRun known (Err fault) status world =
     LeavesFiles world × (LeavesInput world
     × IsRefused known.err (codes "the arguments are not text") fault status (between world.before.out world.after.out) (between world.before.err world.after.err))

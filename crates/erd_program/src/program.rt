@@ -2,7 +2,7 @@ ghost use Rattle.std.specs.Prelude.{◌≡◌, ◌∷◌, [], map, string_bytes,
 ghost use Rattle.std.specs.Io.KnownBytes.{Appends};
 ghost use Rattle.erd_canon.specs.Writing.{IsPartWritten};
 ghost use Rattle.erd_program.specs.Messages.{IsSaid};
-ghost use Rattle.erd_program.specs.Program.{IsAnswered, IsDone, IsHelped, IsLineRefused, IsProgramRun, words_given};
+ghost use Rattle.erd_program.specs.Program.{AreWordsAnswered, IsDone, IsHelped, IsLineRefused, IsProgramRun, words_given};
 ghost use Rattle.erd_program.specs.World.{between, outside, reader, writer};
 
 use crate::commands::{canon, check, compare, filter};
@@ -52,7 +52,7 @@ fn answered<F: Files, I: Source, O: Sink, E: Sink, D: Disposal>(
     requires input_works { I.has_failed world.old.input ≡ false }
     requires out_works { O.has_failed world.old.out ≡ false }
     requires err_works { E.has_failed world.old.err ≡ false }
-    ensures { IsAnswered (outside F.opened F.beside F.closed (reader F.File.remaining F.File.has_failed F.File.reads F.File.given)
+    ensures { AreWordsAnswered (outside F.opened F.beside F.closed (reader F.File.remaining F.File.has_failed F.File.reads F.File.given)
         (reader I.remaining I.has_failed I.reads I.given) (writer O.contents O.has_failed O.is_flushed O.flushes)
         (writer E.contents E.has_failed E.is_flushed E.flushes))
         (map string_bytes words.now) result (between world.old world.new) }

@@ -18,7 +18,8 @@ pub reordered_rising : {A : Type 0} (cmp : A → A → Ordering) (xs : List A) �
 reordered_rising cmp [] = IsPermutation-refl []
 reordered_rising cmp (x ∷ xs) = IsPermutation-trans _ _ _ (IsPermutation-cons x _ _ (reordered_rising cmp xs)) (reordered_inserted cmp x (rising_list cmp xs))
 
--- what holds of a list and itself, under a further entry, of two exchanged entries, and from list to list, holds of lists with the same entries
+-- what holds of a list and itself, under a further entry, of two exchanged entries, and from list to list, holds of lists with
+-- the same entries
 module _ {A : Type 0} (P : List A → List A → Type 0) (same : (xs : List A) → P xs xs) (kept : (x : A) (xs ys : List A) → IsPermutation xs ys → P xs ys → P (x ∷ xs) (x ∷ ys))
     (exchanged : (x y : A) (xs : List A) → P (x ∷ (y ∷ xs)) (y ∷ (x ∷ xs))) (chain : (xs ys zs : List A) → IsPermutation xs ys → P xs ys → P ys zs → P xs zs) where
   abbrev Along : List A → List A → Type 0

@@ -1,4 +1,5 @@
--- Canonical bytes are equal exactly for equal meanings, and for reports that say the same. They are their own canonical bytes, and those of each rearrangement.
+-- Canonical bytes are equal exactly for equal meanings, and for reports that say the same. They are their own canonical bytes,
+-- and those of each rearrangement.
 use Rattle.erd_canon.proofs.Common.{◌≡◌, ℕ, List, sym, refl, ap, ◌∙◌, subst, arith, Data, compact_text, IsShallow, IsNoDeeper, IsAccepted, Preference, meaning, IsTreeOf, IsCanonicalBytes}
 use Rattle.erd_check.proofs.ReadTrees.{read_is_tree}
 use Rattle.erd_normal.proofs.rearranged.RearrangedReports.{rearranged_means_the_same}

@@ -63,8 +63,8 @@ pub fn canonical_with(alloc: Global, bytes: &[u8], prefer: Option<&str>) -> Resu
     canonical_of_input(alloc, bytes, prefer, &Free)
 }
 
-/// Returns the canonical bytes of the input, as `canonical_with` does. Its tree goes to the disposal, and so does its report if it is
-/// accepted.
+/// Returns the canonical bytes of the input, as `canonical_with` does. Its tree goes to the disposal, and so does its report if
+/// it is accepted.
 pub(crate) fn canonical_of_input<I: Input, D: Disposal>(
     alloc: Global,
     input: I,

@@ -70,7 +70,8 @@ pub fn compare_bytes_with(
     compare_inputs(alloc, left, right, prefer, &Free)
 }
 
-/// Compares the inputs, as `compare_bytes_with` does. Each tree that is read and each report that is accepted goes to the disposal.
+/// Compares the inputs, as `compare_bytes_with` does. Each tree that is read and each report that is accepted goes to the
+/// disposal.
 pub(crate) fn compare_inputs<I: Input, D: Disposal>(
     alloc: Global,
     left: I,

@@ -1,5 +1,5 @@
 -- The common ranks of the keys of two reports: equal ranks for equal keys.
-use Rattle.erd_compare.proofs.Common.{◌≡◌, ℕ, true, List, ◌++◌, ◌==◌, slice_get, Some, Option, option_map, sym, ap, ◌∙◌, slice_get-map, Data, view, Role, Judged, Preference, rank_in_keys, option_eq, Key, place_of, common_rank, rank_of_key, AreCommonRanks, common_ranks_in, AreAllCommonRanks, Decides, keys_in_role, is_ranked, rising_in_role, HasKeyAt, IsComparable, on_side, AreCommonByRank, CommonRanks, Side, Left, Right, position_of}
+use Rattle.erd_compare.proofs.Common.{◌≡◌, ℕ, true, List, ◌++◌, ◌==◌, slice_get, Some, Option, option_map, sym, ap, ◌∙◌, slice_get-map, Data, view, Role, Judged, Preference, rank_in_keys, option_eq, Key, place_of, common_rank, rank_of_key, AreCommonRanks, common_ranks_in, AreAllCommonRanks, Decides, keys_in_role, is_ranked, rising_in_role, HasKeyAt, IsComparable, on_side, AreCommonByRank, CommonRanks, ComparedReport, Left, Right, position_of}
 use Rattle.erd_compare.proofs.least_difference.RisingKeys.{all_rise, at_rank, keys_rise}
 use Rattle.erd_compare.proofs.same_values.EqualOptions.{options_decide}
 use Rattle.erd_compare.proofs.same_ranks.KeyPlaces.{Stands, one_place, place_first, place_there, stands_first, stands_second}
@@ -47,13 +47,13 @@ module _ (a b : Judged) (r : Role) where
 -- ---- on a side
 
 module _ (a b : Judged) where
-  abbrev pub prefer_on : Side → Preference
+  abbrev pub prefer_on : ComparedReport → Preference
   prefer_on side = (on_side side a b).prefer
 
-  abbrev pub tree_on : Side → Data
+  abbrev pub tree_on : ComparedReport → Data
   tree_on side = view (on_side side a b).tree
 
-  pub known_on : (side : Side) (r : Role) (i : ℕ) (k : Option Key) → HasKeyAt (prefer_on side) (tree_on side) r i k → Stands k (both_keys a b r)
+  pub known_on : (side : ComparedReport) (r : Role) (i : ℕ) (k : Option Key) → HasKeyAt (prefer_on side) (tree_on side) r i k → Stands k (both_keys a b r)
   known_on Left r i k h = stands_first k (keys_left a b r) (keys_right a b r) (position_of (keys_left a b r) k (all_rise a.prefer (view a.tree) r i k h))
   known_on Right r i k h = stands_second k (keys_left a b r) (keys_right a b r) (position_of (keys_right a b r) k (all_rise b.prefer (view b.tree) r i k h))
 

@@ -1,5 +1,5 @@
 -- The common ranks of the keys that references name, and of the keys of the elections that hold objects.
-use Rattle.erd_compare.proofs.Common.{◌≡◌, ℕ, Bool, true, List, ◌==◌, slice_get, Some, None, Option, option_map, option_and_then, sym, refl, ap, ◌∙◌, ap₂, Data, view, Family, Role, role, position_of, Judged, has_keys, Preference, key_of, election_key_in, Placed, elections, objects, has_id, owner_at, owner, key_named, rank_in_keys, option_and_then_some, option_eq, find-Some, option_map-Some, Key, rank_of_key, common_rank_of, Decides, key_with_role, keys_in_role, key_in_role, holder_in, holder_key_in, is_ranked, HasKeyAt, on_side, rank_with_id, AreCommonByRank, CommonRanks, Side, Left, Right}
+use Rattle.erd_compare.proofs.Common.{◌≡◌, ℕ, Bool, true, List, ◌==◌, slice_get, Some, None, Option, option_map, option_and_then, sym, refl, ap, ◌∙◌, ap₂, Data, view, Family, Role, role, position_of, Judged, has_keys, Preference, key_of, election_key_in, Placed, elections, objects, has_id, owner_at, owner, key_named, rank_in_keys, option_and_then_some, option_eq, find-Some, option_map-Some, Key, rank_of_key, common_rank_of, Decides, key_with_role, keys_in_role, key_in_role, holder_in, holder_key_in, is_ranked, HasKeyAt, on_side, rank_with_id, AreCommonByRank, CommonRanks, ComparedReport, Left, Right}
 use Rattle.erd_compare.proofs.same_ranks.KeyRanks.{IsKnown, known_on, ranks_decide}
 use Rattle.erd_compare.proofs.same_values.EqualOptions.{decides_as}
 
@@ -18,7 +18,7 @@ holder_from π (role.OfFamily f) t i = refl
 holder_from π r t i = refl
 
 -- the common rank of the key at a position, by its rank
-pub rank_found : (a b : Judged) (common : CommonRanks) → AreCommonByRank a b common → (side : Side) (r : Role) → is_ranked r ≡ true
+pub rank_found : (a b : Judged) (common : CommonRanks) → AreCommonByRank a b common → (side : ComparedReport) (r : Role) → is_ranked r ≡ true
     → (i rank : ℕ) (o : Option Key) → key_in_role (on_side side a b).prefer r (view (on_side side a b).tree) i ≡ o
     → Some rank ≡ option_map (λ k. rank_in_keys (keys_in_role (on_side side a b).prefer (view (on_side side a b).tree) r) (Some k)) o
     → common_rank_of common side r rank ≡ option_map (rank_of_key a b r) o
@@ -40,7 +40,7 @@ named_stands π t f id k keyed e =
     let place = position_of (objects f t) o.0 (find-Some (λ (x : Placed). has_id id x.value) (objects f t) o.0 o.1).0 in
     (place.0, record { object = o.0; stands = place.1; key = kept π f o.0.value keyed ∙ (ap (key_of π) o.2 ∙ key) }))
 
-module _ (a b : Judged) (side : Side) where
+module _ (a b : Judged) (side : ComparedReport) where
   -- a key that a value names is known
   pub value_known : (f : Family) (text : Option (List ℕ)) → has_keys f ≡ true → IsKnown a b (role.OfFamily f) (option_and_then (key_named (on_side side a b).prefer (view (on_side side a b).tree) f) text)
   value_known f None keyed k e = cc
@@ -58,7 +58,7 @@ module _ (a b : Judged) (side : Side) where
 -- ---- comparing them
 
 -- a value names the common rank of the key that it names
-pub value_named : (a b : Judged) (side : Side) (f : Family) (text : Option (List ℕ))
+pub value_named : (a b : Judged) (side : ComparedReport) (f : Family) (text : Option (List ℕ))
     → option_and_then (rank_with_id a b side f) text ≡ option_map (rank_of_key a b (role.OfFamily f)) (option_and_then (key_named (on_side side a b).prefer (view (on_side side a b).tree) f) text)
 value_named a b side f None = refl
 value_named a b side f (Some id) = refl

@@ -1,6 +1,6 @@
 -- The names that a report gives to its selections: each key in them is that of an object, so it has a common rank, which is
 -- found by its rank.
-use Rattle.erd_compare.proofs.Common.{◌≡◌, ℕ, true, List, [], ◌∷◌, map, slice_get, Some, None, Option, option_map, filter_map, option_and_then, sym, refl, ap, ◌∙◌, subst, ap₂, AllByRecursion, cons_option, Data, view, Family, family, Role, role, In-from_contains, all_weakened, Judged, has_keys, rank_of, NameParts, without_keys, numbered_parts, Placed, objects, numbered_selections, family_chosen, ranked_name, PlacedName, ranked_selection_in, name_of, Key, role_of_name, ranks_in_name, name_by_ranks, name_by_ranks_of, ranks_told, name_told, rank_of_key, common_rank_of, HasKeyAt, on_side, AreCommonByRank, CommonRanks, Side, position_of, RankedParts}
+use Rattle.erd_compare.proofs.Common.{◌≡◌, ℕ, true, List, [], ◌∷◌, map, slice_get, Some, None, Option, option_map, filter_map, option_and_then, sym, refl, ap, ◌∙◌, subst, ap₂, AllByRecursion, cons_option, Data, view, Family, family, Role, role, In-from_contains, all_weakened, Judged, has_keys, rank_of, NameParts, without_keys, numbered_parts, Placed, objects, numbered_selections, family_chosen, ranked_name, PlacedName, ranked_selection_in, name_of, Key, role_of_name, ranks_in_name, name_by_ranks, name_by_ranks_of, ranks_told, name_told, rank_of_key, common_rank_of, HasKeyAt, on_side, AreCommonByRank, CommonRanks, ComparedReport, position_of, RankedParts}
 use Rattle.erd_meaning.proofs.selections.NamesTold.{numbered_at}
 use Rattle.erd_meaning.proofs.selections.RankedReports.{known_name, chosen_keyed}
 use Rattle.erd_meaning.specs.code.RanksAmong.{HasKeysIn, IsKeyIn}
@@ -13,16 +13,16 @@ use Rattle.erd_compare.proofs.same_ranks.NamedRanks.{kept}
 
 module _ (a b : Judged) where
   -- the object with a key of a name stands at a position
-  key_stands : (side : Side) (f : Family) → has_keys f ≡ true → (key : Key) → IsKeyIn (prefer_on a b side) (tree_on a b side) f key → (i : ℕ) × HasKeyAt (prefer_on a b side) (tree_on a b side) (role.OfFamily f) i (Some key)
+  key_stands : (side : ComparedReport) (f : Family) → has_keys f ≡ true → (key : Key) → IsKeyIn (prefer_on a b side) (tree_on a b side) f key → (i : ℕ) × HasKeyAt (prefer_on a b side) (tree_on a b side) (role.OfFamily f) i (Some key)
   key_stands side f keyed key h =
       let place = position_of (objects f (tree_on a b side)) h.owner (In-from_contains h.owner (objects f (tree_on a b side)) h.stands) in
       (place.0, record { object = h.owner; stands = place.1; key = kept (prefer_on a b side) f h.owner.value keyed ∙ h.keyed })
 
-  key_known : (side : Side) (f : Family) → has_keys f ≡ true → (key : Key) → IsKeyIn (prefer_on a b side) (tree_on a b side) f key → Stands (Some key) (both_keys a b (role.OfFamily f))
+  key_known : (side : ComparedReport) (f : Family) → has_keys f ≡ true → (key : Key) → IsKeyIn (prefer_on a b side) (tree_on a b side) f key → Stands (Some key) (both_keys a b (role.OfFamily f))
   key_known side f keyed key h = let at = key_stands side f keyed key h in known_on a b side (role.OfFamily f) at.0 (Some key) at.1
 
   -- each key of the name is known
-  keys_known : (side : Side) (n : NameParts) → HasKeysIn (prefer_on a b side) (tree_on a b side) n → AllByRecursion (λ k. Stands (Some k) (both_keys a b (role_of_name n))) n.keys
+  keys_known : (side : ComparedReport) (n : NameParts) → HasKeysIn (prefer_on a b side) (tree_on a b side) n → AllByRecursion (λ k. Stands (Some k) (both_keys a b (role_of_name n))) n.keys
   keys_known side n known =
       all_weakened (IsKeyIn (prefer_on a b side) (tree_on a b side) (family_chosen n.class)) (λ k. Stands (Some k) (both_keys a b (role_of_name n))) n.keys
       (λ k h. key_known side (family_chosen n.class) (chosen_keyed n.class) k h) known
@@ -47,7 +47,7 @@ module _ (a b : Judged) where
   }
 
   -- names are equal if they are equal with common ranks in place of their keys
-  pub from_ranks : (s r : Side) (m n : NameParts) → HasKeysIn (prefer_on a b s) (tree_on a b s) m → HasKeysIn (prefer_on a b r) (tree_on a b r) n → name_by_ranks a b m ≡ name_by_ranks a b n → m ≡ n
+  pub from_ranks : (s r : ComparedReport) (m n : NameParts) → HasKeysIn (prefer_on a b s) (tree_on a b s) m → HasKeysIn (prefer_on a b r) (tree_on a b r) n → name_by_ranks a b m ≡ name_by_ranks a b n → m ≡ n
   from_ranks s r m n mine its same =
       let rest : without_keys m ≡ without_keys n = ap (λ (q : RankedParts). q.name) same in
       let role : role_of_name m ≡ role_of_name n = ap role_of_name rest in
@@ -58,7 +58,7 @@ module _ (a b : Judged) where
 
   -- ---- by rank
 
-  module _ (common : CommonRanks) (are : AreCommonByRank a b common) (side : Side) where
+  module _ (common : CommonRanks) (are : AreCommonByRank a b common) (side : ComparedReport) where
     -- the common rank at the rank of a key is that of the key
     at_rank_of : (f : Family) → has_keys f ≡ true → (key : Key) → IsKeyIn (prefer_on a b side) (tree_on a b side) f key
         → common_rank_of common side (role.OfFamily f) (rank_of (prefer_on a b side) (tree_on a b side) f (Some key)) ≡ Some (rank_of_key a b (role.OfFamily f) key)
@@ -85,7 +85,7 @@ module _ (a b : Judged) where
 
 -- ---- by position
 
-module _ (a : Judged) (common : CommonRanks) (side : Side) where
+module _ (a : Judged) (common : CommonRanks) (side : ComparedReport) where
   abbrev pub told_name : PlacedName → RankedParts
   told_name s = numbered_parts s.1.name (ranks_told common side s.1)
 

@@ -1,6 +1,6 @@
 -- The selections of a contest by the numbers of their names: numbers are equal if and only if the names are. So two contests
 -- mean the same by numbers if and only if they do by names.
-use Rattle.erd_compare.proofs.Common.{◌≡◌, ℕ, Bool, true, cond, List, [], ◌∷◌, ◌==◌, Some, None, Option, option_map, find, option_and_then, is_eq, sym, refl, ap, ◌∙◌, subst, inl, inr, fun_ext, Decides-eqb, tied_itself, both_ways, option_cmp, Data, view, In, Judged, NameParts, selection_record, selection_map, name_of, name_cmp, name_cmp_total, option_eq, find-Some, options_exact, SelectionRecord, number_of_name, number_of_selection, Decides, on_side, has_number, numbered_map, Side, Left, Right}
+use Rattle.erd_compare.proofs.Common.{◌≡◌, ℕ, Bool, true, cond, List, [], ◌∷◌, ◌==◌, Some, None, Option, option_map, find, option_and_then, is_eq, sym, refl, ap, ◌∙◌, subst, inl, inr, fun_ext, Decides-eqb, tied_itself, both_ways, option_cmp, Data, view, In, Judged, NameParts, selection_record, selection_map, name_of, name_cmp, name_cmp_total, option_eq, find-Some, options_exact, SelectionRecord, number_of_name, number_of_selection, Decides, on_side, has_number, numbered_map, ComparedReport, Left, Right}
 use Rattle.erd_compare.proofs.same_ranks.NameNumbers.{IsNameOn, one_name}
 use Rattle.erd_meaning.proofs.orders.DistinctEntries.{equal_names}
 
@@ -9,11 +9,11 @@ same_find p q [] same = refl
 same_find p q (x ∷ xs) same = ap (λ b. cond b (Some x) (find p xs)) (same x (inl refl)) ∙ ap (λ r. cond (q x) (Some x) r) (same_find p q xs (λ y i. same y (inr i)))
 
 module _ (a b : Judged) where
-  abbrev name_on : Side → Data → Option NameParts
+  abbrev name_on : ComparedReport → Data → Option NameParts
   name_on side d = name_of (on_side side a b).prefer (view (on_side side a b).tree) d
 
   -- each selection of the list is one of the report
-  abbrev pub AreNamed : Side → List Data → Type 0
+  abbrev pub AreNamed : ComparedReport → List Data → Type 0
   AreNamed side ds = (d : Data) → In d ds → (n : NameParts) → name_on side d ≡ Some n → IsNameOn a b side n
 
   -- a tested name is the name
@@ -32,17 +32,17 @@ module _ (a b : Judged) where
 
   -- ---- selections by name
 
-  abbrev is_named : Side → NameParts → Data → Bool
+  abbrev is_named : ComparedReport → NameParts → Data → Bool
   is_named side k d = is_eq (option_cmp name_cmp (name_on side d) (Some k))
 
-  abbrev record_on : Side → Data → Option SelectionRecord
+  abbrev record_on : ComparedReport → Data → Option SelectionRecord
   record_on side d = selection_record (on_side side a b).prefer (view (on_side side a b).tree) d
 
-  abbrev map_on : Side → List Data → NameParts → Option SelectionRecord
+  abbrev map_on : ComparedReport → List Data → NameParts → Option SelectionRecord
   map_on side ds k = option_and_then (record_on side) (find (is_named side k) ds)
 
   -- a selection has a name that stands in a report exactly if it has its number
-  same_tests : (s r : Side) (k : NameParts) → IsNameOn a b r k → (d : Data) → ((n : NameParts) → name_on s d ≡ Some n → IsNameOn a b s n) → is_named s k d ≡ has_number a b s (number_of_name a b k) d
+  same_tests : (s r : ComparedReport) (k : NameParts) → IsNameOn a b r k → (d : Data) → ((n : NameParts) → name_on s d ≡ Some n → IsNameOn a b s n) → is_named s k d ≡ has_number a b s (number_of_name a b k) d
   same_tests s r k its d mine =
       both_ways (is_named s k d) (has_number a b s (number_of_name a b k) d)
       (λ h. number_passes (number_of_selection a b s d) (number_of_name a b k) (ap (option_map (number_of_name a b)) (name_tested (name_on s d) k h)))
@@ -53,22 +53,22 @@ module _ (a b : Judged) where
       at (Some n) is h = let same : number_of_name a b n ≡ number_of_name a b k = cc in is ∙ ap Some (one_name a b s r n k (mine n is) its same)
 
   -- so the maps are the same at it
-  same_maps : (s r : Side) (ds : List Data) → AreNamed s ds → (k : NameParts) → IsNameOn a b r k → map_on s ds k ≡ numbered_map a b s ds (number_of_name a b k)
+  same_maps : (s r : ComparedReport) (ds : List Data) → AreNamed s ds → (k : NameParts) → IsNameOn a b r k → map_on s ds k ≡ numbered_map a b s ds (number_of_name a b k)
   same_maps s r ds mine k its =
       ap (option_and_then (record_on s)) (same_find (is_named s k) (has_number a b s (number_of_name a b k)) ds (λ d inside. same_tests s r k its d (mine d inside)))
 
   module _ (ds es : List Data) (mine : AreNamed Left ds) (its : AreNamed Right es) where
     -- at a name of either report
-    names_at : (r : Side) (k : NameParts) → IsNameOn a b r k → numbered_map a b Left ds (number_of_name a b k) ≡ numbered_map a b Right es (number_of_name a b k) → map_on Left ds k ≡ map_on Right es k
+    names_at : (r : ComparedReport) (k : NameParts) → IsNameOn a b r k → numbered_map a b Left ds (number_of_name a b k) ≡ numbered_map a b Right es (number_of_name a b k) → map_on Left ds k ≡ map_on Right es k
     names_at r k is same = same_maps Left r ds mine k is ∙ (same ∙ sym (same_maps Right r es its k is))
 
-    numbers_at : (r : Side) (k : NameParts) → IsNameOn a b r k → map_on Left ds k ≡ map_on Right es k → numbered_map a b Left ds (number_of_name a b k) ≡ numbered_map a b Right es (number_of_name a b k)
+    numbers_at : (r : ComparedReport) (k : NameParts) → IsNameOn a b r k → map_on Left ds k ≡ map_on Right es k → numbered_map a b Left ds (number_of_name a b k) ≡ numbered_map a b Right es (number_of_name a b k)
     numbers_at r k is same = sym (same_maps Left r ds mine k is) ∙ (same ∙ same_maps Right r es its k is)
 
     names_same : ((q : ℕ) → numbered_map a b Left ds q ≡ numbered_map a b Right es q) → (k : NameParts) → map_on Left ds k ≡ map_on Right es k
     names_same same k = at (find (is_named Left k) ds) refl (find (is_named Right k) es) refl
       where
-        its_name : (r : Side) (xs : List Data) (e : Data) → AreNamed r xs → find (is_named r k) xs ≡ Some e → IsNameOn a b r k
+        its_name : (r : ComparedReport) (xs : List Data) (e : Data) → AreNamed r xs → find (is_named r k) xs ≡ Some e → IsNameOn a b r k
         its_name r xs e named is = let h = find-Some (is_named r k) xs e is in named e h.0 k (name_tested (name_on r e) k h.1)
 
         at : (o : Option Data) → find (is_named Left k) ds ≡ o → (p : Option Data) → find (is_named Right k) es ≡ p → map_on Left ds k ≡ map_on Right es k
@@ -77,10 +77,10 @@ module _ (a b : Judged) where
         at None is None other = ap (option_and_then (record_on Left)) is ∙ sym (ap (option_and_then (record_on Right)) other)
 
     -- the name of a number that a selection has
-    abbrev Named : Side → ℕ → Type 0
+    abbrev Named : ComparedReport → ℕ → Type 0
     Named r q = (name : NameParts) × IsNameOn a b r name × (number_of_name a b name ≡ q)
 
-    has_its_name : (r : Side) (xs : List Data) (e : Data) (q : ℕ) → AreNamed r xs → find (has_number a b r q) xs ≡ Some e → Named r q
+    has_its_name : (r : ComparedReport) (xs : List Data) (e : Data) (q : ℕ) → AreNamed r xs → find (has_number a b r q) xs ≡ Some e → Named r q
     has_its_name r xs e q named is = at (name_on r e) refl (number_tested (number_of_selection a b r e) q h.1)
       where
         h : In e xs × (has_number a b r q e ≡ true)
@@ -93,7 +93,7 @@ module _ (a b : Judged) where
     numbered_same : ((k : NameParts) → map_on Left ds k ≡ map_on Right es k) → (q : ℕ) → numbered_map a b Left ds q ≡ numbered_map a b Right es q
     numbered_same same q = at (find (has_number a b Left q) ds) refl (find (has_number a b Right q) es) refl
       where
-        by : (r : Side) → Named r q → numbered_map a b Left ds q ≡ numbered_map a b Right es q
+        by : (r : ComparedReport) → Named r q → numbered_map a b Left ds q ≡ numbered_map a b Right es q
         by r n = subst (λ x. numbered_map a b Left ds x ≡ numbered_map a b Right es x) n.2 (numbers_at r n.0 n.1 (same n.0))
 
         at : (o : Option Data) → find (has_number a b Left q) ds ≡ o → (p : Option Data) → find (has_number a b Right q) es ≡ p → numbered_map a b Left ds q ≡ numbered_map a b Right es q

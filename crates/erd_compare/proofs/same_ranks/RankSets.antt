@@ -1,6 +1,6 @@
 -- The common ranks of the keys that references name are put into a set one after another, and two such sets are equal if and
 -- only if the sets of the keys are.
-use Rattle.erd_compare.proofs.Common.{◌≡◌, ℕ, Bool, true, List, [], ◌∷◌, map, ◌==◌, Some, None, Option, option_map, IsPermutation, IsSorted, filter_map, option_and_then, nat_cmp, is_eq, Ordering, sym, refl, ap, ◌∙◌, subst, ap₂, inl, inr, fun_ext, tied_itself, nat_cmp_total, CmpEqualImpliesEq, exact_unsigned, Equal-is, IsTotalOrder, both_ways, cons_option, list_any, Data, as_str, view, Value, Family, Role, role, In, In-map, In-map_from, any_at, In-from_contains, contains_from_In, Judged, has_keys, key_cmp, key_named, keys_named, key_cmp_total, key_cmp_exact, unsigned_ties, dedup, KeySet, key_set, Key, rank_of_key, Decides, on_side, rank_with_id, list_of_ranks, rank_set, IsRankSet, Side}
+use Rattle.erd_compare.proofs.Common.{◌≡◌, ℕ, Bool, true, List, [], ◌∷◌, map, ◌==◌, Some, None, Option, option_map, IsPermutation, IsSorted, filter_map, option_and_then, nat_cmp, is_eq, Ordering, sym, refl, ap, ◌∙◌, subst, ap₂, inl, inr, fun_ext, tied_itself, nat_cmp_total, CmpEqualImpliesEq, exact_unsigned, Equal-is, IsTotalOrder, both_ways, cons_option, list_any, Data, as_str, view, Value, Family, Role, role, In, In-map, In-map_from, any_at, In-from_contains, contains_from_In, Judged, has_keys, key_cmp, key_named, keys_named, key_cmp_total, key_cmp_exact, unsigned_ties, dedup, KeySet, key_set, Key, rank_of_key, Decides, on_side, rank_with_id, list_of_ranks, rank_set, IsRankSet, ComparedReport}
 use Rattle.std.proofs.lemmas.List.Kept.{Contains-dedup_nat, Contains-from_dedup, IsStrictlySortedBy-dedup}
 use Rattle.std.proofs.lemmas.List.Sorted.{list_any-IsPermutation}
 use Rattle.std.proofs.lemmas.Map.Views.{Contains-from_any}
@@ -11,7 +11,7 @@ use Rattle.erd_compare.proofs.same_ranks.NamedRanks.{value_named, value_known}
 
 -- ---- the ranks of references
 
-module _ (a b : Judged) (side : Side) (f : Family) where
+module _ (a b : Judged) (side : ComparedReport) (f : Family) where
   more : (o : Option Key) (ks : List Key) → map (rank_of_key a b (role.OfFamily f)) (cons_option o ks) ≡ cons_option (option_map (rank_of_key a b (role.OfFamily f)) o) (map (rank_of_key a b (role.OfFamily f)) ks)
   more None ks = refl
   more (Some k) ks = refl
@@ -83,7 +83,7 @@ module _ (a b : Judged) (r : Role) where
         (λ n. mine.same n ∙ (same_ranks ks ls (λ k. ap (λ (x : KeySet). x k) same) n ∙ sym (its.same n)))),
   )
 
-module _ (a b : Judged) (side : Side) (f : Family) (keyed : has_keys f ≡ true) where
+module _ (a b : Judged) (side : ComparedReport) (f : Family) (keyed : has_keys f ≡ true) where
   abbrev key_of_value : Data → Option Key
   key_of_value d = option_and_then (key_named (on_side side a b).prefer (view (on_side side a b).tree) f) (as_str d)
 

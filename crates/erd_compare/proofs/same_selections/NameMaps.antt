@@ -1,5 +1,5 @@
 -- The selections of a contest are put into a map one after another, the first of each name. Names are given by their numbers.
-use Rattle.erd_compare.proofs.Common.{◌≡◌, ℕ, Bool, true, false, cond, List, [], ◌∷◌, map, is_some, ◌==◌, Some, None, Option, option_map, find, sym, refl, ap, ◌∙◌, true≢false, Bor, Decides-eqb, option_eq, option_or, Data, view, Value, Judged, number_of_selection, has_number, IsByNumber, Side}
+use Rattle.erd_compare.proofs.Common.{◌≡◌, ℕ, Bool, true, false, cond, List, [], ◌∷◌, map, is_some, ◌==◌, Some, None, Option, option_map, find, sym, refl, ap, ◌∙◌, true≢false, Bor, Decides-eqb, option_eq, option_or, Data, view, Value, Judged, number_of_selection, has_number, IsByNumber, ComparedReport}
 use Rattle.std.specs.Map.{lookup}
 
 -- selections by their names
@@ -14,14 +14,14 @@ abbrev pub had : Named → ℕ → Option Data
 had m q = option_map (λ v. view v.now) (at_name m q)
 
 -- there is the first selection of each name, but for these, which are left
-abbrev pub IsFilling : Judged → Judged → Side → List Value → List Value → Named → Type 0
+abbrev pub IsFilling : Judged → Judged → ComparedReport → List Value → List Value → Named → Type 0
 IsFilling a b side all left m = (q : ℕ) → option_or (had m q) (find (has_number a b side q) (map view left)) ≡ find (has_number a b side q) (map view all)
 
 -- numbers that pass the test are one
 pub one_number : (k q : ℕ) → (k == q) ≡ true → k ≡ q
 one_number k q e = (Decides-eqb k q).0 e
 
-module _ (a b : Judged) (side : Side) where
+module _ (a b : Judged) (side : ComparedReport) where
   pub none_put : (all left : List Value) (m : Named) → left ≡ all → m ≡ [] → IsFilling a b side all left m
   none_put all left m is none q = rw none (ap (λ vs. find (has_number a b side q) (map view vs)) is)
 

@@ -1,5 +1,5 @@
 -- The selections of two contests by the numbers of their names: what the right has at each name of the left is taken out.
-use Rattle.erd_compare.proofs.Common.{◌≡◌, ℕ, suc, Bool, true, false, cond, ◌⊎◌, List, [], ◌∷◌, length, ◌==◌, Some, None, Option, option_map, find, option_and_then, sym, refl, ap, ◌∙◌, subst, inl, inr, arith, Bor, fun_ext, AllByRecursion, Data, view, Value, Class, Judged, Preference, plain_member, selection_record, name_in_class, selection_role, ◌↔◌, IsDistinct, option_eq, find-Some, SelectionRecord, number_of_name, Decides, IsWholeTree, on_side, has_number, IsByNumber, numbered_map, Side, Left, Right, In-all, key_named}
+use Rattle.erd_compare.proofs.Common.{◌≡◌, ℕ, suc, Bool, true, false, cond, ◌⊎◌, List, [], ◌∷◌, length, ◌==◌, Some, None, Option, option_map, find, option_and_then, sym, refl, ap, ◌∙◌, subst, inl, inr, arith, Bor, fun_ext, AllByRecursion, Data, view, Value, Class, Judged, Preference, plain_member, selection_record, name_in_class, selection_role, ◌↔◌, IsDistinct, option_eq, find-Some, SelectionRecord, number_of_name, Decides, IsWholeTree, on_side, has_number, IsByNumber, numbered_map, ComparedReport, Left, Right, In-all, key_named}
 use Rattle.std.specs.Map.{keys_of, lookup}
 use Rattle.erd_check.specs.Wants.{class_of_object}
 use Rattle.erd_meaning.proofs.identity.ObjectFamilies.{itself}
@@ -39,7 +39,7 @@ found_none k (e ∷ es) h = rw h.0 (found_none k es h.1)
 abbrev in_class : Preference → Data → Data → Class → SelectionRecord
 in_class π t d c = record { class = c; members = plain_member π t d c }
 
-module _ (a b : Judged) (side : Side) (ds : List Data) where
+module _ (a b : Judged) (side : ComparedReport) (ds : List Data) where
   abbrev π : Preference
   π = (on_side side a b).prefer
 

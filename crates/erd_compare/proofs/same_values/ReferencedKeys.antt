@@ -1,5 +1,5 @@
 -- What is found by an `@id` is the object that a reference names.
-use Rattle.erd_compare.proofs.Common.{◌≡◌, ℕ, true, false, cond, List, ◌==◌, slice_get, Some, None, Option, option_map, option_and_then, sym, refl, ap, subst, Data, view, family_number, Family, role, Judged, has_keys, key_of, key_of_family_object, FindsId, Placed, objects, owner, name_of, number_of_name, number_of_selection, rank_of_key, on_side, Side}
+use Rattle.erd_compare.proofs.Common.{◌≡◌, ℕ, true, false, cond, List, ◌==◌, slice_get, Some, None, Option, option_map, option_and_then, sym, refl, ap, subst, Data, view, family_number, Family, role, Judged, has_keys, key_of, key_of_family_object, FindsId, Placed, objects, owner, name_of, number_of_name, number_of_selection, rank_of_key, on_side, ComparedReport}
 use Rattle.erd_meaning.proofs.finding.OneObject.{owner_elsewhere, owner_here, owner_nowhere}
 
 -- what is told of the object of a family that a reference names
@@ -16,7 +16,7 @@ module _ {R : Type 0} (told : Option Data → R) {x j : Judged} (same : x ≡ j)
   pub found_nowhere : FindsId (view x.tree) id None → told None ≡ told (owner (view j.tree) f id)
   found_nowhere finds = ap (λ o. told (option_map (λ (o : Placed). o.value) o)) (sym (owner_nowhere (view j.tree) f id (finds_there finds)))
 
-module _ (a b : Judged) (side : Side) where
+module _ (a b : Judged) (side : ComparedReport) where
   -- the common rank of its key
   abbrev pub rank_owned : Family → Option Data → Option ℕ
   rank_owned f o = option_map (rank_of_key a b (role.OfFamily f)) (option_and_then (key_of (on_side side a b).prefer) o)

@@ -18,8 +18,8 @@ use Rattle.erd_compare.specs.code.CommonRanks.{common_rank_of, rank_of_key}
 use Rattle.erd_compare.specs.code.RankedSides.{on_side}
 use Rattle.erd_compare.specs.declared.ranks.common_ranks.CommonRanks.{CommonRanks}
 use Rattle.erd_compare.specs.declared.ranks.name_numbers.NameNumbers.{NameNumbers}
-use Rattle.erd_compare.specs.declared.ranks.common_ranks.Side.{Side}
-use Rattle.erd_compare.specs.declared.ranks.common_ranks.Side.TheVariants.{Left, Right}
+use Rattle.erd_compare.specs.declared.ranks.common_ranks.ComparedReport.{ComparedReport}
+use Rattle.erd_compare.specs.declared.ranks.common_ranks.ComparedReport.TheVariants.{Left, Right}
 
 -- ---- names with common ranks in place of keys
 
@@ -36,15 +36,15 @@ abbrev pub name_by_ranks : Judged → Judged → NameParts → RankedParts
 name_by_ranks a b n = numbered_parts n (ranks_in_name a b n)
 
 -- The name of a selection with common ranks in place of its keys, or none if its `@type` is not that of a selection class.
-abbrev pub name_by_ranks_of : Judged → Judged → Side → Data → Option RankedParts
+abbrev pub name_by_ranks_of : Judged → Judged → ComparedReport → Data → Option RankedParts
 name_by_ranks_of a b side d = option_map (name_by_ranks a b) (name_of (on_side side a b).prefer (view (on_side side a b).tree) d)
 
 -- The common ranks of the keys in a name, by their ranks on the side.
-abbrev pub ranks_told : CommonRanks → Side → RankedParts → List ℕ
+abbrev pub ranks_told : CommonRanks → ComparedReport → RankedParts → List ℕ
 ranks_told common side r = filter_map (common_rank_of common side (role_of_name r.name)) r.ranks
 
 -- The name of a selection of the report, with these common ranks in place of its keys.
-abbrev pub name_told : CommonRanks → Side → Judged → Data → Option RankedParts
+abbrev pub name_told : CommonRanks → ComparedReport → Judged → Data → Option RankedParts
 name_told common side a d = option_map (λ n. numbered_parts n (ranks_told common side (ranked_name a.prefer (view a.tree) n))) (name_of a.prefer (view a.tree) d)
 
 -- True if the two names are equal.
@@ -54,7 +54,7 @@ name_eq = eq_by_cmp numbered_name_cmp
 -- ---- numbers in place of names
 
 -- The names of the selections of a report, in the order of the report.
-abbrev pub names_on : Judged → Judged → Side → List RankedParts
+abbrev pub names_on : Judged → Judged → ComparedReport → List RankedParts
 names_on a b side = filter_map (λ o. name_by_ranks_of a b side o.value) (objects family.Selection (view (on_side side a b).tree))
 
 -- The names of the selections of both reports, each once, in the order in which they come first.
@@ -66,14 +66,14 @@ abbrev pub number_of_name : Judged → Judged → NameParts → ℕ
 number_of_name a b n = position_or_len (name_eq (name_by_ranks a b n)) (names_of_both a b)
 
 -- The number of the name of a selection, or none if its `@type` is not that of a selection class.
-abbrev pub number_of_selection : Judged → Judged → Side → Data → Option ℕ
+abbrev pub number_of_selection : Judged → Judged → ComparedReport → Data → Option ℕ
 number_of_selection a b side d = option_map (number_of_name a b) (name_of (on_side side a b).prefer (view (on_side side a b).tree) d)
 
 -- The numbers of the names of a report's selections.
-abbrev pub numbers_on : Side → NameNumbers → List (Option ℕ)
+abbrev pub numbers_on : ComparedReport → NameNumbers → List (Option ℕ)
 numbers_on Left n = n.left.items
 numbers_on Right n = n.right.items
 
 -- These are the numbers of the names of the selections of both reports, in the order of each.
 abbrev pub AreNameNumbers : Judged → Judged → NameNumbers → Type 0
-AreNameNumbers a b n = (side : Side) → numbers_on side n ≡ map (λ o. number_of_selection a b side o.value) (objects family.Selection (view (on_side side a b).tree))
+AreNameNumbers a b n = (side : ComparedReport) → numbers_on side n ≡ map (λ o. number_of_selection a b side o.value) (objects family.Selection (view (on_side side a b).tree))

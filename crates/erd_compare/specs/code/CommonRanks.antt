@@ -14,8 +14,8 @@ use Rattle.erd_meaning.specs.Keys.{key_cmp}
 use Rattle.erd_meaning.specs.declared.keys.key.Key.{Key}
 use Rattle.erd_compare.specs.code.KeyedDifferences.{is_ranked, rising_in_role}
 use Rattle.erd_compare.specs.declared.ranks.common_ranks.CommonRanks.{CommonRanks}
-use Rattle.erd_compare.specs.declared.ranks.common_ranks.Side.{Side}
-use Rattle.erd_compare.specs.declared.ranks.common_ranks.Side.TheVariants.{Left, Right}
+use Rattle.erd_compare.specs.declared.ranks.common_ranks.ComparedReport.{ComparedReport}
+use Rattle.erd_compare.specs.declared.ranks.common_ranks.ComparedReport.TheVariants.{Left, Right}
 
 -- The first position of the key in the list, or the length of the list if the key is not in it.
 abbrev pub place_of : Option Key → List (Option Key) → ℕ
@@ -46,7 +46,7 @@ abbrev pub AreAllCommonRanks : Judged → Judged → CommonRanks → Type 0
 AreAllCommonRanks a b common = (r : Role) → is_ranked r ≡ true → AreCommonRanks a b r (common_ranks_in r common)
 
 -- The common rank of the key with this rank on the side, or none if there is no such key. On the left it is the rank.
-abbrev pub common_rank_of : CommonRanks → Side → Role → ℕ → Option ℕ
+abbrev pub common_rank_of : CommonRanks → ComparedReport → Role → ℕ → Option ℕ
 common_rank_of common Left r rank = Some rank
 common_rank_of common Right r rank = slice_get (common_ranks_in r common) rank
 

@@ -10,17 +10,17 @@ use Rattle.erd_meaning.specs.Meaning.{SelectionRecord}
 use Rattle.erd_meaning.specs.Records.{selection_record}
 use Rattle.erd_compare.specs.code.CommonNames.{number_of_selection}
 use Rattle.erd_compare.specs.code.RankedSides.{on_side}
-use Rattle.erd_compare.specs.declared.ranks.common_ranks.Side.{Side}
+use Rattle.erd_compare.specs.declared.ranks.common_ranks.ComparedReport.{ComparedReport}
 use denote.Ref.{Bor}
 
 -- True if the name of the selection has the number.
-abbrev pub has_number : Judged → Judged → Side → ℕ → Data → Bool
+abbrev pub has_number : Judged → Judged → ComparedReport → ℕ → Data → Bool
 has_number a b side k d = option_eq ◌==◌ (number_of_selection a b side d) (Some k)
 
 -- Under the number of each name, the list has the first selection with that name.
-abbrev pub IsByNumber : Judged → Judged → Side → List Data → List (ℕ × Bor Value) → Type 0
+abbrev pub IsByNumber : Judged → Judged → ComparedReport → List Data → List (ℕ × Bor Value) → Type 0
 IsByNumber a b side ds es = (k : ℕ) → option_map (λ v. view v.now) (lookup (λ l. k == l) es) ≡ find (has_number a b side k) ds
 
 -- What the selections of a contest mean, by the numbers of their names.
-abbrev pub numbered_map : Judged → Judged → Side → List Data → ℕ → Option SelectionRecord
+abbrev pub numbered_map : Judged → Judged → ComparedReport → List Data → ℕ → Option SelectionRecord
 numbered_map a b side ds k = option_and_then (selection_record (on_side side a b).prefer (view (on_side side a b).tree)) (find (has_number a b side k) ds)

@@ -7,7 +7,7 @@ ghost use Rattle.erd_compare.specs.code.KeyedDifferences.{TellsAtPositions};
 use crate::comparer::Comparer;
 use crate::difference::Part;
 use crate::objects::held::{held_ways, is_same_holder};
-use crate::objects::records::{Placed, object_ways};
+use crate::objects::records::{PlacedObject, object_ways};
 use crate::objects::ways::Ways;
 use crate::ranks::role_objects::{object_at, rising, role_of};
 use erd_meaning::Key;
@@ -78,11 +78,11 @@ pub(crate) fn ways_at<'a>(
         object_at(comparer.right(), role, other_position),
     ) {
         (Some(value), Some(other_value)) => {
-            let one = Placed {
+            let one = PlacedObject {
                 value,
                 index: position,
             };
-            let other = Placed {
+            let other = PlacedObject {
                 value: other_value,
                 index: other_position,
             };

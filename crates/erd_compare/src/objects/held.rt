@@ -9,7 +9,7 @@ ghost use Rattle.erd_compare.specs.code.KeyedDifferences.{holder_key_in};
 
 use crate::comparer::Comparer;
 use crate::objects::ways::Ways;
-use crate::ranks::common_ranks::Side;
+use crate::ranks::common_ranks::ComparedReport;
 use erd_tables::Role;
 use std::alloc::AllocError;
 
@@ -23,8 +23,8 @@ pub(crate) fn is_same_holder(
     ensures { Decides result (holder_key_in comparer.now.left.prefer role (view comparer.now.left.tree) position)
         (holder_key_in comparer.now.right.prefer role (view comparer.now.right.tree) other_position) }
 {
-    comparer.holder_rank(Side::Left, role, position)
-        == comparer.holder_rank(Side::Right, role, other_position)
+    comparer.holder_rank(ComparedReport::Left, role, position)
+        == comparer.holder_rank(ComparedReport::Right, role, other_position)
 }
 
 /// Returns the ways in which two objects differ, given those in which they differ by themselves, and whether the keys of their

@@ -13,7 +13,7 @@ use crate::comparer::Comparer;
 use crate::objects::differing_names::PairsLeft;
 use crate::objects::least_name::MemberPair;
 use crate::objects::plain_members::is_same_plain_member;
-use crate::objects::selections::{Found, is_same_selections};
+use crate::objects::selections::{PlacedMember, is_same_selections};
 use crate::objects::ways::Ways;
 use erd_check::values::class_of_object;
 use erd_tables::{Class, Family, MemberKind, Role, member_kind};
@@ -22,7 +22,7 @@ use std::alloc::AllocError;
 
 /// An object that is compared, and its position among the objects of its role in its report.
 #[derive(Clone, Copy)]
-pub(crate) struct Placed<'a> {
+pub(crate) struct PlacedObject<'a> {
     pub(crate) value: &'a Value,
     pub(crate) index: usize,
 }
@@ -32,8 +32,8 @@ pub(crate) struct Placed<'a> {
 pub(crate) fn object_ways<'a>(
     comparer: &Comparer,
     role: Role,
-    one: Placed<'a>,
-    other: Placed<'a>,
+    one: PlacedObject<'a>,
+    other: PlacedObject<'a>,
     all: bool,
 ) -> Result<Ways<'a>, AllocError>
     requires one { IsWholeTree (view one.value.now) }
@@ -67,8 +67,8 @@ pub(crate) fn object_ways<'a>(
 fn differing_members<'a>(
     comparer: &Comparer,
     class: Class,
-    one: Placed<'a>,
-    other: Placed<'a>,
+    one: PlacedObject<'a>,
+    other: PlacedObject<'a>,
     all: bool,
 ) -> Result<Vec<&'a str>, AllocError>
     requires one { IsWholeTree (view one.value.now) }
@@ -112,11 +112,11 @@ fn is_same_member(
         (member_found comparer.now.right.prefer (view comparer.now.right.tree) class pair.entry.name.now (option_map (λ v. view v.now) pair.entry.other))) }
 {
     if is_selections(member_kind(class, pair.name)) {
-        let one = Found {
+        let one = PlacedMember {
             value: pair.one,
             index: position,
         };
-        let other = Found {
+        let other = PlacedMember {
             value: pair.other,
             index: other_position,
         };

@@ -10,7 +10,7 @@ ghost use Rattle.erd_compare.specs.code.SelectionsByName.{IsByNumber};
 use crate::comparer::Comparer;
 use crate::objects::least_name::least_differing_name;
 use crate::objects::plain_members::is_same_plain_member;
-use crate::ranks::common_ranks::Side;
+use crate::ranks::common_ranks::ComparedReport;
 use erd_check::values::{class_of_object, entries_of, is_empty_array};
 use erd_tables::{Class, Family, Role};
 use indexmap::IndexMap;
@@ -19,7 +19,7 @@ use std::alloc::AllocError;
 
 /// The value of a member, if the object has the member, and the position of the object among those of its role.
 #[derive(Clone, Copy)]
-pub(crate) struct Found<'a> {
+pub(crate) struct PlacedMember<'a> {
     pub(crate) value: Option<&'a Value>,
     pub(crate) index: usize,
 }
@@ -34,8 +34,8 @@ struct Selections<'a> {
 /// Returns whether the selections of two contests mean the same. An empty array of selections means the same as no array.
 pub(crate) fn is_same_selections(
     comparer: &Comparer,
-    one: Found,
-    other: Found,
+    one: PlacedMember,
+    other: PlacedMember,
 ) -> Result<bool, AllocError>
     requires one { IfSome one.value (λ v. IsWholeTree (view v.now)) }
     requires other { IfSome other.value (λ v. IsWholeTree (view v.now)) }
@@ -85,8 +85,8 @@ fn is_same_selection_map(
     ensures { IfOk result (λ answer. Decides answer (selection_map comparer.now.left.prefer (view comparer.now.left.tree) (map view ones.entry.values.now))
         (selection_map comparer.now.right.prefer (view comparer.now.right.tree) (map view others.entry.values.now))) }
 {
-    let ones = by_number(comparer, Side::Left, ones)?;
-    let mut others = by_number(comparer, Side::Right, others)?;
+    let ones = by_number(comparer, ComparedReport::Left, ones)?;
+    let mut others = by_number(comparer, ComparedReport::Right, others)?;
     for (number, one) in &ones {
         let Some(other) = others.swap_remove(number) else {
             return Ok(false);
@@ -101,7 +101,7 @@ fn is_same_selection_map(
 /// Returns the selections of a contest by the numbers of their names. If several have the same name, the first one counts.
 fn by_number<'a>(
     comparer: &Comparer,
-    side: Side,
+    side: ComparedReport,
     selections: Selections<'a>,
 ) -> Result<IndexMap<usize, &'a Value>, AllocError>
     requires { AreSelectionsIn (on_side side comparer.now.left comparer.now.right) selections.contest (map view selections.values.now) }

@@ -11,7 +11,7 @@ use std::alloc::{AllocError, Global};
 
 /// One of the two reports that are compared.
 #[derive(Clone, Copy)]
-pub(crate) enum Side {
+pub(crate) enum ComparedReport {
     /// The left report.
     Left,
     /// The right report.
@@ -62,12 +62,12 @@ impl CommonRanks {
     }
 
     /// Returns the common rank of the key with a rank on a side, if there is such a key. On the left it is the rank.
-    pub(crate) fn common_rank(&self, side: Side, role: Role, rank: usize) -> Option<usize>
+    pub(crate) fn common_rank(&self, side: ComparedReport, role: Role, rank: usize) -> Option<usize>
         ensures { result ≡ common_rank_of self.now side role rank }
     {
         match side {
-            Side::Left => Some(rank),
-            Side::Right => self.of(role).get(rank).copied(),
+            ComparedReport::Left => Some(rank),
+            ComparedReport::Right => self.of(role).get(rank).copied(),
         }
     }
 }

@@ -7,7 +7,7 @@ ghost use Rattle.erd_compare.specs.code.CommonNames.{AreNameNumbers, name_eq, na
 ghost use Rattle.erd_compare.specs.code.CommonRanks.{common_rank_of};
 ghost use Rattle.erd_compare.specs.code.RankedSides.{AreCommonByRank};
 
-use crate::ranks::common_ranks::{CommonRanks, Side};
+use crate::ranks::common_ranks::{CommonRanks, ComparedReport};
 use erd_meaning::{RankedName, Report, SaltedSet, SelectionName};
 use erd_tables::{Family, Role};
 use std::alloc::{AllocError, Global};
@@ -35,8 +35,8 @@ pub(crate) fn names_of_both<'a>(
 {
     let salt = left.salt().joined(&right.salt());
     let mut names = SaltedSet::new(alloc, salt);
-    let left = numbers_of_names(alloc, left, common, Side::Left, &mut names)?;
-    let right = numbers_of_names(alloc, right, common, Side::Right, &mut names)?;
+    let left = numbers_of_names(alloc, left, common, ComparedReport::Left, &mut names)?;
+    let right = numbers_of_names(alloc, right, common, ComparedReport::Right, &mut names)?;
     Ok(NameNumbers { left, right })
 }
 
@@ -46,7 +46,7 @@ fn numbers_of_names<'a>(
     alloc: Global,
     report: &'a Report,
     common: &CommonRanks,
-    side: Side,
+    side: ComparedReport,
     names: &mut SaltedSet<RankedName<&'a SelectionName>>,
 ) -> Result<Vec<Option<usize>>, AllocError>
     ensures names { IfOk result (λ _. map with_ranks names.new
@@ -72,7 +72,7 @@ fn name_at<'a>(
     alloc: Global,
     report: &'a Report,
     common: &CommonRanks,
-    side: Side,
+    side: ComparedReport,
     position: usize,
 ) -> Result<Option<RankedName<&'a SelectionName>>, AllocError>
     ensures { IfOk result (λ name. option_map with_ranks name ≡ option_and_then (λ o. name_told common.now side report.now o.value) (slice_get (objects family.Selection (view report.now.tree)) position)) }
@@ -90,7 +90,7 @@ fn name_at<'a>(
 fn ranks_in_name(
     alloc: Global,
     common: &CommonRanks,
-    side: Side,
+    side: ComparedReport,
     name: &RankedName<SelectionName>,
 ) -> Result<Vec<usize>, AllocError>
     ensures { IfOk result (λ ranks. ranks.items ≡ ranks_told common.now side name.now) }
@@ -103,7 +103,7 @@ fn ranks_in_name(
 fn common_ranks_of(
     alloc: Global,
     common: &CommonRanks,
-    side: Side,
+    side: ComparedReport,
     role: Role,
     ranks: &[usize],
 ) -> Result<Vec<usize>, AllocError>

@@ -4,7 +4,7 @@ ghost use Rattle.erd_compare.specs.code.Comparing.{Decides, IsWholeTree};
 ghost use Rattle.erd_compare.specs.code.ContentParts.{content_within, plain_node};
 
 use crate::comparer::Comparer;
-use crate::ranks::common_ranks::Side;
+use crate::ranks::common_ranks::ComparedReport;
 use crate::values::chosen_members::is_same_carried;
 use crate::values::plain_contest::{PlainContest, plain_contest};
 use crate::values::references::{number_of_name_named, rank_with_id};
@@ -163,8 +163,8 @@ fn is_same_name(comparer: &Comparer, one: &Value, other: &Value) -> bool
     ensures { Decides result (option_and_then (name_named comparer.now.left.prefer (view comparer.now.left.tree)) (as_str (view one.now)))
         (option_and_then (name_named comparer.now.right.prefer (view comparer.now.right.tree)) (as_str (view other.now))) }
 {
-    number_of_name_named(comparer, Side::Left, one)
-        == number_of_name_named(comparer, Side::Right, other)
+    number_of_name_named(comparer, ComparedReport::Left, one)
+        == number_of_name_named(comparer, ComparedReport::Right, other)
 }
 
 /// Returns whether the members with this name refer to objects of the family with the same key.
@@ -188,8 +188,8 @@ fn is_same_target(comparer: &Comparer, family: Family, one: &str, other: &str) -
     ensures { Decides result (key_named comparer.now.left.prefer (view comparer.now.left.tree) family one.now)
         (key_named comparer.now.right.prefer (view comparer.now.right.tree) family other.now) }
 {
-    rank_with_id(comparer, Side::Left, family, one)
-        == rank_with_id(comparer, Side::Right, family, other)
+    rank_with_id(comparer, ComparedReport::Left, family, one)
+        == rank_with_id(comparer, ComparedReport::Right, family, other)
 }
 
 /// Returns whether the class is that of a header in the contents of a ballot.

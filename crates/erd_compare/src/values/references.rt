@@ -5,13 +5,17 @@ ghost use Rattle.erd_compare.specs.code.Comparing.{Decides};
 ghost use Rattle.erd_compare.specs.code.RankedSides.{IsRankSet, rank_with_id, on_side};
 
 use crate::comparer::Comparer;
-use crate::ranks::common_ranks::Side;
+use crate::ranks::common_ranks::ComparedReport;
 use erd_tables::{Family, Role};
 use serde_json::Value;
 use std::alloc::AllocError;
 
 /// Returns the number of the name of the selection that a reference names, if there is one.
-pub(crate) fn number_of_name_named(comparer: &Comparer, side: Side, value: &Value) -> Option<usize>
+pub(crate) fn number_of_name_named(
+    comparer: &Comparer,
+    side: ComparedReport,
+    value: &Value,
+) -> Option<usize>
     ensures { result ≡ option_map (number_of_name comparer.now.left comparer.now.right)
         (option_and_then (name_named (on_side side comparer.now.left comparer.now.right).prefer (view (on_side side comparer.now.left comparer.now.right).tree)) (as_str (view value.now))) }
 {
@@ -35,7 +39,7 @@ fn is_same_family(found: Family, family: Family) -> bool
 /// Returns the common rank of the object of a family that a reference names, if there is one.
 pub(crate) fn rank_named(
     comparer: &Comparer,
-    side: Side,
+    side: ComparedReport,
     family: Family,
     value: &Value,
 ) -> Option<usize>
@@ -48,7 +52,7 @@ pub(crate) fn rank_named(
 /// Returns the common rank of the object of a family with this `@id`, if there is one.
 pub(crate) fn rank_with_id(
     comparer: &Comparer,
-    side: Side,
+    side: ComparedReport,
     family: Family,
     id: &str,
 ) -> Option<usize>
@@ -75,8 +79,8 @@ pub(crate) fn is_same_reference(
     ensures { Decides result (option_and_then (key_named comparer.now.left.prefer (view comparer.now.left.tree) family) (as_str (view one.now)))
         (option_and_then (key_named comparer.now.right.prefer (view comparer.now.right.tree) family) (as_str (view other.now))) }
 {
-    rank_named(comparer, Side::Left, family, one)
-        == rank_named(comparer, Side::Right, family, other)
+    rank_named(comparer, ComparedReport::Left, family, one)
+        == rank_named(comparer, ComparedReport::Right, family, other)
 }
 
 /// Returns whether two lists of references to objects of a family name objects with the same set of keys.
@@ -90,15 +94,15 @@ pub(crate) fn is_same_key_set(
     ensures { IfOk result (λ answer. Decides answer (key_set (keys_named comparer.now.left.prefer (view comparer.now.left.tree) family (map view ones.now)))
         (key_set (keys_named comparer.now.right.prefer (view comparer.now.right.tree) family (map view others.now)))) }
 {
-    let ones = set_of(ranks_named(comparer, Side::Left, family, ones)?);
-    let others = set_of(ranks_named(comparer, Side::Right, family, others)?);
+    let ones = set_of(ranks_named(comparer, ComparedReport::Left, family, ones)?);
+    let others = set_of(ranks_named(comparer, ComparedReport::Right, family, others)?);
     Ok(ones == others)
 }
 
 /// Returns the common ranks of the objects of a family that the references name, in the order of the references.
 fn ranks_named(
     comparer: &Comparer,
-    side: Side,
+    side: ComparedReport,
     family: Family,
     values: &[Value],
 ) -> Result<Vec<usize>, AllocError>

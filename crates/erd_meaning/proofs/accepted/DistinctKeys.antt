@@ -1,4 +1,5 @@
--- In a report without faults of identity no two objects of a family and no two elections have one key, and each of several elections has one.
+-- In a report without faults of identity no two objects of a family and no two elections have one key, and each of several
+-- elections has one.
 use Rattle.erd_meaning.proofs.Common.{◌≡◌, ℕ, Bool, true, false, cond, List, map, length, nat_lt, slice_get, Some, None, codes, Option, option_and_then, is_eq, sym, refl, ap, ◌∙◌, subst, ap₂, arith, ltb-false, slice_get_within, map-map, Equal-is, IsDistinct, option_cmp, eq_by_cmp, Data, Family, reason, NoneOf, entries_at, has_keys, key_cmp, Preference, key_of, key_of_family_object, IdentityFault, key_in, Placed, report_of, elections, objects, has_several, AreDistinct, HaveDistinctKeys, Kept, kept, kept_objects, election_keys, key_cmp_exact, Key, role, In, contains_from_In, in_at}
 use Rattle.erd_meaning.proofs.accepted.Standing.{has_identifier, values-placed_entries}
 use Rattle.erd_meaning.proofs.finding.OneObject.{those_kept, one_key}

@@ -1,4 +1,5 @@
--- An accepted report has no fault of any phase: its references name objects, each object stands at its place, and no two have one `@id`.
+-- An accepted report has no fault of any phase: its references name objects, each object stands at its place, and no two have
+-- one `@id`.
 use Rattle.erd_meaning.proofs.Common.{inl, inr, Data, ShapeFault, NoneOf, IsAccepted, Preference, IdentityFault, ReferenceFault, SelectionFault, ◌≡◌, ℕ, suc, Bool, true, false, not, ◌&&◌, List, [], ◌∷◌, ◌++◌, is_some, is_none, IsTrue, Some, None, codes, Option, find, option_and_then, sym, refl, ap, ◌∙◌, subst, arith, false_from_ne_true, true_from_ne_false, list_any, string, Family, family, role, reason, Step, At, Name, not_within, Within, text_at, Asked, asked, asked_at, Reference, has_keys, key_of, is_reference_fault, is_selection_in, Placed, objects, has_id, owner, is_owned, key_named, Key, cases_Bool, option_map-Some, some_from, ◌+◌, ◌⊎◌, map, flat_map, ap₂, map-append, array, object, Items, no_items, item, Members, get_member, get_item, class, kind, entries_in, array_from, list_of_items-place, object_at, report_class, election_class, not_empty, ObjectAt, asked_at-step, Within-step, Within-root, of_role, asked_inside_object, faultless, wanted_within, lacks_none, member_within, list_of_items, entries_at, asked_inside, Member, placed_from, placed_entries, elections, option_map, bytes_eq, Ordering, Less, Equal, Greater, option_map_or, ordering_reverse, place_cmp_total, place_cmp_exact, role_of_class, place_cmp, kind_of_member, Class, Role, object_in, is_absent, is_filled_array, keyed_list, MayBeArray, ObjectIn, want_by_kind, Want, IsBefore, NameParts, report_of, contests, selections_of_contest, id_of, name_of, In, In-flat_map, In-flat_map_from, any_at, contains_from_In}
 use Rattle.erd_check.specs.declared.want.Want.TheVariants.{Object}
 use Rattle.erd_check.proofs.Exact.{text_exact, text_itself}

@@ -28,8 +28,8 @@ twin_units = (
   repeats_id twins family.Party family.Unit (object_at twins family.Party 0) (object_at twins family.Unit 0) (codes "u7") (0, lit< tt, refl) (0, lit< tt, refl) refl refl refl,
 )
 
--- the first of these elections has no identifier, the third has the key of the second, and a candidate in the third that of one in
--- the second
+-- the first of these elections has no identifier, the third has the key of the second, and a candidate in the third that of one
+-- in the second
 abbrev several : Data
 several = tree_of (codes "{\"Election\":[{},{\"Candidate\":[{\"ExternalIdentifier\":[{\"Value\":\"K\"}]}],\"ExternalIdentifier\":[{\"Value\":\"E\"}]},{\"Candidate\":[{\"ExternalIdentifier\":[{\"Value\":\"K\"}]}],\"ExternalIdentifier\":[{\"Value\":\"E\"}]}]}")
 

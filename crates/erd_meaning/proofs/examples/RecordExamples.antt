@@ -54,7 +54,8 @@ abbrev is_untranslated : Label → Bool
 is_untranslated (untranslated text) = true
 is_untranslated label = false
 
--- a header inside another is not the same order of a ballot as its entries beside it; a label of one language is not the text in it
+-- a header inside another is not the same order of a ballot as its entries beside it; a label of one language is not the text
+-- in it
 other_contents : (begins_with_header (content_of None null (tree_of (codes "[{\"@type\":\"ElectionResults.OrderedHeader\",\"OrderedContent\":[{\"@type\":\"ElectionResults.OrderedHeader\"}]}]"))) ≡ true)
     × (begins_with_header (content_of None null (tree_of (codes "[{\"@type\":\"ElectionResults.OrderedHeader\",\"OrderedContent\":[{\"@type\":\"ElectionResults.OrderedContest\"}]}]"))) ≡ false)
     × (is_untranslated (label_of (tree_of (codes "\"Yes\""))) ≡ true)
@@ -173,7 +174,8 @@ keys_and_names family.Selection = ([], [])
 abbrev pub members_of_family : Data → Family → List (List (Option MemberValue))
 members_of_family t f = map (λ key. members_of t f key (keys_and_names f).1) (keys_and_names f).0
 
--- each object has the same members in the small ballot and in its canonical form, but for selections and contents, which are above
+-- each object has the same members in the small ballot and in its canonical form, but for selections and contents, which are
+-- above
 same_members : map (members_of_family (tree_of small_ballot)) families ≡ map (members_of_family (tree_of small_ballot_canonical)) families
 unfolding serde_json_on_literals
 same_members = refl

@@ -1,4 +1,5 @@
--- The elections and the objects that the walk meets stand apart: the place of the `@id` of each comes before the places of all later ones.
+-- The elections and the objects that the walk meets stand apart: the place of the `@id` of each comes before the places of all
+-- later ones.
 use Rattle.erd_meaning.proofs.Common.{◌≡◌, ℕ, ◌+◌, ◌≤◌, Bool, List, [], ◌∷◌, ◌++◌, codes, flat_map, Ordering, Less, sym, refl, ap, ◌∙◌, subst, ap₂, inl, inr, append_assoc, append-nil, arith, AllByRecursion, IsStrictlySortedBy, Data, steps_less, step_cmp, place_cmp, text_cmp, Family, family, Step, At, Name, In, In-append, all_from_In, Below, sorted_append, Preference, Placed, placed_from, placed_entries, report_of, elections, selections_of_contest, has_several, Located, located_one, located_election, located, contest_located, inside_election, election_located, shared_located, all_located, flat_map_single}
 use Rattle.erd_check.proofs.Steps.{at_less}
 

@@ -1,4 +1,5 @@
--- The rank of a key among the keys of a list is the number of entries with lesser keys. Wherever entries have the keys, the ranks are in the order of the keys.
+-- The rank of a key among the keys of a list is the number of entries with lesser keys. Wherever entries have the keys, the
+-- ranks are in the order of the keys.
 use Rattle.erd_meaning.proofs.Common.{◌≡◌, ℕ, ◌<◌, Bool, true, List, length, Some, None, filter, Option, nat_cmp, is_lt, Ordering, Less, Equal, Greater, sym, refl, ap, ◌∙◌, tied_itself, option_cmp, ordering_reverse, nat_cmp_total, less, In, key_cmp, key_cmp_total, key_cmp_exact, Key}
 use Rattle.erd_check.proofs.Steps.{at_less}
 use Rattle.erd_text.proofs.RisingOrders.{more_pass}

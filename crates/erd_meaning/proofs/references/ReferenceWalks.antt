@@ -1,4 +1,5 @@
--- The walk that judges references tells exactly the faults of references; a selection is referred to in the list of an object alone.
+-- The walk that judges references tells exactly the faults of references; a selection is referred to in the list of an object
+-- alone.
 use Rattle.erd_meaning.proofs.Common.{◌≡◌, ℕ, ◌-◌, ◌<◌, ◌≤◌, Bool, true, false, cond, not, ◌&&◌, List, [], ◌∷◌, ◌++◌, length, take, Some, None, codes, filter, Option, option_map, option_and_then, bytes_eq, sym, refl, ap, ◌∙◌, subst, true≢false, arith, length-drop, take-append-drop, and_parts, and_from, bytes_eq-Decides, list_all, option_map_or, Data, array, object, get_member, get_item, reason_cmp, ListsAll, Row, rows_of_class, kind_of_identity, kind_of_member, is_required, Class, class, Family, family, Report, Fault, Reason, SelectionOfOtherContest, MemberKind, kind, Step, At, Name, tree_in_order, In, In-filter, In-filter_kept, IsStrictlySortedBy-filter, kind_of_name, kind_of_id, outer_place, IsTree, scope_inside, want_of_kind, is_report_class, member_want, carried_want, want_of_name, entry_want, is_compared_set, Asked, asked, is_repeated, asked_of_member, asked_inside, asked_from, asked_at, Want, ClassText, Member, Reference, Status, is_reference_fault, is_other_selection, ReferenceFault, inl, inr, cases_Bool, is_none, ap₂, append-nil, and-false, as_str, Repeated, Unresolved, WrongFamily, walk_lists, Agrees, Around, NoneOf, told_of_report, IsInOrder, Preference, IdentityFault, is_in_other_contest, owner, is_owned, kept_objects, is_known, is_of_others, is_selection_family, is_elsewhere, reason_if, id_reasons, reference_reasons_told, and-true, Carried}
 use Rattle.erd_check.specs.declared.want.Scope.{Scope, Scope as scope}
 use Rattle.erd_check.specs.declared.want.Want.TheVariants.{Object}

@@ -1,4 +1,5 @@
--- The names of the selections of a report with the ranks of their keys: the keys are those of objects, and the ranks are in their order.
+-- The names of the selections of a report with the ranks of their keys: the keys are those of objects, and the ranks are in
+-- their order.
 use Rattle.erd_meaning.proofs.Common.{◌≡◌, ℕ, List, Some, None, Option, option_and_then, refl, ap, ◌∙◌, subst, AllByRecursion, Data, Class, class, Family, class_of_object, key_cmp, Preference, key_of, NameParts, objects, family_chosen, key_named, name_in_class, selection_role, name_of, HasKeysIn, IsKeyIn, Key, and_then-Some, option_map-Some, slice_get, option_map, nat_cmp, Equal, sym, ap₂, slice_cmp, option_cmp, In, In-from_contains, In-all, rank_of, Placed, numbered_selections, RankedParts, ranked_name, IsRankedIn, class_cmp, name_cmp, classes_exact, true, cond, map, length, filter, is_lt, slice_get-map, map-map, view, Value, has_keys, key_of_family_object, key_in, rising_keys, PlacedName, ranked_selection_in, rising_list, positioned, those_of, Kept, kept, rank_among, rising_keys_among, ranked_parts, names_of, AllAreRanked, IsRanked, IsResolved, NumberedName, shown, Object, owner, contains_from_In, in_at, ranked_name_cmp}
 use Rattle.erd_meaning.proofs.accepted.Standing.{owned_by, has_identifier}
 use Rattle.erd_text.proofs.RisingOrders.{count_map}
@@ -26,7 +27,8 @@ module _ (π : Preference) (t : Data) where
   pub known_name : (d : Data) (n : NameParts) → name_of π t d ≡ Some n → HasKeysIn π t n
   known_name d n e = let r = option_map-Some (λ c. name_in c d) (class_of_object selection_role d) n e in subst (HasKeysIn π t) r.2 (keys_known r.0 d)
 
-  -- ---- the ranks of keys are in the order of the keys, wherever objects of the family have the keys. So names with ranks in place of their keys are in the order of names
+  -- ---- the ranks of keys are in the order of the keys, wherever objects of the family have the keys. So names with ranks in
+  -- place of their keys are in the order of names
 
   its_key : (f : Family) (k : Key) → IsKeyIn π t f k → IsKeyOf (λ (o : Placed). key_of π o.value) (objects f t) k
   its_key f k h = record { owner = h.owner; stands = In-from_contains h.owner (objects f t) h.stands; keyed = h.keyed }

@@ -20,8 +20,8 @@ use Rattle.erd_meaning.specs.declared.keys.key.Key.{Key}
 
 -- ---- objects
 
--- The position of the election that has an object of the family in one of its arrays, by the place of the object, or none. A selection
--- stands in its contest instead.
+-- The position of the election that has an object of the family in one of its arrays, by the place of the object, or none. A
+-- selection stands in its contest instead.
 abbrev pub holder_at : Family → List Step → Option ℕ
 holder_at family.Selection p = None
 holder_at f p = election_of_place p

@@ -31,8 +31,8 @@ selection_names π ks = map (λ k. ranked_name_among π ks k.value) (those_of fa
 abbrev pub family_and_key : Kept → Family × Option Key
 family_and_key k = (k.family, k.key)
 
--- Two reports give each index the same keys in the same order: the `@id`s of their objects, the keys of these with their families,
--- the keys of their elections, and the names of their selections with the numbers of contests before them.
+-- Two reports give each index the same keys in the same order: the `@id`s of their objects, the keys of these with their
+-- families, the keys of their elections, and the names of their selections with the numbers of contests before them.
 pub record SameKeys (π : Preference) (t u : Data) : Type 0 where
   pub ids : map (λ k. k.id) (kept_objects π t) ≡ map (λ k. k.id) (kept_objects π u)
   pub keys : map family_and_key (kept_objects π t) ≡ map family_and_key (kept_objects π u)
@@ -40,8 +40,8 @@ pub record SameKeys (π : Preference) (t u : Data) : Type 0 where
   pub names : selection_names π (kept_objects π t) ≡ selection_names π (kept_objects π u)
   pub contests : contests_before 0 (kept_objects π t) ≡ contests_before 0 (kept_objects π u)
 
--- Two reports whose salts are computed from the same bytes give each index the same keys, if the lengths of their texts fit a word
--- and the numbers in their selections are whole and fit 64 bits.
+-- Two reports whose salts are computed from the same bytes give each index the same keys, if the lengths of their texts fit a
+-- word and the numbers in their selections are whole and fit 64 bits.
 abbrev pub SaltCoversEachKey : Type 0
 SaltCoversEachKey =
     (π : Preference) (t u : Data) → AllByRecursion FitsHashed (all_hashed π t) → AllByRecursion FitsHashed (all_hashed π u)

@@ -20,8 +20,8 @@ use std::alloc::{AllocError, Global};
 use std::fmt;
 use std::marker::Model;
 
-/// An object of a family, with its `@id`, if it has one, its key, if its family has keys, and the position of the election that has
-/// it in one of its arrays, if one has.
+/// An object of a family, with its `@id`, if it has one, its key, if its family has keys, and the position of the election that
+/// has it in one of its arrays, if one has.
 #[derive(Debug, Drop)]
 pub(crate) struct Object<'a> {
     pub(crate) family: Family,

@@ -17,8 +17,8 @@ use std::alloc::Global;
 ///
 /// # Errors
 ///
-/// `CheckError::Faults` if the report is not accepted: all faults of the first phase that has any. The phases are shape, identity,
-/// references and selections.
+/// `CheckError::Faults` if the report is not accepted: all faults of the first phase that has any. The phases are shape,
+/// identity, references and selections.
 ///
 /// `CheckError::Memory` if out of memory.
 ///

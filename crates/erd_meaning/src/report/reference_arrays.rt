@@ -14,8 +14,8 @@ use serde_json::Value;
 use std::alloc::{AllocError, Global};
 
 impl<'b, 'a> ReferenceJudge<'b, 'a> {
-    /// Returns `true` only if no reference to the family in an array has a fault. `object` is the value that has the array. No two
-    /// entries of a set may name one object.
+    /// Returns `true` only if no reference to the family in an array has a fault. `object` is the value that has the array. No
+    /// two entries of a set may name one object.
     pub(crate) fn are_clear(
         &self,
         alloc: Global,

@@ -1,4 +1,5 @@
--- Elections that are matched with those of an accepted report, each with one of its key, have keys where they need them, and no two have one.
+-- Elections that are matched with those of an accepted report, each with one of its key, have keys where they need them, and no
+-- two have one.
 use Rattle.erd_normal.proofs.Common.{◌≡◌, true, List, map, nat_lt, Some, None, sym, ap, ◌∙◌, true≢false, false_from_ne_true, tied_itself, length-map, IsDistinct, Data, election_has_identifier, no_identity_fault, distinct_from_one_place, distinct_map, distinct_one, IsAccepted, Preference, key_of, Placed, elections, has_several, key_cmp_total, Key, In, In-map, In-map_from}
 use Rattle.erd_meaning.specs.code.ObjectWalk.{same_key}
 use Rattle.erd_meaning.proofs.finding.Found.{one_election_key}

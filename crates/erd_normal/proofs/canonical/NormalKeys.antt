@@ -1,4 +1,5 @@
--- The objects of each family in the report that is built have the keys of those of the report, and each has the `@id` of the rank of its key.
+-- The objects of each family in the report that is built have the keys of those of the report, and each has the `@id` of the
+-- rank of its key.
 use Rattle.erd_normal.proofs.Common.{◌≡◌, ℕ, ◌+◌, ◌^◌, ◌<◌, true, List, map, length, slice_get, Some, codes, Option, option_map, is_eq, is_lt, Equal, sym, refl, ap, ◌∙◌, subst, ap₂, arith, tied_back, length-map, slice_get-map, options_total, AllByRecursion, option_cmp, eq_by_cmp, Data, Class, Family, family, role, object_in, ObjectIn, Within, IsTree, entries_at, class_of_object, asked, IsAccepted, has_keys, key_cmp, Preference, key_of, rank_of, Placed, contests, selections_of_contest, objects, id_of, rising_list, key_cmp_total, IsDistinct, all_at, within-tree, Object, values_distinct, no_shape_fault, no_identity_fault, option_map-Some, values-placed_entries, stands, distinct_one, all_rising, rank_map, Key, canonical_id, canonical_selection_id, HasCanonicalIds, normal_selection, by_key, by_name, normal_object, normal_tree, In, In-all, In-flat_map, In-from_contains, In-map, In-map_from, all_from_In}
 use Rattle.erd_normal.proofs.lists.BuiltLists.{all_map}
 use Rattle.erd_normal.proofs.lists.KeyedRanks.{rank_exact, rank_low}

@@ -1,5 +1,5 @@
 -- The canonical form of the small ballot, and rearrangements, by computation.
-use Rattle.erd_normal.proofs.Common.{◌≡◌, ℕ, zero, suc, Bool, true, false, ◌&&◌, List, [], ◌∷◌, ◌++◌, map, Some, None, codes, Option, option_map, is_lt, Ordering, unwrap_or, sym, refl, true≢false, arith, lit<, option_cmp, option_map_or, Data, Family, family, Step, At, Name, tree_of, small_ballot, small_ballot_canonical, entries_of, asked_at, key_cmp, a_key, a_plain, NameParts, contests, compact_cmp, name_cmp, serde_json_on_literals, digits, local_key, members_of, keys_referred, canonical_id, canonical_selection_id, keys_in, ids_in, names_in, Renaming, renamed, exchanged, HasEntries, a_renaming, an_exchange, changed}
+use Rattle.erd_normal.proofs.Common.{◌≡◌, ℕ, zero, suc, Bool, true, false, ◌&&◌, List, [], ◌∷◌, ◌++◌, map, Some, None, codes, Option, option_map, is_lt, Ordering, unwrap_or, sym, refl, true≢false, arith, lit<, option_cmp, option_map_or, Data, Family, family, Step, At, Name, tree_of, small_ballot, small_ballot_canonical, entries_of, asked_at, key_cmp, a_key, a_plain, NameParts, contests, compact_cmp, name_cmp, serde_json_on_literals, digits, local_key, members_of, keys_referred, canonical_id, canonical_selection_id, placed_keys, ids_in, names_in, Renaming, renamed, exchanged, HasEntries, a_renaming, an_exchange, changed}
 
 -- ---- `@id` texts
 
@@ -41,7 +41,7 @@ entries_at_place t p = unwrap_or (option_map (λ a. entries_of a.value) (asked_a
 -- units, candidates, contests; the selections of each contest; a set of references; translations
 abbrev orders : Data → List Step → List Step → List Bool
 orders t references translations =
-    map (λ f. rises (option_cmp key_cmp) (keys_in None f t)) (family.Unit ∷ family.Candidate ∷ family.Contest ∷ [])
+    map (λ f. rises (option_cmp key_cmp) (placed_keys None f t)) (family.Unit ∷ family.Candidate ∷ family.Contest ∷ [])
     ++ (map (λ contest. rises (option_cmp name_cmp) (names_in None t contest)) (contests t)
     ++ rises (option_cmp key_cmp) (keys_referred None t family.Candidate (entries_at_place t references)) ∷ rises compact_cmp (entries_at_place t translations) ∷ [])
 
@@ -67,7 +67,7 @@ renamed_unit = refl
 -- exchanged twice the report is as it was; once, its units and the keys of a set of references stand the other way round
 exchanged_units : (let t = tree_of small_ballot in
     (changed (an_exchange (Name (codes "GpUnit") ∷ []) 0 1) (changed (an_exchange (Name (codes "GpUnit") ∷ []) 0 1) t) ≡ t)
-    × (rises (option_cmp key_cmp) (keys_in None family.Unit (exchanged (Name (codes "GpUnit") ∷ []) 0 1 t)) ≡ true)
+    × (rises (option_cmp key_cmp) (placed_keys None family.Unit (exchanged (Name (codes "GpUnit") ∷ []) 0 1 t)) ≡ true)
     × (rises (option_cmp key_cmp) (keys_referred None t family.Candidate (entries_at_place (exchanged (Name (codes "Election") ∷ At 0 ∷ Name (codes "Contest") ∷ At 0 ∷ Name (codes "ContestSelection") ∷ At 0 ∷ Name (codes "CandidateIds") ∷ []) 0 1 t) (Name (codes "Election") ∷ At 0 ∷ Name (codes "Contest") ∷ At 0 ∷ Name (codes "ContestSelection") ∷ At 0 ∷ Name (codes "CandidateIds") ∷ []))) ≡ true))
 unfolding serde_json_on_literals
 exchanged_units = (refl, refl, refl)

@@ -1,5 +1,5 @@
 -- Small reports under two preferences: what the law says of them.
-use Rattle.erd_normal.proofs.Common.{◌≡◌, ℕ, true, List, [], ◌∷◌, ◌++◌, map, length, is_some, Some, None, codes, refl, ap, true≢false, Data, family, tree_sound, no_fault_listed, tree_of, IsTree, IsAccepted, Preference, meaning, ◌↔◌, serde_json_on_literals, is_tree, faults_found, local_key, Key, keys_in, SaysTheSame, sym, IsDistinct}
+use Rattle.erd_normal.proofs.Common.{◌≡◌, ℕ, true, List, [], ◌∷◌, ◌++◌, map, length, is_some, Some, None, codes, refl, ap, true≢false, Data, family, tree_sound, no_fault_listed, tree_of, IsTree, IsAccepted, Preference, meaning, ◌↔◌, serde_json_on_literals, is_tree, faults_found, local_key, Key, placed_keys, SaysTheSame, sym, IsDistinct}
 use Rattle.erd_meaning.proofs.identity.IdentityFaults.{identity_told}
 use Rattle.erd_meaning.proofs.references.ReferenceWalks.{reference_faults}
 use Rattle.erd_meaning.proofs.refused.Refused.{accepted_by_lists}
@@ -34,8 +34,8 @@ abbrev fips_key : Key
 fips_key = record { kind = codes "fips"; other = []; value = codes "20" }
 
 -- the least of all keys is that of `fips`; with the preference the key is the local one
-keys_of_reports : (map (keys_in None family.Unit) (given ∷ renamed ∷ moved ∷ []) ≡ (Some fips_key ∷ []) ∷ (Some fips_key ∷ []) ∷ (Some fips_key ∷ []) ∷ [])
-    × (map (keys_in local family.Unit) (given ∷ renamed ∷ moved ∷ []) ≡ (Some (local_key (codes "U1")) ∷ []) ∷ (Some (local_key (codes "U1")) ∷ []) ∷ (Some (local_key (codes "U2")) ∷ []) ∷ [])
+keys_of_reports : (map (placed_keys None family.Unit) (given ∷ renamed ∷ moved ∷ []) ≡ (Some fips_key ∷ []) ∷ (Some fips_key ∷ []) ∷ (Some fips_key ∷ []) ∷ [])
+    × (map (placed_keys local family.Unit) (given ∷ renamed ∷ moved ∷ []) ≡ (Some (local_key (codes "U1")) ∷ []) ∷ (Some (local_key (codes "U1")) ∷ []) ∷ (Some (local_key (codes "U2")) ∷ []) ∷ [])
 unfolding serde_json_on_literals
 keys_of_reports = (refl, refl)
 

@@ -180,7 +180,8 @@ distinct-reordered {A} test = along_permutation (λ xs ys. ((x y : A) → In x x
     (λ x y xs turns d. ((turns x y (inl refl) (inr (inl refl)) d.0.0, d.1.0), (d.0.1, d.1.1)))
     (λ xs ys zs p h k turns d. k (λ x y i j. turns x y (reordered-In x (IsPermutation-sym xs ys p) i) (reordered-In y (IsPermutation-sym xs ys p) j)) (h turns d))
 
--- lists of values that are all different are matched by such lists, where a test that tells the others' entries apart tells theirs apart
+-- lists of values that are all different are matched by such lists, where a test that tells the others' entries apart tells
+-- theirs apart
 pub distinct-paired : {A B : Type 0} {R : A → B → Type 0} (test : A → A → Bool) (test' : B → B → Bool) {xs : List A} {ys : List B}
     → ((x x' : A) (y y' : B) → In x xs → In x' xs → R x y → R x' y' → test' y y' ≡ true → test x x' ≡ true) → Paired R xs ys → IsDistinct test xs → IsDistinct test' ys
 unfolding IsDistinct

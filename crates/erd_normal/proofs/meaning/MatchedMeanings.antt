@@ -1,5 +1,5 @@
--- Two reports mean the same, if their elections and their objects are matched, each with one of its key that means the same, and related objects are
--- held by elections with one key.
+-- Two reports mean the same, if their elections and their objects are matched, each with one of its key that means the same,
+-- and related objects are held by elections with one key.
 use Rattle.erd_normal.proofs.Common.{◌≡◌, ℕ, Bool, true, false, List, map, Some, None, codes, Option, option_map, find, flat_map, option_and_then, bytes_eq, is_eq, Equal, sym, refl, ap, ◌∙◌, subst, ap₂, tied_itself, options_total, option_cmp, eq_by_cmp, Data, is_envelope_name, kind_of_member, class, Family, family, Role, role, kind, entries_at, objects_distinct, elections_distinct, no_identity_fault, values-placed_entries, same_meaning, distinct_map, options_exact, equal_keys, IsAccepted, has_keys, key_cmp, Preference, key_of, Placed, placed_entries, report_of, elections, objects, meaning, object_record, record_in_election, placed_with_key, records_of, election_records, key_cmp_total, Key, by_key, In}
 use Rattle.erd_meaning.proofs.meanings.HeldValues.{Held, held_by, held_in_elections, held_in_none, held_of, held_record, held_values, mapped_then}
 use Rattle.erd_normal.proofs.lists.FoundInParts.{find_values}

@@ -1,4 +1,5 @@
--- The objects of one election among the sorted objects of a family: they are the objects that it holds, in the order of their keys.
+-- The objects of one election among the sorted objects of a family: they are the objects that it holds, in the order of their
+-- keys.
 use Rattle.erd_normal.proofs.Common.{◌≡◌, ℕ, zero, suc, ◌+◌, ◌<◌, ◌≤◌, Bool, true, false, cond, List, [], ◌∷◌, ◌++◌, map, length, if◌then◌else◌, ◌==◌, slice_get, Some, None, codes, filter, Option, option_map, flat_map, option_and_then, bytes_eq, unwrap_or, sym, refl, ap, ◌∙◌, append-nil, arith, ne_eqb, Decides-eqb, length-map, filter-append, slice_get_past, options_total, enumerate_from, option_cmp, option_map_or, Data, Items, no_items, item, Family, family, Step, At, Name, list_of_items, entries_at, IsAccepted, has_keys, key_cmp, Preference, key_of, key_in, rising_keys, Placed, placed_from, placed_entries, report_of, elections, objects, election_of_place, rising_list, key_cmp_total, option_map-Some, skeleton, values-placed_entries, election_entries, Skeleton, by_first, rising_list_map, rising_election_keys, Key, in_order_of_keys, rising_objects, rising_elections, part_at, objects_in_part, by_key, In-filter, in_at}
 use Rattle.erd_normal.proofs.built.FamilyNames.{family_name}
 use Rattle.erd_text.proofs.StableRising.{map_after}

@@ -16,7 +16,8 @@ use Rattle.erd_normal.proofs.same.accepted.Accepted.{same_is_accepted}
 use Rattle.erd_normal.proofs.same.means.Meanings.{saying_the_same_means_the_same}
 use Rattle.erd_normal.proofs.same.Steady.{of_report}
 
--- ---- a report that is alike to an accepted one has no fault of shape in its envelope: each of its members says the same as that of the other one
+-- ---- a report that is alike to an accepted one has no fault of shape in its envelope: each of its members says the same as
+-- that of the other one
 
 module _ (π : Preference) (ρ σ : List ℕ → List ℕ) (t u : Data) (back : ComesBack ρ σ t) (alike : Alike ρ (Some (Object role.Report)) t u) (tree : IsTree t) (accepted : IsAccepted π t) where
   abbrev m : Sides
@@ -36,11 +37,11 @@ module _ (π : Preference) (ρ σ : List ℕ → List ℕ) (t u : Data) (back : 
   names_envelope n = ap (λ c. is_envelope (scope.Members role.Report c) n) (top.at.among ∙ ap Some (report_class top.class top.role))
 
   -- what stands in the envelope is asked again, and nothing in it may be absent
-  record Found (c : Asked) : Type 0 where
+  record FoundAsked (c : Asked) : Type 0 where
     again : AskedAgain m c
     quiet : is_quiet c.want ≡ true
 
-  found_at : (n : List ℕ) → is_envelope_name n ≡ true → (c : Asked) → asked_inside (Object role.Report) u (Name n) ≡ Some c → Found c
+  found_at : (n : List ℕ) → is_envelope_name n ≡ true → (c : Asked) → asked_inside (Object role.Report) u (Name n) ≡ Some c → FoundAsked c
   found_at n inside c stands =
       let h : Alike ρ (Some (Object role.Report)) (object top.ms) u = subst (λ x. Alike ρ (Some (Object role.Report)) x u) top.is_object alike in
       let says = of_object m (Object role.Report) top.ms u (alike_same ρ σ t u back (Object role.Report) (object top.ms) u h (record { repeated = false; inside = top.at.inside }) (subst IsTree top.is_object tree)) in
@@ -48,7 +49,7 @@ module _ (π : Preference) (ρ σ : List ℕ → List ℕ) (t u : Data) (back : 
       at (want_of_name here n) (get_member n top.ms) (get_member n h.0) refl refl (alike_member ρ here top.ms h.0 h.2 n)
       (ap (λ s. asked_of_member (want_of_name s n) (get_member n h.0)) (scopes ∙ ap (scope_inside (Object role.Report)) h.1) ∙ sym (ap (λ x. asked_inside (Object role.Report) x (Name n)) h.1) ∙ stands)
     where
-      at : (v : Option Want) (o p : Option Data) → want_of_name here n ≡ v → get_member n top.ms ≡ o → Both (Alike ρ v) o p → asked_of_member v p ≡ Some c → Found c
+      at : (v : Option Want) (o p : Option Data) → want_of_name here n ≡ v → get_member n top.ms ≡ o → Both (Alike ρ v) o p → asked_of_member v p ≡ Some c → FoundAsked c
       at None o p asks found h e = cc
       at (Some v) o None asks found h e = cc
       at (Some v) None (Some f) asks found h e = elim h [ ]
@@ -56,7 +57,7 @@ module _ (π : Preference) (ρ σ : List ℕ → List ℕ) (t u : Data) (back : 
           let one : asked v f ≡ c = cc in
           let step : asked_inside (Object role.Report) t (Name n) ≡ Some (asked v d) = ap (λ x. asked_inside (Object role.Report) x (Name n)) top.is_object ∙ rw (asks, found) refl in
           let stands : Within t (asked v d) = Within-step t (asked (Object role.Report) t) (asked v d) (Name n) (Within-root t) step in
-          subst Found one (record {
+          subst FoundAsked one (record {
             again = record {
               of = asked v d;
               inside = stands;
@@ -73,7 +74,7 @@ module _ (π : Preference) (ρ σ : List ℕ → List ℕ) (t u : Data) (back : 
       let o = of_report b.want ns n h in
       let e : false ≡ true = ap is_quiet (sym o.report) ∙ quiet in cc
 
-  no_fault : (n : List ℕ) (b c : Asked) → Within u b → Found b → (ss : List Step) → asked_from b ss ≡ Some c → Within u c → (r : Reason) → is_shape_fault c r ≡ false
+  no_fault : (n : List ℕ) (b c : Asked) → Within u b → FoundAsked b → (ss : List Step) → asked_from b ss ≡ Some c → Within u c → (r : Reason) → is_shape_fault c r ≡ false
   no_fault n b c inside f ss e there r =
       ⊎_elim (no_fault_at m tree right_tree π accepted c r there) (λ (sound : IsSound c). sound.no_fault r)
       (again_from m tree right_tree π accepted (λ x. is_quiet x.want ≡ true) (λ x y s h found. quiet_step x.want x.value s y h found) no_report ss b inside f.quiet f.again c e)

@@ -1,5 +1,5 @@
 -- Each report says what it says, and if u says what t says, t says what u says.
-use Rattle.erd_normal.proofs.Common.{List, Option, IsPermutation, sym, subst, IsPermutation-sym, Data, Items, Members, items_of, list_of_items-items_of, list_of_items, entry_want, Scope, Want, SaysBack, Sides, not_asked, a_null, a_flag, a_number, a_text, an_id, a_list, a_set, an_object, no_entry, one_entry, no_member, in_both, left_only, right_only, Same, SameEntries, SameMembers, is_table_set, ◌≡◌, true, false, Some, array, ℕ, Bool, None, refl, IsPermutation-refl, null, boolean, number, string, object, no_items, item, no_members, member, role, scope_inside, want_of_name, Object, is_id_text, SaysItself, StandsFor}
+use Rattle.erd_normal.proofs.Common.{List, Option, IsPermutation, sym, subst, IsPermutation-sym, Data, Items, Members, items_of, list_of_items-items_of, list_of_items, entry_want, Scope, Want, SaysBack, Sides, not_asked, a_null, a_flag, a_number, a_text, an_id, a_list, a_set, an_object, no_entry, one_entry, no_member, in_both, left_only, right_only, Same, SameEntries, SameMembers, is_table_set, ◌≡◌, true, false, Some, array, ℕ, Bool, None, refl, IsPermutation-refl, null, boolean, number, string, object, no_items, item, no_members, member, role, scope_inside, want_of_name, Object, is_id_text, SaysItself, NameOneThing}
 use Rattle.erd_normal.proofs.lists.Matched.{Paired, none, more, Matched}
 use Rattle.erd_normal.proofs.lists.BuiltLists.{items_again}
 use Rattle.erd_normal.proofs.same.Lists.{follows}
@@ -84,7 +84,7 @@ abbrev pub as_it_is : List ℕ → List ℕ
 as_it_is s = s
 
 -- what is asked says what it says, with all that is inside it, where each text of an `@id` stands for itself
-module _ (m : Sides) (H : Option Want → Type 0) (texts : (w : Want) (s : List ℕ) → H (Some w) → is_id_text w ≡ true → StandsFor m s s) (entries : (w : Want) → H (Some w) → H (entry_want w))
+module _ (m : Sides) (H : Option Want → Type 0) (texts : (w : Want) (s : List ℕ) → H (Some w) → is_id_text w ≡ true → NameOneThing m s s) (entries : (w : Want) → H (Some w) → H (entry_want w))
     (names : (w : Want) (ms : Members) → H (Some w) → (n : List ℕ) → H (want_of_name (scope_inside w (object ms)) n)) where
   text_self : (w : Want) (s : List ℕ) (b : Bool) → is_id_text w ≡ b → H (Some w) → Same m (Some w) (string s) (string s)
   text_self w s true is h = an_id is (texts w s h is)

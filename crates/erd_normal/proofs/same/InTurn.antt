@@ -1,5 +1,5 @@
 -- If v says what t says, and u what v says, then u says what t says.
-use Rattle.erd_normal.proofs.Common.{◌≡◌, ℕ, Bool, true, false, List, [], Some, None, Option, IsPermutation, sym, refl, ap, ◌∙◌, subst, IsPermutation-sym, IsPermutation-trans, Num, Data, null, boolean, number, string, array, object, Items, no_items, item, Members, no_members, member, role, is_reference, IsTree, list_of_items, scope_inside, want_of_name, entry_want, is_table_set, Scope, Want, Object, Reference, is_id_text, SaysInTurn, Sides, StandsFor, IsUnused, an_empty_array, of_the_envelope, an_unused_id, not_asked, a_null, a_flag, a_number, a_text, an_id, a_list, a_set, an_object, no_entry, one_entry, no_member, in_both, left_only, right_only, MayBeAbsent, Same, SameEntries, SameMembers, true≢false}
+use Rattle.erd_normal.proofs.Common.{◌≡◌, ℕ, Bool, true, false, List, [], Some, None, Option, IsPermutation, sym, refl, ap, ◌∙◌, subst, IsPermutation-sym, IsPermutation-trans, Num, Data, null, boolean, number, string, array, object, Items, no_items, item, Members, no_members, member, role, is_reference, IsTree, list_of_items, scope_inside, want_of_name, entry_want, is_table_set, Scope, Want, Object, Reference, is_id_text, SaysInTurn, Sides, NameOneThing, IsUnused, an_empty_array, of_the_envelope, an_unused_id, not_asked, a_null, a_flag, a_number, a_text, an_id, a_list, a_set, an_object, no_entry, one_entry, no_member, in_both, left_only, right_only, MayBeAbsent, Same, SameEntries, SameMembers, true≢false}
 use Rattle.erd_normal.proofs.same.Back.{same_back, set_swapped, turned}
 use Rattle.erd_normal.proofs.same.CameFrom.{CameFrom, reference_came_from}
 use Rattle.erd_normal.proofs.same.Lookups.{scope_same}
@@ -10,11 +10,11 @@ use Rattle.std.proofs.lemmas.List.Sorted.{length_permutation}
 pub record OtherText (m : Sides) (id : List ℕ) (c : Data) : Type 0 where
   pub other : List ℕ
   pub is : c ≡ string other
-  pub pair : StandsFor m id other
+  pub pair : NameOneThing m id other
 
 pub id_text : (m : Sides) {w : Want} {x c : Data} (id : List ℕ) → Same m (Some w) x c → is_id_text w ≡ true → x ≡ string id → OtherText m id c
 id_text m id (a_text is) h e = absurd (true≢false (sym h ∙ is))
-id_text m id (an_id {s = s} {s' = s'} is pair) h e = let one : s ≡ id = cc in record { other = s'; is = refl; pair = subst (λ z. StandsFor m z s') one pair }
+id_text m id (an_id {s = s} {s' = s'} is pair) h e = let one : s ≡ id = cc in record { other = s'; is = refl; pair = subst (λ z. NameOneThing m z s') one pair }
 id_text m id same h e = cc
 
 pub reference_is_id : (w : Want) → is_reference w ≡ true → is_id_text w ≡ true
@@ -38,7 +38,7 @@ empty_same m (a_set {w = w} {ds = ds} {es = es} fs is p h) e =
 empty_same m h e = cc
 
 module _ (m : Sides) (left_tree : IsTree m.left) (right_tree : IsTree m.right) (root : Same m (Some (Object role.Report)) m.left m.right) where
-  unused_along : (id id' : List ℕ) → StandsFor m id id' → IsUnused m.left id → IsUnused m.right id'
+  unused_along : (id id' : List ℕ) → NameOneThing m id id' → IsUnused m.left id → IsUnused m.right id'
   unused_along id id' pair unused p a stands is text =
       let f : CameFrom m m.left a = reference_came_from m m.left m.right left_tree right_tree root p a stands is in
       let back = same_back m f.same in
@@ -71,7 +71,7 @@ module _ (t v u : Data) (there back there' back' : List ℕ → List ℕ) where
   Backward = (s : Scope) (k : List ℕ) (d e : Data) → MayBeAbsent v s k e → Same one (want_of_name s k) d e → MayBeAbsent t s k d
 
   module _ (forth : Forth) (backward : Backward) where
-    stand_in_turn : (a b c : List ℕ) → StandsFor one a b → StandsFor two b c → StandsFor whole a c
+    stand_in_turn : (a b c : List ℕ) → NameOneThing one a b → NameOneThing two b c → NameOneThing whole a c
     stand_in_turn a b c h g = (g.0 ∙ ap there' h.0, h.1 ∙ ap back g.1)
 
     -- members of the middle that may be absent
@@ -122,8 +122,8 @@ module _ (t v u : Data) (there back there' back' : List ℕ → List ℕ) where
     text_kept w s d e plain (an_id is pair) h = absurd (true≢false (sym is ∙ plain))
     text_kept w s d e plain same h = cc
 
-    id_kept : (w : Want) (b c : List ℕ) (d e : Data) → is_id_text w ≡ true → StandsFor two b c → Same one (Some w) d e → e ≡ string b → Same whole (Some w) d (string c)
-    id_kept w b c d e is pair (an_id {s = a} {s' = b'} i h) text = let same : b' ≡ b = cc in an_id is (stand_in_turn a b c (subst (StandsFor one a) same h) pair)
+    id_kept : (w : Want) (b c : List ℕ) (d e : Data) → is_id_text w ≡ true → NameOneThing two b c → Same one (Some w) d e → e ≡ string b → Same whole (Some w) d (string c)
+    id_kept w b c d e is pair (an_id {s = a} {s' = b'} i h) text = let same : b' ≡ b = cc in an_id is (stand_in_turn a b c (subst (NameOneThing one a) same h) pair)
     id_kept w b c d e is pair (a_text plain) text = absurd (true≢false (sym is ∙ plain))
     id_kept w b c d e is pair same text = cc
 

@@ -1,6 +1,6 @@
--- The worst case of the names of selections: a label with translations. Labels that say the same have one text, with their translations
--- in rising order.
-use Rattle.erd_normal.proofs.Common.{◌≡◌, ℕ, Bool, true, false, List, [], ◌∷◌, ◌++◌, map, Some, None, codes, Option, bytes_eq, Ordering, Greater, sym, refl, ap, ◌∙◌, subst, ap₂, nat_list_cmp_total, exact_bytes, option_map_or, match_ordering, get_member-put, Data, null, array, object, Members, no_members, member, put, get_member, items_of, comma_if, compact_text, items_text, members_text, kind_of_member, text_cmp, class, role, kind, text_exact, members_unique, put-trees, kind_of_unlisted_has, IsTree, AreMembers, entries_of, entries_at, class_of_object, want_of_name, Scope, scope, Member, rising_list_map, rising_list, compact_cmp, with_rising_text, Sides, MayBeAbsent, Same, SameMembers, Items, list_of_items, Want, Object, JsonMap, JsonSet, Label, untranslated, translated, json_set, label_beside_text, label_of, a_set, is_id_text, StandsFor, true≢false, IsPermutation, IsPermutation-map, IsPermutation-refl}
+-- The worst case of the names of selections: a label with translations. Labels that say the same have one text, with their
+-- translations in rising order.
+use Rattle.erd_normal.proofs.Common.{◌≡◌, ℕ, Bool, true, false, List, [], ◌∷◌, ◌++◌, map, Some, None, codes, Option, bytes_eq, Ordering, Greater, sym, refl, ap, ◌∙◌, subst, ap₂, nat_list_cmp_total, exact_bytes, option_map_or, match_ordering, get_member-put, Data, null, array, object, Members, no_members, member, put, get_member, items_of, comma_if, compact_text, items_text, members_text, kind_of_member, text_cmp, class, role, kind, text_exact, members_unique, put-trees, kind_of_unlisted_has, IsTree, AreMembers, entries_of, entries_at, class_of_object, want_of_name, Scope, scope, Member, rising_list_map, rising_list, compact_cmp, with_rising_text, Sides, MayBeAbsent, Same, SameMembers, Items, list_of_items, Want, Object, JsonMap, JsonSet, Label, untranslated, translated, json_set, label_beside_text, label_of, a_set, is_id_text, NameOneThing, true≢false, IsPermutation, IsPermutation-map, IsPermutation-refl}
 use Rattle.erd_normal.proofs.built.NormalGets.{put_elsewhere, put_twice}
 use Rattle.erd_normal.proofs.lists.Matched.{matched_equal}
 use Rattle.erd_normal.proofs.lists.NumbersInOrder.{rising-reordered}
@@ -119,7 +119,7 @@ label_text m required ms e among left right h =
 
 -- ---- completeness: labels of one class that mean the same say the same
 
-plain_text : (m : Sides) (w : Want) (s : List ℕ) → is_plain w ≡ true → is_id_text w ≡ true → StandsFor m s s
+plain_text : (m : Sides) (w : Want) (s : List ℕ) → is_plain w ≡ true → is_id_text w ≡ true → NameOneThing m s s
 plain_text m w s plain is = absurd (true≢false (sym is ∙ plain_no_id w plain))
 
 -- what is plain says what it says, whatever the functions of texts

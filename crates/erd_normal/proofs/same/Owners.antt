@@ -1,5 +1,5 @@
 -- What an `@id` names in a report, and what the text that it stands for names in one that says the same.
-use Rattle.erd_normal.proofs.Common.{◌≡◌, ℕ, Bool, true, false, List, Some, None, codes, Option, find, option_and_then, bytes_eq, sym, refl, ap, ◌∙◌, subst, false_from_ne_true, both_ways, option_map_or, Data, as_str, Family, role, kind, text_exact, text_itself, Within-root, want_by_kind, IsTree, want_of_name, Scope, scope, Member, Object, no_shape_fault, has_id-Some, IsAccepted, Preference, key_of, id_of, has_id, owner, key_named, ReferencesNameTheSame, IsUsed, Sides, StandsFor, IsUnused, is_array_kind, is_envelope, an_empty_array, of_the_envelope, an_unused_id, a_text, an_id, MayBeAbsent, Same, get}
+use Rattle.erd_normal.proofs.Common.{◌≡◌, ℕ, Bool, true, false, List, Some, None, codes, Option, find, option_and_then, bytes_eq, sym, refl, ap, ◌∙◌, subst, false_from_ne_true, both_ways, option_map_or, Data, as_str, Family, role, kind, text_exact, text_itself, Within-root, want_by_kind, IsTree, want_of_name, Scope, scope, Member, Object, no_shape_fault, has_id-Some, IsAccepted, Preference, key_of, id_of, has_id, owner, key_named, ReferencesNameTheSame, IsUsed, Sides, NameOneThing, IsUnused, is_array_kind, is_envelope, an_empty_array, of_the_envelope, an_unused_id, a_text, an_id, MayBeAbsent, Same, get}
 use Rattle.erd_normal.proofs.built.NormalGets.{kind_of_family_id}
 use Rattle.erd_normal.proofs.lists.Matched.{AtMostOne, Both, apart_distinct, matched_find, one_if_apart, said_same}
 use Rattle.erd_normal.proofs.same.FamilyValues.{family_values, outside}
@@ -13,7 +13,7 @@ use Rattle.erd_normal.proofs.same.means.Members.{BothObjects, both_objects, enve
 
 -- both have one, or neither has one to which something refers
 pub data IdsAlike (m : Sides) (d e : Data) : Type 0 where
-  two_ids : (a b : List ℕ) → id_of d ≡ Some a → id_of e ≡ Some b → StandsFor m a b → IdsAlike m d e
+  two_ids : (a b : List ℕ) → id_of d ≡ Some a → id_of e ≡ Some b → NameOneThing m a b → IdsAlike m d e
   no_ids : ((a : List ℕ) → id_of d ≡ Some a → IsUnused m.left a) → ((b : List ℕ) → id_of e ≡ Some b → IsUnused m.right b) → IdsAlike m d e
 
 unused_of : (t : Data) (s : Scope) (required : Bool) (o : Option Data) → want_of_name s (codes "@id") ≡ Some (Member kind.Identity required) → is_envelope s (codes "@id") ≡ false
@@ -39,7 +39,7 @@ ids_found m s required o p asks other (not_both h k) d e left right =
     no_ids (λ a is. unused_of m.left s required o asks other h a (sym left ∙ is)) (λ b is. unused_of m.right s required p asks other k b (sym right ∙ is))
 
 -- texts that stand for one another pass alike, if both are used
-pub has_same : (m : Sides) (s s' : List ℕ) (d e : Data) → StandsFor m s s' → IsUsed m.left s → IsUsed m.right s' → IdsAlike m d e → has_id s d ≡ has_id s' e
+pub has_same : (m : Sides) (s s' : List ℕ) (d e : Data) → NameOneThing m s s' → IsUsed m.left s → IsUsed m.right s' → IdsAlike m d e → has_id s d ≡ has_id s' e
 has_same m s s' d e pair left right (two_ids a b is is' ab) =
     ap (λ o. option_map_or (bytes_eq s) o false) is
     ∙ both_ways (bytes_eq s a) (bytes_eq s' b)
@@ -64,13 +64,13 @@ module _ (m : Sides) (left_tree : IsTree m.left) (right_tree : IsTree m.right) (
       (apart_distinct (has_id s) have_one_id (family_values f m.left) (λ x y h k. by_one_id x y s (has_id-Some s x h) (has_id-Some s y k)) (ids_distinct π m.left accepted f))
 
   -- what texts that stand for one another name
-  pub owners_related : (f : Family) (s s' : List ℕ) → StandsFor m s s' → IsUsed m.left s → IsUsed m.right s' → Both (Related m (Object (role.OfFamily f))) (owner m.left f s) (owner m.right f s')
+  pub owners_related : (f : Family) (s s' : List ℕ) → NameOneThing m s s' → IsUsed m.left s → IsUsed m.right s' → Both (Related m (Object (role.OfFamily f))) (owner m.left f s) (owner m.right f s')
   owners_related f s s' pair left right =
       subst (λ o. Both (Related m (Object (role.OfFamily f))) o (owner m.right f s')) (sym (owner_found m.left f s))
       (subst (Both (Related m (Object (role.OfFamily f))) (find (has_id s) (family_values f m.left))) (sym (owner_found m.right f s'))
       (matched_find (has_id s) (has_id s') (λ x y r. has_same m s s' x y pair left right (ids_alike f x y r)) (family_matched m left_tree right_tree (no_shape_fault π m.left accepted) root f) (one_owner f s)))
 
-  pub keys_named_same : (f : Family) (s s' : List ℕ) → StandsFor m s s' → IsUsed m.left s → IsUsed m.right s' → key_named π m.left f s ≡ key_named π m.right f s'
+  pub keys_named_same : (f : Family) (s s' : List ℕ) → NameOneThing m s s' → IsUsed m.left s → IsUsed m.right s' → key_named π m.left f s ≡ key_named π m.right f s'
   keys_named_same f s s' pair left right =
       said_same (key_of π) (key_of π) (λ x y r. related_key m left_tree right_tree (no_shape_fault π m.left accepted) π f x y r) (owner m.left f s) (owner m.right f s') (owners_related f s s' pair left right)
 

@@ -1,4 +1,5 @@
--- What is asked of each value that is built, by the value of the report that it is built of; the members without objects, and one step inside them.
+-- What is asked of each value that is built, by the value of the report that it is built of; the members without objects, and
+-- one step inside them.
 use Rattle.erd_normal.proofs.Common.{◌≡◌, ℕ, Bool, true, false, List, [], ◌∷◌, map, is_some, Some, codes, option_and_then, bytes_eq, sym, refl, ap, ◌∙◌, subst, inl, inr, AllByRecursion, Data, string, array, object, Items, Members, get_item, get, as_str, items_of, class_in_role, kind_of_member, Class, class, Family, family, Role, role, reason, MemberKind, kind, text_exact, of_label, faultless, wanted_within, classed, member_within, Classed, Within, kind_of_unlisted_has, is_empty_array, ShapeFault, NoneOf, IsTree, list_of_items, entries_of, class_of_object, want_of_kind, member_want, Asked, asked, is_repeated, ClassText, Member, Object, Reference, Preference, rising_list, compact_cmp, with_rising_text, id_prefix, normal_reference, reference_cmp, normal_selection_reference, array_of, normal_value, is_text, is_array, Want, entry_want, is_compared_set, is_reference, get_member, Placed, objects, has_keys, In, entries_at, number, unsigned, selection_role, by_name, by_key, normal_selection, normal_object, normal_objects, normal_election, normal_tree, normal_content, normal_node, Step, asked_inside}
 use Rattle.erd_normal.proofs.built.AskedMembers.{asked_in_object, label_class, label_texts}
 use Rattle.erd_normal.proofs.lists.Lists.{IsPart}

@@ -1,5 +1,5 @@
 -- Counterparts in canonical reports that mean the same have one `@id`, and so a text names one key in both.
-use Rattle.erd_normal.proofs.Common.{◌≡◌, ℕ, zero, suc, true, false, List, [], map, slice_get, Some, None, codes, Option, option_map, find, filter_map, option_and_then, bytes_eq, is_lt, Ordering, sym, refl, ap, ◌∙◌, subst, options_total, IsStrictlySortedBy, option_cmp, option_map_or, Data, get_member, as_str, Class, class, Family, family, role, kind, object_in, ObjectIn, position_of, member_within, Within, want_by_kind, entries_of, entries_at, class_of_object, asked, Member, Object, no_shape_fault, values-placed_entries, stands, contest_selections, one_named, has_id-Some, has_keys, key_cmp, Preference, key_of, rank_of, Placed, selections_of_contest, objects, id_of, has_id, rising_list, key_named, keys_named, keys_of_selection, is_write_in, order_of_selection, label_of_selection, selection_role, name_of, name_cmp, name_cmp_total, Key, canonical_id, canonical_selection_id, IsCanonical, Bool, ◌∷◌, flat_map, same_Some, null, string, array, object, Items, no_items, item, no_members, member, items_of, text_of_class, families, At, Name, list_of_items-place, text_exact, text_itself, list_of_items-items_of, list_of_items, is_repeated, Reference, Sides, StandsFor, IsUnused, In, In-flat_map, In-from_contains, In-map, contains_from_In, in_at}
+use Rattle.erd_normal.proofs.Common.{◌≡◌, ℕ, zero, suc, true, false, List, [], map, slice_get, Some, None, codes, Option, option_map, find, filter_map, option_and_then, bytes_eq, is_lt, Ordering, sym, refl, ap, ◌∙◌, subst, options_total, IsStrictlySortedBy, option_cmp, option_map_or, Data, get_member, as_str, Class, class, Family, family, role, kind, object_in, ObjectIn, position_of, member_within, Within, want_by_kind, entries_of, entries_at, class_of_object, asked, Member, Object, no_shape_fault, values-placed_entries, stands, contest_selections, one_named, has_id-Some, has_keys, key_cmp, Preference, key_of, rank_of, Placed, selections_of_contest, objects, id_of, has_id, rising_list, key_named, keys_named, keys_of_selection, is_write_in, order_of_selection, label_of_selection, selection_role, name_of, name_cmp, name_cmp_total, Key, canonical_id, canonical_selection_id, IsCanonical, Bool, ◌∷◌, flat_map, same_Some, null, string, array, object, Items, no_items, item, no_members, member, items_of, text_of_class, families, At, Name, list_of_items-place, text_exact, text_itself, list_of_items-items_of, list_of_items, is_repeated, Reference, Sides, NameOneThing, IsUnused, In, In-flat_map, In-from_contains, In-map, contains_from_In, in_at}
 use Rattle.std.proofs.lemmas.Simd.{map-map}
 use Rattle.erd_normal.proofs.lists.Matched.{AtMostOne, Matched, apart_distinct, matched_count, matched_find, matched_mapped, one_if_apart, said_same, matched_rising, Paired, none, more}
 use Rattle.erd_normal.proofs.same.FamilyValues.{family_values, object_values}
@@ -133,7 +133,7 @@ module _ (π : Preference) (t u : Data) (canonical : IsCanonical π t) (canonica
   other_than : (s s' : List ℕ) → bytes_eq s s' ≡ false → s ≡ s' → ⊥
   other_than s s' e h = let x : true ≡ false = sym (text_itself s) ∙ ap (bytes_eq s) h ∙ e in cc
 
-  pub one_text : (s s' : List ℕ) → StandsFor closed_sides s s' → s ≡ s'
+  pub one_text : (s s' : List ℕ) → NameOneThing closed_sides s s' → s ≡ s'
   one_text s s' h = at (bytes_eq s []) refl (bytes_eq s' []) refl
     where
       at : (a : Bool) → bytes_eq s [] ≡ a → (b : Bool) → bytes_eq s' [] ≡ b → s ≡ s'

@@ -1,5 +1,5 @@
-//! Refused memory requests. The library that `tests/program/refusals.sh` preloads refuses them. Without it, no request is refused,
-//! and each call is made twice.
+//! Refused memory requests. The library that `tests/program/refusals.sh` preloads refuses them. Without it, no request is
+//! refused, and each call is made twice.
 use crate::tests::answers::Answer;
 use std::alloc::Global;
 use std::test::Fail;

@@ -1,4 +1,5 @@
--- A tree that says the same as an accepted report is accepted, where its envelope has no fault of shape and no two of its objects have one `@id`.
+-- A tree that says the same as an accepted report is accepted, where its envelope has no fault of shape and no two of its
+-- objects have one `@id`.
 use Rattle.erd_normal.proofs.Common.{accepted_by_phases, SameIsAccepted, Sides, ◌≡◌, true, List, Some, None, codes, is_eq, sym, refl, ap, ◌∙◌, subst, ap₂, tied_itself, on_total, options_total, IsDistinct, option_cmp, eq_by_cmp, Data, Family, Role, role, reason, Step, NoneOf, IsTree, entries_at, Object, values_distinct, no_shape_fault, no_identity_fault, distinct_one, IsAccepted, has_keys, is_keyed_role, key_cmp, Preference, key_of, IdentityFault, LacksIdentifier, RepeatsKey, Placed, objects, objects_with_role, needs_key, key_cmp_total, Key, HasDistinctIds, by_key, In, In-from_contains, contains_from_In}
 use Rattle.erd_normal.proofs.same.accepted.AcceptedReferences.{same_references}
 use Rattle.erd_normal.proofs.same.accepted.AcceptedShape.{same_shape}

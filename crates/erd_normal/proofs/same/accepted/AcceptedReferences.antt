@@ -1,5 +1,5 @@
 -- A report that says the same as an accepted one has no fault of references, where its envelope has no fault of shape.
-use Rattle.erd_normal.proofs.Common.{◌≡◌, ℕ, Bool, true, false, not, ◌&&◌, ◌⊎◌, List, [], is_some, Some, None, codes, Option, option_and_then, bytes_eq, unwrap_or, sym, refl, ap, ◌∙◌, subst, inl, inr, true≢false, option_map_or, Data, string, object, get_member, as_str, kind_of_member, class, Family, family, role, Reason, reason, kind, Step, ObjectIn, Within, is_reference, NoneOf, IsTree, entries_at, text_of, text_at, member_want, Asked, asked, asked_at, Want, Member, Object, Reference, no_shape_fault, IsAccepted, Preference, is_unresolved, is_of_other_family, is_reference_fault, is_selection_in, is_other_selection, ReferenceFault, has_id, owner, class_of_node, HasSoundEnvelope, IsUsed, Sides, StandsFor, Same, Class, get, is_in_envelope, same_Some, object_in, unrepeated, is_none, families, is_owned, In, In-all, In-from_contains, all_from_In, any_at}
+use Rattle.erd_normal.proofs.Common.{◌≡◌, ℕ, Bool, true, false, not, ◌&&◌, ◌⊎◌, List, [], is_some, Some, None, codes, Option, option_and_then, bytes_eq, unwrap_or, sym, refl, ap, ◌∙◌, subst, inl, inr, true≢false, option_map_or, Data, string, object, get_member, as_str, kind_of_member, class, Family, family, role, Reason, reason, kind, Step, ObjectIn, Within, is_reference, NoneOf, IsTree, entries_at, text_of, text_at, member_want, Asked, asked, asked_at, Want, Member, Object, Reference, no_shape_fault, IsAccepted, Preference, is_unresolved, is_of_other_family, is_reference_fault, is_selection_in, is_other_selection, ReferenceFault, has_id, owner, class_of_node, HasSoundEnvelope, IsUsed, Sides, NameOneThing, Same, Class, get, is_in_envelope, same_Some, object_in, unrepeated, is_none, families, is_owned, In, In-all, In-from_contains, all_from_In, any_at}
 use Rattle.erd_normal.proofs.canonical.ChosenEntries.{IsChosen, contest_named, entries_chosen, list_name}
 use Rattle.erd_normal.proofs.same.IdsOfObjects.{Refers, reference_refers}
 use Rattle.erd_normal.proofs.same.accepted.ListedSelections.{IsListSound, IsListed, none_elsewhere}
@@ -71,7 +71,7 @@ module _ (m : Sides) (left_tree : IsTree m.left) (right_tree : IsTree m.right) (
     target : Data
     kin : Owned f other.other target
 
-  owned_too : (f : Family) (id other : List ℕ) (o : Data) → StandsFor m id other → IsUsed m.left id → IsUsed m.right other → owner m.left f id ≡ Some o → Owned f other o
+  owned_too : (f : Family) (id other : List ℕ) (o : Data) → NameOneThing m id other → IsUsed m.left id → IsUsed m.right other → owner m.left f id ≡ Some o → Owned f other o
   owned_too f id other o pair left right e = at (owner m.left f id) (owner m.right f other) e refl (owners_related m left_tree right_tree π accepted root f id other pair left right)
     where
       at : (p q : Option Data) → p ≡ Some o → owner m.right f other ≡ q → Both (Related m (Object (role.OfFamily f))) p q → Owned f other o
@@ -124,14 +124,15 @@ module _ (m : Sides) (left_tree : IsTree m.left) (right_tree : IsTree m.right) (
   -- ---- the lists of ballots
 
   -- a selection of a contest is one of the related contest
-  chosen_too : (id other : List ℕ) (d e : Data) → StandsFor m id other → IsUsed m.left id → IsUsed m.right other → Related m (Object (role.OfFamily family.Contest)) d e
+  chosen_too : (id other : List ℕ) (d e : Data) → NameOneThing m id other → IsUsed m.left id → IsUsed m.right other → Related m (Object (role.OfFamily family.Contest)) d e
       → is_selection_in d id ≡ is_selection_in e other
   chosen_too id other d e pair left right r =
       matched_any (has_id id) (has_id other)
       (λ x y k. has_same m id other x y pair left right (ids_alike m left_tree right_tree π accepted root family.Selection x y k))
       (selections_matched m left_tree right_tree (no_shape_fault π m.left accepted) d e r)
 
-  -- what stands under a name in the left object, of a kind that never may be absent, has one that says the same in the right object
+  -- what stands under a name in the left object, of a kind that never may be absent, has one that says the same in the right
+  -- object
   standing : (c : Class) (n : List ℕ) (w : Want) (v : Data) (o p : Option Data) → member_want c n ≡ w → is_steady_kind (kind_of_member c n) ≡ true → is_in_envelope c n ≡ false → o ≡ Some v → Told m c n o p
       → (y : Data) × (p ≡ Some y) × Related m w v y
   standing c n w v (Some d) (Some e) asks steady inside is (both_told r) = let one : d ≡ v = cc in (e, refl, subst (λ z. Related m w z e) one (subst (λ x. Related m x d e) asks r))

@@ -1,4 +1,5 @@
--- All that is asked in the right report is asked in the left one of a value that says the same and repeats no other, or has no fault of shape.
+-- All that is asked in the right report is asked in the left one of a value that says the same and repeats no other, or has no
+-- fault of shape.
 use Rattle.erd_normal.proofs.Common.{◌≡◌, ℕ, Bool, true, false, not, ◌&&◌, ◌⊎◌, List, [], ◌∷◌, IsSomeAnd, IsTrue, Some, Option, option_map, option_and_then, bytes_eq, sym, refl, ap, ◌∙◌, subst, ap₂, inl, inr, false_from_ne_true, Data, string, array, object, Items, Members, get_member, get_item, Family, role, reason, kind, Step, At, Name, string_from_text, list_of_items-place, list_of_items-tree, text_itself, is_same_exact, Within-step, Within-root, not_within, faultless, wanted_within, within-tree, Within, is_reference, is_shape_fault, IsTree, is_same_json, list_of_items, scope_inside, want_of_name, entry_want, is_compared_set, Asked, asked, is_repeated, asked_of_member, asked_inside, asked_from, asked_at, Want, Member, Object, Reference, no_shape_fault, no_reference_fault, unrepeated_distinct, IsAccepted, Preference, is_reference_fault, HasSoundEnvelope, Sides, is_envelope, Same, ⊎_elim, true≢false, None, In, reordered-In}
 use Rattle.erd_normal.proofs.same.IdsOfObjects.{IsPart, part_at}
 use Rattle.erd_normal.proofs.same.accepted.RequiredMembers.{IsSoundInside, quiet_lone, IsSound, absent_sound}
@@ -35,7 +36,8 @@ module _ (u : Data) (sound : HasSoundEnvelope u) where
         lone = quiet_lone x.want (quiet_from (asked v d) ss x (envelope_quiet (scope_inside b.want (object ns)) n v h asks) e);
       }
 
--- ---- all that is asked in the right report is asked in the left one of a value that says the same and repeats no other, or has no fault of shape
+-- ---- all that is asked in the right report is asked in the left one of a value that says the same and repeats no other, or
+-- has no fault of shape
 
 -- it is asked in the left report of a value that says the same, and does not repeat one
 pub record AskedAgain (m : Sides) (b : Asked) : Type 0 where

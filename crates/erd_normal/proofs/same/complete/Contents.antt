@@ -1,5 +1,5 @@
 -- Contents of ballots that mean the same say the same, headers inside headers included.
-use Rattle.erd_normal.proofs.Common.{◌≡◌, ℕ, zero, suc, ◌≤◌, max, Bool, true, false, cond, List, [], ◌∷◌, map, Some, None, codes, Option, option_and_then, bytes_eq, sym, refl, ap, ◌∙◌, subst, arith, Data, string, array, object, Items, no_items, item, Members, depth, items_depth, members_depth, get_member, get_item, as_str, kind_of_member, is_required, Class, class, Family, family, role, MemberKind, kind, At, entries_in, text_exact, get_member-tree, get_member-depth, is_absent, is_filled_array, MayBeArray, Within-step, of_role, member_within, Within, kind_of_unlisted_has, no_strange, no_unknown, IsTree, AreTrees, AreMembers, want_of_kind, member_want, want_of_name, entry_want, is_table_set, asked, Scope, scope, ClassText, Member, Object, Reference, no_shape_fault, resolves, IsAccepted, has_keys, Preference, key_of, JsonMap, Content, no_content, Node, a_contest, a_header, NameParts, if_carried, carried_members, contest_node, header_node, nodes_of, node_of, content_inside, key_named, name_named, Key, Sides, StandsFor, is_array_kind, an_empty_array, a_text, an_id, an_object, no_entry, one_entry, Same, SameEntries, SameMembers, In, inl, inr}
+use Rattle.erd_normal.proofs.Common.{◌≡◌, ℕ, zero, suc, ◌≤◌, max, Bool, true, false, cond, List, [], ◌∷◌, map, Some, None, codes, Option, option_and_then, bytes_eq, sym, refl, ap, ◌∙◌, subst, arith, Data, string, array, object, Items, no_items, item, Members, depth, items_depth, members_depth, get_member, get_item, as_str, kind_of_member, is_required, Class, class, Family, family, role, MemberKind, kind, At, entries_in, text_exact, get_member-tree, get_member-depth, is_absent, is_filled_array, MayBeArray, Within-step, of_role, member_within, Within, kind_of_unlisted_has, no_strange, no_unknown, IsTree, AreTrees, AreMembers, want_of_kind, member_want, want_of_name, entry_want, is_table_set, asked, Scope, scope, ClassText, Member, Object, Reference, no_shape_fault, resolves, IsAccepted, has_keys, Preference, key_of, JsonMap, Content, no_content, Node, a_contest, a_header, NameParts, if_carried, carried_members, contest_node, header_node, nodes_of, node_of, content_inside, key_named, name_named, Key, Sides, NameOneThing, is_array_kind, an_empty_array, a_text, an_id, an_object, no_entry, one_entry, Same, SameEntries, SameMembers, In, inl, inr}
 use Rattle.erd_meaning.proofs.meanings.InnerContent.{content_at, content_inside-get}
 use Rattle.erd_normal.proofs.lists.Matched.{Matched, matched_back, matched_on, Paired, none, more}
 use Rattle.erd_normal.proofs.same.Back.{entries_paired, set_says, list_says}
@@ -120,7 +120,7 @@ module _ (π : Preference) (t u : Data) (m : Sides) (accepted : IsAccepted π t)
       → Within t (asked (Reference f) (string a)) → key_named π t f a ≡ key_named π u f b → Aligned m (in_class c) name o p
   ids_aligned c f name a b o p asks keyed left right w same =
       let k = resolves π t accepted f a keyed w in
-      let stand : StandsFor m a b = tied.objects f a b k.0 keyed k.1 (sym same ∙ k.1) in
+      let stand : NameOneThing m a b = tied.objects f a b k.0 keyed k.1 (sym same ∙ k.1) in
       let said : Same m (want_of_name (in_class c) name) (string a) (string b) = subst (λ x. Same m x (string a) (string b)) (sym asks) (an_id refl stand) in
       rw (left, right) (both_there said)
 

@@ -94,7 +94,8 @@ records_apart π t u accepted accepted' f o p h k e =
     let parts = apart_from_election a.0 b.0 (election_key_of π t o) (election_key_of π u p) a.2 b.2 (same_Some _ _ both) in
     (a.1 ∙ ap Some parts.1 ∙ sym b.1, parts.0)
 
--- ---- the objects of two accepted reports that mean the same are matched: elections by their keys, the objects of each family in each
+-- ---- the objects of two accepted reports that mean the same are matched: elections by their keys, the objects of each family
+-- in each
 
 -- two elections with one key and one record
 pub record ElectionsAlike (π : Preference) (t u : Data) (e f : Placed) : Type 0 where

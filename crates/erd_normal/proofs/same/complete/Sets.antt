@@ -1,5 +1,5 @@
 -- Sets that mean the same say the same: references that name one set of keys, and JSON values.
-use Rattle.erd_normal.proofs.Common.{◌≡◌, ℕ, Bool, true, false, ◌&&◌, List, [], ◌∷◌, Some, None, Option, filter_map, option_and_then, is_eq, sym, refl, ap, ◌∙◌, subst, ap₂, true≢false, tied_itself, Equal-is, IsDistinct, cons_option, list_any, Data, string, array, Items, as_str, role_of_class, Class, Family, family, Role, MemberKind, kind, string_from_text, list_of_items-place, list_of_items-tree, text_itself, wanted_within, unrepeated, Within, is_simple_class, entry_itself, IsTree, AreTrees, is_same_json, list_of_items, entry_want, is_compared_set, asked, is_repeated, Member, Object, Reference, no_shape_fault, unrepeated_reference, resolves, unrepeated_distinct, IsAccepted, has_keys, key_cmp, Preference, key_of, is_selection_in, owner, key_set, meaning, key_named, keys_named, name_named, key_cmp_total, key_cmp_exact, Key, Sides, StandsFor, an_id, Same, ⊎_elim, In, In-all, In-any, any_at, inl, inr}
+use Rattle.erd_normal.proofs.Common.{◌≡◌, ℕ, Bool, true, false, ◌&&◌, List, [], ◌∷◌, Some, None, Option, filter_map, option_and_then, is_eq, sym, refl, ap, ◌∙◌, subst, ap₂, true≢false, tied_itself, Equal-is, IsDistinct, cons_option, list_any, Data, string, array, Items, as_str, role_of_class, Class, Family, family, Role, MemberKind, kind, string_from_text, list_of_items-place, list_of_items-tree, text_itself, wanted_within, unrepeated, Within, is_simple_class, entry_itself, IsTree, AreTrees, is_same_json, list_of_items, entry_want, is_compared_set, asked, is_repeated, Member, Object, Reference, no_shape_fault, unrepeated_reference, resolves, unrepeated_distinct, IsAccepted, has_keys, key_cmp, Preference, key_of, is_selection_in, owner, key_set, meaning, key_named, keys_named, name_named, key_cmp_total, key_cmp_exact, Key, Sides, NameOneThing, an_id, Same, ⊎_elim, In, In-all, In-any, any_at, inl, inr}
 use Rattle.erd_check.proofs.Order.{In-filter_map}
 use Rattle.erd_normal.proofs.canonical.DistinctSets.{first_reference, first_value, names_accepted, reference_entry, value_entry}
 use Rattle.erd_normal.proofs.lists.Matched.{Matched, Paired, none, more}
@@ -15,11 +15,12 @@ pub record MeanOne (π : Preference) (t u : Data) : Type 0 where
   pub right : IsAccepted π u
   pub same : meaning π t ≡ meaning π u
 
--- texts that name objects with one key stand for one another, and so do those of selections with one name of contests with one key
+-- texts that name objects with one key stand for one another, and so do those of selections with one name of contests with one
+-- key
 pub record TextsTied (π : Preference) (t u : Data) (m : Sides) : Type 0 where
-  pub objects : (f : Family) (a b : List ℕ) (k : Key) → has_keys f ≡ true → key_named π t f a ≡ Some k → key_named π u f b ≡ Some k → StandsFor m a b
+  pub objects : (f : Family) (a b : List ℕ) (k : Key) → has_keys f ≡ true → key_named π t f a ≡ Some k → key_named π u f b ≡ Some k → NameOneThing m a b
   pub selections : (c c' : List ℕ) (x y : Data) (k : Key) (a b : List ℕ) → owner t family.Contest c ≡ Some x → owner u family.Contest c' ≡ Some y → key_of π x ≡ Some k → key_of π y ≡ Some k
-      → is_selection_in x a ≡ true → is_selection_in y b ≡ true → name_named π t a ≡ name_named π u b → StandsFor m a b
+      → is_selection_in x a ≡ true → is_selection_in y b ≡ true → name_named π t a ≡ name_named π u b → NameOneThing m a b
 
 -- ---- sets that mean the same say the same: references that name one set of keys, and JSON values
 

@@ -1,6 +1,6 @@
--- The two functions of texts: an `@id` of the one report goes to that of the object with the same key, or of the selection with the
--- same name of the contest with the same key.
-use Rattle.erd_normal.proofs.Common.{◌≡◌, ℕ, true, List, [], ◌∷◌, map, Some, None, codes, Option, find, flat_map, option_and_then, sym, refl, ap, ◌∙◌, subst, list_any, option_map_or, Data, families, Family, family, role, and_then-Some, Asked, asked, Object, no_identity_fault, find-Some, find-any, has_identifier, values-placed_entries, stands, one_object, one_keyed, one_named, has_id-Some, owner_is, owned_by, IsAccepted, has_keys, Preference, key_of, is_selection_in, Placed, contests, selections_of_contest, objects, id_of, has_id, owner, name_of, name_named, Sides, StandsFor, Bool, ◌&&◌, is_some, unwrap_or, ap₂, and_parts, has_id-from, In, In-any, In-flat_map, In-from_contains, In-map_from, any_at, inl, inr}
+-- The two functions of texts: an `@id` of the one report goes to that of the object with the same key, or of the selection with
+-- the same name of the contest with the same key.
+use Rattle.erd_normal.proofs.Common.{◌≡◌, ℕ, true, List, [], ◌∷◌, map, Some, None, codes, Option, find, flat_map, option_and_then, sym, refl, ap, ◌∙◌, subst, list_any, option_map_or, Data, families, Family, family, role, and_then-Some, Asked, asked, Object, no_identity_fault, find-Some, find-any, has_identifier, values-placed_entries, stands, one_object, one_keyed, one_named, has_id-Some, owner_is, owned_by, IsAccepted, has_keys, Preference, key_of, is_selection_in, Placed, contests, selections_of_contest, objects, id_of, has_id, owner, name_of, name_named, Sides, NameOneThing, Bool, ◌&&◌, is_some, unwrap_or, ap₂, and_parts, has_id-from, In, In-any, In-flat_map, In-from_contains, In-map_from, any_at, inl, inr}
 use Rattle.erd_normal.proofs.canonical.ContestSelections.{one_contest}
 use Rattle.erd_normal.proofs.lists.Lists.{is_family}
 use Rattle.erd_normal.proofs.lists.Matched.{Matched, matched_flat, Paired, none, more}
@@ -204,7 +204,7 @@ module _ (π : Preference) (t u : Data) (both : MeanOne π t u) where
             (p, has_id-Some s (key p).value x.0, some_again (id_of (other p).value) x.1 ∙ ap Some (sym g))
 
     -- the `@id`s of an object and its counterpart stand for one another
-    pub ids_stand : (l r : Data) (f : Family) (o p : Placed) (a b : List ℕ) → In o (objects f t) → In p (objects f u) → Counterpart π t u f o p → id_of o.value ≡ Some a → id_of p.value ≡ Some b → StandsFor (sides l r) a b
+    pub ids_stand : (l r : Data) (f : Family) (o p : Placed) (a b : List ℕ) → In o (objects f t) → In p (objects f u) → Counterpart π t u f o p → id_of o.value ≡ Some a → id_of p.value ≡ Some b → NameOneThing (sides l r) a b
     unfolding there back
     ids_stand l r f o p a b h k related is is' =
         let x = pair_of f o h in

@@ -93,9 +93,9 @@ abbrev pub label_in : Option PlainValue → Label
 label_in (Some (a_label l)) = l
 label_in o = untranslated []
 
-abbrev pub keys_in : Option PlainValue → Key → Bool
-keys_in (Some (a_key_set ks)) = ks
-keys_in o = λ k. false
+abbrev pub keys_meant : Option PlainValue → Key → Bool
+keys_meant (Some (a_key_set ks)) = ks
+keys_meant o = λ k. false
 
 abbrev pub json_in : Option PlainValue → Data → Bool
 json_in (Some (a_json_set ds)) = ds
@@ -166,7 +166,7 @@ module _ (π : Preference) (t u : Data) (m : Sides) (accepted : IsAccepted π t)
   same_references f r ds es keyed w w' same =
       set_says m (Member (kind.Many f) r) ds es refl
       (of_arrays (λ x y. Matched (Same m (Some (Reference f))) (list_of_items x) (list_of_items y)) _ _ ds es same (matched_none _)
-      (λ e. references_matched π t u m accepted accepted' tied f keyed r r ds es w w' (ap keys_in e)))
+      (λ e. references_matched π t u m accepted accepted' tied f keyed r r ds es w w' (ap keys_meant e)))
 
   same_identifiers : (r : Bool) (ds es : Items) → AreTrees ds → AreTrees es → Within t (asked (Member kind.Identifiers r) (array ds)) → Within u (asked (Member kind.Identifiers r) (array es))
       → plain_value π t kind.Identifiers (array ds) ≡ plain_value π u kind.Identifiers (array es) → Same m (Some (Member kind.Identifiers r)) (array ds) (array es)

@@ -1,5 +1,5 @@
 -- Selections that say the same have one name.
-use Rattle.erd_normal.proofs.Common.{◌≡◌, ℕ, true, false, List, Some, codes, Option, option_map, option_and_then, unwrap_or, sym, refl, ap, ◌∙◌, Data, get, as_bool, as_number, as_integer, compact_text, kind_of_member, Class, class, family, role, kind, entries_at, member_want, Member, Object, Reference, no_shape_fault, key_cmp, Preference, owner, is_in_envelope, rising_list, keys_of_selection, is_write_in, order_of_selection, with_rising_text, label_of_selection, name_in_class, selection_role, name_of, name_named, IsUsed, Sides, StandsFor, key_named}
+use Rattle.erd_normal.proofs.Common.{◌≡◌, ℕ, true, false, List, Some, codes, Option, option_map, option_and_then, unwrap_or, sym, refl, ap, ◌∙◌, Data, get, as_bool, as_number, as_integer, compact_text, kind_of_member, Class, class, family, role, kind, entries_at, member_want, Member, Object, Reference, no_shape_fault, key_cmp, Preference, owner, is_in_envelope, rising_list, keys_of_selection, is_write_in, order_of_selection, with_rising_text, label_of_selection, name_in_class, selection_role, name_of, name_named, IsUsed, Sides, NameOneThing, key_named}
 use Rattle.erd_normal.proofs.lists.Matched.{said_same}
 use Rattle.erd_normal.proofs.same.Owners.{owners_related}
 use Rattle.erd_normal.proofs.same.Related.{Related}
@@ -70,7 +70,7 @@ module _ (m : Sides) (π : Preference) (g : TwoReports m π) where
       ap (option_map (λ c. name_in_class π (key_named π m.left) c d)) o.left ∙ ap Some same ∙ sym (ap (option_map (λ c. name_in_class π (key_named π m.right) c e)) o.right)
 
   -- texts that stand for one another name selections of one name
-  pub name_named_alike : (s s' : List ℕ) → StandsFor m s s' → IsUsed m.left s → IsUsed m.right s' → name_named π m.left s ≡ name_named π m.right s'
+  pub name_named_alike : (s s' : List ℕ) → NameOneThing m s s' → IsUsed m.left s → IsUsed m.right s' → name_named π m.left s ≡ name_named π m.right s'
   name_named_alike s s' pair l r =
       said_same (name_of π m.left) (name_of π m.right) name_alike (owner m.left family.Selection s) (owner m.right family.Selection s')
       (owners_related m g.left_tree g.right_tree π g.accepted g.root family.Selection s s' pair l r)

@@ -1,5 +1,5 @@
 -- References and labels of two reports that say the same mean the same.
-use Rattle.erd_normal.proofs.Common.{◌≡◌, ℕ, List, [], ◌∷◌, map, Some, Option, option_and_then, unwrap_or, refl, ap, ◌∙◌, subst, ap₂, Data, string, Items, as_str, Family, wanted_within, list_of_items, Want, Reference, no_shape_fault, key_cmp, Preference, key_set, rising_list, key_named, keys_named, IsUsed, Sides, StandsFor, an_id, no_entry, one_entry, Same, SameEntries, string_from_text, sym, a_text, a_set, Bool, true, false, cond, ◌||◌, None, codes, bytes_eq, array, object, Members, get, compact_text, kind_of_member, is_required, class, role, kind, of_label, unrepeated, classed, Classed, entries_at, class_of_object, scope_inside, Member, Object, translated, label_of, with_rising_text, a_list, an_object, SameMembers, fun_ext, IsPermutation, In, inl, inr}
+use Rattle.erd_normal.proofs.Common.{◌≡◌, ℕ, List, [], ◌∷◌, map, Some, Option, option_and_then, unwrap_or, refl, ap, ◌∙◌, subst, ap₂, Data, string, Items, as_str, Family, wanted_within, list_of_items, Want, Reference, no_shape_fault, key_cmp, Preference, key_set, rising_list, key_named, keys_named, IsUsed, Sides, NameOneThing, an_id, no_entry, one_entry, Same, SameEntries, string_from_text, sym, a_text, a_set, Bool, true, false, cond, ◌||◌, None, codes, bytes_eq, array, object, Members, get, compact_text, kind_of_member, is_required, class, role, kind, of_label, unrepeated, classed, Classed, entries_at, class_of_object, scope_inside, Member, Object, translated, label_of, with_rising_text, a_list, an_object, SameMembers, fun_ext, IsPermutation, In, inl, inr}
 use Rattle.erd_normal.proofs.lists.Matched.{Matched, paired_kept, matched_equal}
 use Rattle.erd_normal.proofs.lists.NumbersInOrder.{rising_keys_named-reordered}
 use Rattle.erd_normal.proofs.meaning.AlikeRecords.{keys_named-reordered, json_set-reordered}
@@ -17,7 +17,7 @@ pub used : (t : Data) (f : Family) (d : Data) (s : List ℕ) → Stands t (Refer
 used t f d s st text = record { place = st.inside.place; asked = record { want = Reference f; value = d; repeated = st.repeated }; stands = st.inside.is; reference = refl; text = text }
 
 module _ (m : Sides) (f : Family) {A : Type 0} (left right : List ℕ → Option A)
-    (alike : (s s' : List ℕ) → StandsFor m s s' → IsUsed m.left s → IsUsed m.right s' → left s ≡ right s') where
+    (alike : (s s' : List ℕ) → NameOneThing m s s' → IsUsed m.left s → IsUsed m.right s' → left s ≡ right s') where
   texts_alike : {d e : Data} → Same m (Some (Reference f)) d e → Stands m.left (Reference f) d → Stands m.right (Reference f) e → option_and_then left (as_str d) ≡ option_and_then right (as_str e)
   texts_alike (an_id {s = s} {s' = s'} is pair) l r = alike s s' pair (used m.left f (string s) s l refl) (used m.right f (string s') s' r refl)
   texts_alike (a_text is) l r = cc
@@ -38,7 +38,7 @@ module _ (m : Sides) (f : Family) {A : Type 0} (left right : List ℕ → Option
       (said_in_turn asks rest (λ x i. l x (inr i)) (λ x i. r x (inr i)))
 
 module _ (m : Sides) (π : Preference) (g : TwoReports m π) where
-  named_alike : (f : Family) (s s' : List ℕ) → StandsFor m s s' → IsUsed m.left s → IsUsed m.right s' → key_named π m.left f s ≡ key_named π m.right f s'
+  named_alike : (f : Family) (s s' : List ℕ) → NameOneThing m s s' → IsUsed m.left s → IsUsed m.right s' → key_named π m.left f s ≡ key_named π m.right f s'
   named_alike f s s' pair l r = keys_named_same m g.left_tree g.right_tree π g.accepted g.root f s s' pair l r
 
   -- a reference names an object with the same key

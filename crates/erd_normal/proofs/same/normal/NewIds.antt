@@ -1,6 +1,6 @@
--- The canonical `@id` of each object of a report. It tells objects apart, and two functions lead from the `@id` texts of the report
--- to the canonical ones and back.
-use Rattle.erd_normal.proofs.Common.{◌≡◌, ℕ, ◌+◌, ◌^◌, ◌<◌, true, List, [], ◌∷◌, ◌++◌, map, length, is_some, Some, None, decimal, Option, option_map, find, flat_map, bytes_eq, is_eq, Equal, unwrap_or, sym, refl, ap, ◌∙◌, subst, ⊎_elim, arith, tied_back, length-map, same_Some, options_total, IsDistinct, option_map_or, eq_by_cmp, Data, Family, family, text_exact, text_itself, values_distinct, no_identity_fault, find-any, one_object, has_id-Some, has_id-from, distinct_one, IsAccepted, has_keys, Preference, key_of, rank_of, Placed, contests, selections_of_contest, objects, id_of, has_id, IsBounded, name_of, key_cmp_total, name_cmp_total, id_prefix, canonical_id, Sides, StandsFor, id_of_key, rank_of_name, id_of_selection, by_key, by_name, normal_tree, Bool, false, ◌&&◌, codes, option_and_then, AllByRecursion, list_all, string, array, object, rows_of_class, kind_of_identity, kind_of_member, is_required, Class, class, role, MemberKind, kind, Step, array_from, wanted_within, Within, kind_of_class, want_unless_status, is_reference, IsTree, list_of_items, text_of, scope_inside, want_of_kind, is_report_class, member_want, want_of_name, entry_want, Asked, asked, asked_from, Scope, scope, Want, Member, Object, Reference, no_shape_fault, owned, unrepeated_reference, owned_by, all_rising, owner, rising_list, key_named, IsUnused, normal_id, normal_reference, reference_cmp, normal_selection_reference, In, In-all, In-append, In-append_left, In-append_right, In-flat_map, In-flat_map_from, In-map, In-map_from, any_at, inl, inr}
+-- The canonical `@id` of each object of a report. It tells objects apart, and two functions lead from the `@id` texts of the
+-- report to the canonical ones and back.
+use Rattle.erd_normal.proofs.Common.{◌≡◌, ℕ, ◌+◌, ◌^◌, ◌<◌, true, List, [], ◌∷◌, ◌++◌, map, length, is_some, Some, None, decimal, Option, option_map, find, flat_map, bytes_eq, is_eq, Equal, unwrap_or, sym, refl, ap, ◌∙◌, subst, ⊎_elim, arith, tied_back, length-map, same_Some, options_total, IsDistinct, option_map_or, eq_by_cmp, Data, Family, family, text_exact, text_itself, values_distinct, no_identity_fault, find-any, one_object, has_id-Some, has_id-from, distinct_one, IsAccepted, has_keys, Preference, key_of, rank_of, Placed, contests, selections_of_contest, objects, id_of, has_id, IsBounded, name_of, key_cmp_total, name_cmp_total, id_prefix, canonical_id, Sides, NameOneThing, id_of_key, rank_of_name, id_of_selection, by_key, by_name, normal_tree, Bool, false, ◌&&◌, codes, option_and_then, AllByRecursion, list_all, string, array, object, rows_of_class, kind_of_identity, kind_of_member, is_required, Class, class, role, MemberKind, kind, Step, array_from, wanted_within, Within, kind_of_class, want_unless_status, is_reference, IsTree, list_of_items, text_of, scope_inside, want_of_kind, is_report_class, member_want, want_of_name, entry_want, Asked, asked, asked_from, Scope, scope, Want, Member, Object, Reference, no_shape_fault, owned, unrepeated_reference, owned_by, all_rising, owner, rising_list, key_named, IsUnused, normal_id, normal_reference, reference_cmp, normal_selection_reference, In, In-all, In-append, In-append_left, In-append_right, In-flat_map, In-flat_map_from, In-map, In-map_from, any_at, inl, inr}
 use Rattle.erd_normal.proofs.canonical.CanonicalIds.{canonical_id_exact, selection_id_apart, few_selections, canonical_selection_id_exact}
 use Rattle.erd_normal.proofs.canonical.ContestSelections.{one_contest}
 use Rattle.erd_normal.proofs.canonical.RisingReports.{selection_values_distinct, by_key_total, by_name_total}
@@ -183,7 +183,7 @@ module _ (π : Preference) (t : Data) where
         ap (λ z. option_map_or (λ (y : Placed × List ℕ). unwrap_or (id_of y.0.value) []) z []) x.1 ∙ ap (λ z. unwrap_or (id_of z.value) []) one ∙ ap (λ z. unwrap_or z []) e
 
     -- the `@id` of an object stands for its canonical one
-    pub stands_for : (f : Family) (o : Placed) (s id : List ℕ) → NewId π t f o id → id_of o.value ≡ Some s → StandsFor (sides π t) s id
+    pub stands_for : (f : Family) (o : Placed) (s id : List ℕ) → NewId π t f o id → id_of o.value ≡ Some s → NameOneThing (sides π t) s id
     stands_for f o s id new e = (sym (text_there f o s id new e), sym (text_back f o s id new e))
 
 -- ---- references of the report that is built: none is to an object without `@id`, and none of the report is to a style
@@ -219,7 +219,7 @@ module _ (π : Preference) (t : Data) (accepted : IsAccepted π t) (tree : IsTre
         own = ap id_of s.value ∙ (owned_by t family.Selection r.0 r.2.0 r.2.1).3;
       }
 
-  pub pair_of : (s id : List ℕ) → Renamed π t s id → StandsFor (sides π t) s id
+  pub pair_of : (s id : List ℕ) → Renamed π t s id → NameOneThing (sides π t) s id
   pair_of s id r = stands_for π t accepted bounded r.its_family r.object s id r.new r.own
 
   -- ---- references of the report that is built

@@ -1,9 +1,9 @@
-use Rattle.erd_compare.proofs.Common.{ℕ, List, slice_get, Option, option_map, option_and_then, sym, ap, ◌∙◌, view, family, Judged, objects, name_named, number_of_name, on_side, Side}
+use Rattle.erd_compare.proofs.Common.{ℕ, List, slice_get, Option, option_map, option_and_then, sym, ap, ◌∙◌, view, family, Judged, objects, name_named, number_of_name, on_side, ComparedReport}
 use Rattle.erd_compare.proofs.same_values.ReferencedKeys.{found_elsewhere, found_here, found_nowhere, number_kept, number_owned}
 use Rattle.erd_compare.proofs.values.references.number_of_name_named.Goals as goal
 
 -- the number of the name that a text names
-abbrev number_at : Judged → Judged → Side → Option (List ℕ) → Option ℕ
+abbrev number_at : Judged → Judged → ComparedReport → Option (List ℕ) → Option ℕ
 number_at a b side o = option_map (number_of_name a b) (option_and_then (name_named (on_side side a b).prefer (view (on_side side a b).tree)) o)
 
 pub returns-in_err-found : goal.returns-in_err-found
