@@ -8,8 +8,8 @@
 #
 # usage: compile.sh CRATE [FLAG ..]
 #
-# With FLAGs for clang, such as those of a profile (packaging/profile), the result and the module go to out/flagged, and what is made
-# without flags stays as it is.
+# With FLAGs for clang, such as those of a profile (packaging/profile), the result, the module and clang's warnings go to out/flagged,
+# and what is made without flags stays as it is.
 set -eu
 cd "$(dirname "$0")/.."
 top=$PWD
@@ -52,6 +52,7 @@ if [ ! -d out/checked ] || ! built > out/compile.log 2>&1; then
     built
 fi
 mv "$toolchain/module.bc" "$to/module.bc"
+[ ${#flags[@]} -eq 0 ] || mv "$toolchain/warnings" "$to/warnings"
 
 if [ -e src/main.rt ]; then
     linked=("$to/$name.o" "$kit/c/libos_c.a" "$kit/c/liblibc_c.a")

@@ -1,6 +1,7 @@
 #!/usr/bin/env bash
 # Makes the program that is laid out by a profile, holds its answers against the conformance suite, and counts its instructions on a
-# county that the profile has not seen. One line a case.
+# county that the profile has not seen: at most 98 % of those of ./erd. A new profile takes some 85 %, and each function that has
+# changed since it was made is compiled without it, so a note says how many these are. One line a case.
 set -u
 . "$(dirname "$0")/../shared/start.sh" || exit 1
 . tests/shared/commands.sh
@@ -14,6 +15,7 @@ fi
 run packaging/profiled.sh
 expect 'the program with a profile' 0
 [ "$status" -eq 0 ] || { counts; exit; }
+echo "note: $(tail -n 1 "$work/out")"
 run conformance/run "$program"
 expect 'the conformance suite' 0
 said "each case of the suite ($(tail -n 1 "$work/out"))" "$(tail -n 1 "$work/out" | grep -v ' 0 failed$')"
@@ -35,7 +37,7 @@ if command -v valgrind > /dev/null; then
         plain=$(instructions ./erd "${words[0]}" "${files[@]/#/$work/}")
         profiled=$(instructions "$program" "${words[0]}" "${files[@]/#/$work/}")
         said "fewer instructions: ${words[0]} takes $profiled in place of $plain" \
-            "$([ "$((profiled * 100))" -le "$((plain * 95))" ] || echo "$((profiled * 100 / plain)) %")"
+            "$([ "$((profiled * 100))" -le "$((plain * 98))" ] || echo "$((profiled * 100 / plain)) %")"
     done
 else
     echo 'skipped the counts of instructions: there is no valgrind'
