@@ -1,6 +1,7 @@
 #!/usr/bin/env bash
-# Stops where one of these tools is missing, and says how to get each: needed.sh TOOL ..
+# Stops where one of these tools is missing, and says how to get each: needed.sh TOOL .. The kit's `rt` needs python3.
 set -u
+[[ " $* " != *" rt "* || " $* " = *" python3 "* ]] || set -- "$@" python3
 
 # from TOOL: where the tool comes from
 from() {
