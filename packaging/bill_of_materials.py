@@ -17,6 +17,7 @@ import kit_libraries
 
 ROOT = pathlib.Path(__file__).resolve().parent.parent
 EITHER = 'MIT OR Apache-2.0'
+OURS = kit_libraries.copyright_of(ROOT)
 SUPPLIER = 'Organization: The maintainers of erd'
 
 
@@ -38,7 +39,8 @@ def from_kit(kit):
     for name in kit_libraries.libraries_below(kit):
         licence = kit_libraries.licence_of(kit / 'rattle' / name)
         words = 'A library of the kit.' if licence else 'A library of the kit, whose files name no licence.'
-        yield package(name, said[0], licence or 'NOASSERTION', comment=words)
+        yield package(name, said[0], licence or 'NOASSERTION', comment=words,
+                      copyrightText=kit_libraries.copyright_of(kit / 'rattle' / name) or 'NOASSERTION')
 
 
 def version_of_debian(name):
@@ -63,7 +65,7 @@ def files_of(folder):
             continue
         data = path.read_bytes()
         yield {'SPDXID': identifier('File', path.name), 'fileName': './' + path.name, 'licenseConcluded': EITHER,
-               'copyrightText': 'NOASSERTION',
+               'copyrightText': OURS,
                'checksums': [{'algorithm': name, 'checksumValue': hashlib.new(name.lower(), data).hexdigest()}
                              for name in ('SHA1', 'SHA256')]}
 
@@ -74,7 +76,7 @@ def relation(one, kind, other):
 
 def main():
     version, epoch, kit, folder = sys.argv[1], int(sys.argv[2]), pathlib.Path(sys.argv[3]), pathlib.Path(sys.argv[4])
-    erd = package('erd', version, EITHER, supplier=SUPPLIER)
+    erd = package('erd', version, EITHER, supplier=SUPPLIER, copyrightText=OURS)
     files = list(files_of(folder))
     parts = list(from_kit(kit))
     dlmalloc = package('dlmalloc', '2.8.6', 'CC0-1.0', comment='The heap of erd.wasm.')

@@ -42,6 +42,13 @@ def licence_files(folder):
     return sorted(folder.glob('LICENSE*'))
 
 
+def copyright_of(folder):
+    """The lines of the licences in a folder that say whose the copyright is, each once; otherwise None."""
+    lines = [' '.join(line.split()) for path in licence_files(folder) for line in path.read_text(encoding='utf-8').splitlines()]
+    said = [line for line in lines if re.match(r'Copyright (?:\(c\)|©|Individual)', line, re.I)]
+    return '\n'.join(dict.fromkeys(said)) or None
+
+
 def first_words(folder):
     """What the first paragraph of a library's README says: which crate of Rust it follows, and under which licences that is."""
     path = folder / 'README.md'

@@ -2,9 +2,29 @@
 import hashlib
 import json
 import pathlib
+import subprocess
 import sys
 
 ALSO = {'spdxVersion', 'dataLicense', 'SPDXID', 'name', 'documentNamespace', 'creationInfo', 'packages', 'files', 'relationships'}
+
+
+# What a library is licensed under that has such a file.
+TOLD_BY = {'LICENSE-MIT': 'MIT', 'LICENSE-APACHE': 'Apache-2.0', 'LICENSE-UNICODE': 'Unicode-3.0'}
+
+
+def licences(packages):
+    """Only a library without a file for its licence has none in the bill, and what such a file tells is there."""
+    page = subprocess.run(['rt', 'doc'], capture_output=True, text=True, check=True).stdout.strip()
+    kit = pathlib.Path(page).parent / 'rattle'
+    for package in packages:
+        files = sorted(path.name for path in (kit / package['name']).glob('LICENSE*'))
+        said = {package['licenseConcluded'], package['licenseDeclared']}
+        of_kit = package['name'] == 'rattle-kit' or (kit / package['name']).is_dir()
+        if ('NOASSERTION' in said) != (of_kit and not files):
+            yield f"the licence of {package['name']} is {said}, and its files are {files}"
+        for name in files:
+            if TOLD_BY.get(name, '') not in package['licenseConcluded']:
+                yield f"the licence of {package['name']} leaves out {name}"
 
 
 def faults(folder, version):
@@ -23,6 +43,9 @@ def faults(folder, version):
         data = (folder / name).read_bytes()
         if sums != {'SHA1': hashlib.sha1(data).hexdigest(), 'SHA256': hashlib.sha256(data).hexdigest()}:
             yield f'the sums of {name} are wrong'
+    yield from licences(document['packages'])
+    if any(file['licenseConcluded'] != 'MIT OR Apache-2.0' or file['copyrightText'] == 'NOASSERTION' for file in document['files']):
+        yield 'a file has another licence, or no copyright'
     names = [entry['SPDXID'] for entry in document['packages'] + document['files']] + ['SPDXRef-DOCUMENT']
     if len(set(names)) != len(names):
         yield 'two things have one identifier'
