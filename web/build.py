@@ -118,6 +118,12 @@ def tables(texts, template):
                       'language': LANGUAGE, 'template': template})
 
 
+def licences():
+    """The licences of erd, and those of the code of others. The Apache License stands among the latter."""
+    texts = ((ROOT / name).read_text(encoding='utf-8') for name in ('LICENSE-MIT', 'THIRD-PARTY-NOTICES'))
+    return 'erd is licensed under the MIT License or the Apache License 2.0, as you choose.\n\n' + '\n'.join(texts)
+
+
 def version():
     return (ROOT / 'VERSION').read_text(encoding='utf-8').strip()
 
@@ -138,6 +144,7 @@ def page(wasm):
         'worker': in_script(joined('worker.mjs')),
         'tables': tables(texts, template),
         'wasm': packed(wasm),
+        'licences': packed(licences().encode()),
         'examples': packed(json.dumps(examples, ensure_ascii=False).encode()),
     }
     return re.sub(r'\{\{(text:)?([\w.]+)\}\}',

@@ -22,6 +22,7 @@ def run(session):
     refused_texts(session)
     removed(session)
     printed(session)
+    licences(session)
 
 
 def examples(session):
@@ -192,3 +193,12 @@ def printed(session):
     missing = [key for key in ('verdict', 'file1', 'file2', 'fileSum', 'formSum', 'prefer', 'date', 'version', 'page')
                if wanted['record.' + key] not in labels]
     session.equal('the record has all', missing, [])
+
+
+def licences(session):
+    """The licences of all code in the page stand at its foot, behind a word."""
+    session.fresh()
+    wanted = ''.join((ROOT / name).read_text(encoding='utf-8') for name in ('LICENSE-MIT', 'THIRD-PARTY-NOTICES')).split()
+    session.equal('the licences are folded', session.text('#licences pre'), '')
+    session.click('#licences summary')
+    session.becomes('the licences', lambda: session.text('#licences pre').split()[-len(wanted):] == wanted, True)

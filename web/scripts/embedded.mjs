@@ -1,6 +1,6 @@
-// What the build has put into the page: the proved code and the examples, compressed, and the tables of texts.
+// What the build has put into the page: the proved code, the examples and the licences, compressed, and the tables of texts.
 
-/** All of it, unpacked. */
+/** All of it but the licences, unpacked. */
 export async function embedded() {
     const [wasm, examples] = await Promise.all(['wasm', 'examples-data'].map(unpacked));
     return {
@@ -8,6 +8,13 @@ export async function embedded() {
         wasm,
         examples: JSON.parse(new TextDecoder().decode(examples)),
     };
+}
+
+/** Unpacks the licences when somebody opens them. */
+export function offerLicences(details) {
+    details.addEventListener('toggle', async () => {
+        details.querySelector('pre').textContent = new TextDecoder().decode(await unpacked('licences-data'));
+    }, { once: true });
 }
 
 async function unpacked(id) {

@@ -2,7 +2,7 @@
 import { Choice } from './choice.mjs';
 import { Cancelled, Client } from './client.mjs';
 import { element, saidWith, theirs } from './dom.mjs';
-import { embedded } from './embedded.mjs';
+import { embedded, offerLicences } from './embedded.mjs';
 import { firstLanguage, offerLanguages, useLanguage } from './languages.mjs';
 import { ManyFiles } from './many.mjs';
 import { sumOfPage } from './page_sum.mjs';
@@ -40,6 +40,7 @@ class Page {
     begin() {
         offerLanguages($('language'), Object.keys(this.data.texts), document.documentElement.lang, (language) => this.speak(language));
         this.choice.begin();
+        offerLicences($('licences'));
         $('cancel').addEventListener('click', () => this.cancel());
         $('prefer').addEventListener('change', ({ target }) => this.preferred(target));
         document.documentElement.dataset.ready = 'yes';

@@ -8,7 +8,8 @@ const ESCAPES = { '&': '&amp;', '<': '&lt;', '>': '&gt;', '"': '&quot;', "'": '&
  */
 export async function sumOfPage({ template, texts, version, language }) {
     const parts = { language, version, policy: document.querySelector('meta[http-equiv]').content, style: document.querySelector('style').textContent };
-    for (const [name, id] of [['tables', 'tables'], ['wasm', 'wasm'], ['examples', 'examples-data'], ['worker', 'worker'], ['script', 'script']]) {
+    for (const [name, id] of [['tables', 'tables'], ['wasm', 'wasm'], ['examples', 'examples-data'], ['licences', 'licences-data'],
+        ['worker', 'worker'], ['script', 'script']]) {
         parts[name] = document.getElementById(id).textContent;
     }
     const text = template.replace(/\{\{(text:)?([\w.]+)\}\}/g, (_whole, isText, name) => (isText === undefined ? parts[name] : escaped(texts[language][name])));
