@@ -1,6 +1,7 @@
 """Holds what several pages and texts say against the one place that has it: the member table of docs/PROFILE.md against the
 rows of `specs/`, what a voter sees against the member table, the limit on bytes against the constant of the code, exit statuses
-against their definition, what the table of reasons names against the code, and links against the pages. One line a case that
+against their definition, what the table of reasons names against the code, the calls that take a preference against the code, and
+links against the pages. One line a case that
 fails, and at the end the counts.
 """
 
@@ -14,6 +15,7 @@ import sys
 ROOT = pathlib.Path(__file__).resolve().parents[2]
 sys.dont_write_bytecode = True
 sys.path[:0] = [str(ROOT / 'tests' / 'reports'), str(ROOT / 'web')]
+import documented  # noqa: E402
 import seen  # noqa: E402
 from member_table import table_of_page  # noqa: E402
 
@@ -168,6 +170,21 @@ def compare_statuses():
     yield 'the statuses of bindings/c/erd.h', statuses, numbers_of(r'^    ERD_\w+ = (\d)', read('bindings/c/erd.h'))
 
 
+# ---- the calls that take a preference
+
+
+def compare_preferring():
+    """docs/PROFILE.md names each public function that takes a preferred type, and no other."""
+    functions = re.compile(r'^pub fn (\w+)(?:<[^(]*>)?\([^)]*\bprefer: Option<&str>', re.M)
+    found = set()
+    for crate in documented.CRATES:
+        handed_out = documented.names_at_root(crate)
+        for path in (ROOT / 'crates' / crate / 'src').rglob('*.rt'):
+            found.update(handed_out & set(functions.findall(path.read_text(encoding='utf-8'))))
+    listed = read('docs/PROFILE.md').split('library that take one are ')[1].split('.')[0]
+    yield 'the calls of docs/PROFILE.md that take a preference', sorted(found), sorted(re.findall(r'`(\w+)`', listed))
+
+
 # ---- links
 
 
@@ -220,7 +237,7 @@ def compare_kit():
 
 def main():
     passed = failed = 0
-    for name, wanted, found in [*compare_tables(), *compare_seen(), *compare_limits(), *compare_reasons(), *compare_statuses(),
+    for name, wanted, found in [*compare_tables(), *compare_seen(), *compare_limits(), *compare_reasons(), *compare_statuses(), *compare_preferring(),
                                 *compare_links(), *compare_kit()]:
         if wanted == found:
             passed += 1
