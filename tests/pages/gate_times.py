@@ -1,5 +1,6 @@
-"""Holds the first table of docs/GATE.md against tests/gate.sh, and its seconds against those of the last run of the gate here, which
-leaves them in out/gate-costs. One line a case that fails, and at the end the counts."""
+"""Holds the first table of docs/GATE.md against tests/gate.sh, its seconds against those of the last run of the gate here, which
+leaves them in out/gate-costs, and the minutes that the README tells against those of the page. One line a case that fails, and at
+the end the counts."""
 import pathlib
 import re
 import sys
@@ -24,6 +25,13 @@ def rows():
         yield [plain(name) for name in re.findall(r'`([^`]*)`', names)], int(seconds.replace(',', ''))
 
 
+def minutes():
+    """How many minutes `make test` takes on four processors, as docs/GATE.md says, and as the README says."""
+    page, readme = ((ROOT / name).read_text(encoding='utf-8') for name in ('docs/GATE.md', 'README.md'))
+    return (re.findall(r'`make test` takes about (\d+) minutes on four processors', page),
+            re.findall(r'^make test .*: about (\d+) minutes on 4 idle cores$', readme, re.M))
+
+
 def parts():
     """The commands of the gate's lanes."""
     text = (ROOT / 'tests' / 'gate.sh').read_text(encoding='utf-8')
@@ -35,6 +43,9 @@ def parts():
 def cases():
     listed = [name for names, _ in rows() for name in names]
     yield 'the parts that the page has', sorted(listed), sorted(parts())
+    found, told = minutes()
+    yield 'the minutes of the gate, told once', 1, len(found)
+    yield 'the minutes that the README tells', found, told
     if not COSTS.exists():
         print('skipped the seconds of the gate: there is no run of it here')
         return
@@ -54,7 +65,7 @@ def main():
         passed += wanted == found
         failed += wanted != found
         if wanted != found:
-            what = (set(map(str, wanted)) ^ set(map(str, found))) if isinstance(wanted, list) else f'{found} on the page, and {wanted} here'
+            what = (set(map(str, wanted)) ^ set(map(str, found))) if isinstance(wanted, list) else f'{found} in place of {wanted}'
             print(f'FAILED: {name}: {what}')
     print(f'{passed} passed, {failed} failed')
     return int(failed > 0)
