@@ -1,6 +1,6 @@
 #!/usr/bin/env bash
 # Runs the built program where the system gives no more: limits on the size of files, on memory and on the stack, pipes whose
-# readers go away, and descriptors of the wrong kind. One line a case. Full devices and closed descriptors are in command_files.sh.
+# readers go away, descriptors of the wrong kind, and an old processor. One line a case. Full devices and closed descriptors are in command_files.sh.
 set -u
 . "$(dirname "$0")/../shared/start.sh" || exit 1
 erd=$PWD/erd
@@ -167,5 +167,20 @@ printf '%s' "${report/"$entry}"/"$deepest,$deepest"}" > "$work/twice"
 deep 'two deepest entries that are equal' "$work/twice" 1 '' $'/GpUnit/0/ExternalIdentifier/1: repeated\n'
 head -c 67108864 /dev/zero | tr '\0' '[' > "$work/brackets"
 deep 'as many brackets as may be read' "$work/brackets" 2 '' $'not JSON\n'
+
+# A processor that lacks what those since 2011 have.
+if command -v qemu-x86_64 > /dev/null; then
+    qemu-x86_64 -cpu kvm64 "$erd" check "$one" > "$work/out" 2> "$work/err"
+    status=$?
+    grep -q 'this machine lacks a feature of x86-64-v2.*--cpu x86-64$' "$work/err" && : > "$work/err"
+    is_front "$work/out" "$one" 0
+    ended 'an old processor' 127 ''
+    qemu-x86_64 -cpu Nehalem "$erd" check "$one" > "$work/out" 2> "$work/err"
+    status=$?
+    [ "$(cat "$work/out")" = accepted ] || why+='it is not accepted; '
+    ended 'the oldest processor that is new enough' 0 ''
+else
+    echo 'skipped an old processor: there is no qemu-x86_64'
+fi
 
 counts
