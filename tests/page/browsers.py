@@ -183,6 +183,10 @@ class Chromium(Browser):
         self.devtools('Emulation.setEmulatedMedia',
                       features=[{'name': 'prefers-color-scheme', 'value': 'dark' if dark else 'light'}])
 
+    def medium(self, name):
+        """Shows the page as it is for print, or with an empty name as usual."""
+        self.devtools('Emulation.setEmulatedMedia', media=name)
+
     def devtools(self, method, **values):
         return self.command('devtools', cmd=method, params=values)
 
@@ -292,6 +296,10 @@ class Firefox(Browser):
         """Asks the page for its dark or its light colours."""
         self.inside("Services.prefs.setIntPref('layout.css.prefers-color-scheme.content-override', arguments[0])",
                     0 if dark else 1)
+
+    def medium(self, name):
+        """Shows the page as it is for print, or with an empty name as usual."""
+        self.inside('gBrowser.selectedBrowser.browsingContext.mediumOverride = arguments[0]', name)
 
     def watch_requests(self):
         """Keeps the addresses that pages ask for; those that the browser asks for itself have no window."""

@@ -1,9 +1,10 @@
 """Many files at once: a table of verdicts and groups, which is sorted, saved and printed; any two files are compared."""
+import base64
 import csv
 import io
 import json
 
-from flows import DROP
+from flows import DROP, pages_of
 from session import EXAMPLES, sha256
 
 NAMES = ('county.vendor-a.json', 'county.vendor-b.json', 'one-unit.json', 'state-primary.raw.json')
@@ -16,7 +17,9 @@ def run(session):
     sorting(session)
     saved(session)
     compared(session)
+    dropped(session)
     folder(session)
+    printed(session)
 
 
 def chosen(session, *paths):
@@ -67,7 +70,7 @@ def compared(session):
     session.equal('many: the table stays', len(session.browser.script(ROWS)), 4)
 
 
-def folder(session):
+def dropped(session):
     """More than two files are dropped. Those that are not named as JSON are left out; a name can't be a formula."""
     one = json.loads((EXAMPLES / 'one-unit.json').read_text(encoding='utf-8'))
     files = [{'name': name, 'data': json.dumps(one)} for name in ('=1+1.json', 'b.json', 'c.JSON', 'notes.txt')]
@@ -78,3 +81,65 @@ def folder(session):
     (session.work / 'downloads' / 'ballots.csv').unlink(missing_ok=True)
     session.browser.script("[...document.querySelectorAll('#many-files .buttons button')].at(-1).click()")
     session.said('many: no formula', '' if b"\n'=1+1.json," in session.downloaded('ballots.csv') else 'a formula')
+
+
+# No test can drop a folder in Firefox: its entries are made up, and told a hundred at a time, as browsers do. With no names, reading it
+# fails.
+DROP_FOLDER = """
+    const fileOf = (name, path) => ({ isDirectory: false, name, fullPath: path, file: (take) => take(new File([arguments[0]], name)) });
+    const folderOf = (name, path, names) => {
+        const waiting = Object.entries(names ?? {}).map(([inner, below]) => (below === null ? fileOf(inner, `${path}/${inner}`)
+            : folderOf(inner, `${path}/${inner}`, below)));
+        return { isDirectory: true, name, fullPath: path, createReader: () => ({
+            readEntries: (take, fail) => setTimeout(() => (names === null ? fail(new Error('x')) : take(waiting.splice(0, 100)))) }) };
+    };
+    const [, [name, names]] = arguments;
+    const transfer = new DataTransfer();
+    transfer.items.add(new File([''], name));
+    DataTransferItem.prototype.webkitGetAsEntry = () => folderOf(name, `/${name}`, names);
+    delete DataTransferItem.prototype.getAsFileSystemHandle;
+    document.body.dispatchEvent(new DragEvent('drop', { dataTransfer: transfer, bubbles: true, cancelable: true }));"""
+
+
+def folder(session):
+    """A folder is dropped. In it are a note, and a folder with more files than a browser tells at once."""
+    one = (EXAMPLES / 'one-unit.json').read_text(encoding='utf-8')
+    names = [f'ballot-{number:03}.json' for number in range(101)]
+    top = session.work / 'dropped'
+    (top / 'inner').mkdir(parents=True)
+    for name in ['first.json', 'notes.txt', *(f'inner/{name}' for name in names)]:
+        (top / name).write_text(one, encoding='utf-8')
+    session.fresh()
+    if session.browser.name == 'Chromium':
+        for kind in ('dragEnter', 'dragOver', 'drop'):
+            session.browser.devtools('Input.dispatchDragEvent', type=kind, x=500, y=300,
+                                     data={'items': [], 'files': [str(top)], 'dragOperationsMask': 1})
+    else:
+        session.browser.script(DROP_FOLDER, one, ['dropped', {'first.json': None, 'notes.txt': None, 'inner': dict.fromkeys(names)}])
+    waited(session)
+    rows = session.browser.script(ROWS)
+    session.equal('many: a folder dropped', sorted(row[0] for row in rows), ['dropped/first.json', *(f'dropped/inner/{name}' for name in names)])
+    session.equal('many: all of it means the same', {row[3] for row in rows}, {'1: 102 files mean the same'})
+    session.fresh()
+    session.browser.script(DROP_FOLDER, one, ['broken', None])
+    session.becomes('many: a folder that is not read', lambda: session.text('#files-message'),
+                    'This browser could not read the folder. Choose it by its button instead.')
+
+
+def printed(session):
+    """The table is printed, by its button and by the browser's own command."""
+    chosen(session, *(EXAMPLES / name for name in NAMES))
+    session.said('many: printed by the browser', '' if printed_text(session).count('Accepted') == 3 else 'not the table')
+    session.browser.script('window.print = () => { window.printed = true; }')
+    session.click('#many-files .buttons button')
+    session.equal('many: the button prints', session.browser.script('return [window.printed, document.documentElement.dataset.print]'), [True, 'many'])
+    session.equal('many: on one page', pages_of(base64.b64decode(session.browser.command('print'))), 1)
+    session.browser.script("dispatchEvent(new Event('afterprint'))")
+
+
+def printed_text(session):
+    """The text of what is shown for print."""
+    session.browser.medium('print')
+    text = session.browser.script('return document.body.innerText')
+    session.browser.medium('')
+    return text

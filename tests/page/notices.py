@@ -43,7 +43,7 @@ def envelope(session):
     session.equal('envelope: the verdict', session.judged(SMALL, other), 'These two files define the same ballots')
     session.equal('envelope: its members', session.texts('.envelope p code'), ENVELOPE)
     rows = session.browser.script("""
-        return [...document.querySelectorAll('.envelope tbody tr')].map((row) => [...row.children].map((cell) => cell.textContent))""")
+        return [...document.querySelectorAll('.envelope tbody')].map((body) => [...body.querySelectorAll('th, td')].map((cell) => cell.textContent))""")
     left = small()
     session.equal('envelope: the values', [row for row in rows if row[0] in ('Issuer', 'SequenceEnd', 'ExternalIdentifier')],
                   [['Issuer', left['Issuer'], 'Vendor B'], ['SequenceEnd', str(left.get('SequenceEnd', 'not there')), '2'], ['ExternalIdentifier', 'not there', 'other job 7']])

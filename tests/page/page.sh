@@ -1,7 +1,7 @@
 #!/usr/bin/env bash
 # Builds the page and tries it: its parts in Node, and the whole page in Chromium and in Firefox, opened from the disk with the
-# network off. With the word --pictures it also writes the pictures of the page in docs/. With names of parts of run.py, only these
-# are tried, in the first browser that is there. One line a case.
+# network off. With the word --pictures it also writes the pictures of the page in docs/, and with --views it only makes those of
+# every view, in out/views. With names of parts of run.py, only these are tried, in the first browser that is there. One line a case.
 set -u
 . "$(dirname "$0")/../shared/start.sh" || exit 1
 page=out/portable/erd.html
@@ -19,6 +19,7 @@ said 'less than 1 MB' "$([ "$(stat -c %s "$page")" -lt 1000000 ] || echo "$(stat
 
 parts=("$@")
 [ "${1:-}" != --pictures ] || parts=()
+[ "${1:-}" != --views ] || parts=(views)
 mkdir "$work/others"
 sed 's/^const MOST_LISTED = .*;$/const MOST_LISTED = 1;/' "$page" > "$work/others/short.html"
 said 'the page that lists one difference' "$(! cmp -s "$page" "$work/others/short.html" || echo 'it is the same page')"
@@ -68,5 +69,8 @@ for browser in "${started[@]}"; do
 done
 if [ "${1:-}" = --pictures ] && [ "$failed" -eq 0 ]; then
     cp "$work"/pictures/*.png docs/
+fi
+if [ "${1:-}" = --views ]; then
+    rm -rf out/views && cp -r "$work/pictures" out/views
 fi
 counts

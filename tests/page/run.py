@@ -26,10 +26,13 @@ import prepared
 import record
 import results
 import spanish
+import views
 from session import Session, report_of_units
 
 KINDS = {kind.name: kind for kind in (browsers.Chromium, browsers.Firefox)}
 PARTS = (flows, results, notices, ballots, record, prepared, many, spanish, keyboard, hostile, large, network, accessibility)
+# The pictures for a person to look at are made where they are asked for by name.
+DEFAULT = [part.__name__ for part in PARTS]
 # A browser is west of Greenwich, and the other one is east of it.
 ZONES = {'Chromium': 'America/St_Johns', 'Firefox': 'Asia/Kolkata'}
 UNITS_OF_25_MB = 95_000
@@ -42,15 +45,16 @@ def main(name, page, others, work, pictures_folder, *names):
     browser = KINDS[name](str(downloads))
     session = Session(browser, page, work, ZONES[name])
     session.large = report_of_units(session.work / 'large.json', UNITS_OF_25_MB)
+    session.pictures = pathlib.Path(pictures_folder)
     session.others = {path.stem: path.resolve().as_uri() for path in pathlib.Path(others).glob('*.html')}
     try:
         browser.requests()
-        for part in [part for part in PARTS if not names or part.__name__ in names]:
+        for part in [part for part in (*PARTS, views) if part.__name__ in (names or DEFAULT)]:
             start = time.monotonic()
             session.part(part.run)
             print('        %s: %s took %d s' % (name, part.__name__, time.monotonic() - start), flush=True)
         if name == 'Chromium' and not names:
-            session.part(lambda here: pictures.run(here, pathlib.Path(pictures_folder)))
+            session.part(lambda here: pictures.run(here, here.pictures))
     finally:
         browser.close()
     print('%d passed, %d failed' % (session.passed, session.failed))

@@ -60,13 +60,18 @@ export class Choice {
     // Folders have to be asked for before anything is waited for.
     async takeDropped(slot, transfer) {
         const files = [...transfer.files];
-        const folders = [...transfer.items].map((item) => item.webkitGetAsEntry?.()).filter((entry) => entry?.isDirectory);
-        if (folders.length > 0) {
-            const inside = await Promise.all(folders.map(filesInFolder));
-            const named = new Set(folders.map(({ name }) => name));
-            this.takeMany([...files.filter(({ name }) => !named.has(name)).map((file) => ({ file, name: file.name })), ...inside.flat()]);
-        } else {
+        const folders = [...transfer.items].map(folderOf).filter((folder) => folder !== null);
+        if (folders.length === 0) {
             this.dropped(slot, files);
+            return;
+        }
+        const named = new Set(folders.map(({ name }) => name));
+        const beside = files.filter(({ name }) => !named.has(name)).map((file) => ({ file, name: file.name }));
+        const inside = await Promise.all(folders.map((folder) => folder.files)).catch(() => null);
+        if (inside === null) {
+            this.tell('files.folderNotRead');
+        } else {
+            this.takeMany([...beside, ...inside.flat()]);
         }
     }
 
@@ -162,14 +167,35 @@ export class Choice {
     }
 }
 
-/** All files in a folder that was dropped, and in those below it. */
-async function filesInFolder(folder) {
+// A folder that was dropped; null if the item is none. Chromium reads no entries of it for a page that was opened from the disk, but
+// handles. Firefox and Safari have entries alone.
+function folderOf(item) {
+    const entry = item.webkitGetAsEntry?.() ?? null;
+    return !entry?.isDirectory ? null
+        : { name: entry.name, files: item.getAsFileSystemHandle === undefined ? filesInEntry(entry) : item.getAsFileSystemHandle().then((handle) => filesInHandle(handle, '')) };
+}
+
+/** All files in a folder, and in those below it. */
+async function filesInHandle(handle, above) {
+    const name = above + handle.name;
+    if (handle.kind === 'file') {
+        return [{ file: await handle.getFile(), name }];
+    }
+    const files = [];
+    for await (const below of handle.values()) {
+        files.push(...await filesInHandle(below, `${name}/`));
+    }
+    return files;
+}
+
+/** The same by entries, of which a browser tells some at a time. */
+async function filesInEntry(folder) {
     const reader = folder.createReader();
     const entries = [];
     for (let some = await read(reader); some.length > 0; some = await read(reader)) {
         entries.push(...some);
     }
-    const files = await Promise.all(entries.map(async (entry) => (entry.isDirectory ? filesInFolder(entry)
+    const files = await Promise.all(entries.map(async (entry) => (entry.isDirectory ? filesInEntry(entry)
         : [{ file: await new Promise((resolve, reject) => entry.file(resolve, reject)), name: entry.fullPath.replace(/^\//, '') }])));
     return files.flat();
 }

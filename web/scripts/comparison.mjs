@@ -148,8 +148,8 @@ function lineCell(line, same, pieces, otherwise = () => null) {
         return element('td', {}, otherwise());
     }
     const number = line.number === undefined ? null : `${line.number}. `;
-    const shown = element('div', {}, number, ...pieces === undefined ? [long(line.text, LONGEST_LINE)] : piecesShown(line.text, pieces));
-    shown.style.paddingInlineStart = `${Math.min(line.indent, DEEPEST) * 1.25}rem`;
+    const shown = element('div', { class: 'value' }, number, ...pieces === undefined ? [long(line.text, LONGEST_LINE)] : piecesShown(line.text, pieces));
+    shown.style.setProperty('--indent', String(Math.min(line.indent, DEEPEST)));
     return same ? element('td', {}, shown) : element('td', { class: 'changed' }, differsSign(), shown);
 }
 

@@ -22,12 +22,12 @@ export function differencesFiled(entries, count, names) {
         element('ol', {}, ...items), leftOut(count - items.length));
 }
 
-// The values of a member, where they are short.
-function valuesOf({ rows, moved }) {
+// The values of a member, where they are short, and why two of them look alike.
+function valuesOf({ rows }) {
     const changed = (rows ?? []).filter(({ same }) => !same);
-    return changed.slice(0, MOST_ROWS).map(({ left, right, moved: move }) => (move === undefined
+    return changed.slice(0, MOST_ROWS).flatMap(({ left, right, moved, alike = [] }) => [moved === undefined
         ? saidWith('record.values', { left: valueOf(left), right: valueOf(right) })
-        : element('span', {}, valueOf(left), ' ', say('value.moved', move))));
+        : element('span', {}, valueOf(left), ' ', say('value.moved', moved)), ...alike.map((way) => say(`alike.${way}`))]);
 }
 
 function valueOf(line) {

@@ -57,8 +57,8 @@ export class ManyFiles {
     }
 
     show() {
-        this.table = element('tbody', {});
-        const heads = COLUMNS.map(([key], index) => element('th', { scope: 'col', 'aria-sort': 'none' },
+        this.table = element('tbody', { role: 'rowgroup' });
+        const heads = COLUMNS.map(([key], index) => element('th', { scope: 'col', role: 'columnheader', 'aria-sort': 'none' },
             button(say(`many.${key}`), () => this.sort(index), { class: 'small' })));
         this.heads = heads;
         this.note = element('p', { class: 'screen' }, say('many.choose'));
@@ -66,8 +66,9 @@ export class ManyFiles {
             element('h2', { id: 'many', tabindex: '-1' }, say('many.heading', { count: this.rows.length })),
             element('p', {}, this.summary()), element('p', { class: 'note' }, say('many.note')), this.note,
             element('div', { class: 'scrolled', tabindex: '0', role: 'group', 'aria-label': say('many.caption') },
-                element('table', {}, element('caption', { class: 'visually-hidden' }, say('many.caption')),
-                    element('thead', {}, element('tr', {}, ...heads, element('th', { scope: 'col', class: 'screen' }, say('many.compare')))), this.table)),
+                element('table', { role: 'table' }, element('caption', { class: 'visually-hidden' }, say('many.caption')),
+                    element('thead', { role: 'rowgroup' }, element('tr', { role: 'row' }, ...heads,
+                        element('th', { scope: 'col', role: 'columnheader', class: 'screen' }, say('many.compare')))), this.table)),
             element('p', { class: 'buttons screen' }, button(say('many.print'), () => this.print(), { class: 'main' }),
                 button(say('many.save'), () => save(new Blob([csvOf(this.records())], { type: 'text/csv' }), 'ballots.csv')))));
         this.fill();
@@ -92,11 +93,10 @@ export class ManyFiles {
         const { name, size, outcome, faults, group, groupSize, canonical } = row;
         const choose = button(say(this.chosen.includes(row) ? 'many.chosen' : 'many.chooseOne'), () => this.choose(row),
             { class: 'small', 'aria-pressed': String(this.chosen.includes(row)), 'aria-label': say('many.chooseName', { name: theirs(name).textContent }) });
-        return element('tr', { 'data-row': String(this.rows.indexOf(row)) }, element('th', { scope: 'row' }, theirs(name)),
-            element('td', {}, sizeText(size)), element('td', {}, say(`verdict.${outcome}`, { count: faults ?? 0 })),
-            element('td', {}, group === undefined ? '' : groupSize === 1 ? say('many.alone', { group }) : say('many.same', { group, count: groupSize })),
-            element('td', {}, canonical === undefined ? '' : element('code', {}, codeOf(canonical.sha256))),
-            element('td', { class: 'screen' }, choose));
+        return element('tr', { role: 'row', 'data-row': String(this.rows.indexOf(row)) }, element('th', { scope: 'row', role: 'rowheader' }, theirs(name)),
+            cell(sizeText(size)), cell(say(`verdict.${outcome}`, { count: faults ?? 0 })),
+            cell(group === undefined ? null : groupSize === 1 ? say('many.alone', { group }) : say('many.same', { group, count: groupSize })),
+            cell(canonical === undefined ? null : element('code', {}, codeOf(canonical.sha256))), cell(choose, 'screen'));
     }
 
     // The second file that is chosen is compared with the first one.
@@ -125,4 +125,9 @@ export class ManyFiles {
         addEventListener('afterprint', () => delete document.documentElement.dataset.print, { once: true });
         print();
     }
+}
+
+// On a narrow screen the cells stand below each other, where a table is one only by its roles.
+function cell(content, name = false) {
+    return element('td', { role: 'cell', class: name }, content);
 }

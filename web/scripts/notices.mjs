@@ -23,17 +23,16 @@ export function envelopeTable(envelopes, names) {
     const rows = ENVELOPE.filter((name) => envelopes.some((envelope) => Object.hasOwn(envelope, name)))
         .map((name) => rowOf(name, envelopes.map((envelope) => envelope[name] ?? null)));
     return element('div', { class: 'scrolled', tabindex: '0', role: 'group', 'aria-label': say('envelope.caption') },
-        element('table', {}, element('caption', { class: 'visually-hidden' }, say('envelope.caption')),
-            element('thead', {}, element('tr', {}, element('th', { scope: 'col' }, say('envelope.member')),
-                ...names.map((name) => element('th', { scope: 'col' }, theirs(name))))),
-            element('tbody', {}, ...rows)));
+        element('table', { class: 'sides' }, element('caption', { class: 'visually-hidden' }, say('envelope.caption')),
+            element('thead', {}, element('tr', {}, ...names.map((name) => element('th', { scope: 'col' }, theirs(name))))), ...rows));
 }
 
 function rowOf(name, values) {
     const same = values[0] === values[1];
     const cells = values.map((value) => element('td', same ? {} : { class: 'differs' },
         value === null ? element('em', {}, say('difference.notThere')) : long(value, LONGEST, '\n')));
-    return element('tr', {}, element('th', { scope: 'row' }, element('code', {}, name)), ...cells);
+    return element('tbody', {}, element('tr', {}, element('th', { scope: 'rowgroup', colspan: '2', class: 'group' }, element('code', {}, name))),
+        element('tr', {}, ...cells));
 }
 
 /** A notice if the notes of two files differ; null if they don't. */

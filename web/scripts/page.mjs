@@ -80,6 +80,7 @@ class Page {
         this.choice.slots = [null, null];
         this.choice.show();
         $('prefer-choice').hidden = true;
+        document.documentElement.dataset.shown = 'many';
         this.setBusy(true);
         const many = new ManyFiles($('many-files'), files, {
             client: this.client, compare: (pair) => this.choice.pair(pair), say: (text) => this.say(text),
@@ -112,8 +113,10 @@ class Page {
         this.choice.show();
         this.setBusy(this.choice.files.length > 0);
         if (!this.busy) {
+            delete document.documentElement.dataset.shown;
             return;
         }
+        document.documentElement.dataset.shown = 'result';
         this.say(say('progress.start'));
         const { files } = this.choice;
         this.client.open({ files, prefer: this.prefer });
