@@ -80,7 +80,7 @@ done
 
 lane 'proved: erd_canon' 'tests/library/c_library.sh' 'tests/fuzz/fuzz.sh' 'program:' 'tests/forms/other_machines.sh' \
     'tests/forms/language_examples.sh' 'tests/forms/javascript_package.sh' 'tests/forms/python_package.sh' 'tests/page/page.sh' \
-    'python3 tests/bodies/wrong_lines.py --gate' 'tests/forms/program_packages.sh' 'tests/forms/release_files.sh'
+    'python3 tests/bodies/wrong_lines.py --gate' 'tests/forms/program_packages.sh' 'tests/forms/release_files.sh' 'tests/forms/installed_alone.sh'
 
 lane 'program:' 'tests/program/command.sh' 'tests/pages/manual.sh' 'python3 tests/pages/examples.py' 'tests/program/contrib.sh' \
     'python3 tests/program/agrees_with_reference.py 500' 'python3 tests/program/same_meaning.py' \

@@ -1,16 +1,30 @@
 #!/usr/bin/env bash
 # Installs a release with the commands of the pages, letter for letter, where nothing of the repository is: on a copy of this machine
 # in which the repository is an empty folder, all written files are thrown away, and the network is off. RELEASE names the folder
-# with the files, if it is not out/release. What a file is missing for is skipped. One line a case.
+# with the files, if it is not out/release; a word names the cases that are run. What a file or a tool is missing for is skipped. One
+# line a case.
 set -u
 . "$(dirname "$0")/../shared/start.sh" || exit 1
 . tests/shared/commands.sh
 release=${RELEASE:-out/release}
+only=${1:-}
 top=$PWD
 why=''
-[ "$(id -u)" -eq 0 ] || why='this takes root'
+
+# layered LINES WORD ..: lines of a shell in which $root is a fresh layer over the machine, $1 is $work, and $2 the first WORD
+layered() {
+    unshare --mount --net --pid --fork --kill-child bash -c '
+        set -e
+        mount -t tmpfs none "$1/layer"
+        mkdir "$1/layer/above" "$1/layer/work" "$1/layer/root"
+        mount -t overlay overlay -o "lowerdir=/,upperdir=$1/layer/above,workdir=$1/layer/work" "$1/layer/root"
+        root=$1/layer/root
+        '"$1" bash "$work" "${@:2}"
+}
+mkdir "$work/layer"
+layered true 2> /dev/null || why='no layer over the machine can be mounted here'
 [ -e "$release" ] || why="there is no $release: make release"
-unshare --mount --net true 2> /dev/null || why='unshare may not do that here'
+[ "$(id -u)" -eq 0 ] || why='this takes root'
 [ -z "$why" ] || { echo "skipped a release installed alone: $why"; counts; exit; }
 
 # The copy: a layer over the machine, in which sudo is a word and the repository is empty.
@@ -24,14 +38,10 @@ chmod +x "$work/words/sudo"
 # alone NAME WANTED LINE ..: these lines of a shell, in a fresh copy, in a folder with the release; the last line that they write
 alone() {
     local name=$1 wanted=$2
+    [[ $name == *"$only"* ]] || return
     shift 2
     printf '%s\n' 'set -e' "$@" > "$work/lines"
-    run unshare --mount --net bash -c '
-        set -e
-        mount -t tmpfs none "$1/layer"
-        mkdir "$1/layer/above" "$1/layer/work" "$1/layer/root"
-        mount -t overlay overlay -o "lowerdir=/,upperdir=$1/layer/above,workdir=$1/layer/work" "$1/layer/root"
-        root=$1/layer/root
+    run layered '
         mount -t tmpfs none "$root/tmp"
         cp -r "$1/files" "$root/tmp/release"
         cp "$1/lines" "$root/tmp/lines"
@@ -42,15 +52,15 @@ alone() {
         mount --rbind /dev "$root/dev"
         exec env -i HOME=/tmp PATH=/usr/local/bin:/usr/bin:/bin:/usr/sbin:/sbin LANG=C.UTF-8 DEBIAN_FRONTEND=noninteractive \
             chroot "$root" bash -c "cd /tmp/release && . /tmp/lines"
-    ' bash "$work" "$top"
+    ' "$top"
     said "$name" "$([ "$status" -eq 0 ] || echo "status $status; $(tail -n 3 "$work/err" | tr '\n' ' ')"
         [ "$(tail -n 1 "$work/out")" = "$wanted" ] || echo "it wrote '$(tail -n 1 "$work/out")'")"
 }
-mkdir "$work/layer"
 
 # line PAGE BEGINNING: the line of a page, or the words in it between backquotes, that begin so
 line() {
-    { sed -n "s/^\($2.*\)$/\1/p" "$1"; grep -o '`[^`]*`' "$1" | tr -d '`' | grep "^$2"; } | sed 's/  *# .*//' | head -n 1
+    { sed -n "s/^\($2.*\)$/\1/p" "$1"; grep -o '`[^`]*`' "$1" | tr -d '`' | grep "^$2"; } | head -n 1 |
+        sed "s/  *# .*//; s/VERSION/$(cat VERSION)/; s/FILE/ballots.json/"
 }
 
 # has FILE ..: whether the release has a file for each pattern
@@ -90,6 +100,10 @@ has 'liberd-*-linux-x86_64.tar.gz' && alone 'the library of the tarball' accepte
 has 'erd-*-windows-x86_64.zip' && command -v x86_64-w64-mingw32-gcc > /dev/null && alone 'Windows, by mingw' made \
     'python3 -m zipfile -e erd-*-windows-x86_64.zip .' 'cd erd-*-windows-x86_64' 'cp examples/* .' \
     "$(line docs/CALLING.md 'x86_64-w64-mingw32-gcc ')" 'test -s erd_call.exe && echo made'
+has 'erd-*-windows-x86_64.zip' && command -v x86_64-w64-mingw32-gcc > /dev/null && command -v wine > /dev/null &&
+    alone 'Windows, by wine' accepted 'python3 -m zipfile -e erd-*-windows-x86_64.zip .' 'cd erd-*-windows-x86_64' 'cp examples/* .' \
+        "$(line docs/CALLING.md 'x86_64-w64-mingw32-gcc ')" \
+        "WINEDEBUG=-all wine erd_call.exe ../ballots.json 2> /dev/null | tr -d '\r'"
 if has 'erd-*-manylinux*x86_64.whl' && /usr/bin/python3 -c 'import venv' 2> /dev/null; then
     room=("$(line docs/CALLING.md 'python3 -m venv')" "$(line docs/CALLING.md 'python3 -m pip')")
     alone 'Python, as CALLING.md says' accepted "${room[@]}" 'cp examples/* .' "$(line docs/CALLING.md 'python3 erd_call.py')"
@@ -102,6 +116,9 @@ fi
 has 'erd-*.tgz' && command -v npm > /dev/null && {
     alone 'JavaScript, as CALLING.md says' accepted "$(line docs/CALLING.md 'npm install')" 'cp examples/* .' \
         "$(line docs/CALLING.md 'node erd_call.mjs')"
+    alone 'the command of the package for JavaScript' accepted "$(line docs/INSTALL.md 'npm install --global')" \
+        "$(line docs/INSTALL.md 'erd check')"
+    alone 'the same, with npx' accepted "$(line docs/CALLING.md 'npm install')" "$(line bindings/js/README.md 'npx --no-install erd check')"
 }
 has 'erd-*-conformance.tar.gz' && has 'erd_*_amd64.deb' && alone 'the conformance suite' 'all' "$install_program" \
     'tar xzf erd-*-conformance.tar.gz' 'erd-*-conformance/run erd | grep -q " 0 failed$" && echo all'
