@@ -20,29 +20,13 @@ import { wordOf } from '../../web/scripts/seen.mjs';
 import { codeOf } from '../../web/scripts/sums.mjs';
 import { mergedText, piecesOfBoth } from '../../web/scripts/text_changes.mjs';
 import { NotJson, Scanner } from '../../bindings/js/lib/scanner.mjs';
-import { useTexts } from '../../web/scripts/texts.mjs';
 import { trailOf } from '../../web/scripts/trail.mjs';
 import { typesIn } from '../../web/scripts/types.mjs';
 import { piecesOf } from '../../web/scripts/visible.mjs';
+import { counts, equal, ROOT, TEXTS } from './counted.mjs';
 
-const ROOT = new URL('../../', import.meta.url);
 const SUITE = new URL('out/conformance/', ROOT);
-const TEXTS = JSON.parse(readFileSync(new URL('web/texts.en.json', ROOT)));
 const encoder = new TextEncoder();
-let passed = 0;
-let failed = 0;
-
-function equal(name, found, wanted) {
-    const [one, other] = [JSON.stringify(found), JSON.stringify(wanted)];
-    if (one === other) {
-        passed++;
-    } else {
-        failed++;
-        console.log(`FAILED  ${name}: ${one?.slice(0, 300)} in place of ${other?.slice(0, 300)}`);
-    }
-}
-
-useTexts(TEXTS, 'en');
 const erd = await load(readFileSync(new URL('out/portable/erd.wasm', ROOT)));
 
 function fileOf(name, file) {
@@ -63,7 +47,12 @@ for (const name of names) {
 
 // What stops being JSON for the proved code does so for the page, and each fault has a place in the file.
 function tryFile(name, bytes, prefer) {
-    const { outcome, faults } = erd.check(bytes, { prefer });
+    const checked = erd.check(bytes, { prefer });
+    const { outcome, faults } = checked;
+    const lines = fileOf(name.replace(/, \d+$/, ''), 'check.txt');
+    if (lines !== null) {
+        equal(`${name}: its lines`, checked.text, new TextDecoder().decode(lines));
+    }
     equal(`${name}: JSON`, isJson(bytes), outcome !== 'not JSON');
     if (outcome === 'not JSON') {
         const { why } = whyNotJson(bytes);
@@ -96,7 +85,9 @@ function isValueOf(bytes, found, place) {
 
 // The first of all differences is the first difference of the proved code, and there is none where the two mean the same.
 function tryPair(name, [left, right], prefer) {
-    const { outcome, difference } = erd.compare(left, right, { prefer });
+    const compared = erd.compare(left, right, { prefer });
+    const { outcome, difference } = compared;
+    equal(`${name}: its lines`, compared.text, new TextDecoder().decode(fileOf(name, 'compare.txt')));
     if (outcome !== 'same' && outcome !== 'different') {
         return;
     }
@@ -203,5 +194,4 @@ equal('reworded selections', selections.flatMap(({ lines: some }) => some.flatMa
 equal('a ballot of one file has no marks', new BallotAnswers([meaningOf(county)]).ballot({ key: ballots.keys[0] }).items
     .flatMap((item) => [item, ...item.selections ?? []]).filter(({ mark, lines: some }) => mark !== '' || !some.every(isUnchangedLine)), []);
 
-console.log(`${passed} passed, ${failed} failed`);
-process.exitCode = failed === 0 ? 0 : 1;
+counts();

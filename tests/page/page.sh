@@ -25,8 +25,10 @@ sed 's/^const MOST_LISTED = .*;$/const MOST_LISTED = 1;/' "$page" > "$work/other
 said 'the page that lists one difference' "$(! cmp -s "$page" "$work/others/short.html" || echo 'it is the same page')"
 if command -v node > /dev/null; then
     if [ ${#parts[@]} -eq 0 ]; then
-        node tests/page/modules.mjs > "$work/modules.log" 2>&1
-        counted modules "$work/modules.log"
+        for name in modules parts; do
+            node "tests/page/$name.mjs" > "$work/$name.log" 2>&1
+            counted "$name" "$work/$name.log"
+        done
     fi
     node tests/shared/less_memory.mjs "$wasm" 800 "$work/poor.wasm" \
         && python3 web/build.py "$work/poor.wasm" "$work/others/poor.html"

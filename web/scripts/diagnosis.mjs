@@ -14,6 +14,7 @@ const BEGINNINGS = [
     ['image', [0x47, 0x49, 0x46, 0x38]],
 ];
 
+const BLANKS = new Set([0x20, 0x09, 0x0a, 0x0d]);
 const BLOCK = 1 << 16;
 
 /**
@@ -26,7 +27,7 @@ export function whyNotJson(bytes) {
     if (kind !== undefined) {
         return { why: kind[0], at: null };
     }
-    if (/^\s*$/.test(beginningOf(bytes))) {
+    if (bytes.every((byte) => BLANKS.has(byte))) {
         return { why: 'empty', at: null };
     }
     if (/^\s*</.test(beginningOf(bytes))) {
@@ -57,36 +58,41 @@ function whereItStops(bytes) {
     return { why: 'unknown', at: null };
 }
 
-// The first byte that can't stand where it does in UTF-8; null if all can.
+// Where the first character begins that is not UTF-8; null if all are.
 function firstNotUtf8(bytes) {
     const decoder = new TextDecoder('utf-8', { fatal: true, ignoreBOM: true });
     for (let start = 0; start < bytes.length; start += BLOCK) {
         const end = Math.min(start + BLOCK, bytes.length);
-        if (!decodes(decoder, bytes.subarray(start, end), end < bytes.length)) {
+        if (decoded(decoder, bytes.subarray(start, end), end < bytes.length) === null) {
             return firstIn(bytes, start);
         }
     }
     return null;
 }
 
-// The block that begins here has the byte, or ends a character that began in the block before.
+// The block that begins here has the character, or the end of one that began at most three bytes before.
 function firstIn(bytes, start) {
-    let at = start;
-    while (at > 0 && start - at < 3 && (bytes[at] & 0xc0) === 0x80) {
-        at--;
-    }
-    const decoder = new TextDecoder('utf-8', { fatal: true, ignoreBOM: true });
-    while (at < bytes.length && decodes(decoder, bytes.subarray(at, at + 1), true)) {
+    let at = Math.max(start - 3, 0);
+    while (at < start && (bytes[at] & 0xc0) === 0x80) {
         at++;
     }
-    return at;
+    const decoder = new TextDecoder('utf-8', { fatal: true, ignoreBOM: true });
+    let begin = at;
+    for (; at < bytes.length; at++) {
+        const text = decoded(decoder, bytes.subarray(at, at + 1), true);
+        if (text === null) {
+            break;
+        }
+        begin = text === '' ? begin : at + 1;
+    }
+    return begin;
 }
 
-function decodes(decoder, bytes, stream) {
+// The text of bytes; null if they are not UTF-8.
+function decoded(decoder, bytes, stream) {
     try {
-        decoder.decode(bytes, { stream });
-        return true;
+        return decoder.decode(bytes, { stream });
     } catch {
-        return false;
+        return null;
     }
 }

@@ -1,0 +1,205 @@
+// Tries more parts of the page without a browser, on small values: what is found in the bytes of a file, texts, and what values and
+// ballots look like. One line for each case that fails; at the end stand the counts.
+import { pointerOf } from '../../bindings/js/lib/words.mjs';
+import { repeatedNames } from '../../bindings/js/lib/repeated.mjs';
+import { aligned } from '../../web/scripts/alignment.mjs';
+import { BallotAnswers } from '../../web/scripts/ballot_answers.mjs';
+import { renamed, talliesOf } from '../../web/scripts/causes.mjs';
+import { whyNotJson } from '../../web/scripts/diagnosis.mjs';
+import { envelopeIn } from '../../web/scripts/envelope.mjs';
+import { compactText, readCanonical } from '../../web/scripts/exact.mjs';
+import { kindsOf } from '../../web/scripts/fault_kinds.mjs';
+import { firstLanguage } from '../../web/scripts/languages.mjs';
+import { Meaning } from '../../web/scripts/meaning.mjs';
+import { foundPlaces } from '../../web/scripts/places.mjs';
+import { countsOf } from '../../web/scripts/seen.mjs';
+import { piecesOfBoth } from '../../web/scripts/text_changes.mjs';
+import { say, sayIfKnown } from '../../web/scripts/texts.mjs';
+import { trailOf } from '../../web/scripts/trail.mjs';
+import { typesIn } from '../../web/scripts/types.mjs';
+import { Values } from '../../web/scripts/values.mjs';
+import { beginningOf, endOf, piecesOf } from '../../web/scripts/visible.mjs';
+import { counts, equal } from './counted.mjs';
+
+const encoder = new TextEncoder();
+const bytesOf = (value) => encoder.encode(typeof value === 'string' ? value : JSON.stringify(value));
+
+// ---- why bytes are not JSON, and where
+
+const latin = new Uint8Array(70_003).fill(0x20);
+latin.set([0x22, 0xe9, 0x22], 70_000);
+const split = new Uint8Array(65_540).fill(0x20);
+split.set([0xe2, 0x82, 0x41], 65_534);
+const NOT_JSON = {
+    'a comma before a bracket': ['[1,]', 'commaBeforeEnd', 3], 'a comma before a brace': ['{"a":1,}', 'commaBeforeEnd', 7],
+    'half a pair': ['"\\ud800"', 'halfSurrogate', 1], 'a zero in front': ['[01]', 'badNumber', 2], 'no colon': ['{"a" 1}', 'colonExpected', 5],
+    'a name without quotes': ['{a:1}', 'nameExpected', 1], 'two values': ['1 2', 'moreAfterEnd', 2], 'an early end': ['[1', 'endsEarly', 2],
+    'the XML form': ['<?xml version="1.0"?>\n<er:ElectionReport>', 'xmlForm', null], 'UTF-16': [new Uint8Array([0xff, 0xfe, 0x7b, 0]), 'utf16', null],
+    'UTF-16, high byte first': [new Uint8Array([0xfe, 0xff, 0, 0x7b]), 'utf16', null], 'Windows-1252': [latin, 'notUtf8', 70_001],
+    'a character that is cut between two blocks': [split, 'notUtf8', 65_534],
+    'an end within a character': [new Uint8Array([0x22, 0xe2, 0x82]), 'notUtf8', 1],
+};
+Object.entries(NOT_JSON).forEach(([name, [text, why, at]]) => equal(`not JSON: ${name}`, whyNotJson(typeof text === 'string' ? bytesOf(text) : text), { why, at }));
+
+// ---- what is found in a file
+
+equal('names written twice', repeatedNames('{"a":{"b":1,"b":2},"c/d":[{"e":1,"e":2,"e":3}]}'),
+    [{ place: ['a', 'b'], pointer: '/a/b', times: 2 }, { place: ['c/d', 0, 'e'], pointer: '/c~1d/0/e', times: 3 }]);
+equal('a pointer', pointerOf(['a/b', '~c', 0]), '/a~1b/~0c/0');
+equal('what the first of two members has is not there', foundPlaces(bytesOf('{"a":{"b":1},"a":{"c":2}}'), [['a', 'b']]), [null]);
+equal('types', typesIn(bytesOf('{"ExternalIdentifier":[{"Type":"b"}],"x":"ExternalIdentifier","y":{"ExternalIdentifier":[{"Type":"a"}]}}')), ['a', 'b']);
+equal('types in a list of texts', typesIn(bytesOf('["ExternalIdentifier",{"ExternalIdentifier":[{"Type":"a"}]}]')), ['a']);
+
+function titleAt(report, place) {
+    const [found] = foundPlaces(bytesOf(report), [place]);
+    return trailOf(found, place).map(({ title }) => title);
+}
+
+const named = { Unit: [{ Name: { Text: [{ Language: 'es', Content: 'Norte' }, { Language: 'en-US', Content: 'North' }] },
+    ExternalIdentifier: [{ Type: 'fips', Value: '20' }] }] };
+equal('an English title', titleAt(named, ['Unit', 0]), ['North']);
+equal('an identifier on a trail', titleAt(named, ['Unit', 0, 'ExternalIdentifier', 0, 'Value']), ['North', 'fips 20', null]);
+
+const envelope = { Format: 'precinct-contest', GeneratedDate: '2026-09-14T08:30:00-06:00', Issuer: 'An "office"', IssuerAbbreviation: 'AO',
+    VendorApplicationId: 'V 1', Notes: 'One\nTwo', SequenceStart: 1, SequenceEnd: 18446744073709551615n,
+    ExternalIdentifier: [{ Type: 'other', OtherType: 'job', Value: '7' }, { Type: 'fips', Value: '9' }] };
+equal('the envelope', envelopeIn(bytesOf(compactText({ Election: [], ...envelope }))),
+    { ...envelope, SequenceStart: '1', SequenceEnd: '18446744073709551615', ExternalIdentifier: 'other job 7\nfips 9' });
+equal('no envelope', envelopeIn(bytesOf('{"Election":[]}')), {});
+
+const faults = [{ place: ['a', 'OtherCounts'], reason: 5 }, { place: ['b', 'VoteCounts'], reason: 5 }, { place: ['c', 'VoteCounts'], reason: 5 }];
+equal('the member that occurs most is first', kindsOf(faults).map(({ names }) => names), [[['VoteCounts', 2], ['OtherCounts', 1]]]);
+equal('places stay in their order', kindsOf(faults)[0].faults.map(({ place }) => place[0]), ['a', 'b', 'c']);
+
+for (const text of ['9007199254740993', '-9007199254740993', '{"a":[18446744073709551615]}', '9007199254740992']) {
+    equal(`the number ${text}`, compactText(readCanonical(bytesOf(text))), text);
+}
+
+// ---- texts
+
+equal('one', say('faults.times', { count: 1 }), '1 time');
+equal('many', say('faults.times', { count: 12345 }), '12,345 times');
+equal('a text in a text', say('value.quoted', { text: '1234' }), '“1234”');
+equal('no text', sayIfKnown('nothing'), undefined);
+equal('a language with a region', firstLanguage(['en', 'es'], ['fr-CA', 'es-MX', 'en'], 'en'), 'es');
+equal('no language that the page has', firstLanguage(['en', 'es'], ['de'], 'en'), 'en');
+equal('a format is marked', piecesOf('a\ufff9b\u00a0'), [{ text: 'a' }, { mark: 'U+FFF9' }, { text: 'b' }, { mark: 'U+00A0' }]);
+equal('a beginning and an end', [beginningOf('a\u{1f5f3}', 2), endOf('\u{1f5f3}a', 2), beginningOf('abc', 2), endOf('abc', 2)], ['a', 'a', 'ab', 'bc']);
+
+const marked = (pieces) => pieces.map(({ text, changed }) => (changed ? `[${text}]` : text)).join('');
+for (const [left, right, wantedLeft, wantedRight] of [['aa', 'aaa', 'aa', 'aa[a]'], ['Jose\u0301', 'Jose\u0300', 'Jos[e\u0301]', 'Jos[e\u0300]'],
+    ['Vote for one', 'Vote for two', 'Vote for [one]', 'Vote for [two]'], ['', 'a', '', '[a]']]) {
+    const pieces = piecesOfBoth(left, right);
+    equal(`what differs between ${left} and ${right}`, [marked(pieces.left), marked(pieces.right)], [wantedLeft, wantedRight]);
+}
+
+const line = (text, indent = 0) => ({ text, like: text, indent });
+const rowsOf = (left, right) => aligned(left, right).map((row) => [row.left?.text ?? null, row.right?.text ?? null, row.same]);
+equal('equal ends', rowsOf(['a', 'y', 'z'].map((text) => line(text)), ['b', 'y', 'z'].map((text) => line(text))), [['a', 'b', false], ['y', 'y', true], ['z', 'z', true]]);
+equal('lines of two levels', rowsOf([line('a')], [line('a', 1)]), [['a', 'a', false]]);
+equal('how many of each word', countsOf(['seen', 'unseen', 'seen']), { seen: 2, 'in doubt': 0, unseen: 1 });
+
+// ---- values and ballots
+
+const typed = (name, members) => ({ '@type': `ElectionResults.${name}`, ...members });
+const identified = (value, type = 'local-level', more = {}) => [typed('ExternalIdentifier', { Type: type, ...more, Value: value })];
+const label = (...texts) => typed('InternationalizedText', { Text: texts.map(([Language, Content]) => typed('LanguageString', { Content, Language })) });
+
+function report(change = () => {}) {
+    const made = typed('ElectionReport', {
+        GpUnit: [typed('ReportingUnit', { '@id': 'gp1', ExternalIdentifier: identified('U1', 'other', { OtherType: 'ward' }), Name: 'East' }),
+            typed('ReportingUnit', { '@id': 'gp2', ExternalIdentifier: identified('U2', 'other', { OtherType: 'ward' }), Name: 'West' })],
+        Party: [typed('Party', { '@id': 'pa1', ExternalIdentifier: identified('P1'), Name: 'Blue' }),
+            typed('Party', { '@id': 'pa2', ExternalIdentifier: identified('P2'), Name: 'Green' })],
+        Person: [typed('Person', { '@id': 'pe1', ExternalIdentifier: identified('N1'), FirstName: 'Ann', LastName: 'Ash' })],
+        Header: [typed('Header', { '@id': 'hd1', ExternalIdentifier: identified('H1'), Name: 'State' })],
+        Election: [typed('Election', {
+            Name: 'Test', StartDate: '2026-11-03',
+            Candidate: [typed('Candidate', { '@id': 'ca1', ExternalIdentifier: identified('K1'), BallotName: 'Ann', PartyId: 'pa1' }),
+                typed('Candidate', { '@id': 'ca2', ExternalIdentifier: identified('K2'), BallotName: 'Bo', IsTopTicket: true, PartyId: 'pa1' }),
+                typed('Candidate', { '@id': 'ca3', ExternalIdentifier: identified('K3'), BallotName: 'Cy' })],
+            Contest: [typed('CandidateContest', {
+                '@id': 'co1', ExternalIdentifier: identified('C1'), Name: 'Governor', BallotTitle: label(['en', 'For Governor'], ['es', 'Para gobernador']),
+                VotesAllowed: 3, ContestSelection: [
+                    typed('CandidateSelection', { '@id': 'cs1', CandidateIds: ['ca1', 'ca2'], EndorsementPartyIds: ['pa2'] }),
+                    typed('CandidateSelection', { '@id': 'cs2', CandidateIds: ['ca3'] }), typed('CandidateSelection', { '@id': 'cs3', IsWriteIn: true })] })],
+            BallotStyle: [typed('BallotStyle', { ExternalIdentifier: identified('S1'), GpUnitIds: ['gp2', 'gp1'], OrderedContent: [
+                typed('OrderedHeader', { HeaderId: 'hd1', OrderedContent: [typed('OrderedContest', { ContestId: 'co1', OrderedContestSelectionIds: ['cs2', 'cs1'] })] })] }),
+            typed('BallotStyle', { ExternalIdentifier: identified('S2'), GpUnitIds: ['gp1'], OrderedContent: [typed('OrderedContest', { ContestId: 'co1' })] })],
+        })],
+    });
+    change(made, made.Election[0]);
+    return new Meaning(made, null);
+}
+
+const meaning = report();
+const style = meaning.thing('style', ['local-level', '', 'S1']);
+const values = new Values(meaning);
+equal('lines of a ballot', values.ofMember(style, 'OrderedContent').map(({ text, indent, number }) => [text, indent, number]), [
+    ['Header “State” (local-level H1)', 0, 1], ['Contest “Governor” (local-level C1)', 1, 1], ['Selection: Candidate “Cy” (local-level K3)', 2, 1],
+    ['Selection: Candidate “Ann” (local-level K1) + Candidate “Bo” (local-level K2)', 2, 2]]);
+equal('a set in the order of its keys', values.ofMember(style, 'GpUnitIds').map(({ text }) => text), ['Unit “East” (other ward U1)', 'Unit “West” (other ward U2)']);
+equal('lines of selections', values.ofMember(meaning.thing('contest', ['local-level', '', 'C1']), 'ContestSelection')
+    .filter(({ indent }) => indent === 0).map(({ text }) => text).at(-1), 'Selection: write-in');
+equal('one reference', values.ofMember(meaning.thing('candidate', ['local-level', '', 'K1']), 'PartyId').map(({ text }) => text), ['Party “Blue” (local-level P1)']);
+equal('the title of a person', meaning.thing('person', ['local-level', '', 'N1']).title, 'Ann Ash');
+
+const shown = ({ mark, lines, selections = [] }) => [mark, lines.map(({ role, texts }) => [role, ...texts.map(({ lang, pieces }) => lang
+    + pieces.map(({ text, mark: word }) => (word === '' ? text : `<${word} ${text}>`)).join(''))]), selections.map(shown)];
+const keyOf = (code) => JSON.stringify(['local-level', '', code]);
+const itemsOf = (answers, code) => answers.ballot({ key: keyOf(code) }).items.map(shown);
+const title = ['title', 'enFor Governor', 'esPara gobernador'];
+const votes = ['votes', 'Vote for up to 3'];
+const ticket = ['', [['name', 'Bo'], ['name', 'Ann'], ['party', 'Green']], []];
+const other = ['', [['name', 'Cy']], []];
+const one = new BallotAnswers([meaning]);
+equal('a ballot in its order', itemsOf(one, 'S1'), [['', [['title', 'State']], []], ['', [title, votes], [other, ticket]]]);
+equal('a ballot without an order', itemsOf(one, 'S2'), [['', [title, votes], [ticket, other, ['', [['writeIn', 'Write-in']], []]]]]);
+equal('its first lines', one.ballot({ key: keyOf('S1') }).lines.map(({ role, texts }) => [role, texts[0].pieces[0].text]),
+    [['election', 'Test'], ['date', '2026-11-03'], ['units', 'East, West']]);
+
+// Two files, of which the right one lacks a language, a selection on a ballot, and a style, and has another precinct and another style.
+const right = report((_made, election) => {
+    election.Contest[0].BallotTitle = label(['en', 'For Governor']);
+    election.BallotStyle[0].OrderedContent[0].OrderedContent[0].OrderedContestSelectionIds = ['cs1', 'cs3'];
+    election.BallotStyle[1].ExternalIdentifier = identified('S3');
+});
+const two = new BallotAnswers([meaning, right]);
+const marksOf = (answers, group = 'all') => answers.styles({ words: '', group, from: 0, count: 9 }).entries.map(({ code, mark }) => [code, mark]);
+equal('which ballots differ', marksOf(two), [['local-level S1', 'changed'], ['local-level S2', 'removed'], ['local-level S3', 'added']]);
+const changedTitle = ['title', 'enFor Governor', 'es<removed Para gobernador>'];
+equal('what differs is marked', itemsOf(two, 'S1')[1], ['', [changedTitle, votes],
+    [['removed', ...other.slice(1)], ticket, ['added', [['writeIn', 'Write-in']], []]]]);
+const CHANGES = {
+    'another precinct': (_made, election) => { election.BallotStyle[0].GpUnitIds = ['gp2']; },
+    'other selections': (_made, election) => { election.BallotStyle[0].OrderedContent[0].OrderedContestSelectionIds = ['cs1']; },
+    'another name': (_made, election) => { election.Contest[0].ContestSelection[0].CandidateIds = ['ca1']; },
+};
+for (const [name, change] of Object.entries(CHANGES)) {
+    const answers = new BallotAnswers([report((_made, election) => { election.BallotStyle.shift(); }), report((made, election) => {
+        election.BallotStyle.shift();
+        change(made, election);
+    })]);
+    equal(`${name} is seen`, marksOf(answers), [['local-level S2', 'changed']]);
+    equal(`${name}: none is the same`, [marksOf(answers, 'same'), marksOf(answers, 'differing')], [[], [['local-level S2', 'changed']]]);
+}
+const subtitled = report((_made, election) => { election.Contest[0].BallotSubTitle = 'Full term'; });
+equal('a line that is gone', itemsOf(new BallotAnswers([subtitled, meaning]), 'S2')[0][1].at(-1), ['BallotSubTitle', '<removed Full term>']);
+equal('the same ballots', marksOf(new BallotAnswers([meaning, report()]), 'same'), [['local-level S1', ''], ['local-level S2', '']]);
+equal('a ballot with all the words', one.styles({ words: 'east WEST', group: 'all', from: 0, count: 9 }).entries.map(({ code }) => code), ['local-level S1']);
+
+// ---- causes
+
+const withPersons = (...codes) => report((made) => {
+    made.Person = codes.map((code, index) => ({ ...made.Person[0], '@id': `pe${index + 1}`, ExternalIdentifier: identified(code) }));
+});
+const onlyOf = (how, codes) => codes.map((code) => ({ part: 'person', key: ['local-level', '', code], how }));
+const pairsOf = (left, rights) => renamed([withPersons(...left), withPersons(...rights)], [...onlyOf('only left', left), ...onlyOf('only right', rights)]).pairs
+    .map(({ keys }) => keys.map((key) => key[2]));
+equal('one person under another code', pairsOf(['A'], ['B']), [['A', 'B']]);
+equal('two persons who could be one', [pairsOf(['A', 'B'], ['C']), pairsOf(['A'], ['B', 'C']), pairsOf(['A', 'B'], ['C', 'D'])], [[], [], []]);
+const member = (code, name) => ({ part: 'unit', key: ['fips', '', code], how: 'member', member: name });
+equal('how many objects differ', talliesOf([member('1', 'Name'), member('1', 'Type'), member('2', 'Name'), ...onlyOf('only right', ['A'])]),
+    [{ part: 'unit', 'only left': 0, 'only right': 0, differ: 2, members: 3 }, { part: 'person', 'only left': 0, 'only right': 1, differ: 0, members: 0 }]);
+
+counts();
