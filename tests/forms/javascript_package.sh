@@ -66,6 +66,30 @@ console.log(steps.map(({ name, made }) => `${name} ${made.length}`).join());
 END
 run in_fresh node second.mjs "$PWD/examples/municipal.raw.json"
 expect_text 'the module erd/prepare' 0 'gone-candidates 2'
+# The programs of its page, and that of docs/CALLING.md: they write what stands beside them.
+block bindings/js/README.md js 1 > "$work/fresh/page.mjs"
+cp examples/county.vendor-a.json "$work/fresh/vendor-a.json"
+cp "$work/typo.json" "$work/fresh/vendor-b.json"
+run in_fresh node page.mjs
+expect_text 'the program of its page: a difference' 0 "$(remarks < "$work/fresh/page.mjs" | sed -n 2p)"
+sed '0,/"VotesAllowed": 1/s//"VotesAllowed": "1"/' examples/county.vendor-a.json > "$work/fresh/vendor-a.json"
+run in_fresh node page.mjs
+expect_text 'the program of its page: a fault' 0 "$(remarks < "$work/fresh/page.mjs" | head -n 1)"$'\nrefused'
+{ echo "import { readFile } from 'node:fs/promises';"; block bindings/js/README.md js 2; } > "$work/fresh/prepare.mjs"
+cp examples/municipal.raw.json "$work/fresh/export.json"
+run in_fresh node prepare.mjs
+expect 'the program of its page that prepares' 0
+equal 'a step of it' "$(grep '^write-in-lines ' "$work/out" | sed 's/[1-9][0-9]* 0$/N 0/')" 'write-in-lines N 0'
+{
+    echo "import { readFileSync } from 'node:fs';"
+    echo "const [bytesOfTheModule, report] = ['erd.wasm', 'one-unit.json'].map((name) => readFileSync(name));"
+    block docs/CALLING.md js 1
+} > "$work/fresh/wasm.mjs"
+cp "$wasm" "$work/fresh/erd.wasm"
+cp examples/one-unit.json "$work/fresh"
+run in_fresh node wasm.mjs
+expect_text 'the program of docs/CALLING.md' 0 '0 accepted'
+
 if command -v tsc > /dev/null; then
     cp tests/forms/javascript_types.ts "$work/fresh/types.mts"
     run in_fresh tsc --strict --noEmit --target es2022 --module node16 --moduleResolution node16 types.mts

@@ -2,6 +2,7 @@
 # Tries the Python package: the wheel of this machine is installed in a fresh environment, and its tests run there.
 set -u
 . "$(dirname "$0")/../shared/start.sh" || exit 1
+. tests/shared/commands.sh
 
 for package in pytest setuptools wheel venv; do
     /usr/bin/python3 -c "import $package" 2> /dev/null || { echo "skipped the Python package: there is no python3-$package"; counts; exit; }
@@ -24,4 +25,19 @@ last=$(tail -n 1 "$work/log")
 [[ $last =~ ([0-9]+)\ failed ]] && failed=${BASH_REMATCH[1]}
 [[ $last =~ ([0-9]+)\ error ]] && failed=$((failed + BASH_REMATCH[1]))
 [ "$status" -eq 0 ] || [ "$failed" -gt 0 ] || { cat "$work/log"; failed=1; }
+
+# The program of its page writes what stands beside it.
+mkdir "$work/page"
+block bindings/python/README.md python 1 > "$work/page/page.py"
+cp examples/county.vendor-[ab].json "$work/page"
+run env -C "$work/page" "$work/venv/bin/python" page.py
+expect_text 'the program of its page' 0 "$(remarks < "$work/page/page.py" | sed -n 2p)"
+python3 - examples/county.vendor-a.json > "$work/page/county.vendor-a.json" <<'END'
+import json, sys
+report = json.load(open(sys.argv[1], encoding='utf-8'))
+report['Election'][0]['Candidate'][2]['PartyId'] = 'none'
+json.dump(report, sys.stdout)
+END
+run env -C "$work/page" "$work/venv/bin/python" page.py
+expect_text 'the program of its page: a fault' 0 "$(remarks < "$work/page/page.py" | head -n 1)"$'\nFalse None'
 counts

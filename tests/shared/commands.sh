@@ -21,6 +21,16 @@ expect_text() {
     said "$1" "$why"
 }
 
+# block PAGE WORD NUMBER: the block of a page that has this number among those whose three backticks this word follows
+block() {
+    awk -v word="\`\`\`$2" -v number="$3" '$0 == word { at++; inside = 1; next } /^```/ { inside = 0 } inside && at == number' "$1"
+}
+
+# remarks: what stands behind the two slashes, or the sharp, at the ends of lines of code
+remarks() {
+    sed -n 's~^.*[;)]  *\(//\|#\) ~~p'
+}
+
 # same_bytes NAME FILE FILE: two files have the same bytes
 same_bytes() {
     said "$1" "$(cmp "$2" "$3" 2>&1)"

@@ -1,0 +1,88 @@
+"""Holds the blocks of the pages against where they come from: contracts and definitions against the sources, and edits, wrong lines
+and cases against their files. Each session and each JSON example stands on a page that another test runs. One line a case that
+fails, and at the end the counts.
+"""
+
+import pathlib
+import re
+import sys
+
+ROOT = pathlib.Path(__file__).resolve().parents[2]
+sys.dont_write_bytecode = True
+import examples  # noqa: E402
+
+# The pages with a quoted block, the beginning of the block, and the files of which one has it. White space may differ.
+QUOTES = (
+    ('docs/ARCHITECTURE.md', 'pub fn canonical(', 'crates/erd_canon/src/bytes/*.rt'),
+    ('docs/ARCHITECTURE.md', 'pub record Headline', 'crates/erd_canon/specs/*.antt'),
+    ('docs/ARCHITECTURE.md', 'TellsMeanings ', 'crates/erd_canon/specs/*.antt'),
+    ('conformance/README.md', 'case identity-', 'conformance/cases/*.txt'),
+    ('CONTRIBUTING.md', 'file: src/', 'tests/edits/*/*.edit'),
+    ('CONTRIBUTING.md', 'name: green_', 'tests/bodies/wrong_lines/*.txt'),
+)
+# The pages whose sessions and JSON examples are run by tests/pages/examples.py.
+RUN = {'console': set(examples.SESSIONS), 'json': {'docs/FIXES.md', 'docs/DATA.md'}}
+
+
+def read(path):
+    return (ROOT / path).read_text(encoding='utf-8')
+
+
+def pages():
+    return sorted(str(path.relative_to(ROOT)) for path in (*ROOT.glob('*.md'), *ROOT.glob('*/*.md'), *ROOT.glob('bindings/*/*.md')))
+
+
+def blocks(page):
+    """The blocks of a page: the word behind the three backticks, and the text."""
+    word, text = None, []
+    for line in read(page).splitlines(keepends=True):
+        if not line.startswith('```'):
+            text.append(line)
+        elif word is None:
+            word, text = line[3:].strip(), []
+        else:
+            yield word, ''.join(text)
+            word = None
+
+
+def bare(text):
+    """A text with one blank in place of white space, and without words that only wrong lines need."""
+    text = re.sub(r'^(?:case|batch|gate): .*\n', '', text, flags=re.M)
+    return ' '.join(text.split())
+
+
+def quoted():
+    for page, beginning, files in QUOTES:
+        found = [text for _, text in blocks(page) if text.startswith(beginning)]
+        yield f'{page}: the block that begins with {beginning!r}', 1, len(found)
+        for text in found:
+            holds = [path for path in ROOT.glob(files) if bare(text) in bare(path.read_text(encoding='utf-8'))]
+            yield f'{page}: a file has the block that begins with {beginning!r}', True, bool(holds)
+
+
+def run_elsewhere():
+    """No page has a session or a JSON example that is not run, and of docs/FIXES.md each JSON block is one that is."""
+    for word, wanted in RUN.items():
+        yield f'the pages with blocks of the kind {word}', sorted(wanted), [page for page in pages() if word in dict(blocks(page))]
+    page = read('docs/FIXES.md')
+    headings, differences = page.split('\n## Differences that')
+    count = 2 * len(re.findall(r'^## \d+\. ', headings, re.M)) + 2 * len(re.findall(r'^### ', differences, re.M))
+    yield 'the JSON blocks of docs/FIXES.md', count, sum(word == 'json' for word, _ in blocks('docs/FIXES.md'))
+    for word, text in blocks('docs/DATA.md'):
+        yield 'a JSON block of docs/DATA.md is one line', (1, True), (text.count('\n'), text[0] in '[{')
+
+
+def main():
+    passed = failed = 0
+    for name, wanted, found in [*quoted(), *run_elsewhere()]:
+        if wanted == found:
+            passed += 1
+        else:
+            failed += 1
+            print(f'FAILED: {name}: {found} is there, and not {wanted}')
+    print(f'{passed} passed, {failed} failed')
+    return int(failed > 0)
+
+
+if __name__ == '__main__':
+    sys.exit(main())
