@@ -5,9 +5,12 @@
 #
 # For each file that is not accepted, and each *.json in a folder, it prints the name of the file and then the lines of
 # `erd check`, each after two spaces. Of a very long list it prints the beginning. It ends with the highest status of
-# `erd check`: 0 if every file is accepted (erd(1) lists the statuses). ERD names the program, if it is not `erd`.
+# `erd check`: 0 if every file is accepted (erd(1) lists the statuses). ERD names the program, if it is not `erd`, and JOBS says how
+# many files are judged at a time, if not one on each processor. Python's `python -m erd.many` is faster, since it starts no program
+# for each file.
 set -u
 erd=${ERD:-erd}
+jobs=${JOBS:-$(getconf _NPROCESSORS_ONLN 2> /dev/null || echo 1)}
 most_bytes=100000
 
 usage() {
@@ -27,53 +30,96 @@ esac
 [ $# -gt 0 ] || usage
 
 work=$(mktemp -d) || exit 3
+workers=
 trap 'rm -rf "$work"' EXIT
-worst=0
-files=0
+trap 'kill $workers 2> /dev/null; exit 130' INT TERM HUP
 
-# judge FILE: leaves what `erd check` says of it in $work/lines, as far as it is shown, and sets $status
+# judge FILE: leaves what `erd check` says of it in $lines, as far as it is shown, and sets $status
 judge() {
     {
         "$erd" check ${prefer:+--prefer "$prefer"} -- "$1" 2>&1
-        echo "$?" > "$work/status"
-    } | head -c "$most_bytes" > "$work/lines"
-    status=$(cat "$work/status")
+        echo "$?" > "$lines.status"
+    } | head -c "$most_bytes" > "$lines"
+    read -r status < "$lines.status"
     # The program can't write what is cut off, and says so by status 3. Only a refused file has so many lines.
-    if is_cut; then
+    if [ "$status" -ne 0 ] && is_cut; then
         status=1
     fi
 }
 
 is_cut() {
-    [ "$(wc -c < "$work/lines")" -ge "$most_bytes" ]
+    [ "$(wc -c < "$lines")" -ge "$most_bytes" ]
 }
 
 # The name of a file and the names of members may hold control characters, which `cat -v` makes visible.
 check() {
-    files=$((files + 1))
     judge "$1"
     if [ "$status" -ne 0 ]; then
         printf '%s' "$1" | cat -v | tr '\n\t' '??'
         echo
-        cat -v "$work/lines" | awk '{ print "  " $0 }'
+        cat -v "$lines" | awk '{ print "  " $0 }'
         ! is_cut || echo '  .. (erd check has the whole list)'
-    fi
+    fi > "$work/file.$at"
+    [ -s "$work/file.$at" ] || rm "$work/file.$at"
     if [ "$status" -gt "$worst" ]; then
         worst=$status
     fi
 }
 
-for name in "$@"; do
-    if [ -d "$name" ]; then
-        for file in "$name"/*.json; do
-            [ -e "$file" ] && check "$file"
-        done
-    else
-        check "$name"
+# work NUMBER FILE ..: judges one file in every $jobs, from that with this number on
+work() {
+    number=$1
+    shift
+    lines=$work/lines.$number
+    at=0
+    worst=0
+    for file in "$@"; do
+        [ $((at % jobs)) -ne "$number" ] || check "$file"
+        at=$((at + 1))
+    done
+    echo "$worst" > "$work/worst.$number"
+}
+
+# is_there FILE ..: whether the first of them is there
+is_there() {
+    [ -e "$1" ] || [ -L "$1" ]
+}
+
+# the files, in the place of the names
+names=$#
+while [ "$names" -gt 0 ]; do
+    name=$1
+    shift
+    names=$((names - 1))
+    if [ ! -d "$name" ]; then
+        set -- "$@" "$name"
+    elif is_there "$name"/*.json; then
+        set -- "$@" "$name"/*.json
     fi
 done
-if [ "$files" -eq 0 ]; then
+if [ $# -eq 0 ]; then
     echo 'check-folder.sh: there is no *.json file' >&2
     exit 3
 fi
+
+number=0
+while [ "$number" -lt "$jobs" ]; do
+    work "$number" "$@" &
+    workers="$workers $!"
+    number=$((number + 1))
+done
+wait
+
+at=0
+for file in "$@"; do
+    [ ! -e "$work/file.$at" ] || cat "$work/file.$at"
+    at=$((at + 1))
+done
+worst=0
+while [ "$number" -gt 0 ]; do
+    number=$((number - 1))
+    status=3
+    [ ! -e "$work/worst.$number" ] || read -r status < "$work/worst.$number"
+    [ "$status" -le "$worst" ] || worst=$status
+done
 exit "$worst"

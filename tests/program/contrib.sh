@@ -56,6 +56,11 @@ printf x > "$folder/e.json"
 run contrib/check-folder.sh "$folder"
 expect 'the highest status of all' 2
 equal 'the names of what is not accepted' "$(grep -v '^ ' "$work/out")" "$folder/d.json"$'\n'"$folder/e.json"
+for jobs in 1 2 3 7; do
+    run env JOBS=$jobs contrib/check-folder.sh "$folder"
+    expect_text "every file is judged, $jobs at a time" 2 \
+        "$folder/d.json"$'\n  /Odd^[/@id: carried identity\n  /Status: not pre-election\n'"$folder/e.json"$'\n  not JSON'
+done
 run contrib/check-folder.sh "$folder/a.json" "$folder/nosuch.json"
 expect_text 'a file that is not there' 3 "$folder/nosuch.json"$'\n  cannot open'
 run contrib/check-folder.sh "$work/none"
