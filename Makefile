@@ -1,6 +1,6 @@
 # `make erd` proves and builds the program, `make demo` shows its first run, and `make try FILE=..` runs it on a file with no
 # proof; `make test` is the gate; `make edits` tries all wrong bodies, of which the gate tries some; `make agree` compares the
-# program with the reference program on N random reports and pairs, and `make fuzz` hands the C library inputs by chance; `make
+# program with the reference program on N random reports and pairs, and `make fuzz` gives the C library random inputs; `make
 # bench`, `make bench-instructions` and `make bench-hostile` measure the program.
 # `make install` and `make uninstall` put it on this machine and take it away; `make deb` and `make release` make files to hand
 # on; `make library` makes the C library, `make portable` the library for other machines, `make page` the page, and `make same`

@@ -88,7 +88,7 @@ completed 'a type after =' 'erd check --prefer=loc\t' check --prefer=local-level
 completed 'a file after a type' 'erd compare --prefer fips left.json r\t' compare --prefer fips left.json right.json
 completed 'nothing of other words' 'erd other r\t' other r
 
-# shell NAME COMMAND ..: where the shell can be had, it reads its completions
+# shell NAME COMMAND ..: the shell, if it is here or can be installed, reads its completions
 shell() {
     local name=$1
     shift

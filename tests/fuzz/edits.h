@@ -1,4 +1,4 @@
-/* Edits of a report that is a tree: each makes one change by chance, or none where its kind of place is not there. */
+/* Edits of a report that is a tree: each makes one random change, or none where its kind of place is not there. */
 #ifndef EDITS_H
 #define EDITS_H
 

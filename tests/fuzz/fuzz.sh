@@ -1,5 +1,5 @@
 #!/usr/bin/env bash
-# Hands the C library inputs by chance: libFuzzer counts which branches of the proved code each reaches, AddressSanitizer stops at a
+# Gives the C library random inputs: libFuzzer counts which branches of the proved code each reaches, AddressSanitizer stops at a
 # bad access inside that code and at memory that is not freed, and tests/fuzz/checks.c says what has to hold of the answers. With no
 # MINUTES it takes one minute, always the same inputs in the same order, and then tries whether a fault is found that is planted in
 # the C side. With MINUTES the inputs are others each time, and those that reached something new are kept in out/fuzz/corpus for the

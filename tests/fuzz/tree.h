@@ -30,7 +30,7 @@ struct value {
     size_t count, room;
 };
 
-/* Numbers by chance, but the same for the same seed. */
+/* Random numbers, the same for the same seed. */
 struct dice {
     uint64_t state;
 };

@@ -1,6 +1,6 @@
 """Holds the blocks of the pages against where they come from: contracts and definitions against the sources, and edits, wrong lines
-and cases against their files. Each session and each JSON example stands on a page that another test runs. One line a case that
-fails, and at the end the counts.
+and cases against their files. Names of the code that pages for developers cite are in the sources. Each session and each JSON
+example stands on a page that another test runs. One line a case that fails, and at the end the counts.
 """
 
 import pathlib
@@ -20,6 +20,9 @@ QUOTES = (
     ('CONTRIBUTING.md', 'file: src/', 'tests/edits/*/*.edit'),
     ('CONTRIBUTING.md', 'name: green_', 'tests/bodies/wrong_lines/*.txt'),
 )
+# The pages that cite names of the code, and where these stand.
+CITING = ('docs/ARCHITECTURE.md', 'docs/DECISIONS.md', 'docs/PROMISES.md', 'docs/REFUSALS.md', 'docs/DATA.md', 'CONTRIBUTING.md')
+SOURCES = ('crates', 'bindings', 'packaging', 'tests', 'web', 'conformance', 'contrib', 'reference')
 # The pages whose sessions and JSON examples are run by tests/pages/examples.py.
 RUN = {'console': set(examples.SESSIONS), 'json': {'docs/FIXES.md', 'docs/DATA.md'}}
 
@@ -60,6 +63,26 @@ def quoted():
             yield f'{page}: a file has the block that begins with {beginning!r}', True, bool(holds)
 
 
+def words_of_sources():
+    """The words in the sources and in the names of their files."""
+    found = set()
+    for folder in SOURCES:
+        for path in (ROOT / folder).rglob('*'):
+            if 'out' not in path.parts and path.suffix in ('.rt', '.antt', '.py', '.sh', '.c', '.h', '.mjs', '.edit', '.txt', '.json', ''):
+                found.update(re.findall(r'\w+', str(path.relative_to(ROOT))))
+                found.update(re.findall(r'\w+', path.read_text(encoding='utf-8', errors='replace')) if path.is_file() else ())
+    return found
+
+
+def cited():
+    """A word between backquotes with a low line in it, or with a capital behind a small letter, is a name of the code."""
+    words = words_of_sources()
+    for page in CITING:
+        codes = re.findall(r'`([^`\n]+)`', re.sub(r'^```.*?^```$', '', read(page), flags=re.M | re.S))
+        names = {name for code in codes for name in re.findall(r'\b[A-Za-z]\w+\b', code) if re.search(r'_|[a-z][A-Z]', name)}
+        yield f'{page}: the names that no source has', [], sorted(names - words - {'minimize_crash'})
+
+
 def run_elsewhere():
     """No page has a session or a JSON example that is not run, and of docs/FIXES.md each JSON block is one that is."""
     for word, wanted in RUN.items():
@@ -74,7 +97,7 @@ def run_elsewhere():
 
 def main():
     passed = failed = 0
-    for name, wanted, found in [*quoted(), *run_elsewhere()]:
+    for name, wanted, found in [*quoted(), *cited(), *run_elsewhere()]:
         if wanted == found:
             passed += 1
         else:
