@@ -22,8 +22,9 @@ TOP = pathlib.Path(__file__).resolve().parents[2]
 LISTS = TOP / 'tests' / 'bodies' / 'wrong_lines'
 # What no line changes is a link in the copy.
 LINKED = ('examples', 'crates.txt', 'third_party')
-# Crates that are compiled anew have folders of their own there.
+# Crates that are compiled anew, and those that a line changes, have folders of their own there.
 COMPILED = ('erd', 'erd_c', 'erd_program')
+CHANGED = ('erd_index', 'erd_meaning')
 MADE = ('erd', 'out/c', 'out/conformance', 'out/conformance.made', 'out/portable/erd.wasm', 'out/portable/linux-x86_64')
 
 
@@ -114,7 +115,7 @@ class Copy:
     def copy_crates(self):
         (self.top / 'crates').mkdir()
         for path in (TOP / 'crates').iterdir():
-            if path.name in COMPILED:
+            if path.name in COMPILED + CHANGED:
                 shutil.copytree(path, self.top / 'crates' / path.name, ignore=shutil.ignore_patterns('out'))
                 (self.top / 'crates' / path.name / 'out').mkdir()
             else:
@@ -125,6 +126,8 @@ class Copy:
                 shutil.copytree(made, target)
             elif made.exists():
                 shutil.copy2(made, target)
+        for name in CHANGED:
+            (self.top / 'crates' / name / 'out' / 'rlib').symlink_to(TOP / 'crates' / name / 'out' / 'rlib')
 
     def put(self, line):
         """Puts the line in."""

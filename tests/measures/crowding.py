@@ -1,9 +1,12 @@
 """Holds `check` against files that crowd an index under a salt that was known before their texts were chosen: for each index, under no
-salt, under fixed ones, and under the salt that the report has with other texts. Each takes at most 1.2 times the instructions of a
-file of the same size whose keys crowd nothing. An index without a salt, or with a fixed one, takes several times as many, and so does
-one whose salt leaves out what these files differ in. Beside that it compares the salt that tests/reports/colliding.py works out with
-the one that the tests of the program know. Needs valgrind, `./erd` and a C compiler. One line a case.
+salt, under fixed ones, and under a salt that leaves out what tells the keys of this index apart; and `compare` against the names of
+both reports. Each takes at most 1.2 times the instructions of a file of the same size whose keys crowd nothing. An index whose salt is
+like one of these takes several times as many. Beside that it compares the salt that tests/reports/colliding.py works out with the one
+that the tests of the program know. Needs valgrind, `./erd` and a C compiler. One line a case.
+
+usage: crowding.py [INDEX ..]; where CASES in the environment has lines, each a case, only these are tried
 """
+import functools
 import json
 import os
 import re
@@ -56,12 +59,16 @@ INDEXES = {"@ids": (units, colliding.ID, COUNT, FIXED), "keys": (persons, collid
 INDEXES.update({kind: (measures(kind), colliding.label_key(hostile_shapes.YES, kind), LABELS, {}) for kind in colliding.KINDS})
 
 
-def counted(made, folder):
-    """The instructions of `check` on a report."""
+# The index of the names of two reports, which `compare` has: the salts of both are joined.
+INDEXES["compared names"] = (write_ins, colliding.NAME, COUNT, {"joined salts of zeros": colliding.joined([0, 0], [0, 0])})
+
+
+def counted(index, made, folder):
+    """The instructions of `check` on a report, or of `compare` on it and itself."""
     path = os.path.join(folder, "report")
     with open(path, "w", encoding="utf-8") as file:
         json.dump(made, file)
-    return instructions(["./erd", "check", path])
+    return instructions(["./erd", "compare", path, path] if index == "compared names" else ["./erd", "check", path])
 
 
 def tell(is_held, words):
@@ -73,10 +80,18 @@ def held(index, folder):
     """For each salt, whether the file that crowds this index under it takes no longer."""
     report_of, key, count, fixed = INDEXES[index]
     others = report_of(key.others(count))
-    least = counted(others, folder)
-    for name, salt in {**fixed, "the salt of other texts": colliding.salt_of(others)}.items():
-        ratio = counted(report_of(colliding.crowded(count, salt, key, is_tagged=True)), folder) / least
-        yield tell(ratio <= MOST, "%s that crowd an index under %s: %.2f times the instructions of others" % (index, name, ratio))
+    left_out = {} if index == "compared names" else {"a salt that leaves them out": colliding.salt_of(others, index)}
+    least = functools.cache(lambda: counted(index, others, folder))
+    for name, salt in {**fixed, **left_out}.items():
+        case = "%s that crowd an index under %s" % (index, name)
+        if is_wanted(case):
+            ratio = counted(index, report_of(colliding.crowded(count, salt, key, is_tagged=True)), folder) / least()
+            yield tell(ratio <= MOST, "%s: %.2f times the instructions of others" % (case, ratio))
+
+
+def is_wanted(case):
+    wanted = os.environ.get("CASES", "").splitlines()
+    return not wanted or case in wanted
 
 
 def is_known_salt():

@@ -162,54 +162,71 @@ def by_bytes(names):
     return sorted(names, key=str.encode)
 
 
-def value_words(value):
+# What an index hashes and a salt could leave out, by the indexes that could be crowded then.
+EVERYTHING = ''
+
+
+def value_words(value, without=EVERYTHING):
     """The same for a value: a number for its kind, and then all that it holds."""
     if value is None or isinstance(value, bool):
-        return [{None: 1, False: 2, True: 3}[value]]
+        left_out = {'flags': (True, False), 'nulls': (None, True)}.get(without, ())
+        return [] if value in left_out else [{None: 1, False: 2, True: 3}[value]]
     if isinstance(value, int):
-        return [4, value] if value >= 0 else [8, value & WORD]
+        return [4] + [value] * (without != 'orders') if value >= 0 else [8, value & WORD]
     if isinstance(value, str):
         return [5] + text_words(value)
     if isinstance(value, list):
-        return [6] + [word for inner in value for word in value_words(inner)] + [0]
-    return [7] + [word for name in by_bytes(value) for word in text_words(name) + value_words(value[name])] + [WORD]
+        words = [word for inner in value for word in value_words(inner, without)]
+        return words if without == 'nesting' else [6] + words + [0]
+    return [7] + [word for name in by_bytes(value) for word in member_words(name, value[name], without)] + [WORD]
 
 
-def key_words(value):
+def member_words(name, value, without):
+    return (text_words(name) if without != 'names' else []) + value_words(value, without)
+
+
+def key_words(value, without=EVERYTHING):
     """The same for the key of an object, if it has one: the least of its identifiers."""
     triples = [[identifier.get(name, '') for name in ('Type', 'OtherType', 'Value')] for identifier in value.get('ExternalIdentifier', [])]
-    least = min(triples, key=lambda triple: [text.encode() for text in triple], default=[])
-    return [word for text in least for word in text_words(text)]
+    if not triples:
+        return None
+    least = min(triples, key=lambda triple: [text.encode() for text in triple])
+    return [word for text in least[:2 if without in ('keys', 'elections') else 3] for word in text_words(text)]
 
 
 def parts_words(number, id, key, selection):
     """The same for an object or an election: a number that tells which it is and which parts it has, and these parts."""
     parts = [id, key, selection]
-    bits = sum(bool(part) << place for place, part in enumerate(parts))
-    return [number + 16 * bits] + [word for part in parts for word in part]
+    bits = sum((part is not None) << place for place, part in enumerate(parts))
+    return [number + 16 * bits] + [word for part in parts for word in part or []]
 
 
-def objects_words(holder, name):
+def id_words(value, without):
+    return (text_words(value['@id']) if without != '@ids' else []) if '@id' in value else None
+
+
+def objects_words(holder, name, without):
     """The same for the objects in this member."""
     words = []
     for each in holder.get(name, []):
         is_selection = name == 'ContestSelection'
-        id = text_words(each['@id']) if '@id' in each else []
-        words += parts_words(FAMILIES[name], id, [] if is_selection else key_words(each), value_words(each) if is_selection else [])
+        key = None if is_selection else key_words(each, without)
+        words += parts_words(FAMILIES[name], id_words(each, without), key, value_words(each, without) if is_selection else None)
     return words
 
 
-def election_words(election):
-    words = parts_words(ELECTION, [], key_words(election), []) + objects_words(election, 'BallotStyle') + objects_words(election, 'Candidate')
+def election_words(election, without):
+    words = parts_words(ELECTION, None, key_words(election, without), None)
+    words += objects_words(election, 'BallotStyle', without) + objects_words(election, 'Candidate', without)
     for contest in election.get('Contest', []):
-        words += objects_words({'Contest': [contest]}, 'Contest') + objects_words(contest, 'ContestSelection')
+        words += objects_words({'Contest': [contest]}, 'Contest', without) + objects_words(contest, 'ContestSelection', without)
     return words
 
 
-def report_words(report):
-    words = [word for election in report['Election'] for word in election_words(election)]
+def report_words(report, without=EVERYTHING):
+    words = [word for election in report['Election'] for word in election_words(election, without)]
     for name in ('GpUnit', 'Header', 'Office', 'Party', 'Person'):
-        words += objects_words(report, name)
+        words += objects_words(report, name, without)
     return words
 
 
@@ -220,10 +237,15 @@ def after_words(words):
     return hasher
 
 
-def salt_of(report):
-    """The two words of salt of a report."""
-    words = report_words(report)
+def salt_of(report, without=EVERYTHING):
+    """The two words of salt of a report, or what they would be if the salt left out what tells the keys of an index apart."""
+    words = report_words(report, without)
     return [after_words([first] + words).finish() for first in (1, 2)]
+
+
+def joined(salt, other):
+    """The words of salt of an index that has keys of two reports, from those of both."""
+    return salt + [after_words(words).finish() for words in (other, other + [0])]
 
 
 def salted(salt, words):
@@ -278,9 +300,16 @@ def numeral(number, base):
 ID = Key()
 VALUE = Key(b'local-level\xff\xff', b'\xff')
 
-# The name of a write-in of the first contest, by its SequenceOrder: eight digits of base 256, of which each is at most 9.
-ORDER = Key(b''.join([number_write(0), *text_writes('ElectionResults.CandidateSelection'), number_write(0), b'\1', number_write(1)]),
-            bytes(8) + number_write(0) + number_write(0), tuple(bytes([digit]) for digit in range(10)), digits=8)
+
+
+def write_in_key(before):
+    """The name of a write-in by its SequenceOrder, after these bytes: eight digits of base 256, of which each is at most 9."""
+    beginning = b''.join([before, *text_writes('ElectionResults.CandidateSelection'), number_write(0), b'\1', number_write(1)])
+    return Key(beginning, bytes(8) + number_write(0) + number_write(0), tuple(bytes([digit]) for digit in range(10)), digits=8)
+
+
+# A write-in of the first contest as `check` indexes it, and by its name alone, as `compare` does.
+ORDER, NAME = write_in_key(number_write(0)), write_in_key(b'')
 
 
 def order_of(digits):

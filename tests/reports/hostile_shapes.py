@@ -357,9 +357,9 @@ def measures(kind, digits):
 
 
 def crowded_measures(kind, count, is_tagged=False):
-    """Labels that crowd the index of another report: of the same one, with other labels."""
+    """Labels that crowd the index if its salt leaves out what they differ in."""
     key = colliding.label_key(YES, kind)
-    return measures(kind, colliding.crowded(count, colliding.salt_of(measures(kind, key.others(count))), key, is_tagged))
+    return measures(kind, colliding.crowded(count, colliding.salt_of(measures(kind, key.others(count)), kind), key, is_tagged))
 
 
 def crowded_names(n):
