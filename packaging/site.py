@@ -27,9 +27,13 @@ LEFT_OUT = ('third_party/', 'crates/', 'bindings/python/src')
 
 
 def pages():
-    """The pages of the repository."""
-    listed = subprocess.run(['git', 'ls-files', '--cached', '--others', '--exclude-standard', '*.md'], cwd=ROOT, capture_output=True,
-                            text=True, check=True).stdout.split('\n')
+    """The pages of the repository: those that git knows, or in a copy without git all that are not made."""
+    words = ['git', 'ls-files', '--cached', '--others', '--exclude-standard', '*.md']
+    if (ROOT / '.git').exists():
+        listed = subprocess.run(words, cwd=ROOT, capture_output=True, text=True, check=True).stdout.split('\n')
+    else:
+        places = [path.relative_to(ROOT) for path in ROOT.rglob('*.md')]
+        listed = [str(place) for place in places if not {'out', 'node_modules'} & set(place.parts)]
     return sorted(pathlib.PurePosixPath(name) for name in listed if name and not name.startswith(LEFT_OUT))
 
 

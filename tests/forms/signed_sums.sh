@@ -29,11 +29,11 @@ if command -v minisign > /dev/null; then
 else
     echo 'skipped minisign: there is none'
 fi
-if command -v gpg > /dev/null; then
+if command -v gpg > /dev/null && command -v gpg-agent > /dev/null; then
     run gpg --batch --quiet --passphrase '' --quick-generate-key 'a <a@a.example>'
     each 'GnuPG' gpg 0
 else
-    echo 'skipped GnuPG: there is none'
+    echo 'skipped GnuPG: there is no gpg, or no gpg-agent'
 fi
 each 'the sums' sha256sum 0
 said 'the page has the commands' "$([ "$(commands 'minisign\|gpg\|sha256sum' | wc -l)" -eq 5 ] || commands 'minisign\|gpg\|sha256sum')"

@@ -61,12 +61,14 @@ def in_browser(pages):
                 browser.open(path.as_uri())
                 wide = browser.script('return document.documentElement.scrollWidth')
                 yield f'{path.relative_to(SITE)} at {WIDTH} points', '' if wide <= WIDTH else f'it is {wide} wide'
+            said = 'return document.querySelector("#count")?.textContent'
             browser.open((SITE / 'search.html').as_uri() + '?words=canonical%20numbers')
+            browser.until(said)
             found = browser.script('return [...document.querySelectorAll("#found a")].map((link) => link.getAttribute("href"))')
             yield 'the search finds something', '' if found else 'nothing'
             yield 'the search leads to pages', '' if all((SITE / link.split('#')[0]).exists() for link in found) else str(found)
             browser.open((SITE / 'search.html').as_uri() + '?words=zzzyyyxxx')
-            count = browser.script('return document.querySelector("#count").textContent')
+            count = browser.until(said)
             yield 'the search for what is nowhere', '' if count == 'Nothing has all of these words.' else count
         finally:
             browser.close()
