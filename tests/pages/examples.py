@@ -1,5 +1,5 @@
-"""Runs every session of README.md and the pages for users, and every example of docs/FIXES.md, docs/DATA.md and erd.h, and compares
-what they give with what the pages show. `ERD=..` names another program than ./erd, such as
+"""Runs every session of README.md and the pages for users, and every example of docs/FIXES.md, docs/DATA.md, docs/PROFILE.md and
+erd.h, and compares what they give with what the pages show. `ERD=..` names another program than ./erd, such as
 `ERD='python3 reference/erd_reference.py'`. One line a case that fails, and at the end the counts.
 
 An example is the words `**Example.** .. at `PLACE`..` with its blocks: two fragments of JSON and the lines that `erd` writes. A
@@ -165,6 +165,68 @@ def examples_of_data(folder):
             yield f'{page}: {text}', lines, line_of_data(folder, answer)
 
 
+# ---- lines
+
+
+def codes(value):
+    return [{'@type': 'ElectionResults.ExternalIdentifier', 'Type': 'local-level', 'Value': value}]
+
+
+def reports_of_lines():
+    """The report or the two reports for each line that docs/PROFILE.md shows."""
+    def small(change):
+        report = json.loads(read('examples/small-ballot.json'))
+        change(report, report['Election'][0], report['Election'][0]['Contest'][0], report['Party'][0])
+        return report
+
+    def moved(place):
+        def change(report, election, _contest, _party):
+            election['ExternalIdentifier'] = codes('first')
+            other = {name: value for name, value in election.items() if name not in ('Candidate', 'Contest', 'BallotStyle')}
+            report['Election'].append(other | {'ExternalIdentifier': codes('second'), 'Candidate': []})
+            candidate = election['Candidate'][0] | {'@id': 'moved', 'ExternalIdentifier': codes('K-12')}
+            report['Election'][place]['Candidate'].append(candidate)
+        return small(change)
+
+    def both(change, further):
+        return small(lambda *parts: change(*parts)), small(lambda *parts: (change(*parts), further(*parts)))
+
+    def nothing(*_parts):
+        pass
+
+    def governor(_report, _election, contest, _party):
+        contest['ExternalIdentifier'] = codes('governor')
+
+    def blue(_report, _election, _contest, party):
+        party['ExternalIdentifier'] = codes('blue')
+
+    return {
+        ': missing member Election': (small(lambda report, *_: report.pop('Election')),),
+        '/Election/0/Contest/0/VotesAllowed: wrong kind': (small(lambda _r, _e, contest, _p: contest.update(VotesAllowed='1')),),
+        '/a~1b~0c: not a whole number': (small(lambda report, *_: report.update({'a/b~c': 1.5})),),
+        'report: member "IsTest"': both(nothing, lambda report, *_: report.update(IsTest=True)),
+        'contest ["local-level","","governor"]: member "ContestSelection"':
+            both(governor, lambda _r, _e, contest, _p: contest['ContestSelection'][0].update(SequenceOrder=9)),
+        'party ["local-level","","blue"]: other class': both(blue, lambda _r, _e, _c, party: party.update({'@type': 'ElectionResults.Coalition'})),
+        'election: only right': (small(lambda _r, election, *_: election.update(ExternalIdentifier=codes('first'))), small(nothing)),
+        'election ["local-level","","referendum"]: only left':
+            tuple(small(lambda _r, election, *_, name=name: election.update(ExternalIdentifier=codes(name))) for name in ('referendum', 'second')),
+        'candidate ["local-level","","K-12"]: member "ElectionId"': (moved(0), moved(1)),
+    }
+
+
+def lines_of_profile(folder):
+    """Each line that docs/PROFILE.md shows is one that the program writes."""
+    shown = [line for block in re.findall(r'^```\n(.*?)^```$', read('docs/PROFILE.md'), re.M | re.S) for line in block.splitlines()]
+    made = reports_of_lines()
+    yield 'the lines of docs/PROFILE.md', sorted(shown), sorted(made)
+    for line, reports in made.items():
+        for name, report in zip(('left.json', 'right.json'), reports):
+            written(folder, name, report)
+        said = run('erd check left.json' if len(reports) == 1 else 'erd compare left.json right.json', folder)
+        yield f'docs/PROFILE.md: {line}', f'{line}\n', said
+
+
 # ---- fragments
 
 
@@ -260,7 +322,8 @@ def main():
     with tempfile.TemporaryDirectory() as name:
         folder = pathlib.Path(name)
         workshop(folder)
-        cases = [headings(), rows_of_letter(folder), examples_of_differences(folder), examples_of_data(folder), demonstration(folder)]
+        cases = [headings(), rows_of_letter(folder), examples_of_differences(folder), examples_of_data(folder), demonstration(folder),
+                 lines_of_profile(folder)]
         if shutil.which('jq'):
             cases += [examples_of_reasons(folder), sessions(folder)]
         else:
