@@ -1,7 +1,7 @@
 #!/usr/bin/env bash
 # Proves and builds the program, and leaves it as ./erd. Its crates are proved from the lowest to the program, with a
-# line when one begins and one when it ends; what the prover says goes to out/build.log. CPU_LEVEL=x86-64 compiles the program for a
-# processor that is older than x86-64-v2.
+# line when one begins and one when it ends; what the prover says goes to out/build.log. CPU_LEVEL=x86-64 compiles the program for
+# a processor that is older than x86-64-v2.
 set -u
 cd "$(dirname "$0")/.." || exit 1
 . tests/shared/counting.sh

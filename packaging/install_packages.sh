@@ -1,6 +1,6 @@
 #!/usr/bin/env bash
-# Installs the packages of debian-packages.txt, all at once in three tries, or else each that is available. It needs root, and where
-# something is missing it says so and ends with status 0: the tests say what they skip.
+# Installs the packages of debian-packages.txt, all at once in three tries, or else each that is available. It needs root, and
+# where something is missing it says so and ends with status 0: the tests say what they skip.
 set -u
 cd "$(dirname "$0")/.." || exit 1
 list=packaging/debian-packages.txt
@@ -31,7 +31,8 @@ for try in 1 2 3; do
     sleep $((try * 5))
 done
 
-# Group by group, and package by package in a group of which one is not available: awk writes each as a line, its comment before a tab.
+# Group by group, and package by package in a group of which one is not available: awk writes each as a line, its comment before
+# a tab.
 awk '/^#/ { name = substr($0, 3); next }
     NF && !(name in groups) { order[++count] = name }
     NF { groups[name] = groups[name] " " $1 }

@@ -1,8 +1,8 @@
 #!/usr/bin/env bash
-# Installs a release with the commands of the pages, letter for letter, where nothing of the repository is: on a copy of this machine
-# in which the repository is an empty folder, all written files are thrown away, and the network is off. RELEASE names the folder
-# with the files, if it is not out/release; a word names the cases that are run. What a file or a tool is missing for is skipped. One
-# line a case.
+# Installs a release with the commands of the pages, letter for letter, where nothing of the repository is: on a copy of this
+# machine in which the repository is an empty folder, all written files are thrown away, and the network is off. RELEASE names the
+# folder with the files, if it is not out/release; a word names the cases that are run. What a file or a tool is missing for is
+# skipped. One line a case.
 set -u
 . "$(dirname "$0")/../shared/start.sh" || exit 1
 . tests/shared/commands.sh

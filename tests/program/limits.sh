@@ -1,6 +1,7 @@
 #!/usr/bin/env bash
 # Runs the built program where the system gives no more: limits on the size of files, on memory and on the stack, pipes whose
-# readers go away, descriptors of the wrong kind, and an old processor. One line a case. Full devices and closed descriptors are in command_files.sh.
+# readers go away, descriptors of the wrong kind, and an old processor. One line a case. Full devices and closed descriptors are in
+# command_files.sh.
 set -u
 . "$(dirname "$0")/../shared/start.sh" || exit 1
 erd=$PWD/erd
