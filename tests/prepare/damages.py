@@ -189,6 +189,16 @@ def two_counties(report):
         unit.pop('ComposingGpUnitIds', None)
 
 
+def a_unit_of_two_counties(report):
+    """The same with counties that have another code too, and a unit that is in both and has one of these numbers."""
+    two_counties(report)
+    for number, unit in enumerate(report['GpUnit'][:2]):
+        unit['ExternalIdentifier'].append(identifier(f'C-{number}', 'county-code'))
+    report['GpUnit'][6].update({'Type': 'precinct', 'ExternalIdentifier': [identifier('1')]})
+    for unit in report['GpUnit'][:2]:
+        unit['ComposingGpUnitIds'].append(report['GpUnit'][6]['@id'])
+
+
 def shared_codes(report):
     """The code of the county on each unit, and nothing else on the county itself."""
     report['GpUnit'][0]['ExternalIdentifier'] = [identifier('99031', 'fips')]
@@ -262,3 +272,6 @@ DAMAGES = {
     'shared-codes': (COUNTY, shared_codes), 'codes': (ELECTIONS, codes), 'write-in-lines': (COUNTY, write_in_lines),
     'party-lines': (COUNTY, party_lines),
 }
+
+# Where both packages have to agree, beside all of these.
+OTHERS = {'a unit of two counties': (COUNTY, a_unit_of_two_counties)}

@@ -3,7 +3,7 @@
 - Both have the member table of docs/PROFILE.md, and the same words.
 - Each step alone mends a report that lacks only it; the same report rearranged is mended to one that means the same.
 - Each raw example is accepted after the steps, and so is each rearrangement, which then means the same.
-- On the examples and on random damaged reports both write the same bytes and tell the same changes.
+- On the examples, on each damage and on random damaged reports both write the same bytes and tell the same changes.
 - The command writes what it says, and numbers stay as they are.
 
 `steps.py COUNT SEED` tries COUNT damaged reports in place of 500. The verdicts are those of the reference program.
@@ -38,9 +38,9 @@ EXPORTS = {**{path.name: path.read_bytes() for path in RAW}, 'fusion-primary': v
 ALL = [step.name for step in STEPS]
 
 
-def damaged_so(damage):
-    """The bytes of the county's report with this damage."""
-    report = json.loads((EXAMPLES / damages.COUNTY).read_text(encoding='utf-8'))
+def damaged_so(damage, file=damages.COUNTY):
+    """The bytes of a report, of the county's where none is named, with this damage."""
+    report = json.loads((EXAMPLES / file).read_text(encoding='utf-8'))
     damage(report)
     return json.dumps(report).encode()
 
@@ -264,6 +264,7 @@ def agreement(count, dice):
     reports = [json.dumps(json.loads((EXAMPLES / name).read_text(encoding='utf-8-sig'))) for name in DAMAGED]
     cases = [(name, data, names) for name, data in EXPORTS.items() for names in (ALL, steps_of('taken'), [])]
     cases += [(why, data, ALL) for _, why, data in LEFT]
+    cases += [(name, damaged_so(damage, file), ALL) for name, (file, damage) in {**damages.DAMAGES, **damages.OTHERS}.items()]
     cases += [(f'damaged report {number + 1}', damaged(dice, reports), dice.sample(ALL, dice.choice([len(ALL), dice.randrange(len(ALL))])))
               for number in range(count)]
     with tempfile.TemporaryDirectory() as folder:
