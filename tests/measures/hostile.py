@@ -36,8 +36,11 @@ def runs_of(shape, n, folder):
     if shape in hostile_shapes.PAIRS:
         left, right = (written(side, folder, name) for side, name in zip(shape(n), ("left", "right")))
         return {"compare": ["./erd", "compare", left, right]}, left
-    path = written(shape(n), folder, "one")
-    return {"check": ["./erd", "check", path], "canon": ["./erd", "canon", path], "compare": ["./erd", "compare", path, path]}, path
+    path, other = (written(shape(n), folder, name) for name in ("one", "other"))
+    # two files with the same bytes are judged once
+    with open(other, "a", encoding="utf-8") as file:
+        file.write("\n")
+    return {"check": ["./erd", "check", path], "canon": ["./erd", "canon", path], "compare": ["./erd", "compare", path, other]}, path
 
 
 def exponent(small, large, least):

@@ -37,6 +37,9 @@ call compare tests/shared/refuse.c tests/shared/refuse.c
 expect_text 'one file on both sides that is not JSON' 2 $'left: not JSON\n' ''
 call compare "$small" "$small"
 expect_text 'one accepted file on both sides' 0 $'same\n' ''
+sed 's/"VotesAllowed":1/"VotesAllowed":2/' "$small" > "$work/as_long"
+call compare "$small" "$work/as_long"
+expect_text 'a file of the same length with another digit' 1 $'contest ["local-level","","C1"]: member "VotesAllowed"\n' ''
 
 # A file without leave to read. Root has leave to read all, so it gives that up.
 bare=()

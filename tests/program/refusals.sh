@@ -70,9 +70,10 @@ printf 'accepted\n' > "$work/accepted"
 program 'a check' "$work/empty" 0 "$work/accepted" '' check examples/small-ballot.json
 program 'a file that is not there' "$work/empty" 3 "$work/empty" $'cannot open\n' canon nosuch
 printf 'same\n' > "$work/same"
-program 'a comparison' "$work/empty" 0 "$work/same" '' compare examples/one-unit.json examples/one-unit.json
+program 'a comparison' "$work/empty" 0 "$work/same" '' compare examples/one-unit.json examples/one-unit.canonical.json
+program 'a comparison of a report with itself' "$work/empty" 0 "$work/same" '' compare examples/one-unit.json examples/one-unit.json
 program 'a comparison under a preference' "$work/empty" 0 "$work/same" '' \
-    compare --prefer local-level examples/one-unit.json examples/one-unit.json
+    compare --prefer local-level examples/one-unit.json examples/one-unit.canonical.json
 mkdir "$work/many" && python3 tests/reports/many_objects.py "$work/many" 20 || exit 1
 for name in many_units many_units_turned_round many_selections many_references many_elections; do
     program "$name, made small" "$work/many/$name.json" 0 "$work/many/$name.canonical" ''

@@ -1,4 +1,5 @@
-ghost use Rattle.std.specs.Prelude.{ℕ, List, IfOk, IfErr, OnOk, None};
+ghost use Rattle.std.specs.Prelude.{ℕ, ◌≡◌, List, IfOk, IfErr, OnOk, None};
+ghost use Rattle.std.specs.Bool.{Decides};
 ghost use Rattle.std.specs.Option.{option_copied};
 ghost use Rattle.serde_json.specs.View.{view};
 ghost use Rattle.erd_check.specs.Trees.{IsShallow};
@@ -18,6 +19,10 @@ pub(crate) trait Input: Drop {
     // The bytes.
     ghost bytes: { Self → List ℕ };
 
+    /// Returns whether both inputs have the same bytes.
+    fn has_same_bytes(&self, other: &Self) -> bool
+        ensures { Decides result (bytes self.now ≡ bytes other.now) };
+
     /// Parses the bytes into a tree, and lets go of them.
     fn into_tree(self, alloc: Global) -> Result<Value, Refusal>
         ensures read { IfOk result (λ tree. IsTreeOf (bytes self) (view tree)) }
@@ -28,6 +33,10 @@ pub(crate) trait Input: Drop {
 impl Input for &[u8] {
     ghost bytes = { λ s. s.now };
 
+    fn has_same_bytes(&self, other: &Self) -> bool {
+        *self == *other
+    }
+
     fn into_tree(self, alloc: Global) -> Result<Value, Refusal> {
         tree_of(alloc, self)
     }
@@ -35,6 +44,10 @@ impl Input for &[u8] {
 
 impl Input for Vec<u8> {
     ghost bytes = { λ v. v.items };
+
+    fn has_same_bytes(&self, other: &Self) -> bool {
+        self.as_slice() == other.as_slice()
+    }
 
     fn into_tree(self, alloc: Global) -> Result<Value, Refusal> {
         tree_of(alloc, self.as_slice())

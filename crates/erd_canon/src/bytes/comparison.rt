@@ -8,7 +8,7 @@ ghost use Rattle.erd_canon.specs.Bytes.{IsAcceptedReport, IsTreeOf};
 ghost use Rattle.erd_canon.specs.EngineTexts.{IsComparison};
 ghost use Rattle.erd_canon.specs.Refused.{IsSomeReport, RefusedSide};
 
-use crate::bytes::acceptance::Input;
+use crate::bytes::acceptance::{Input, check_input};
 use crate::bytes::disposal::{Disposal, Free};
 use crate::bytes::refusal::{Refusal, Side};
 use erd_compare::{Difference, first_difference};
@@ -70,8 +70,8 @@ pub fn compare_bytes_with(
     compare_inputs(alloc, left, right, prefer, &Free)
 }
 
-/// Compares the inputs, as `compare_bytes_with` does. Each tree that is read and each report that is accepted goes to the
-/// disposal.
+/// Compares the inputs, as `compare_bytes_with` does. Two with the same bytes are judged once. Each tree that is read and each
+/// report that is accepted goes to the disposal.
 pub(crate) fn compare_inputs<I: Input, D: Disposal>(
     alloc: Global,
     left: I,
@@ -84,10 +84,29 @@ pub(crate) fn compare_inputs<I: Input, D: Disposal>(
     ensures agree { IfOk result (AgreesUnderEach (I.bytes left) (I.bytes right)) }
     ensures refused { IfErr result (RefusedSide (option_copied prefer.entry) (I.bytes left) (I.bytes right)) }
 {
+    if left.has_same_bytes(&right) {
+        return compare_with_itself(alloc, left, prefer, disposal);
+    }
     let tree = left_tree_of(alloc, left)?;
     let answer = compare_with_tree(alloc, &tree, right, prefer, disposal);
     disposal.dispose(tree);
     answer
+}
+
+/// Compares an input with another that has the same bytes: an accepted report means the same as itself.
+fn compare_with_itself<I: Input, D: Disposal>(
+    alloc: Global,
+    input: I,
+    prefer: Option<&str>,
+    disposal: &D,
+) -> Result<Option<Difference>, Side>
+    ensures ok { IfOk result (IsComparison (option_copied prefer.entry) (I.bytes input) (I.bytes input)) }
+    ensures refused { IfErr result (λ side. (right : List ℕ) → RefusedSide (option_copied prefer.entry) (I.bytes input) right side) }
+{
+    match check_input(alloc, input, prefer, disposal) {
+        Ok(()) => Ok(None),
+        Err(refusal) => Err(Side::Left(refusal)),
+    }
 }
 
 /// Compares the tree of the left report with the input on the right.

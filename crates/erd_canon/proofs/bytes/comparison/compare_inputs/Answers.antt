@@ -1,5 +1,5 @@
 use Rattle.std.proofs.lemmas.Result.{IfOk-weaker}
-use Rattle.erd_canon.proofs.Common.{ℕ, List, option_copied, view, err_from_is_err_and, IsTreeOf, IsComparison}
+use Rattle.erd_canon.proofs.Common.{rules, ℕ, List, option_copied, view, err_from_is_err_and, IsTreeOf, IsComparison}
 use Rattle.erd_canon.proofs.runs.Agreement.{agrees, tells_what_is_said}
 use Rattle.erd_canon.specs.ByteLaws.{AgreesUnderEach, TellsWhatIsSaid}
 use Rattle.erd_canon.proofs.bytes.comparison.compare_inputs.Goals as goal
@@ -30,3 +30,20 @@ returns-clause-agree g c =
     let left = g.I.Input.bytes c.args.left in
     let right = g.I.Input.bytes c.args.right in
     IfOk-weaker c.compare_with_tree-answer.result (IsComparison π left right) (AgreesUnderEach left right) (λ found. agrees π left right found) (returns-clause-ok g c)
+
+pub returns-then-has_same_bytes-clause-ok : goal.returns-then-has_same_bytes-clause-ok
+returns-then-has_same_bytes-clause-ok g c = search rules
+
+pub returns-then-has_same_bytes-clause-said : goal.returns-then-has_same_bytes-clause-said
+returns-then-has_same_bytes-clause-said g c =
+    let π = option_copied c.args.prefer in
+    let left = g.I.Input.bytes c.args.left in
+    let right = g.I.Input.bytes c.args.right in
+    IfOk-weaker c.compare_with_itself.result (IsComparison π left right) (TellsWhatIsSaid left right) (λ found. tells_what_is_said π left right found) (returns-then-has_same_bytes-clause-ok g c)
+
+pub returns-then-has_same_bytes-clause-agree : goal.returns-then-has_same_bytes-clause-agree
+returns-then-has_same_bytes-clause-agree g c =
+    let π = option_copied c.args.prefer in
+    let left = g.I.Input.bytes c.args.left in
+    let right = g.I.Input.bytes c.args.right in
+    IfOk-weaker c.compare_with_itself.result (IsComparison π left right) (AgreesUnderEach left right) (λ found. agrees π left right found) (returns-then-has_same_bytes-clause-ok g c)
