@@ -4,7 +4,7 @@ import json
 import re
 
 from flows import pages_of
-from session import EXAMPLES
+from session import EXAMPLES, ROOT
 
 COUNTY = EXAMPLES / 'county.vendor-a.json'
 OTHER = EXAMPLES / 'county.vendor-b.json'
@@ -85,8 +85,20 @@ def one_file(session):
         session.equal('ballots: how much is on %s' % code, len(ballot['items']), len(wanted[code]))
     tickets = [names for ballot in shown for _, _, selections in ballot['items'] for names in selections if len(names) > 1 and report.tops() & set(names)]
     session.equal('ballots: the top of a ticket comes first', [names for names in tickets if names[0] not in report.tops()], [])
+    unlisted = sum(count_unlisted(style['OrderedContent'], report) for style in report.election['BallotStyle'])
+    session.equal('ballots: lines without an order', session.texts('.ballot .contest > p.own').count(UNLISTED), unlisted)
     langs = session.browser.script("return [...new Set([...document.querySelectorAll('.ballot [lang]')].map((one) => one.lang))].sort()")
     session.equal('ballots: the languages', langs, ['en-US', 'es-US'])
+
+
+UNLISTED = json.loads((ROOT / 'web' / 'texts.en.json').read_text(encoding='utf-8'))['ballot.unlisted']
+
+
+def count_unlisted(content, report):
+    """How many contests of a ballot list several selections in no order."""
+    return sum(count_unlisted(entry.get('OrderedContent', []), report) if 'HeaderId' in entry
+               else 'OrderedContestSelectionIds' not in entry and len(report.named[entry['ContestId']].get('ContestSelection', [])) > 1
+               for entry in content)
 
 
 def filtered(session):
@@ -141,8 +153,8 @@ def two_files(session):
     """What differs is marked in place: changed words, what moved, and what only one file has. Ballots that are the same are folded."""
     session.judged(COUNTY, changed(session))
     session.open_details()
-    words = session.browser.script("return [...document.querySelectorAll('.ballot .line-name del, .ballot .line-name ins')].map((one) => one.lastChild.textContent)")
-    session.equal('ballots: changed words', [words[:2], set(words)], [['Ingrith', 'Ingrid'], {'Ingrith', 'Ingrid'}])
+    words = session.browser.script("return [...document.querySelectorAll('.ballot .line-name :is(del, ins)')].map((one) => `${one.tagName} ${one.lastChild.textContent}`)")
+    session.equal('ballots: changed words', [words[:2], set(words)], [['DEL Ingrith', 'INS Ingrid'], {'DEL Ingrith', 'INS Ingrid'}])
     four = "[...document.querySelectorAll('.style')].find((one) => one.querySelector('summary').textContent.includes('BS-4'))"
     moved = session.browser.script("return [...%s.querySelectorAll('.selection.moved > .ballot-mark')].map((one) => one.textContent)" % four)
     session.equal('ballots: what moved', moved, ['moved from 1 to 2'])

@@ -33,6 +33,11 @@ def examples(session):
         session.fresh()
         session.browser.all('#examples button')[position].click()
         session.becomes('example %d' % (position + 1), session.verdict, verdict)
+        if position == 0:
+            session.becomes('example 1: the files', lambda: session.texts('.sum[data-sum="file"]'), [sha256(path.read_bytes()) for path in COUNTY])
+        if position == 1:
+            session.becomes('example 2: what differs', lambda: [text.split(' “')[0].split(' (')[0] for text in session.texts('.differences summary')],
+                            ['Candidate', 'Contest', 'Ballot style'])
 
 
 def one_file(session):
@@ -67,6 +72,37 @@ def faults(session):
     session.equal('the part of the file', session.texts('.card mark'), ['"VotesAllowed":1.5'])
     session.equal('the trail', session.texts('.card .trail li'),
                   ['election 1 “Test”', 'contest 1 “Governor”', 'member VotesAllowed'])
+    excerpt(session, json.dumps(json.loads(one_fault), indent=2).splitlines())
+    more_places(session)
+
+
+def excerpt(session, lines):
+    """The part of a file of many lines: two lines before and after the fault, with their numbers, and without the blanks before all."""
+    session.judged(session.file('lines.json', '\n'.join(lines)))
+    place = next(number for number, line in enumerate(lines) if '"VotesAllowed": 1.5' in line)
+    around = lines[place - 2:place + 3]
+    blanks = min(len(line) - len(line.lstrip()) for line in around)
+    session.equal('the lines of the part', session.texts('.excerpt .line code'), [line[blanks:] for line in around])
+    session.equal('their numbers', session.texts('.excerpt .number'), [str(number) for number in range(place - 1, place + 4)])
+    session.equal('what is marked in them', session.texts('.excerpt mark'), ['"VotesAllowed": 1.5'])
+
+
+def more_places(session):
+    """Ten places of a kind are shown, and more where they are asked for."""
+    report = json.loads(SMALL.read_text(encoding='utf-8'))
+    report['Header'] = [{'Nome': str(number)} for number in range(13)]
+    session.judged(session.file('many-faults.json', json.dumps(report)))
+    wanted = ['/Header/%d' % number for number in range(13)]
+    session.equal('the first places', session.texts('.card:last-child .pointer')[:10], wanted[:10])
+    session.equal('how many more', session.text('.card:last-child .places + p button'), 'Show %d more places of %d' % tuple(counts_of_places(session)))
+    session.browser.script("document.querySelector('.card:last-child .places + p button').click()")
+    session.becomes('all places', lambda: sorted(set(session.texts('.card:last-child .pointer')) & set(wanted)), sorted(wanted))
+
+
+def counts_of_places(session):
+    """How many places of the last kind are not shown, and how many there are."""
+    count = int(re.search(r'\d+', session.texts('.card .count')[-1])[0])
+    return count - 10, count
 
 
 def two_files(session):
@@ -111,6 +147,7 @@ def dropped(session):
     session.becomes('another one dropped', session.verdict, 'These two files define the same ballots')
     session.browser.script(DROP, [{'name': 'x.json', 'data': '{'}], '[data-slot="1"]')
     session.becomes('one dropped on the second place', session.verdict, "These two files can't be compared yet")
+    session.equal('it is the second file', session.texts('.slot .name bdi'), [COUNTY[0].name, 'x.json'])
     session.browser.script(DROP, files, 'body')
     session.becomes('two files dropped', session.verdict, 'These two files define the same ballots')
     session.browser.script(DROP, [{'name': 'x.txt', 'data': 'x'}] * 3, 'body')

@@ -4,6 +4,7 @@ import csv
 import io
 import json
 
+import answers
 from flows import DROP, pages_of
 from session import EXAMPLES, sha256
 
@@ -38,7 +39,8 @@ def table(session):
     rows = {row[0]: row[2:] for row in session.browser.script(ROWS)}
     session.equal('many: the groups', [rows[name] for name in NAMES[:3]],
                   [['Accepted', '1: 2 files mean the same'], ['Accepted', '1: 2 files mean the same'], ['Accepted', '2: alone']])
-    session.said('many: a refused file', '' if rows[NAMES[3]][0].startswith('Refused: ') and rows[NAMES[3]][1] == '' else repr(rows[NAMES[3]]))
+    faults = answers.Program().run(None, 'check', EXAMPLES / NAMES[3])[1].splitlines()
+    session.equal('many: a refused file', rows[NAMES[3]], ['Refused: %d faults' % len(faults), ''])
     session.equal('many: a screen reader is told', session.text('#announcement'), '3 of 4 are accepted. They have 2 meanings.')
 
 
@@ -67,6 +69,7 @@ def compared(session):
         session.browser.script("""
             [...document.querySelectorAll('#many-files tbody tr')].find((row) => row.firstChild.textContent === arguments[0]).querySelector('button').click()""", name)
     session.becomes('many: two of them', session.verdict, 'These two files define the same ballots')
+    session.equal('many: the first one is the left one', session.texts('.slot .name bdi'), list(NAMES[:2]))
     session.equal('many: the table stays', len(session.browser.script(ROWS)), 4)
 
 

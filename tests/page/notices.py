@@ -1,6 +1,7 @@
 """What stands above the verdict, and the box on what a voter sees."""
 import json
 
+import answers
 from session import EXAMPLES
 
 SMALL = EXAMPLES / 'small-ballot.json'
@@ -109,6 +110,8 @@ def seen(session):
     for heading, change in cases.items():
         session.judged(SMALL, changed(change))
         session.equal('what a voter sees: ' + heading, session.text('.seen h3'), heading)
+        session.equal('the box of: ' + heading, session.browser.script("return document.querySelector('.seen').className"),
+                      'seen quiet' if heading.startswith('No') else 'seen touched')
     session.judged(SMALL, changed(lambda report: report['Person'][0]['ExternalIdentifier'][0].update(Value='new')))
     session.equal('what a voter sees: another identifier', session.text('.seen h3'), 'The ballots may differ')
 
@@ -122,6 +125,7 @@ def look_alikes(session):
     session.judged(written(session, 'left.json', left), written(session, 'right.json', report))
     session.equal('look-alikes: the letter is marked', session.texts('#first-difference ~ div tbody:last-child mark'), ['A', '\u0410'])
     session.said('look-alikes: the reason', '' if 'a letter of another alphabet' in session.text('.alike') else session.text('.alike'))
+    session.said('look-alikes: its explanation', '' if 'looks like a Latin' in session.text('.alike p') else session.text('.alike p'))
 
 
 def renamed(session):
@@ -130,6 +134,7 @@ def renamed(session):
     session.judged(COUNTY, session.file('renamed.json', text))
     session.equal('another identifier: the pair', session.texts('.pairs li'),
                   ['Candidate “Ingrith Sablewood”: local-level K-12 in the first file, local-level K-99 in the second'])
+    session.equal('another identifier: what a voter sees', session.text('.seen h3'), 'The ballots may differ')
     session.equal('another identifier: nothing else differs', session.texts('.others > .differences > li'), [])
     session.browser.script("document.querySelector('.pairs details').open = true")
     session.becomes('another identifier: what follows', lambda: len(session.texts('.pairs .differences > li')) > 2, True)
@@ -143,9 +148,12 @@ def other_type(session):
             unit['ExternalIdentifier'].insert(0, {'@type': 'ElectionResults.ExternalIdentifier', 'Type': 'a-vendor', 'Value': '%s%d' % (codes, number)})
         return report
 
-    session.judged(written(session, 'left.json', with_codes('x')), written(session, 'right.json', with_codes('y')))
+    paths = [written(session, 'left.json', with_codes('x')), written(session, 'right.json', with_codes('y'))]
+    session.judged(*paths)
     before = len(session.texts('.others tbody tr'))
-    session.said('another type: it is offered', '' if 'Matched by the type local-level' in session.text('.offer') else session.text('.offer'))
+    program = answers.Program()
+    counts = [len(program.run(prefer, 'differences', *paths)[1].splitlines()) for prefer in ('local-level', None)]
+    session.equal('another type: it is offered', session.text('.offer p'), answers.say('offer.fewer', type='local-level', fewer=counts[0], count=counts[1]))
     session.browser.script("document.querySelector('.offer button').click()")
     session.browser.until("return document.documentElement.dataset.busy === 'no' && document.getElementById('prefer').value === 'local-level'")
     session.said('another type: it is chosen', '' if before > 0 else 'no differences before')

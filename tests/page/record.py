@@ -1,7 +1,7 @@
 """The record: sums that are copied whole, their codes for the phone, and what is filed of differences and faults."""
 import json
 
-from session import EXAMPLES, SUITE, sha256
+from session import EXAMPLES, ROOT, SUITE, sha256
 
 SMALL = EXAMPLES / 'small-ballot.json'
 COUNTY = [EXAMPLES / ('county.vendor-%s.json' % vendor) for vendor in 'ab']
@@ -20,6 +20,7 @@ def run(session):
     codes(session)
     filed_differences(session)
     filed_faults(session)
+    filed_look_alikes(session)
 
 
 def sums(session):
@@ -64,3 +65,11 @@ def filed_faults(session):
     case = SUITE / 'shape-faults-of-the-whole-first-phase'
     session.judged(case / 'input.json')
     session.equal('record: the faults', session.texts('.filed li'), (case / 'check.txt').read_text(encoding='utf-8').splitlines()[:100])
+
+
+def filed_look_alikes(session):
+    """Two names that look alike are filed with the reason why they differ."""
+    text = SMALL.read_text(encoding='utf-8')
+    session.judged(SMALL, session.file('alike.json', text.replace('"BallotName":"Ann"', '"BallotName":"\u0410nn"')))
+    wanted = json.loads((ROOT / 'web' / 'texts.en.json').read_text(encoding='utf-8'))['alike.letters']
+    session.equal('record: names that look alike', session.texts('.filed li div'), ['“Ann” / “\u0410nn”', wanted])

@@ -6,7 +6,8 @@
 - On the examples, on each damage and on random damaged reports both write the same bytes and tell the same changes.
 - The command writes what it says, and numbers stay as they are.
 
-`steps.py COUNT SEED` tries COUNT damaged reports in place of 500. The verdicts are those of the reference program.
+`steps.py COUNT SEED` tries COUNT damaged reports in place of 500, and `steps.py COUNT SEED agreement` only whether both agree. The verdicts
+are those of the reference program.
 """
 import json
 import pathlib
@@ -340,9 +341,9 @@ def command_cases(name, command):
         yield f'{name}: {words}', (3, b'', True), (status, out, begins in told and told != '')
 
 
-def main(count=500, seed=1):
+def main(count=500, seed=1, part=None):
     dice = random.Random(int(seed))
-    cases = [tables(), words(), numbers(), left_alone(), laws_of_steps(dice), laws_of_examples(dice), commands()]
+    cases = [] if part else [tables(), words(), numbers(), left_alone(), laws_of_steps(dice), laws_of_examples(dice), commands()]
     if NODE:
         cases.append(agreement(int(count), dice))
     else:
@@ -354,7 +355,7 @@ def main(count=500, seed=1):
                 passed += 1
             else:
                 failed += 1
-                print(f'FAILED: {name}: {str(found)[:1500]} is there, and not {str(wanted)[:1500]}')
+                print(f'FAILED  {name}: {str(found)[:1500]} is there, and not {str(wanted)[:1500]}')
     print(f'{passed} passed, {failed} failed')
     return int(failed > 0)
 
