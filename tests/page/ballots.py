@@ -175,6 +175,7 @@ def printed(session):
     session.browser.script('window.print = () => { window.printed = (window.printed ?? 0) + 1; }')
     session.browser.script("[...document.querySelectorAll('#ballots .controls button')].at(-1).click()")
     session.browser.until('return window.printed === 1')
+    session.equal('ballots: all of them are printed', len(session.texts('.print-pages > .ballot')), 4)
     pdf = base64.b64decode(session.browser.command('print'))
     session.said('ballots: printed', '' if pages_of(pdf) >= 4 else '%d pages' % pages_of(pdf))
     session.browser.script("dispatchEvent(new Event('afterprint'))")

@@ -101,6 +101,13 @@ def compared(left, right):
     return erd_reference.first_difference(left, right) or 'same'
 
 
+class Turning(random.Random):
+    """Turns each set round in place of shuffling it."""
+
+    def shuffle(self, x):
+        x.reverse()
+
+
 def laws_of_steps(dice):
     """Each step alone mends what lacks only it, and commutes with rearrangements."""
     for name, (file, damage) in damages.DAMAGES.items():
@@ -113,8 +120,8 @@ def laws_of_steps(dice):
         if name != 'empty-lists':
             yield f'{name}: something was wrong', True, judged(data) != ['accepted']
         yield f'{name}: what was given stays', data, Preparation(data).data
-        for number in range(2):
-            other, _ = Preparation(bytes_of(rearranged(report, dice))).prepare([name])
+        for number, other_dice in enumerate((dice, dice, Turning())):
+            other, _ = Preparation(bytes_of(rearranged(report, other_dice))).prepare([name])
             yield f'{name}: rearrangement {number + 1}', 'same', compared(prepared, other)
     yield 'each step is tried', sorted(ALL[1:]), sorted(damages.DAMAGES)
 
@@ -162,6 +169,11 @@ def numbers():
     yield 'the mark alone', twice[3:], Preparation(twice).prepare(['byte-order-mark'])[0]
     yield 'no step, no change', twice, Preparation(twice).prepare([])[0]
     yield 'lines stay lines', b'{\n "a": 2\n}\n', Preparation(b'{"a":\n2,"b":null}').prepare(['nulls'])[0]
+
+
+# What a number becomes where a step writes it.
+NUMBERS_WRITTEN = ['{"@type":"ElectionResults.ElectionReport","SequenceStart":"%s","Carried":%s}' % (text, text + '.0')
+                   for text in ('-0', '0', '-1', '18446744073709551615', '18446744073709551616', '-9223372036854775808', '-9223372036854775809')]
 
 
 # ---- damaged reports
@@ -266,6 +278,11 @@ def agreement(count, dice):
     cases = [(name, data, names) for name, data in EXPORTS.items() for names in (ALL, steps_of('taken'), [])]
     cases += [(why, data, ALL) for _, why, data in LEFT]
     cases += [(name, damaged_so(damage, file), ALL) for name, (file, damage) in {**damages.DAMAGES, **damages.OTHERS}.items()]
+    for name, (file, damage) in damages.DAMAGES.items():
+        report = json.loads((EXAMPLES / file).read_text(encoding='utf-8'))
+        damage(report)
+        cases += [(f'{name} alone', bytes_of(report), [name]), (f'{name} turned round', bytes_of(rearranged(report, Turning())), [name])]
+    cases += [(f'numbers {text}', text.encode(), ALL) for text in NUMBERS_WRITTEN]
     cases += [(f'damaged report {number + 1}', damaged(dice, reports), dice.sample(ALL, dice.choice([len(ALL), dice.randrange(len(ALL))])))
               for number in range(count)]
     with tempfile.TemporaryDirectory() as folder:
