@@ -24,7 +24,7 @@ LISTS = TOP / 'tests' / 'bodies' / 'wrong_lines'
 LINKED = ('examples', 'crates.txt', 'third_party')
 # Crates that are compiled anew, and those that a line changes, have folders of their own there.
 COMPILED = ('erd', 'erd_c', 'erd_program')
-CHANGED = ('erd_index', 'erd_meaning')
+CHANGED = ('erd_canon', 'erd_index', 'erd_meaning')
 MADE = ('erd', 'out/c', 'out/conformance', 'out/conformance.made', 'out/portable/erd.wasm', 'out/portable/linux-x86_64')
 
 
@@ -120,7 +120,7 @@ class Copy:
                 (self.top / 'crates' / path.name / 'out').mkdir()
             else:
                 (self.top / 'crates' / path.name).symlink_to(path)
-        for name in ('erd_c/out/liberd_c.a', 'erd_program/out/rlib'):
+        for name in ('erd_c/out/liberd_c.a', 'erd_c/out/module.bc', 'erd_c/out/module.bc.of', 'erd_program/out/rlib'):
             made, target = TOP / 'crates' / name, self.top / 'crates' / name
             if made.is_dir():
                 shutil.copytree(made, target)
@@ -149,13 +149,16 @@ class Copy:
                               stderr=subprocess.STDOUT, text=True, errors='replace', env={**os.environ, **more})
 
     def failures(self, wanted, cases=()):
-        """Builds what the list says, runs its script, and returns the lines that say that one of the cases failed."""
+        """Builds what the list says, runs its script, and returns the lines that say that one of the cases failed; or one line where
+        the script fails without such a line."""
         built = self.run(wanted.build)
         if built.returncode:
             raise BadList(f'not built: {built.stdout[-500:]}')
-        said = self.run(wanted.script, cases).stdout.splitlines()
+        ran = self.run(wanted.script, cases)
+        said = ran.stdout.splitlines()
         self.skipped = next((text for text in said if text.startswith('skipped')), None)
-        return [text for text in said if text.startswith('FAILED')]
+        broken = [f'FAILED  it ended with status {ran.returncode}: {said[-1] if said else ""}'] if ran.returncode else []
+        return [text for text in said if text.startswith('FAILED')] or broken
 
 
 class Trial:

@@ -139,6 +139,9 @@ if [ -x erd ]; then
     as_program check --prefer=
     as_program check --prefer a --prefer b "$one"
     as_program check --prefer=local-level "$one"
+    shared=out/conformance/prefer-accepted-under-a-preference
+    run "$erd" check "--prefer=$(cat "$shared/prefer")" "$shared/input.json"
+    expect_text 'as the program: check with a preference in one word' 0 accepted
     as_program check "$one" --prefer local-level
     as_program compare "$one" --nosuch
     as_program check -- -a
