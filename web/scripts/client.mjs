@@ -37,6 +37,16 @@ export class Client {
         });
     }
 
+    /** A client with a worker of its own, which has had the same first question. */
+    another() {
+        return new Client(this.#makeWorker, this.#start);
+    }
+
+    /** Ends the worker, and begins no other one: what it was asked is never answered. */
+    leave() {
+        this.#worker.terminate();
+    }
+
     /** Begins anew with another first question. */
     restart(start) {
         this.#start = start;

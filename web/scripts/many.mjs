@@ -1,4 +1,5 @@
 // Many files at once: a table of verdicts, in which files that mean the same are of one group. Any two can be compared.
+import { MOST_BYTES } from '../../bindings/js/lib/calls.mjs';
 import { csvOf } from './csv.mjs';
 import { button, element, save, theirs } from './dom.mjs';
 import { sizeText } from './record.mjs';
@@ -26,18 +27,37 @@ export class ManyFiles {
         this.sorted = { column: 0, falling: false };
     }
 
-    /** Judges each file, one after another, and shows what is known. */
+    /** Judges each file, as many at a time as there are workers, and shows what is known. */
     async judge(prefer, tell, isCurrent) {
-        for (const [index, row] of this.rows.entries()) {
-            tell({ stage: 'survey', name: row.name, done: index, total: this.rows.length });
-            Object.assign(row, await this.client.ask('survey', { file: row.file, prefer }));
-            if (!isCurrent()) {
-                return;
-            }
+        const clients = [this.client, ...Array.from({ length: this.workers() - 1 }, () => this.client.another())];
+        const rows = this.rows.values();
+        let done = 0;
+        try {
+            await Promise.all(clients.map(async (client) => {
+                for (const row of rows) {
+                    tell({ stage: 'survey', name: row.name, done, total: this.rows.length });
+                    Object.assign(row, await client.ask('survey', { file: row.file, prefer }));
+                    done++;
+                    if (!isCurrent()) {
+                        return;
+                    }
+                }
+            }));
+        } finally {
+            clients.slice(1).forEach((client) => client.leave());
+        }
+        if (!isCurrent()) {
+            return;
         }
         this.group();
         this.show();
         this.say(this.summary());
+    }
+
+    // One worker for each processor, but no more than that their files together are as large as one file may be.
+    workers() {
+        const largest = this.rows.reduce((most, { size }) => Math.max(most, size), 1);
+        return Math.max(1, Math.min(navigator.hardwareConcurrency ?? 1, this.rows.length, Math.floor(MOST_BYTES / largest)));
     }
 
     // Files with one canonical form are of one group. Groups are counted from the largest one on.

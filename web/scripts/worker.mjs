@@ -14,13 +14,14 @@ const QUESTIONS = ['sums', 'list', 'more', 'types', 'languages', 'styles', 'ball
 const ANSWERS = {
     async start({ wasm, texts, language, seen }) {
         useTexts(texts, language);
-        started = { module: await WebAssembly.compile(wasm), seen };
+        const module = await WebAssembly.compile(wasm);
+        started = { module, seen, erd: new Erd(module) };
     },
     open({ files, prefer }) {
         judgement = new Judgement(new Erd(started.module), files, prefer, started.seen);
     },
     verdict: (_question, tell) => judged(tell),
-    survey: ({ file, prefer }) => surveyed(new Erd(started.module), file, prefer),
+    survey: ({ file, prefer }) => surveyed(started.erd, file, prefer),
 };
 
 function judged(tell) {

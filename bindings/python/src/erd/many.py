@@ -13,7 +13,6 @@ import csv
 import json
 import os
 import sys
-from dataclasses import asdict
 from functools import partial
 from pathlib import Path
 from typing import Dict, Iterable, Iterator, List, Optional, TextIO
@@ -44,7 +43,7 @@ def grouped(rows: Iterable[Row]) -> List[Row]:
 
 def shown(text: str) -> str:
     """Returns a file's name with no character that could change what a terminal shows."""
-    return ''.join(it if it.isprintable() else f'\\u{{{ord(it):x}}}' for it in text)
+    return text if text.isprintable() else ''.join(it if it.isprintable() else f'\\u{{{ord(it):x}}}' for it in text)
 
 
 def were_prepared(rows: List[Row]) -> bool:
@@ -70,7 +69,7 @@ def write_table(rows: List[Row], out: TextIO) -> None:
 def write_json(rows: List[Row], out: TextIO) -> None:
     """Writes the rows as a JSON array."""
     left_out = () if were_prepared(rows) else ('prepared',)
-    json.dump([{name: value for name, value in asdict(row).items() if name not in left_out} for row in rows], out, indent=1)
+    json.dump([{name: value for name, value in vars(row).items() if name not in left_out} for row in rows], out, indent=1)
     out.write('\n')
 
 
@@ -84,7 +83,7 @@ def write_csv(rows: List[Row], out: TextIO) -> None:
     names = ['file', 'verdict', 'faults', 'sha256', 'group', *(['prepared'] if were_prepared(rows) else [])]
     writer = csv.DictWriter(out, names, lineterminator='\n', extrasaction='ignore')
     writer.writeheader()
-    writer.writerows({**asdict(row), 'file': no_formula(row.file), 'verdict': no_formula(row.verdict)} for row in rows)
+    writer.writerows({**vars(row), 'file': no_formula(row.file), 'verdict': no_formula(row.verdict)} for row in rows)
 
 
 class Progress:
@@ -148,7 +147,7 @@ def rows_of(words: argparse.Namespace, files: List[str], journal: Journal) -> It
     else:
         rows = run_here(words.jobs, judged, left, words.prefer)
     for row in rows:
-        journal.add(asdict(row))
+        journal.add(vars(row))
         yield row
 
 
