@@ -25,6 +25,14 @@ stopped 'a folder on the left' 'read failed' compare examples "$one"
 stopped 'a folder on the right' 'read failed' compare "$one" examples
 stopped 'no JSON on the left, and a folder on the right' 'read failed' compare tests/shared/refuse.c examples
 
+# The file that is named is the one that is opened.
+call canon "$one"
+expect 'the form of a named file' 0 "$canonical" ''
+call compare "$one" "$canonical"
+expect_text 'a named file and its form' 0 $'same\n' ''
+call compare "$canonical" "$one"
+expect_text 'a form and the named file' 0 $'same\n' ''
+
 # One file on both sides, which is read twice.
 sed 's/pre-election/certified/; s/"VotesAllowed":1/"VotesAllowed":1.5/' "$small" > "$work/refused"
 call compare "$work/refused" "$work/refused"
