@@ -1,6 +1,7 @@
-"""Holds the blocks of the pages against where they come from: contracts and definitions against the sources, and edits, wrong lines
-and cases against their files. Names of the code that pages for developers cite are in the sources. Each session and each JSON
-example stands on a page that another test runs. One line a case that fails, and at the end the counts.
+"""Holds the blocks of the pages against where they come from: contracts and definitions against the sources, and edits, wrong
+lines and cases against their files. Names of the code that pages for developers cite are in the sources, and make knows what
+pages ask of it. Each session and each JSON example stands on a page that another test runs. One line a case that fails, and at
+the end the counts.
 """
 
 import pathlib
@@ -83,6 +84,15 @@ def cited():
         yield f'{page}: the names that no source has', [], sorted(names - words - {'minimize_crash'})
 
 
+def made():
+    """Each `make` of a page is a target of the Makefile."""
+    targets = set(re.findall(r'^([a-z][a-z-]*):', read('Makefile'), re.M))
+    for page in pages():
+        codes = [text for _, text in blocks(page)] + re.findall(r'`([^`\n]+)`', read(page))
+        names = {name for code in codes for name in re.findall(r'^(?:sudo )?make ([a-z][a-z-]*)', code, re.M)}
+        yield f'{page}: what make does not know', [], sorted(names - targets)
+
+
 def run_elsewhere():
     """No page has a session or a JSON example that is not run, and of docs/FIXES.md each JSON block is one that is."""
     for word, wanted in RUN.items():
@@ -97,7 +107,7 @@ def run_elsewhere():
 
 def main():
     passed = failed = 0
-    for name, wanted, found in [*quoted(), *cited(), *run_elsewhere()]:
+    for name, wanted, found in [*quoted(), *cited(), *made(), *run_elsewhere()]:
         if wanted == found:
             passed += 1
         else:
