@@ -83,11 +83,11 @@ fuzz: library
 	$(call needs,python3)
 	@MINUTES=$(MINUTES) tests/fuzz/fuzz.sh
 
-# Everything in quotes, since a prefix may have a blank.
+# PROGRAM=.. is the file that is installed, in place of ./erd. Everything in quotes, since a prefix may have a blank.
 install: erd
 	install -d "$(DESTDIR)$(bindir)" "$(DESTDIR)$(mandir)/man1" "$(DESTDIR)$(bash_completions)" "$(DESTDIR)$(zsh_completions)" \
 	    "$(DESTDIR)$(fish_completions)" "$(DESTDIR)$(docdir)/docs" "$(DESTDIR)$(docdir)/examples" "$(DESTDIR)$(docdir)/contrib"
-	$(INSTALL_PROGRAM) erd "$(DESTDIR)$(bindir)/erd"
+	$(INSTALL_PROGRAM) "$(or $(PROGRAM),erd)" "$(DESTDIR)$(bindir)/erd"
 	$(INSTALL_DATA) docs/erd.1 "$(DESTDIR)$(mandir)/man1/erd.1"
 	$(INSTALL_DATA) $(DOCUMENTS) "$(DESTDIR)$(docdir)"
 	$(INSTALL_DATA) $(PAGES) "$(DESTDIR)$(docdir)/docs"
@@ -143,10 +143,10 @@ javascript: library
 	@packaging/portable/wasm.sh
 	@packaging/portable/javascript.sh
 
-# The program once more, laid out by a profile: out/profiled/erd.
+# The program as a release has it, compiled once more with a profile: out/profiled/erd.
 profiled: erd
 	$(call needs,rt)
-	@packaging/profiled.sh
+	@packaging/profiled.sh erd
 
 same: erd library
 	@tests/forms/same_bytes.sh

@@ -1,5 +1,6 @@
 #!/usr/bin/env bash
-# Makes the Debian package of the built program, out/erd_VERSION_ARCHITECTURE.deb. MAINTAINER names who hands it on.
+# Makes the Debian package of the program, compiled with the profile: out/erd_VERSION_ARCHITECTURE.deb. MAINTAINER names who hands it
+# on.
 set -eu
 cd "$(dirname "$0")/.."
 . packaging/version.sh
@@ -10,7 +11,8 @@ trap 'rm -rf "$work"' EXIT
 root=$work/root
 documents=$root/usr/share/doc/erd
 
-make --no-print-directory -s install PREFIX=/usr DESTDIR="$root"
+program=$(packaging/profiled.sh erd)
+make --no-print-directory -s install PREFIX=/usr DESTDIR="$root" PROGRAM="$program"
 
 # Debian has the licenses in `copyright`, and the changelogs and manual pages compressed.
 rm "$documents"/LICENSE-* "$documents/THIRD-PARTY-NOTICES"

@@ -1,13 +1,39 @@
 #!/usr/bin/env bash
-# Makes out/profiled/erd: the proved code of ./erd once more, which clang lays out and inlines by the counts of
-# packaging/profile/erd.proftext. It answers as ./erd does, and takes fewer instructions. It says how many functions these counts do
-# not fit, since they are newer: they are compiled as without a profile.
+# Prints the path of the program or of the C library of a release: the proved code of ./erd, or of out/c/liberd.a, compiled once more
+# with the profile of packaging/profile/erd.proftext. The profile steers how clang lays out and inlines the code, and no more. It
+# makes the file where that is older than what it is made of, and tells on standard error how many functions are newer than the
+# profile: they are compiled as without one. With PROFILE=no, for a machine without llvm-profdata, it prints the path of the plain
+# file, and says so.
+#
+# usage: profiled.sh erd|liberd.a
 set -eu
 cd "$(dirname "$0")/.."
+name=${1?erd or liberd.a}
+case $name in
+erd) crate=erd plain=erd ;;
+liberd.a) crate=erd_c plain=out/c/liberd.a ;;
+*) echo "$0: $name is neither erd nor liberd.a" >&2; exit 1 ;;
+esac
+made=out/profiled/$name
+warnings=out/profiled/$name.warnings
+
+if [ "${PROFILE:-}" = no ]; then
+    echo "$plain is handed on as it is: PROFILE=no, so it is compiled without a profile" >&2
+    echo "$plain"
+    exit
+fi
 mkdir -p out/profiled
 flags=$(packaging/profile/flags.sh)
-mapfile -t words <<< "$flags"
-packaging/compile.sh erd "${words[@]}" > out/profiled.log 2>&1 || { tail -n 20 out/profiled.log >&2; exit 1; }
-cp crates/erd/out/flagged/erd out/profiled/erd
-newer=$(grep -c '^warning: .*\[-Wbackend-plugin\]$' crates/erd/out/flagged/warnings || true)
-echo "out/profiled/erd ($newer functions are newer than the profile; packaging/profile/make.sh makes it anew)"
+if ! sha256sum --status --check "$made.of" 2> /dev/null; then
+    packaging/compile.sh "$crate" "$flags" -Wno-error=backend-plugin -mllvm -pgo-warn-missing-function > "$made.log" 2>&1 \
+        || { tail -n 20 "$made.log" >&2; exit 1; }
+    cp "crates/$crate/out/flagged/warnings" "$warnings"
+    case $name in
+    erd) cp crates/erd/out/flagged/erd "$made" ;;
+    liberd.a) packaging/static_library.sh crates/erd_c/out/flagged/liberd_c.a "$made" ;;
+    esac
+    sha256sum "$made" "$plain" packaging/profile/erd.proftext > "$made.of"
+fi
+echo "$made: $(grep -c '^warning: .*\[-Wbackend-plugin\]$' "$warnings") functions are newer than the profile;" \
+    'packaging/profile/make.sh makes it anew' >&2
+echo "$made"

@@ -61,6 +61,9 @@ edits() {
     lane "${steps[@]}"
 }
 
+# Without llvm-profdata, what is handed on is made without a profile, and tests/forms/profiled_program.sh says so.
+packaging/profile/flags.sh > /dev/null 2>&1 || export PROFILE=no
+
 # What `rt ci` has proved, compiled and run is what the scripts run, so nothing older may stand there.
 rm -f "$program" "$tests"
 lane 'tests/prove.sh'
@@ -85,8 +88,9 @@ lane 'proved: erd_canon' 'tests/library/c_library.sh' 'tests/fuzz/fuzz.sh' 'prog
 lane 'program:' 'tests/program/command.sh' 'tests/pages/manual.sh' 'python3 tests/pages/examples.py' 'tests/program/contrib.sh' \
     'python3 tests/program/agrees_with_reference.py 500' 'python3 tests/program/same_meaning.py' \
     'python3 tests/program/agrees_on_preferences.py' 'conformance/run ./erd' 'tests/program/limits.sh' 'tests/program/confined.sh' \
-    'tests/forms/make_install.sh' 'python3 tests/measures/instructions.py' 'python3 tests/measures/crowding.py' \
-    'ended: tests/library/c_library.sh' 'tests/forms/profiled_program.sh' 'tests/forms/same_bytes.sh' 'tests:' 'tests/program/refusals.sh'
+    'tests/forms/make_install.sh' 'python3 tests/measures/crowding.py' 'ended: tests/library/c_library.sh' \
+    'tests/forms/profiled_program.sh' 'python3 tests/measures/instructions.py' 'tests/forms/same_bytes.sh' 'tests:' \
+    'tests/program/refusals.sh'
 
 follow
 await

@@ -55,3 +55,12 @@ proved_for() {
         exit 1
     fi
 }
+
+# take_profile: leaves in $profile the flags of clang by which proved code is compiled with the profile. clang would warn of each
+# function that the profile does not have; packaging/profiled.sh counts them.
+take_profile() {
+    local flags
+    flags=$(packaging/profile/flags.sh)
+    profile=()
+    [ -z "$flags" ] || profile=("$flags" -Wno-backend-plugin)
+}

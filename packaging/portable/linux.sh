@@ -1,7 +1,7 @@
 #!/usr/bin/env bash
 # Makes the library for Linux on a processor, x86_64 or aarch64: out/portable/linux-PROCESSOR, a folder with liberd.so and its
-# real name, liberd.a, erd.h and erd.pc. x86_64 has the code of out/c/liberd.a as it is; aarch64 has the same LLVM module
-# compiled for it, and needs Debian's packages gcc-aarch64-linux-gnu and libc6-dev-arm64-cross.
+# real name, liberd.a, erd.h and erd.pc. x86_64 has the code of out/c/liberd.a, compiled with the profile; aarch64 has the same LLVM
+# module compiled for it, and needs Debian's packages gcc-aarch64-linux-gnu and libc6-dev-arm64-cross.
 set -eu
 cd "$(dirname "$0")/../.."
 . packaging/portable/common.sh
@@ -13,7 +13,7 @@ folder=$made/linux-$processor
 case $processor in
 x86_64)
     linker=${CC:-cc}
-    archive=out/c/liberd.a
+    archive=$(packaging/profiled.sh liberd.a)
     ;;
 aarch64)
     linker=aarch64-linux-gnu-gcc
@@ -21,8 +21,10 @@ aarch64)
     archive=$parts/aarch64.a
     objects=()
     proved_for aarch64 "$parts/proved_aarch64.ll"
+    take_profile
     for part in proved_aarch64 calls heap; do
-        llvm clang --target=aarch64-linux-gnu -O3 -fPIC -Wno-override-module -x ir -c "$parts/$part.ll" -o "$parts/$part.aarch64.o"
+        llvm clang --target=aarch64-linux-gnu -O3 -fPIC -Wno-override-module "${profile[@]}" -x ir -c "$parts/$part.ll" \
+            -o "$parts/$part.aarch64.o"
         objects+=("$parts/$part.aarch64.o")
     done
     rm -f "$archive"

@@ -13,8 +13,9 @@ needed binutils-mingw-w64-x86-64 x86_64-w64-mingw32-windres
 folder=$made/windows-x86_64
 
 objects=()
+take_profile
 for part in proved calls heap; do
-    llvm clang --target=x86_64-w64-windows-gnu -march=x86-64-v2 -O3 -Wno-override-module -x ir -c "$parts/$part.ll" \
+    llvm clang --target=x86_64-w64-windows-gnu -march=x86-64-v2 -O3 -Wno-override-module "${profile[@]}" -x ir -c "$parts/$part.ll" \
         -o "$parts/$part.windows.o"
     objects+=("$parts/$part.windows.o")
 done

@@ -4,4 +4,7 @@ reports=tests/reports
 compiler=$(dirname "$(rt doc)")/toolchain/bin/clang
 major=$("$compiler" -dumpversion | cut -d . -f 1)
 profdata=llvm-profdata-$major
-command -v "$profdata" > /dev/null || { echo "$0: there is no $profdata: install the package llvm-$major" >&2; exit 1; }
+command -v "$profdata" > /dev/null || {
+    echo "$0: there is no $profdata: install the package llvm-$major, or say PROFILE=no to compile without a profile" >&2
+    exit 1
+}

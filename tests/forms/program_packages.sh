@@ -25,6 +25,7 @@ installing() {
 
 run make --no-print-directory deb tarball
 expect 'make deb tarball' 0
+program=$(packaging/profiled.sh erd 2> /dev/null)
 
 mkdir "$work/first"
 cp "out/$package" "out/$tarball.tar.gz" "$work/first"
@@ -35,7 +36,7 @@ same_bytes 'the tarball has the same bytes again' "out/$tarball.tar.gz" "$work/f
 # The package.
 equal 'the name of the package' "$(field Package)" erd
 equal 'the version of the package' "$(field Version)" "$version-1"
-linked=$(ldd erd | sed -n 's/.* => \(\/[^ ]*\) .*/\1/p')
+linked=$(ldd "$program" | sed -n 's/.* => \(\/[^ ]*\) .*/\1/p')
 why=''
 for library in $linked; do
     owner=$(dpkg --search "*/$(basename "$library")" 2> /dev/null | sed -n 's/^\([^:]*\):.*/\1/p' | sort -u)
@@ -60,7 +61,7 @@ installing --install "out/$package"
 expect 'dpkg installs it into an empty root' 0
 equal 'dpkg knows it there' "$(dpkg-query --admindir="$work/root/var/lib/dpkg" -W -f '${db:Status-Status}' erd)" installed
 usr=$work/root/usr
-same_bytes 'the program is the one that was built' "$usr/bin/erd" erd
+same_bytes 'the program is the one with the profile' "$usr/bin/erd" "$program"
 works 'from the package' "$usr/bin/erd" "$usr/share/doc/erd/examples"
 same_bytes 'the manual page' docs/erd.1 <(gzip -dc "$usr/share/man/man1/erd.1.gz")
 same_bytes 'the changelog' CHANGELOG.md <(gzip -dc "$usr/share/doc/erd/changelog.gz")

@@ -63,10 +63,11 @@ expect_text 'the bill of materials' 0 ''
 
 # The same in another folder. What is proved and compiled here serves there.
 copy=$work/another/folder
-mkdir -p "$copy/crates/erd_c/out" "$copy/out/c"
+mkdir -p "$copy/crates/erd_c/out" "$copy/out/c" "$copy/out/profiled"
 tar --create --exclude=./.git --exclude=./out --exclude=./crates --exclude=node_modules . | tar --extract --directory "$copy"
 cp -p crates/erd_c/out/liberd_c.a crates/erd_c/out/module.bc crates/erd_c/out/module.bc.of "$copy/crates/erd_c/out"
 cp -p out/c/* "$copy/out/c"
+[ "${PROFILE:-}" = no ] || cp -p out/profiled/* "$copy/out/profiled"
 run "$copy/packaging/release.sh"
 expect 'a release in another folder' 0
 for file in "$release"/*; do

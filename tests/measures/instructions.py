@@ -1,7 +1,11 @@
-"""Counts the instructions of `check`, `canon` and `compare` on a county, over those of a read and write of the left report, and holds
-them against the table of docs/PERFORMANCE.md: a ratio that is more than 3 % above that of the page has failed. Neither the machine nor
-other work on it changes these counts. With `--write` it puts the figures that it finds into the table, and with `--original` it
-counts those of the original serde_json too. Needs valgrind, `./erd`, and `crates/round_trip` built. One line a case.
+"""Counts the instructions of each command on a county, over those of a read and write of the left report, and holds them against the
+table of docs/PERFORMANCE.md: a ratio that is more than 3 % above that of the page has failed. It counts the program of a release too,
+where out/profiled/erd is there, and this has failed where all of its runs together take more than 98 % of those of `./erd`: a new
+profile gains far more, but each change of the code takes something of that. Neither the machine nor other work on it changes these
+counts.
+
+With `--write` it puts the figures that it finds into the table, and with `--original` it counts those of the original serde_json too.
+Needs valgrind, `./erd`, and `crates/round_trip` built. One line a case.
 """
 import os
 import pathlib
@@ -14,10 +18,18 @@ import tempfile
 from measuring import ROUND_TRIP, instructions, original
 
 PAGE = pathlib.Path("docs/PERFORMANCE.md")
+PLAIN, RELEASED = "./erd", "out/profiled/erd"
 STYLES = "100"
-MOST = 1.03
+MOST, MOST_OF_PLAIN = 1.03, 0.98
 UNIT = "`serde_json`, read and written"
-ROW = r"^\| (?P<name>%s) \| [\d.]+ \| (?P<ratio>[\d.]+) \|$"
+ROW = r"^\| (?P<name>%s) \| (?P<count>[\d.]+) \| (?P<ratio>[\d.]+) \| (?P<released>[\d.]+) \| (?P<released_ratio>[\d.]+) \|$"
+
+# What makes an accepted county a refused one: a text that stands in it, and what takes its place there.
+FAULTS = {
+    "an unresolved reference": ('"PartyId": "party-0"', '"PartyId": "nobody"'),
+    "a fault of the shape": ('"VotesAllowed": 1', '"VotesAllowed": 1.5'),
+    "a key twice": ('"Value": "P00001"', '"Value": "P00000"'),
+}
 
 
 def reports(folder):
@@ -29,13 +41,30 @@ def reports(folder):
     return paths
 
 
-def counted(folder):
-    """The instructions of each program, by the name that it has on the page."""
+def refused(accepted, fault):
+    """The path of the report with this fault."""
+    old, new = FAULTS[fault]
+    text = pathlib.Path(accepted).read_text(encoding="utf-8")
+    if old not in text:
+        sys.exit("the county has no %s" % old)
+    path = pathlib.Path(accepted + "." + old.split('"')[1])
+    path.write_text(text.replace(old, new, 1), encoding="utf-8")
+    return str(path)
+
+
+def runs(folder):
+    """The runs that are counted, by the name that each has on the page: the words after the program, and the exit status."""
     left, right = reports(folder)
-    found = {UNIT: instructions([ROUND_TRIP], left)}
-    for words in (["check", left], ["canon", left], ["compare", left, right]):
-        found["`erd %s`" % words[0]] = instructions(["./erd"] + words)
+    found = {"`erd check`": (["check", left], 0), "`erd canon`": (["canon", left], 0), "`erd compare`": (["compare", left, right], 0),
+             "`erd compare`, a file with itself": (["compare", left, left], 0)}
+    for fault in FAULTS:
+        found["`erd check`, %s" % fault] = (["check", refused(left, fault)], 1)
     return found
+
+
+def counted(folder, program):
+    """The instructions of each run of the program."""
+    return {name: instructions([program] + words, statuses=(status,)) for name, (words, status) in runs(folder).items()}
 
 
 def row_of(name, text):
@@ -45,25 +74,34 @@ def row_of(name, text):
     return row
 
 
-def write(found):
+def write(unit, plain, released):
     text = PAGE.read_text(encoding="utf-8")
-    for name, count in found.items():
+    for name, count in {UNIT: unit, **plain}.items():
         row = row_of(name, text)
-        text = text[:row.start()] + "| %s | %.2f | %.3f |" % (name, count / 1e6, count / found[UNIT]) + text[row.end():]
+        of_release = released.get(name, unit if name == UNIT else float(row["released"]) * 1e6)
+        cells = "%.2f | %.3f | %.2f | %.3f" % (count / 1e6, count / unit, of_release / 1e6, of_release / unit)
+        text = text[:row.start()] + "| %s | %s |" % (name, cells) + text[row.end():]
     PAGE.write_text(text, encoding="utf-8")
 
 
-def held(found):
-    """How many ratios are too large."""
-    text, failed = PAGE.read_text(encoding="utf-8"), 0
-    for name, count in found.items():
-        ratio, wanted = count / found[UNIT], float(row_of(name, text)["ratio"])
-        is_held = ratio <= MOST * wanted
-        failed += not is_held
-        words = "%s: %.2f million instructions, %.3f times those of a read and write; the page has %.3f" % (name, count / 1e6, ratio, wanted)
-        print(("ok      " if is_held else "FAILED  ") + words)
-    print("%d passed, %d failed" % (len(found) - failed, failed))
-    return failed
+def told(is_held, words):
+    print(("ok      " if is_held else "FAILED  ") + words)
+    return is_held
+
+
+def held(unit, plain, released):
+    """For each case, whether its count is held."""
+    text = PAGE.read_text(encoding="utf-8")
+    for name, count in {UNIT: unit, **plain}.items():
+        wanted = float(row_of(name, text)["ratio"])
+        yield told(count / unit <= MOST * wanted, "%s: %.2f million instructions, %.3f times those of a read and write; the page has %.3f"
+                   % (name, count / 1e6, count / unit, wanted))
+    for name, count in released.items():
+        print("        %s, as released: %.2f million instructions, %.3f times those of a read and write, %.1f %% of those of ./erd"
+              % (name, count / 1e6, count / unit, 100 * count / plain[name]))
+    if released:
+        part = sum(released.values()) / sum(plain.values())
+        yield told(part <= MOST_OF_PLAIN, "the program of a release takes %.1f %% of the instructions of ./erd" % (100 * part))
 
 
 def main():
@@ -72,13 +110,19 @@ def main():
         print("0 passed, 0 failed")
         return 0
     with tempfile.TemporaryDirectory() as folder:
-        found = counted(folder)
+        unit = instructions([ROUND_TRIP], reports(folder)[0])
+        plain = counted(folder, PLAIN)
+        released = counted(folder, RELEASED) if os.path.exists(RELEASED) else {}
         reader = original(folder) if "--original" in sys.argv else None
         if reader:
-            print("the original's read and write: %.3f" % (instructions([reader], os.path.join(folder, "a")) / found[UNIT]))
+            print("the original's read and write: %.3f" % (instructions([reader], os.path.join(folder, "a")) / unit))
+    if not released:
+        print("skipped the program of a release: there is no %s; make profiled makes it" % RELEASED)
     if "--write" in sys.argv:
-        write(found)
-    return 1 if held(found) else 0
+        write(unit, plain, released)
+    cases = list(held(unit, plain, released))
+    print("%d passed, %d failed" % (sum(cases), len(cases) - sum(cases)))
+    return 0 if all(cases) else 1
 
 
 if __name__ == "__main__":

@@ -3,6 +3,7 @@
 
 usage: agrees_with_reference.py COUNT [SEED]
 
+ERD names the program, if it is not the `erd` of this folder.
 It also tries an input of as many bytes as may be read, and of one more.
 Each report is an example with some random edits: renamed identifiers, shuffled arrays and members, further elections, and
 edits that change the meaning or make a fault. The right report of a pair is the left one with further edits. At a
@@ -10,6 +11,7 @@ difference it prints the smallest input that it finds and both answers.
 """
 import copy
 import json
+import os
 import pathlib
 import random
 import subprocess
@@ -22,6 +24,7 @@ sys.dont_write_bytecode = True
 import erd_reference  # noqa: E402
 from reports import CLASS, OF_ELECTIONS as HELD, identifier, ids_in, keys_of, places, texts_in  # noqa: E402
 
+PROGRAM = os.environ.get('ERD', str(ROOT / 'erd'))
 EXAMPLES = ['one-unit', 'small-ballot', 'small-ballot', 'small-ballot', 'two-elections.vendor-a', 'two-elections.vendor-b', 'county.vendor-a']
 TYPES = ['local-level', 'fips', 'other', 'zips', 'Fips', 'fips ', 'check', 'two  words', 'a\nb', 'a=b', '\u00e9', 'e\u0301', '\U00010000']
 MOST_BYTES = 67108864
@@ -244,7 +247,7 @@ def damaged(data, dice):
 
 
 def by_erd(command, inputs, prefer, folder):
-    words = [str(ROOT / 'erd')]
+    words = [PROGRAM]
     given = b''
     if command == 'filter':
         given = inputs[0]
@@ -322,7 +325,7 @@ def differs_at_the_limit(folder):
     for size in (MOST_BYTES, MOST_BYTES + 1):
         place.write_bytes(b'x' * size)
         words = ['check', str(place)]
-        programs = [[str(ROOT / 'erd')], [sys.executable, str(ROOT / 'reference' / 'erd_reference.py')]]
+        programs = [[PROGRAM], [sys.executable, str(ROOT / 'reference' / 'erd_reference.py')]]
         erd, reference = (subprocess.run(program + words, capture_output=True, check=False) for program in programs)
         if (erd.returncode, erd.stdout, erd.stderr) != (reference.returncode, reference.stdout, reference.stderr):
             print(f'FAILED: {size} bytes:', f'erd: {erd}', f'reference: {reference}', sep='\n')

@@ -1,8 +1,9 @@
 #!/usr/bin/env bash
-# Runs the built program as a user does, on files, pipes and closed descriptors. One line a case.
+# Runs the built program as a user does, on files, pipes and closed descriptors. ERD names the program, if it is not ./erd. One line
+# a case.
 set -u
 . "$(dirname "$0")/../shared/start.sh" || exit 1
-erd=$PWD/erd
+erd=${ERD:-$PWD/erd}
 . tests/shared/erd_answers.sh
 
 : > "$work/empty"
