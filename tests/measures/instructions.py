@@ -1,5 +1,5 @@
 """Counts the instructions of each command on a county, over those of a read and write of the left report, and holds them against the
-table of docs/PERFORMANCE.md: a ratio that is more than 3 % above that of the page has failed. It counts the program of a release too,
+table of docs/MEASUREMENTS.md: a ratio that is more than 3 % above that of the page has failed. It counts the program of a release too,
 where out/profiled/erd is there, and this has failed where all of its runs together take more than 98 % of those of `./erd`: a new
 profile gains far more, but each change of the code takes something of that. Neither the machine nor other work on it changes these
 counts.
@@ -17,7 +17,7 @@ import tempfile
 
 from measuring import ROUND_TRIP, instructions, original
 
-PAGE = pathlib.Path("docs/PERFORMANCE.md")
+PAGE = pathlib.Path("docs/MEASUREMENTS.md")
 PLAIN, RELEASED = "./erd", "out/profiled/erd"
 STYLES = "100"
 MOST, MOST_OF_PLAIN = 1.03, 0.98

@@ -1,5 +1,5 @@
-"""Measures the built program on realistic reports of four sizes, and prints the tables of docs/COSTS.md and
-docs/PERFORMANCE.md.
+"""Measures the built program on realistic reports of four sizes, and prints the tables of docs/PERFORMANCE.md and
+docs/MEASUREMENTS.md.
 
 tests/reports/county.py makes the reports. Beside `erd` run a proved program that only reads the file by serde_json and writes it again,
 the same in Rust with the original serde_json where Debian's package librust-serde-json-dev and cargo are there, `jq -S -c .` where
