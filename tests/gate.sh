@@ -72,6 +72,7 @@ lane 'python3 tests/pages/definitions.py' 'python3 tests/pages/closures.py' 'pyt
     'python3 tests/pages/documented.py' 'python3 tests/pages/quotes.py' 'tests/pages/commit_message.sh' 'tests/pages/version.sh' 'tests/forms/signed_sums.sh' \
     'python3 tests/bodies/self_test.py' 'tests/bodies/prove_again.sh' 'python3 tests/bodies/wrong_programs.py' \
     'python3 packaging/notices.py' 'python3 tests/pages/site.py' 'python3 tests/prepare/steps.py' \
+    'tests/forms/make_try.sh' \
     'conformance/run --in-process reference/erd_reference.py' \
     'conformance/run --differences --in-process reference/erd_reference.py'
 
