@@ -4,6 +4,7 @@ ghost use Rattle.serde_json.specs.Data.{Data};
 ghost use Rattle.serde_json.specs.View.{view};
 ghost use Rattle.erd_check.specs.Trees.{IsShallow};
 ghost use Rattle.erd_meaning.specs.Records.{meaning};
+ghost use Rattle.erd_normal.specs.SaysTheSame.{SaysTheSame};
 ghost use Rattle.erd_canon.specs.Bytes.{IsTreeOf};
 ghost use Rattle.erd_canon.specs.Refused.{IsSomeReport};
 
@@ -17,12 +18,15 @@ use serde_json::Value;
 use std::alloc::{AllocError, Global};
 use thiserror::Error;
 
-/// Whether two files define the same ballots, by their canonical bytes. Both are accepted reports, and the answer is true if
-/// and only if they mean the same.
+/// Whether two files define the same ballots, by their canonical bytes. Both are accepted reports. The answer is true if and only
+/// if they mean the same, and if and only if they say the same: one is the other but for the texts of identifiers, the order of
+/// the entries of sets, members that may be absent, and the envelope.
 pub fn is_same(alloc: Global, left: &[u8], right: &[u8]) -> Result<bool, Refusal>
     ensures accepted { OnOk result (IsSomeReport None left.now × IsSomeReport None right.now) }
     ensures same { IfOk result (λ same. (t u : Data) → IsTreeOf left.now t → IsTreeOf right.now u
         → IsTrue same ↔ (meaning None t ≡ meaning None u)) }
+    ensures says { IfOk result (λ same. (t u : Data) → IsTreeOf left.now t → IsTreeOf right.now u
+        → IsTrue same ↔ SaysTheSame t u) }
 {
     let left_form = canonical(alloc, left)?;
     let right_form = canonical(alloc, right)?;
