@@ -101,7 +101,8 @@ def letters(words, own):
     """Returns the types of a list such as `<Option<Key>>` without its signs, as the name of an impl has them: of a path the last
     word, and for a pair `Tuple2`. The impl's own lifetimes and types, such as those of `<'a, R: Read>`, are left out."""
     parameters = re.findall(r"[<,] *(\w+)", own or "")
-    words = re.sub(r"\w+::", "", words or "")
+    # the library declares the error of `io` under a name of its own
+    words = re.sub(r"\w+::", "", (words or "").replace("io::Error", "IoError"))
     # the innermost pairs first, so that the types of each can be counted
     while "(" in words:
         words = re.sub(r"\(([^()]*)\)", lambda found: f"Tuple{count_of(found[1])} {found[1]}", words, count=1)

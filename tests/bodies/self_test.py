@@ -146,7 +146,7 @@ CASES = [
     ("a method of a type with types", lambda: function_with("        1"), "a::b::OptionKeySource::read"),
     ("a trait with types in types", lambda: function_with("        3"), "a::b::NumberedEquivalentSalted::equivalent"),
     ("a trait with a pair", lambda: function_with("        4"), "a::b::SoughtNameSoughtTuple2UsizeRankedName::number"),
-    ("a trait with a path", lambda: function_with("        5"), "a::b::WorldFaultFromError::from"),
+    ("a trait with a path", lambda: function_with("        5"), "a::b::WorldFaultFromIoError::from"),
     ("no function", lambda: function_with("use std::fmt;"), None),
     ("a cycle", lambda: edited_functions.cycle_of(SOURCE, "a::b::", "a::b::walk"), "a::b::+walk"),
     ("no cycle", lambda: edited_functions.cycle_of(SOURCE, "a::b::", "a::b::counts"), "a::b::counts"),
