@@ -61,7 +61,7 @@ installing --install "out/$package"
 expect 'dpkg installs it into an empty root' 0
 equal 'dpkg knows it there' "$(dpkg-query --admindir="$work/root/var/lib/dpkg" -W -f '${db:Status-Status}' erd)" installed
 usr=$work/root/usr
-same_bytes 'the program is the one with the profile' "$usr/bin/erd" "$program"
+same_bytes 'the program is the one of a release' "$usr/bin/erd" "$program"
 works 'from the package' "$usr/bin/erd" "$usr/share/doc/erd/examples"
 same_bytes 'the manual page' docs/erd.1 <(gzip -dc "$usr/share/man/man1/erd.1.gz")
 same_bytes 'the changelog' CHANGELOG.md <(gzip -dc "$usr/share/doc/erd/changelog.gz")
