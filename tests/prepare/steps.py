@@ -23,6 +23,7 @@ EXAMPLES = ROOT / 'examples'
 sys.path[:0] = [str(ROOT / folder) for folder in ('bindings/python/src', 'reference', 'tests/reports')]
 sys.dont_write_bytecode = True
 import damages  # noqa: E402
+import small_reports  # noqa: E402
 import erd_reference  # noqa: E402
 from member_table import table_of_page  # noqa: E402
 from exports import rearranged  # noqa: E402
@@ -283,6 +284,7 @@ def agreement(count, dice):
         damage(report)
         cases += [(f'{name} alone', bytes_of(report), [name]), (f'{name} turned round', bytes_of(rearranged(report, Turning())), [name])]
     cases += [(f'numbers {text}', text.encode(), ALL) for text in NUMBERS_WRITTEN]
+    cases += [(f'{name} alone', bytes_of(report), [step]) for name, (step, report) in small_reports.REPORTS.items()]
     cases += [(f'damaged report {number + 1}', damaged(dice, reports), dice.sample(ALL, dice.choice([len(ALL), dice.randrange(len(ALL))])))
               for number in range(count)]
     with tempfile.TemporaryDirectory() as folder:
