@@ -24,6 +24,9 @@ if [ "${PROFILE:-}" = no ]; then
 fi
 mkdir -p out/profiled
 flags=$(packaging/profile/flags.sh)
+# a second call waits for the first one
+exec 9> "$made.lock"
+flock 9
 if ! sha256sum --status --check "$made.of" 2> /dev/null; then
     packaging/compile.sh "$crate" "$flags" -Wno-error=backend-plugin -mllvm -pgo-warn-missing-function > "$made.log" 2>&1 \
         || { tail -n 20 "$made.log" >&2; exit 1; }
