@@ -108,7 +108,7 @@ def filtered(session):
     session.browser.until("return document.querySelector('.style') !== null")
     session.browser.one('#ballot-filter').type('birch')
     session.becomes('ballots: those of a precinct', lambda: len(session.texts('.style')), 1)
-    session.said('ballots: the precinct', '' if 'Birch Hill' in session.text('.style summary') else session.text('.style summary'))
+    session.has('ballots: the precinct', session.text('.style summary'), 'Birch Hill')
     session.browser.one('#ballot-filter').type(' nowhere')
     session.becomes('ballots: those of no precinct', lambda: session.texts('.style'), [])
 

@@ -189,7 +189,7 @@ def refused_texts(session):
         verdict = session.judged(session.file('trouble.json', data))
         session.equal('not JSON: ' + name, verdict, 'Not JSON')
         text = session.text('#result section.card p')
-        session.said('why it is not: ' + name, '' if text.startswith(words) else text)
+        session.said('why it is not: ' + name, '' if text.startswith(words) else text or 'no text')
     path = session.work / 'long.json'
     with open(path, 'wb') as file:
         file.truncate(MOST_BYTES + 1)

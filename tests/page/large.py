@@ -61,7 +61,7 @@ def verdict_first(session):
     session.equal('25 MB twice: the verdict comes while the page is busy',
                   [session.text('#verdict'), session.browser.script('return document.documentElement.dataset.busy')],
                   ['These two files do not say the same', 'yes'])
-    session.said('25 MB twice: the first difference', '' if 'P-94999' in session.text('.sentence') else session.text('.sentence'))
+    session.has('25 MB twice: the first difference', session.text('.sentence'), 'P-94999')
     print('        %s: the verdict on 25 MB twice in %s ms' % (session.browser.name, milliseconds(session)))
     session.click('#cancel')
     session.becomes('25 MB twice: cancelled', lambda: session.text('#stopped'), 'Cancelled. The verdict stands; what would have followed it is not here.')

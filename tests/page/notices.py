@@ -92,7 +92,7 @@ def unused_preference(session):
 def after_election(session):
     """A file of results says so."""
     session.judged(written(session, 'results.json', small(Status='certified')))
-    session.said('after the election', '' if 'its Status is “certified”' in session.text('.banner') else session.text('.banner'))
+    session.has('after the election', session.text('.banner'), 'its Status is “certified”')
 
 
 def seen(session):
@@ -124,8 +124,8 @@ def look_alikes(session):
     left['Election'][0]['Candidate'][0]['BallotName'] = 'Ann'
     session.judged(written(session, 'left.json', left), written(session, 'right.json', report))
     session.equal('look-alikes: the letter is marked', session.texts('#first-difference ~ div tbody:last-child mark'), ['A', '\u0410'])
-    session.said('look-alikes: the reason', '' if 'a letter of another alphabet' in session.text('.alike') else session.text('.alike'))
-    session.said('look-alikes: its explanation', '' if 'looks like a Latin' in session.text('.alike p') else session.text('.alike p'))
+    session.has('look-alikes: the reason', session.text('.alike'), 'a letter of another alphabet')
+    session.has('look-alikes: its explanation', session.text('.alike p'), 'looks like a Latin')
 
 
 def renamed(session):

@@ -36,6 +36,10 @@ class Session:
         """One case: two values are equal."""
         self.said(name, '' if found == wanted else '%r in place of %r' % (found, wanted))
 
+    def has(self, name, text, words):
+        """One case: a text has these words."""
+        self.said(name, '' if words in text else text or 'no text')
+
     def becomes(self, name, tell, wanted, seconds=60):
         """One case: what the page tells becomes this value. What a key or a click brings about may come a moment later."""
         end = time.monotonic() + seconds
