@@ -13,6 +13,7 @@ import { firstLanguage } from '../../web/scripts/languages.mjs';
 import { Meaning } from '../../web/scripts/meaning.mjs';
 import { foundPlaces } from '../../web/scripts/places.mjs';
 import { countsOf } from '../../web/scripts/seen.mjs';
+import { rowsOfDifference } from '../../web/scripts/rows.mjs';
 import { piecesOfBoth } from '../../web/scripts/text_changes.mjs';
 import { say, sayIfKnown } from '../../web/scripts/texts.mjs';
 import { trailOf } from '../../web/scripts/trail.mjs';
@@ -187,6 +188,14 @@ const subtitled = report((_made, election) => { election.Contest[0].BallotSubTit
 equal('a line that is gone', itemsOf(new BallotAnswers([subtitled, meaning]), 'S2')[0][1].at(-1), ['BallotSubTitle', '<removed Full term>']);
 equal('the same ballots', marksOf(new BallotAnswers([meaning, report()]), 'same'), [['local-level S1', ''], ['local-level S2', '']]);
 equal('a ballot with all the words', one.styles({ words: 'east WEST', group: 'all', from: 0, count: 9 }).entries.map(({ code }) => code), ['local-level S1']);
+
+// Two write-in lines that only an identifier tells apart.
+const writeIn = (code) => report((_made, election) => {
+    election.Contest[0].ContestSelection[2].ExternalIdentifier = identified(code);
+    election.BallotStyle[0].OrderedContent[0].OrderedContent[0].OrderedContestSelectionIds = ['cs3'];
+});
+equal('lines that only an identifier tells apart', rowsOfDifference([writeIn('W1'), writeIn('W2')],
+    { part: 'style', key: ['local-level', '', 'S1'], how: 'member', member: 'OrderedContent' }).rows.map(({ same }) => same), [false]);
 
 // ---- causes
 

@@ -18,12 +18,12 @@ export function rowsOfDifference(meanings, { part, key, how, member }) {
     };
 }
 
-// Two values may differ in what the lines for a reader leave out. Then their JSON is shown.
+// Two values may differ in what the lines for a reader leave out. Then their JSON is shown, with keys in place of references.
 function rowsOfMember(meanings, things, member) {
     const [left, right] = things.map((thing, side) => new Values(meanings[side]).ofMember(thing, member));
     const rows = withMoves(aligned(left, right));
     const isTold = rows.some((row) => !row.same) || things.some((thing) => !isThere(thing, member));
-    return isTold ? rows : aligned(...things.map((thing) => jsonLines(thing.object[member])));
+    return isTold ? rows : aligned(...things.map((thing, side) => jsonLines(meanings[side].withKeys(member, thing.object[member]))));
 }
 
 function isThere(thing, member) {
