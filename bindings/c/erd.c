@@ -21,6 +21,20 @@ struct told erd_tell_check_data(const uint8_t *bytes, size_t size, bool prefers,
                                 uint8_t *room, size_t room_size);
 struct told erd_tell_compare_data(const uint8_t *left, size_t left_size, const uint8_t *right, size_t right_size,
                                   bool prefers, const uint8_t *prefer, size_t prefer_size, uint8_t *room, size_t room_size);
+struct wanted {
+    size_t first, most, enough_bytes, told, all;
+    bool prefers;
+};
+struct told erd_tell_check_data_piece(const uint8_t *bytes, size_t size, const uint8_t *prefer, size_t prefer_size,
+                                      struct wanted *wanted, uint8_t *room, size_t room_size);
+struct told erd_tell_canonical_data_piece(const uint8_t *bytes, size_t size, const uint8_t *prefer, size_t prefer_size,
+                                          struct wanted *wanted, uint8_t *room, size_t room_size);
+struct told erd_tell_compare_data_piece(const uint8_t *left, size_t left_size, const uint8_t *right, size_t right_size,
+                                        const uint8_t *prefer, size_t prefer_size, struct wanted *wanted, uint8_t *room,
+                                        size_t room_size);
+struct told erd_tell_differences_data(const uint8_t *left, size_t left_size, const uint8_t *right, size_t right_size,
+                                      const uint8_t *prefer, size_t prefer_size, struct wanted *wanted, uint8_t *room,
+                                      size_t room_size);
 
 enum { MOST_BYTES = 67108864, ROOM_FOR_LINES = 4096 };
 
@@ -29,12 +43,22 @@ struct bytes {
     size_t size;
 };
 
-enum call { CHECK, CANONICAL, COMPARE, CHECK_DATA, COMPARE_DATA };
+enum call {
+    CHECK,
+    CANONICAL,
+    COMPARE,
+    CHECK_DATA,
+    COMPARE_DATA,
+    CHECK_DATA_PIECE,
+    CANONICAL_DATA_PIECE,
+    COMPARE_DATA_PIECE,
+    DIFFERENCES_DATA
+};
 
 struct question {
     enum call call;
     struct bytes left, right, prefer;
-    bool prefers;
+    struct wanted wanted;
 };
 
 static struct bytes bytes_of(const void *at, size_t size) {
@@ -43,30 +67,51 @@ static struct bytes bytes_of(const void *at, size_t size) {
 }
 
 static struct question question_of(enum call call, struct bytes left, struct bytes right, const char *prefer) {
-    return (struct question){call, left, right, bytes_of(prefer, prefer ? strlen(prefer) : 0), prefer != NULL};
+    struct wanted all = {0, SIZE_MAX, SIZE_MAX, 0, 0, prefer != NULL};
+    return (struct question){call, left, right, bytes_of(prefer, prefer ? strlen(prefer) : 0), all};
 }
 
-static struct told ask(const struct question *it, uint8_t *room, size_t room_size) {
+static struct told ask_for_piece(struct question *it, uint8_t *room, size_t room_size) {
+    switch (it->call) {
+    case CHECK_DATA_PIECE:
+        return erd_tell_check_data_piece(it->left.at, it->left.size, it->prefer.at, it->prefer.size, &it->wanted, room,
+                                         room_size);
+    case CANONICAL_DATA_PIECE:
+        return erd_tell_canonical_data_piece(it->left.at, it->left.size, it->prefer.at, it->prefer.size, &it->wanted, room,
+                                             room_size);
+    case COMPARE_DATA_PIECE:
+        return erd_tell_compare_data_piece(it->left.at, it->left.size, it->right.at, it->right.size, it->prefer.at,
+                                           it->prefer.size, &it->wanted, room, room_size);
+    default:
+        return erd_tell_differences_data(it->left.at, it->left.size, it->right.at, it->right.size, it->prefer.at,
+                                         it->prefer.size, &it->wanted, room, room_size);
+    }
+}
+
+static struct told ask(struct question *it, uint8_t *room, size_t room_size) {
+    bool prefers = it->wanted.prefers;
     switch (it->call) {
     case CHECK:
-        return erd_tell_check(it->left.at, it->left.size, it->prefers, it->prefer.at, it->prefer.size, room, room_size);
+        return erd_tell_check(it->left.at, it->left.size, prefers, it->prefer.at, it->prefer.size, room, room_size);
     case CANONICAL:
-        return erd_tell_canonical(it->left.at, it->left.size, it->prefers, it->prefer.at, it->prefer.size, room, room_size);
+        return erd_tell_canonical(it->left.at, it->left.size, prefers, it->prefer.at, it->prefer.size, room, room_size);
     case COMPARE:
-        return erd_tell_compare(it->left.at, it->left.size, it->right.at, it->right.size, it->prefers, it->prefer.at,
+        return erd_tell_compare(it->left.at, it->left.size, it->right.at, it->right.size, prefers, it->prefer.at,
                                 it->prefer.size, room, room_size);
     case CHECK_DATA:
-        return erd_tell_check_data(it->left.at, it->left.size, it->prefers, it->prefer.at, it->prefer.size, room,
+        return erd_tell_check_data(it->left.at, it->left.size, prefers, it->prefer.at, it->prefer.size, room,
                                    room_size);
-    default:
-        return erd_tell_compare_data(it->left.at, it->left.size, it->right.at, it->right.size, it->prefers,
+    case COMPARE_DATA:
+        return erd_tell_compare_data(it->left.at, it->left.size, it->right.at, it->right.size, prefers,
                                      it->prefer.at, it->prefer.size, room, room_size);
+    default:
+        return ask_for_piece(it, room, room_size);
     }
 }
 
 /* Calls with this much room for the text. If that is too little, calls once more with as much room as the text needs. The
  * zero byte behind the text has a byte of its own. */
-static enum erd_outcome answer(const struct question *it, size_t room_size, char **text, size_t *length) {
+static enum erd_outcome answer(struct question *it, size_t room_size, char **text, size_t *length) {
     while (room_size < SIZE_MAX) {
         uint8_t *room = calloc(room_size + 1, 1);
         if (room == NULL)
@@ -89,7 +134,7 @@ static enum erd_outcome answer(const struct question *it, size_t room_size, char
     return ERD_NO_MEMORY;
 }
 
-static enum erd_outcome call(const struct question *it, size_t room_size, char **text, size_t *length) {
+static enum erd_outcome call(struct question *it, size_t room_size, char **text, size_t *length) {
     if (text != NULL)
         *text = NULL;
     if (length != NULL)
@@ -125,6 +170,48 @@ enum erd_outcome erd_compare_data(const void *left, size_t left_size, const void
                                   const char *prefer, char **text, size_t *length) {
     struct question it = question_of(COMPARE_DATA, bytes_of(left, left_size), bytes_of(right, right_size), prefer);
     return call(&it, ROOM_FOR_LINES, text, length);
+}
+
+/* A call for a piece of a list. Without a piece, it asks for the whole list. */
+static enum erd_outcome call_for_piece(struct question *it, size_t room_size, struct erd_piece *piece, char **text,
+                                       size_t *length) {
+    if (piece != NULL) {
+        it->wanted.first = piece->first;
+        it->wanted.most = piece->most;
+        it->wanted.enough_bytes = piece->enough_bytes;
+    }
+    enum erd_outcome outcome = call(it, room_size, text, length);
+    if (piece != NULL) {
+        bool is_told = outcome <= ERD_NOT_JSON;
+        piece->told = is_told ? it->wanted.told : 0;
+        piece->all = is_told ? it->wanted.all : 0;
+    }
+    return outcome;
+}
+
+enum erd_outcome erd_check_data_piece(const void *bytes, size_t size, const char *prefer, struct erd_piece *piece,
+                                      char **text, size_t *length) {
+    struct question it = question_of(CHECK_DATA_PIECE, bytes_of(bytes, size), bytes_of(NULL, 0), prefer);
+    return call_for_piece(&it, ROOM_FOR_LINES, piece, text, length);
+}
+
+enum erd_outcome erd_canonical_data_piece(const void *bytes, size_t size, const char *prefer, struct erd_piece *piece,
+                                          char **text, size_t *length) {
+    struct question it = question_of(CANONICAL_DATA_PIECE, bytes_of(bytes, size), bytes_of(NULL, 0), prefer);
+    return call_for_piece(&it, 2 * size + ROOM_FOR_LINES, piece, text, length);
+}
+
+enum erd_outcome erd_compare_data_piece(const void *left, size_t left_size, const void *right, size_t right_size,
+                                        const char *prefer, struct erd_piece *piece, char **text, size_t *length) {
+    struct question it =
+        question_of(COMPARE_DATA_PIECE, bytes_of(left, left_size), bytes_of(right, right_size), prefer);
+    return call_for_piece(&it, ROOM_FOR_LINES, piece, text, length);
+}
+
+enum erd_outcome erd_differences_data(const void *left, size_t left_size, const void *right, size_t right_size,
+                                      const char *prefer, struct erd_piece *piece, char **text, size_t *length) {
+    struct question it = question_of(DIFFERENCES_DATA, bytes_of(left, left_size), bytes_of(right, right_size), prefer);
+    return call_for_piece(&it, ROOM_FOR_LINES, piece, text, length);
 }
 
 void erd_free(char *text) {

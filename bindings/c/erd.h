@@ -81,6 +81,41 @@ enum erd_outcome erd_check_data(const void *bytes, size_t size, const char *pref
 enum erd_outcome erd_compare_data(const void *left, size_t left_size, const void *right, size_t right_size,
                                   const char *prefer, char **text, size_t *length);
 
+/* Which entries of a list an answer is to have, and what it tells of the list. The list of the faults of a report can be as long
+ * as the square of the report. So a caller that does not trust a report asks for a piece of the list: of the entries behind
+ * `first`, those that come first, until they are `most` or have `enough_bytes` bytes. The next piece begins at `first` + `told`.
+ *
+ * A call leaves `first`, `most` and `enough_bytes` as they are, and sets the others, which are 0 if the answer has no list. */
+struct erd_piece {
+    size_t first;        /* how many entries are left out at the front of the list */
+    size_t most;         /* the most entries that the text may have */
+    size_t enough_bytes; /* no entry begins once those before it in the text have so many bytes */
+    size_t told;         /* set: how many entries the text has */
+    size_t all;          /* set: how many entries the list has */
+};
+
+/* In each call that follows, `piece` may be null: the answer then has the whole list. */
+
+/* Checks a report, as erd_check_data does, and answers with a piece of the list of faults. */
+enum erd_outcome erd_check_data_piece(const void *bytes, size_t size, const char *prefer, struct erd_piece *piece,
+                                      char **text, size_t *length);
+
+/* Canonicalises a report, as erd_canonical does. If the report is refused, the text is that of erd_check_data_piece. */
+enum erd_outcome erd_canonical_data_piece(const void *bytes, size_t size, const char *prefer, struct erd_piece *piece,
+                                          char **text, size_t *length);
+
+/* Compares two reports, as erd_compare_data does. If a report is refused, `faults` is what erd_check_data_piece answers for
+ * it. */
+enum erd_outcome erd_compare_data_piece(const void *left, size_t left_size, const void *right, size_t right_size,
+                                        const char *prefer, struct erd_piece *piece, char **text, size_t *length);
+
+/* Lists all differences of two reports. The text is compact JSON in UTF-8, with no line end: an array with an object for each
+ * difference in the piece, in rising order by part, key and member. The objects are those of erd_compare_data, and the first of
+ * the list is the one that it answers. The array is empty if the two mean the same, and the outcome is then ERD_GOOD. If a report
+ * is refused, the text is that of erd_compare_data_piece. */
+enum erd_outcome erd_differences_data(const void *left, size_t left_size, const void *right, size_t right_size,
+                                      const char *prefer, struct erd_piece *piece, char **text, size_t *length);
+
 /* Frees a text that one of these calls returned. Null is allowed, and does nothing. */
 void erd_free(char *text);
 

@@ -7,7 +7,6 @@ import { bytesOfFile, opened, Stop, write } from './lib/files.mjs';
 
 const STANDARD_OUTPUT = 1;
 const STANDARD_ERROR = 2;
-const CALLS = { filter: 'erd_canonical', canon: 'erd_canonical', check: 'erd_check', compare: 'erd_compare' };
 
 process.exitCode = await run(process.argv.slice(2)).catch(ended);
 
@@ -20,10 +19,13 @@ async function run(words) {
         return 0;
     }
     const reports = opened(files).map(bytesOfFile);
-    const { outcome, bytes } = (await load()).written(CALLS[command], reports, { prefer });
-    const isRefusal = CALLS[command] === 'erd_canonical' && outcome !== 0;
-    write(isRefusal ? STANDARD_ERROR : STANDARD_OUTPUT, bytes);
-    return outcome;
+    const name = command === 'filter' ? 'canon' : command;
+    let status = 0;
+    for (const { outcome, bytes } of (await load()).written(name, reports, { prefer })) {
+        write(name === 'canon' && outcome !== 0 ? STANDARD_ERROR : STANDARD_OUTPUT, bytes);
+        status = outcome;
+    }
+    return status;
 }
 
 /** Says why the command ends early, as far as that can be written, and returns the status. */

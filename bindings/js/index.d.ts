@@ -1,9 +1,22 @@
 /** A report: its bytes, or its text. */
 export type Report = Uint8Array | ArrayBuffer | string;
 
-export interface Options {
+export interface Preference {
     /** The type of identifier that the keys of objects follow, such as `fips` or `local-level`. */
     prefer?: string | null;
+}
+
+export interface Options extends Preference {
+    /**
+     * The most faults that are listed: 1,000 if it is left out, and all if it is null. They are fewer if their texts together have
+     * more than a megabyte, since the list of all faults can be as long as the square of the report.
+     */
+    mostFaults?: number | null;
+}
+
+export interface DifferencesOptions extends Preference {
+    /** The most differences that are listed, or the most faults of a refused report, as `mostFaults` says for faults. */
+    mostDifferences?: number | null;
 }
 
 /** One fault of a report. */
@@ -22,7 +35,7 @@ export interface Fault {
     line: string;
 }
 
-/** The first difference of two reports. */
+/** A difference of two reports. */
 export interface Difference {
     part: 'report' | 'unit' | 'party' | 'person' | 'office' | 'header' | 'election' | 'candidate' | 'contest' | 'style';
     /** The `Type`, the `OtherType` and the `Value` of the identifier that is the key; null if the object has no key. */
@@ -38,9 +51,13 @@ export interface Difference {
 export class Checked {
     readonly outcome: 'accepted' | 'refused' | 'not JSON';
     readonly accepted: boolean;
-    /** The faults in the order of the program. Empty if the report is accepted or is not JSON. */
+    /** The faults in the order of the program, from the first one on. Empty if the report is accepted or is not JSON. */
     readonly faults: Fault[];
-    /** What `erd check` writes. */
+    /** How many faults the report has. */
+    readonly allFaults: number;
+    /** Whether it has more faults than are listed. */
+    readonly more: boolean;
+    /** What `erd check` writes, as far as the faults are listed. */
     get text(): string;
 }
 
@@ -60,13 +77,37 @@ export class Compared {
     readonly difference: Difference | null;
     /** Which report is refused, if one is. The right one is judged only if the left one is accepted. */
     readonly side: 'left' | 'right' | null;
-    /** The faults of the refused report. */
+    /** The faults of the refused report, from the first one on. */
     readonly faults: Fault[];
-    /** What `erd compare` writes. */
+    /** How many faults the refused report has. */
+    readonly allFaults: number;
+    /** Whether it has more faults than are listed. */
+    readonly more: boolean;
+    /** What `erd compare` writes, as far as the faults are listed. */
     get text(): string;
 }
 
-/** The three calls. Each throws a `TypeError` if an argument is wrong, and a `TrapError` if the module stops. */
+/** The result of `differences`. */
+export class Differences {
+    readonly outcome: 'same' | 'different' | 'refused' | 'not JSON';
+    readonly same: boolean;
+    /** The differences in rising order by part, key and member, from the first one on. */
+    readonly differences: Difference[];
+    /** How many differences the reports have. */
+    readonly allDifferences: number;
+    /** Which report is refused, if one is. The right one is judged only if the left one is accepted. */
+    readonly side: 'left' | 'right' | null;
+    /** The faults of the refused report, from the first one on. */
+    readonly faults: Fault[];
+    /** How many faults the refused report has. */
+    readonly allFaults: number;
+    /** Whether there are more differences, or more faults, than are listed. */
+    readonly more: boolean;
+    /** `same`, or the line of each difference that is listed; of a refused report what `erd compare` writes. */
+    get text(): string;
+}
+
+/** The calls. Each throws a `TypeError` if an argument is wrong, and a `TrapError` if the module stops. */
 export class Erd {
     constructor(module: WebAssembly.Module);
     /**
@@ -87,6 +128,18 @@ export class Erd {
      * @throws {NoMemoryError} if the call ran out of memory
      */
     compare(left: Report, right: Report, options?: Options): Compared;
+    /**
+     * Lists all differences of two reports.
+     * @throws {TooLongError} if a report has more than 67,108,864 bytes
+     * @throws {NoMemoryError} if the call ran out of memory
+     */
+    differences(left: Report, right: Report, options?: DifferencesOptions): Differences;
+    /**
+     * What a command writes, piece by piece: the exit status of the command, and the next bytes that it writes. No list of faults is
+     * in memory as a whole.
+     */
+    written(command: 'check' | 'canon' | 'compare' | 'differences', reports: Report[], options?: Preference):
+        Generator<{ outcome: number; bytes: Uint8Array }>;
 }
 
 /** Loads the proved code: `erd.wasm` beside this file, or the module that is handed in. */
@@ -109,6 +162,9 @@ export interface RepeatedName {
  * @throws {SyntaxError} if the report is not JSON
  */
 export function repeatedNames(report: Report, options?: { most?: number | null }): RepeatedName[];
+
+/** How many faults, or differences, are listed if the options name no other number: 1,000. */
+export const MOST_LISTED: number;
 
 /** The most bytes that a report may have: 67,108,864. */
 export const MOST_BYTES: number;

@@ -1,10 +1,10 @@
 // erd: canonical form, check and comparison of pre-election ballot definitions.
 import { Erd } from './lib/calls.mjs';
 
-export { Erd, MOST_BYTES, NoMemoryError, TooLongError } from './lib/calls.mjs';
+export { Erd, MOST_BYTES, MOST_LISTED, NoMemoryError, TooLongError } from './lib/calls.mjs';
 export { TrapError } from './lib/engine.mjs';
 export { repeatedNames } from './lib/repeated.mjs';
-export { Canonical, Checked, Compared } from './lib/results.mjs';
+export { Canonical, Checked, Compared, Differences } from './lib/results.mjs';
 
 /**
  * Loads the proved code. Without an argument, it reads `erd.wasm` beside this file, in Node and in a browser.

@@ -60,14 +60,22 @@ function tryReport(name, report, options, lines, form) {
     const canonical = erd.canonical(report, options);
     equal(`${name}: canonical`, canonical.text, form ?? lines);
     equal(`${name}: the bytes`, canonical.bytes === null ? undefined : Buffer.from(canonical.bytes).toString(), form);
-    equal(`${name}: as the program writes it`, written('erd_check', [report], options), lines);
+    equal(`${name}: as the program writes it`, written('check', [report], options), lines);
+    equal(`${name}: the number of faults`, checked.allFaults, checked.faults.length);
+    const first = erd.check(report, { ...options, mostFaults: 1 });
+    equal(`${name}: the first fault`, `${first.outcome} ${first.faults.length} ${first.allFaults} ${first.more} ${first.faults[0]?.line}`,
+        `${checked.outcome} ${Math.min(1, checked.faults.length)} ${checked.faults.length} ${checked.faults.length > 1} ${checked.faults[0]?.line}`);
 }
 
 function tryPair(name, left, right, options, lines) {
     const compared = erd.compare(left, right, options);
     equal(`${name}: compare`, compared.text, lines);
     equal(`${name}: same`, compared.same, lines === 'same\n');
-    equal(`${name}: as the program writes it`, written('erd_compare', [left, right], options), lines);
+    equal(`${name}: as the program writes it`, written('compare', [left, right], options), lines);
+    const { outcome, differences, side, text } = erd.differences(left, right, options);
+    equal(`${name}: the outcome of the list`, outcome, compared.outcome);
+    equal(`${name}: the first of the list`, side === null && differences.length > 0 ? `${differences[0].line}\n` : text, lines);
+    equal(`${name}: the list as the command writes it`, written('differences', [left, right], options), text);
     if (compared.difference !== null) {
         const { part, key, how, member } = compared.difference;
         const object = key === null ? part : `${part} ${JSON.stringify(key)}`;
@@ -76,7 +84,7 @@ function tryPair(name, left, right, options, lines) {
 }
 
 function written(name, reports, options) {
-    return new TextDecoder().decode(erd.written(name, reports, options).bytes);
+    return [...erd.written(name, reports, options)].map(({ bytes }) => new TextDecoder().decode(bytes)).join('');
 }
 
 // A name that looks like a line of another fault stays one name.
@@ -87,6 +95,18 @@ const two = erd.check(falseLine).faults;
 equal('a name with a false line', JSON.stringify(two.map(({ place, reason }) => [place, reason])),
     JSON.stringify([[['Election'], 9], [['x\n/y: wrong kind\nId'], 6]]));
 
+// Lists that are longer than what is asked for: in lines, and in pieces of many bytes each.
+const many = JSON.stringify({
+    '@type': 'ElectionResults.ElectionReport', Election: [], Status: 'pre-election', ['n'.repeat(20000)]: new Array(5000).fill(1.5),
+});
+const some = erd.check(many);
+equal('some of many faults', `${some.outcome} ${some.faults.length > 50 && some.faults.length < 60} ${some.allFaults} ${some.more}`, 'refused true 5001 true');
+equal('three faults', erd.check(many, { mostFaults: 3 }).faults.map(({ pointer }) => pointer.slice(-3)).join(), 'ion,n/0,n/1');
+equal('no faults of many', `${erd.check(many, { mostFaults: 0 }).outcome} ${erd.check(many, { mostFaults: 0 }).allFaults}`, 'refused 5001');
+equal('all faults', erd.check(many.replace(/n{20000}/, 'n'), { mostFaults: null }).faults.length, 5001);
+equal('a thousand faults', erd.check(many.replace(/n{20000}/, 'n')).faults.length, 1000);
+equal('pieces of the lines', [...erd.written('check', [many])].length > 90, true);
+
 // The forms of a report.
 const bytes = readFileSync(new URL('small-ballot.json', EXAMPLES));
 const form = readFileSync(new URL('small-ballot.canonical.json', EXAMPLES)).toString();
@@ -95,6 +115,7 @@ equal('a Uint8Array', erd.canonical(new Uint8Array(bytes)).text, form);
 equal('a part of an ArrayBuffer', erd.canonical(new Uint8Array(Buffer.concat([Buffer.from('x'), bytes])).subarray(1)).text, form);
 equal('an ArrayBuffer', erd.canonical(new Uint8Array(bytes).buffer).text, form);
 equal('a string', erd.canonical(bytes.toString()).text, form);
+equal('the number of differences', erd.differences(bytes, bytes).allDifferences, 0);
 equal('no bytes', erd.check(new Uint8Array(0)).outcome, 'not JSON');
 equal('the report stays as it is', Buffer.compare(bytes, readFileSync(new URL('small-ballot.json', EXAMPLES))), 0);
 equal('the preference null', erd.check(bytes, { prefer: null }).outcome, 'accepted');
@@ -112,6 +133,10 @@ throws('half a surrogate pair', TypeError, () => erd.check('"\ud800"'));
 throws('options that are a text', TypeError, () => erd.check(bytes, 'fips'));
 throws('options that are null', TypeError, () => erd.check(bytes, null));
 throws('an unknown option', TypeError, () => erd.check(bytes, { preferred: 'fips' }));
+throws('a number of faults that is a text', TypeError, () => erd.check(bytes, { mostFaults: '5' }));
+throws('a number of faults below 0', TypeError, () => erd.check(bytes, { mostFaults: -1 }));
+throws('half a fault', TypeError, () => erd.compare(bytes, bytes, { mostFaults: 0.5 }));
+throws('a number of faults for a list of differences', TypeError, () => erd.differences(bytes, bytes, { mostFaults: 5 }));
 throws('a preference that is a number', TypeError, () => erd.check(bytes, { prefer: 5 }));
 throws('a preference with a zero character', TypeError, () => erd.check(bytes, { prefer: 'a\0b' }));
 throws('a preference with half a surrogate pair', TypeError, () => erd.check(bytes, { prefer: '\udc00' }));

@@ -108,6 +108,8 @@ done
 cp out/conformance/run "$work/suite/run"
 run "$work/suite/run" "$erd"
 said "a case of each group: $(tail -n 1 "$work/out")" "$(grep FAILED "$work/out" | head -n 3)"
+run "$work/suite/run" --differences "$erd"
+said "the lists of differences of these: $(tail -n 1 "$work/out")" "$(grep FAILED "$work/out" | head -n 3)"
 node tests/forms/javascript_command.mjs "$work/fresh/node_modules/erd" > "$work/command.log" 2>&1
 counted 'the command on pairs and preferences' "$work/command.log"
 
@@ -128,8 +130,13 @@ if [ -x erd ]; then
         as_program help "$word"
         as_program "$word" "$one" "$one" "$one"
     done
-    as_program --help
-    as_program -h
+    # The help of the package has one command more at its end.
+    for word in --help -h; do
+        ./erd "$word" > "$work/wanted_out"
+        run "$erd" "$word"
+        printf '\nThis package has one more command:\n  differences  Lists all differences in meaning of two reports\n' >> "$work/wanted_out"
+        said "the help of the package: $word" "$(cmp "$work/out" "$work/wanted_out" 2>&1)"
+    done
     as_program help nosuch
     as_program help help
     as_program nosuchcommand
@@ -168,6 +175,18 @@ run node "$work/poor/erd.mjs" check "$work/blanks"
 expect_text 'no memory' 4 ''
 equal 'its words' "$(cat "$work/err")" 'no memory'
 rm "$work/blanks"
+
+# A file of 50 kB whose list of faults has 150 MB: one long name above many faults.
+python3 -c "print('{\"@type\":\"ElectionResults.ElectionReport\",\"Election\":[],\"' + 'n' * 25000 + '\":[' + ','.join(['1.5'] * 6000) + ']}')" \
+    > "$work/square.json"
+for words in check canon compare differences; do
+    files=("$work/square.json")
+    [[ $words == c*e || $words == d* ]] && files+=("$work/square.json")
+    most=$(python3 -c 'import resource, subprocess, sys
+subprocess.run(sys.argv[1:], stdout=subprocess.DEVNULL, stderr=subprocess.DEVNULL)
+print(resource.getrusage(resource.RUSAGE_CHILDREN).ru_maxrss)' "$erd" "$words" "${files[@]}")
+    said "a square list: $words" "$([ "$most" -lt 100000 ] || echo "$most kB of memory")"
+done
 
 "$erd" canon examples/one-unit.json > /dev/full 2> "$work/err"
 status=$?

@@ -1,5 +1,5 @@
 // A caller of the package whose types are checked: each result and each option once.
-import { Canonical, Checked, Compared, Difference, Erd, Fault, load, MOST_BYTES, NoMemoryError, TooLongError, TrapError } from 'erd';
+import { Canonical, Checked, Compared, Difference, Differences, Erd, Fault, load, MOST_BYTES, NoMemoryError, TooLongError, TrapError } from 'erd';
 
 const erd: Erd = await load(new Uint8Array(MOST_BYTES));
 const checked: Checked = erd.check('{}', { prefer: 'fips' });
@@ -10,6 +10,10 @@ const canonical: Canonical = erd.canonical(new ArrayBuffer(1));
 const bytes: Uint8Array | null = canonical.bytes;
 const compared: Compared = erd.compare(new Uint8Array(1), '', { prefer: null });
 const difference: Difference | null = compared.difference;
+const all: Differences = erd.differences('', '', { prefer: 'fips', mostDifferences: null });
+const counts: number[] = [erd.check('', { mostFaults: 5 }).allFaults, all.allDifferences, all.differences.length];
+const more: boolean = all.more || checked.more || compared.more;
+const pieces: Uint8Array[] = [...erd.written('differences', ['', ''])].map((piece) => piece.bytes);
 const side: 'left' | 'right' | null = compared.side;
 const text: string = checked.text + canonical.text + compared.text;
 const errors: Error[] = [new TooLongError(), new NoMemoryError(), new TrapError()];
@@ -17,7 +21,7 @@ const errors: Error[] = [new TooLongError(), new NoMemoryError(), new TrapError(
 erd.check(5);
 // @ts-expect-error: there is no such option
 erd.check('', { preferred: 'fips' });
-export { bytes, difference, errors, name, side, steps, text };
+export { bytes, counts, difference, errors, more, pieces, name, side, steps, text };
 
 import { Preparation, stepsOf, told } from 'erd/prepare';
 

@@ -12,6 +12,11 @@ from texts_of_data import check_text, compact, compare_text  # noqa: E402
 TEXTLESS = 3
 
 
+class Piece(ctypes.Structure):
+    """`struct erd_piece`."""
+    _fields_ = [(name, ctypes.c_size_t) for name in ("first", "most", "enough_bytes", "told", "all")]
+
+
 class Library:
     """The calls of the library at a path. Each takes the bytes of its reports and a preferred type of identifier or None, and
     returns the outcome and the text, or None where there is none."""
@@ -47,6 +52,20 @@ class Library:
 
     def compare_data(self, left, right, prefer=None):
         return self.call("erd_compare_data", [left, right], prefer)
+
+    def piece(self, name, reports, prefer, first, most, enough_bytes):
+        """The outcome and the text of a call for a piece, and what it tells: how many entries the text has, and how many the list
+        has."""
+        call = getattr(self.library, name)
+        call.argtypes = [ctypes.c_char_p, ctypes.c_size_t] * len(reports) + [
+            ctypes.c_char_p, ctypes.POINTER(Piece), ctypes.POINTER(ctypes.c_void_p), ctypes.POINTER(ctypes.c_size_t)]
+        given = [part for report in reports for part in (report, len(report))]
+        piece, text, length = Piece(first, most, enough_bytes, 77, 78), ctypes.c_void_p(), ctypes.c_size_t()
+        outcome = call(*given, prefer, ctypes.byref(piece), ctypes.byref(text), ctypes.byref(length))
+        found = ctypes.string_at(text, length.value).decode() if text else None
+        self.library.erd_free(text)
+        assert (piece.first, piece.most, piece.enough_bytes) == (first, most, enough_bytes), "a call changes its piece"
+        return outcome, found, piece.told, piece.all
 
 
 def told_of_data(answer, text_of):

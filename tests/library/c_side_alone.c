@@ -66,8 +66,47 @@ struct told erd_tell_compare_data(const uint8_t *left, size_t left_size, const u
     return told_report(4, left == NULL ? left : right, prefers, prefer, prefer_size, room, room_size);
 }
 
-enum { SIZE = 1000, CALLS = 5 };
-static const char *const names[CALLS] = {"check", "canonical", "compare", "check_data", "compare_data"};
+/* What the last call for a piece was handed, and what the next ones tell of their lists. */
+static struct wanted last_wanted;
+static const size_t next_told = 3, next_all = 5;
+
+static struct told told_piece(int call, const uint8_t *bytes, const uint8_t *prefer, size_t prefer_size, struct wanted *wanted,
+                              uint8_t *room, size_t room_size) {
+    last_wanted = *wanted;
+    wanted->told = next_told;
+    wanted->all = next_all;
+    return told_report(call, bytes, wanted->prefers, prefer, prefer_size, room, room_size);
+}
+
+struct told erd_tell_check_data_piece(const uint8_t *bytes, size_t size, const uint8_t *prefer, size_t prefer_size,
+                                      struct wanted *wanted, uint8_t *room, size_t room_size) {
+    (void)size;
+    return told_piece(5, bytes, prefer, prefer_size, wanted, room, room_size);
+}
+
+struct told erd_tell_canonical_data_piece(const uint8_t *bytes, size_t size, const uint8_t *prefer, size_t prefer_size,
+                                          struct wanted *wanted, uint8_t *room, size_t room_size) {
+    (void)size;
+    return told_piece(7, bytes, prefer, prefer_size, wanted, room, room_size);
+}
+
+struct told erd_tell_compare_data_piece(const uint8_t *left, size_t left_size, const uint8_t *right, size_t right_size,
+                                        const uint8_t *prefer, size_t prefer_size, struct wanted *wanted, uint8_t *room,
+                                        size_t room_size) {
+    (void)left_size, (void)right_size;
+    return told_piece(6, left == NULL ? left : right, prefer, prefer_size, wanted, room, room_size);
+}
+
+struct told erd_tell_differences_data(const uint8_t *left, size_t left_size, const uint8_t *right, size_t right_size,
+                                      const uint8_t *prefer, size_t prefer_size, struct wanted *wanted, uint8_t *room,
+                                      size_t room_size) {
+    (void)left_size, (void)right_size;
+    return told_piece(8, left == NULL ? left : right, prefer, prefer_size, wanted, room, room_size);
+}
+
+enum { SIZE = 1000, CALLS = 9 };
+static const char *const names[CALLS] = {"check",      "canonical",   "compare", "check_data", "compare_data", "check_piece",
+                                         "compare_piece", "canonical_piece", "differences"};
 static const char report[SIZE];
 
 static enum erd_outcome asked(int call, const void *bytes, size_t size, const char *prefer, char **text, size_t *length) {
@@ -80,8 +119,29 @@ static enum erd_outcome asked(int call, const void *bytes, size_t size, const ch
         return erd_compare(bytes, size, bytes, size, prefer, text, length);
     case 3:
         return erd_check_data(bytes, size, prefer, text, length);
-    default:
+    case 4:
         return erd_compare_data(bytes, size, bytes, size, prefer, text, length);
+    case 5:
+        return erd_check_data_piece(bytes, size, prefer, NULL, text, length);
+    case 6:
+        return erd_compare_data_piece(bytes, size, bytes, size, prefer, NULL, text, length);
+    case 7:
+        return erd_canonical_data_piece(bytes, size, prefer, NULL, text, length);
+    default:
+        return erd_differences_data(bytes, size, bytes, size, prefer, NULL, text, length);
+    }
+}
+
+static enum erd_outcome asked_for_piece(int call, size_t size, struct erd_piece *piece) {
+    switch (call) {
+    case 5:
+        return erd_check_data_piece(report, size, NULL, piece, NULL, NULL);
+    case 6:
+        return erd_compare_data_piece(report, size, report, size, NULL, piece, NULL, NULL);
+    case 7:
+        return erd_canonical_data_piece(report, size, NULL, piece, NULL, NULL);
+    default:
+        return erd_differences_data(report, size, report, size, NULL, piece, NULL, NULL);
     }
 }
 
@@ -98,7 +158,7 @@ static void said(int call, const char *what, size_t number) {
 /* A text of this length comes whole, with a zero byte behind it, after one call if it fits and after two if it does not. */
 static void text_of_length(int call, size_t wanted) {
     char *text = NULL;
-    size_t length = 7, room = call == 1 ? 2 * SIZE + 4096 : 4096;
+    size_t length = 7, room = call == 1 || call == 7 ? 2 * SIZE + 4096 : 4096;
     next = (struct told){ERD_BAD, wanted};
     calls = 0;
     if (asked(call, report, SIZE, NULL, &text, &length) != ERD_BAD || text == NULL || length != wanted)
@@ -173,6 +233,36 @@ static void one_too_long(int call, size_t left_size, size_t right_size) {
     said(call, "reports, of which one has the size", left_size > right_size ? left_size : right_size);
 }
 
+/* A piece is handed on and told of; without one, the whole list is wanted. */
+static void piece(int call) {
+    struct erd_piece piece = {7, 11, 13, 17, 19};
+    next = (struct told){ERD_BAD, 3};
+    if (asked_for_piece(call, SIZE, &piece) != ERD_BAD)
+        why = "another answer";
+    else if (last_wanted.first != 7 || last_wanted.most != 11 || last_wanted.enough_bytes != 13)
+        why = "another piece";
+    else if (piece.first != 7 || piece.most != 11 || piece.enough_bytes != 13)
+        why = "a changed piece";
+    else if (piece.told != next_told || piece.all != next_all)
+        why = "something else told";
+    said(call, "a piece behind", 7);
+
+    next = (struct told){ERD_NO_MEMORY, 0};
+    if (asked_for_piece(call, SIZE, &piece) != ERD_NO_MEMORY || piece.told != 0 || piece.all != 0)
+        why = "a list without memory";
+    said(call, "no memory for a piece behind", 7);
+    piece.told = piece.all = 9;
+    if (asked_for_piece(call, (size_t)67108864 + 1, &piece) != ERD_WRONG || piece.told != 0 || piece.all != 0)
+        why = "a list of a report that is too long";
+    said(call, "too long for a piece behind", 7);
+
+    next = (struct told){ERD_GOOD, 3};
+    if (asked(call, report, SIZE, NULL, NULL, NULL) != ERD_GOOD || last_wanted.first != 0 || last_wanted.most != SIZE_MAX
+        || last_wanted.enough_bytes != SIZE_MAX)
+        why = "not the whole list";
+    said(call, "no piece behind", 0);
+}
+
 int main(void) {
     static char long_preference[60002];
     static const size_t lengths[] = {0, 1, 15, 4095, 4096, 4097, 6095, 6096, 6097, 6098, 60001, 3000000};
@@ -197,7 +287,9 @@ int main(void) {
         too_long(call, SIZE_MAX / 2 + 1);
         too_long(call, SIZE_MAX / 2 - 2000);
     }
-    for (int call = 2; call < CALLS; call += 2) {
+    for (int call = 5; call < CALLS; call++)
+        piece(call);
+    for (int call = 2; call <= 4; call += 2) {
         one_too_long(call, SIZE, (size_t)67108864 + 1);
         one_too_long(call, (size_t)67108864 + 1, SIZE);
     }

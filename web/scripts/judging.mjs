@@ -179,9 +179,9 @@ export class Judgement {
         return this.sides[index].canonical(this.erd, this.prefer, tell);
     }
 
-    /** The lines that the program writes for a side, as bytes. */
+    /** The lines that the program writes for a side, as bytes in pieces. */
     lines({ index }) {
-        return this.erd.written('erd_check', [this.sides[index].bytes], { prefer: this.prefer }).bytes;
+        return [...this.erd.written('check', [this.sides[index].bytes], { prefer: this.prefer })].map(({ bytes }) => bytes);
     }
 
     /** The first of these lines. */

@@ -2,7 +2,7 @@
 import { HELP, PROGRAM_HELP } from './help.mjs';
 
 /** The words of the files of each command. */
-const FILES = { check: ['FILE'], canon: ['FILE'], compare: ['LEFT', 'RIGHT'] };
+const FILES = { check: ['FILE'], canon: ['FILE'], compare: ['LEFT', 'RIGHT'], differences: ['LEFT', 'RIGHT'] };
 const PREFER = '--prefer <TYPE>';
 
 /** The arguments ask for help. Only `requestOf` catches this. */
@@ -20,7 +20,7 @@ export class UsageFault extends Error {
 /**
  * What the arguments ask for. Throws a `UsageFault` if they are none of the commands.
  * @param {string[]} words
- * @returns {{command: 'filter' | 'check' | 'canon' | 'compare' | 'help', prefer?: string | null, files?: string[], text?: string}}
+ * @returns {{command: 'filter' | 'check' | 'canon' | 'compare' | 'differences' | 'help', prefer?: string | null, files?: string[], text?: string}}
  * `text` is the text of help
  */
 export function requestOf(words) {

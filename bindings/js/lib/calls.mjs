@@ -1,13 +1,19 @@
-// The three calls, on top of the module.
+// The calls, on top of the module.
 import { Engine, OUTCOME } from './engine.mjs';
-import { checkedOf, comparedOf, withCanonical, withoutCanonical } from './results.mjs';
+import { checkedOf, comparedOf, differencesOf, withCanonical, withoutCanonical } from './results.mjs';
 
+/** How many faults, or differences, are listed if the caller names no other number. */
+export const MOST_LISTED = 1000;
+
+// No further entry of a list begins once those before it have so many bytes: a list of faults can be as long as the square of its
+// report, so a call asks for one piece after another.
+const BYTES_OF_PIECE = 2 ** 20;
+
+// More entries than any list has that fits into the memory of the module.
+const ALL = 2 ** 32 - 1;
 
 /** The most bytes that a report may have. */
 export const MOST_BYTES = 67108864;
-
-// The most characters that every engine allows in a string.
-const MOST_CHARACTERS = 2 ** 29 - 24;
 
 /** A report has more bytes than a call takes. */
 export class TooLongError extends RangeError {
@@ -38,50 +44,98 @@ export class Erd {
 
     /** Checks a report, as `erd check` does. */
     check(report, options) {
-        const prefer = preferenceOf(options);
-        return checkedOf(this.#data('erd_check_data', [bytesOf(report, 'the report')], prefer));
+        const asked = askedFor(options, 'mostFaults');
+        const { value, all } = this.#list('erd_check_data_piece', [bytesOf(report, 'the report')], asked);
+        return checkedOf(value, all);
     }
 
     /** Canonicalises a report, as `erd canon` does. */
     canonical(report, options) {
-        const prefer = preferenceOf(options);
-        const reports = [bytesOf(report, 'the report')];
-        const { outcome, bytes } = this.#call('erd_canonical', reports, prefer);
-        return outcome === OUTCOME.good ? withCanonical(bytes)
-            : withoutCanonical(this.#data('erd_check_data', reports, prefer));
+        const asked = askedFor(options, 'mostFaults');
+        const { bytes, value, all } = this.#list('erd_canonical_data_piece', [bytesOf(report, 'the report')], asked);
+        return value === undefined ? withCanonical(bytes) : withoutCanonical(value, all);
     }
 
     /** Compares two reports, as `erd compare` does. */
     compare(left, right, options) {
-        const prefer = preferenceOf(options);
-        const reports = [bytesOf(left, 'the left report'), bytesOf(right, 'the right report')];
-        return comparedOf(this.#data('erd_compare_data', reports, prefer));
+        const asked = askedFor(options, 'mostFaults');
+        const { value, all } = this.#list('erd_compare_data_piece', pairOf(left, right), asked);
+        return comparedOf(value, all);
     }
 
-    /** What `erd check`, `erd canon` or `erd compare` writes, by the call `erd_check`, `erd_canonical` or `erd_compare`. */
-    written(name, reports, options) {
-        return this.#call(name, reports.map((report) => bytesOf(report, 'a report')), preferenceOf(options));
+    /** Lists the differences of two reports. */
+    differences(left, right, options) {
+        const asked = askedFor(options, 'mostDifferences');
+        const { value, all } = this.#list('erd_differences_data', pairOf(left, right), asked);
+        return differencesOf(value, all);
     }
 
-    // A report with very many faults may have an answer that is too long for a string.
-    #data(name, reports, prefer) {
-        const { bytes } = this.#call(name, reports, prefer);
-        if (bytes.length > MOST_CHARACTERS) {
-            throw new NoMemoryError();
+    /**
+     * What a command writes, piece by piece, so that no list is in memory as a whole: for each piece the outcome and the bytes.
+     * @param {'check' | 'canon' | 'compare' | 'differences'} command
+     */
+    *written(command, reports, options) {
+        const { call, resultOf } = COMMANDS[command];
+        const { prefer } = askedFor(options, 'mostFaults');
+        const bytesOfReports = reports.map((report) => bytesOf(report, 'a report'));
+        for (const { outcome, bytes, value, all } of this.#pieces(call, bytesOfReports, prefer, ALL)) {
+            yield { outcome, bytes: value === undefined ? bytes : new TextEncoder().encode(resultOf(value, all).text) };
         }
-        return JSON.parse(new TextDecoder().decode(bytes));
     }
 
-    #call(name, reports, prefer) {
+    // An answer with so many entries of its list, and how many the list has. Entries whose texts are long are fewer than that; but
+    // all of them are there if the caller asked for all.
+    #list(call, reports, { prefer, most }) {
+        const pieces = this.#pieces(call, reports, prefer, most ?? ALL);
+        const { value: answer } = pieces.next();
+        const entries = entriesOf(answer.value);
+        for (const piece of most === null ? pieces : []) {
+            for (const entry of entriesOf(piece.value)) {
+                entries.push(entry);
+            }
+        }
+        return answer;
+    }
+
+    // The answers with one piece of a list after another. What is canonical bytes has no value.
+    *#pieces(call, reports, prefer, most) {
+        for (let first = 0, isLast = false; !isLast;) {
+            const answer = this.#call(call, reports, prefer, { first, most, enoughBytes: BYTES_OF_PIECE });
+            const isForm = call === 'erd_canonical_data_piece' && answer.outcome === OUTCOME.good;
+            yield { ...answer, value: isForm ? undefined : JSON.parse(new TextDecoder().decode(answer.bytes)) };
+            first += answer.told;
+            isLast = first >= answer.all || answer.told === 0;
+        }
+    }
+
+    #call(name, reports, prefer, piece) {
         if (reports.some((report) => report.length > MOST_BYTES)) {
             throw new TooLongError();
         }
-        const answer = this.#engine.call(name, reports, prefer);
+        const answer = this.#engine.call(name, reports, prefer, piece);
         if (answer.outcome === OUTCOME.noMemory) {
             throw new NoMemoryError();
         }
         return answer;
     }
+}
+
+/** The call of each command, and what makes the result of an answer of it. */
+const COMMANDS = {
+    check: { call: 'erd_check_data_piece', resultOf: checkedOf },
+    canon: { call: 'erd_canonical_data_piece', resultOf: withoutCanonical },
+    compare: { call: 'erd_compare_data_piece', resultOf: comparedOf },
+    differences: { call: 'erd_differences_data', resultOf: differencesOf },
+};
+
+// The list in an answer: of faults, or of differences.
+function entriesOf(value) {
+    const list = value?.faults ?? value;
+    return Array.isArray(list) ? list : [];
+}
+
+function pairOf(left, right) {
+    return [bytesOf(left, 'the left report'), bytesOf(right, 'the right report')];
 }
 
 /** The bytes of a report. A view of other numbers than bytes is refused, since its bytes depend on the machine. */
@@ -98,15 +152,23 @@ export function bytesOf(report, what) {
     throw new TypeError(`${what} is neither a Uint8Array, nor an ArrayBuffer, nor a text`);
 }
 
-function preferenceOf(options = {}) {
-    if (options === null || typeof options !== 'object') {
+// What the options ask for: the preferred type of identifier, and the most entries of a list, or null for all of them.
+function askedFor(options, nameOfMost) {
+    if (options === null || (options !== undefined && typeof options !== 'object')) {
         throw new TypeError('the options are not an object');
     }
-    const unknown = Object.keys(options).find((name) => name !== 'prefer');
+    const { prefer, [nameOfMost]: most = MOST_LISTED, ...others } = options ?? {};
+    const [unknown] = Object.keys(others);
     if (unknown !== undefined) {
         throw new TypeError(`no option has the name ${JSON.stringify(unknown)}`);
     }
-    const { prefer } = options;
+    if (most !== null && !(Number.isInteger(most) && most >= 0 && most <= ALL)) {
+        throw new TypeError(`${nameOfMost} is neither a whole number nor null`);
+    }
+    return { prefer: preferenceOf(prefer), most };
+}
+
+function preferenceOf(prefer) {
     if (prefer === undefined || prefer === null) {
         return null;
     }

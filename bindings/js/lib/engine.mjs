@@ -30,14 +30,16 @@ export class Engine {
      * @param {string} name the call, such as `erd_check`
      * @param {Uint8Array[]} reports one report or two
      * @param {Uint8Array | null} prefer the preferred type of identifier
-     * @returns {{outcome: number, bytes: Uint8Array}} the outcome, and the text of the answer
+     * @param {{first: number, most: number, enoughBytes: number}} piece which entries of a list the answer is to have
+     * @returns {{outcome: number, bytes: Uint8Array, told: number, all: number}} the outcome, the text of the answer, how many
+     * entries of a list it has, and how many the list has
      */
-    call(name, reports, prefer) {
+    call(name, reports, prefer, piece) {
         const instance = this.#instance ?? this.#fresh();
         this.#instance = null;
-        const answer = instance === null ? null : answerOf(instance.exports, name, reports, prefer);
+        const answer = instance === null ? null : answerOf(instance.exports, name, reports, prefer, piece);
         if (answer === null) {
-            return { outcome: OUTCOME.noMemory, bytes: new Uint8Array(0) };
+            return { outcome: OUTCOME.noMemory, bytes: new Uint8Array(0), told: 0, all: 0 };
         }
         if (answer.outcome !== OUTCOME.noMemory && instance.exports.memory.buffer.byteLength <= BYTES_KEPT) {
             this.#instance = instance;
@@ -59,16 +61,18 @@ export class Engine {
 }
 
 // Makes one call; null if there is no memory for it.
-function answerOf(exports, name, reports, prefer) {
+function answerOf(exports, name, reports, prefer, { first, most, enoughBytes }) {
     try {
         const room = new Room(exports);
         const words = reports.flatMap((report) => [room.filledWith(report), report.length]);
         const preferred = prefer === null ? 0 : room.filledWith(prefer, 1);
+        const piece = room.filledWithNumbers(first, most, enoughBytes, 0, 0);
         const places = room.taken(8);
-        const outcome = exports[name](...words, preferred, places, places + 4);
+        const outcome = exports[name](...words, preferred, piece, places, places + 4);
         const bytes = textAt(exports, places);
+        const [told, all] = new Uint32Array(exports.memory.buffer.slice(piece + 12, piece + 20));
         room.givenBack();
-        return { outcome, bytes };
+        return { outcome, bytes, told, all };
     } catch (error) {
         if (error instanceof RoomError || error instanceof RangeError) {
             return null;
@@ -114,6 +118,14 @@ class Room {
         const memory = new Uint8Array(this.#exports.memory.buffer, place, bytes.length + zeros);
         memory.set(bytes);
         memory.fill(0, bytes.length);
+        return place;
+    }
+
+    /** Memory with these numbers of four bytes each. */
+    filledWithNumbers(...numbers) {
+        const place = this.taken(4 * numbers.length);
+        const view = new DataView(this.#exports.memory.buffer);
+        numbers.forEach((number, at) => view.setUint32(place + 4 * at, number, true));
         return place;
     }
 

@@ -46,6 +46,23 @@ Example:
   erd compare vendor-a.json vendor-b.json
 `;
 
+const END_OF_DIFFERENCES = `Exit status:
+  0  same
+  1  different, or a report is refused: the lines are on standard output
+  2  a report is not JSON
+  3  wrong arguments, a file that cannot be opened, more than 67,108,864 bytes, a failed read or write
+  4  no memory
+
+Example:
+  erd differences vendor-a.json vendor-b.json
+`;
+
+// The program has no such command.
+const COMMAND_OF_THE_PACKAGE = `
+This package has one more command:
+  differences  Lists all differences in meaning of two reports
+`;
+
 /** The help of the program, in short and at length. */
 export const PROGRAM_HELP = {
     short: `Puts a pre-election ballot definition (NIST SP 1500-100, version 2, JSON) into one canonical form
@@ -61,7 +78,7 @@ Commands:
 Options:
   -h, --help  Print help (see more with '--help')
 
-${END_OF_PROGRAM}`,
+${END_OF_PROGRAM}${COMMAND_OF_THE_PACKAGE}`,
     long: `Puts a pre-election ballot definition (NIST SP 1500-100, version 2, JSON) into one canonical form:
 two files have the same canonical form if and only if they mean the same. All that they say of units,
 parties, persons, offices, contests and ballots counts, but not \`@id\` names, the order of members and
@@ -83,7 +100,7 @@ Options:
   -h, --help
           Print help (see a summary with '-h')
 
-${END_OF_PROGRAM}`,
+${END_OF_PROGRAM}${COMMAND_OF_THE_PACKAGE}`,
 };
 
 /** The help of each command, in short and at length. */
@@ -205,6 +222,48 @@ Options:
           Print help (see a summary with '-h')
 
 ${END_OF_COMPARE}`,
+    },
+    differences: {
+        short: `Lists all differences in meaning of two reports, or reports that there is none
+
+Usage: erd differences [OPTIONS] <LEFT> <RIGHT>
+
+Arguments:
+  <LEFT>   The file that has the left report
+  <RIGHT>  The file that has the right report
+
+Options:
+      --prefer <TYPE>  ${PREFER_IN_SHORT}
+  -h, --help           Print help (see more with '--help')
+
+${END_OF_DIFFERENCES}`,
+        long: `Reads the reports in LEFT and RIGHT, and writes to standard output \`same\`, or a line for each difference
+in what they mean, in order. A line is that of \`erd compare\`, and the first line is the one that it
+writes.
+
+If a report is refused, it writes the lines of \`erd check\` for that report, each after \`left: \` or
+\`right: \`. The right report is judged only if the left one is accepted.
+
+Usage: erd differences [OPTIONS] <LEFT> <RIGHT>
+
+Arguments:
+  <LEFT>
+          The file that has the left report
+
+  <RIGHT>
+          The file that has the right report
+
+Options:
+      --prefer <TYPE>
+          The type of identifier that the keys of objects follow, such as fips or local-level. The key of an
+          object is then the least of its identifiers of this type, or the least of all where it has none of
+          it. Without this option, it is the least of all. Objects with equal keys belong together. Use this
+          option if there is only one type of identifier on which the vendors agree
+
+  -h, --help
+          Print help (see a summary with '-h')
+
+${END_OF_DIFFERENCES}`,
     },
     help: {
         short: `Print this message or the help of the given subcommand(s)

@@ -4,13 +4,15 @@ import { lineOfDifference, lineOfFault, pointerOf, wordsOf } from './words.mjs';
 /** How a call that reads one report ended. */
 export class Checked {
     /** @param {'accepted' | 'refused' | 'not JSON'} outcome */
-    constructor(outcome, faults) {
+    constructor(outcome, faults, allFaults) {
         this.outcome = outcome;
         this.accepted = outcome === 'accepted';
         this.faults = faults;
+        this.allFaults = allFaults;
+        this.more = faults.length < allFaults;
     }
 
-    /** What `erd check` writes. */
+    /** What `erd check` writes, as far as the faults are listed. */
     get text() {
         return linesOfReport(this).map(ended).join('');
     }
@@ -19,8 +21,8 @@ export class Checked {
 /** A report's canonical form, or why it has none. */
 export class Canonical extends Checked {
     /** @param {Uint8Array | null} bytes the canonical form; null if the report is refused */
-    constructor(outcome, faults, bytes) {
-        super(outcome, faults);
+    constructor(outcome, faults, allFaults, bytes) {
+        super(outcome, faults, allFaults);
         this.bytes = bytes;
     }
 
@@ -33,41 +35,58 @@ export class Canonical extends Checked {
 /** How a comparison ended. */
 export class Compared {
     /** @param {'same' | 'different' | 'refused' | 'not JSON'} outcome */
-    constructor(outcome, { difference = null, side = null, faults = [] }) {
+    constructor(outcome, { difference = null, side = null, faults = [], allFaults = 0 }) {
         this.outcome = outcome;
         this.same = outcome === 'same';
         this.difference = difference;
         this.side = side;
         this.faults = faults;
+        this.allFaults = allFaults;
+        this.more = faults.length < allFaults;
     }
 
-    /** What `erd compare` writes. */
+    /** What `erd compare` writes, as far as the faults are listed. */
     get text() {
-        return this.linesOfText().map(ended).join('');
+        return linesOfPair(this, this.difference === null ? [] : [this.difference]).map(ended).join('');
+    }
+}
+
+/** All differences of two reports. */
+export class Differences {
+    /** @param {'same' | 'different' | 'refused' | 'not JSON'} outcome */
+    constructor(outcome, { differences = [], allDifferences = 0, side = null, faults = [], allFaults = 0 }) {
+        this.outcome = outcome;
+        this.same = outcome === 'same';
+        this.differences = differences;
+        this.allDifferences = allDifferences;
+        this.side = side;
+        this.faults = faults;
+        this.allFaults = allFaults;
+        this.more = differences.length < allDifferences || faults.length < allFaults;
     }
 
-    linesOfText() {
-        if (this.side !== null) {
-            return linesOfReport(this).map((line) => `${this.side}: ${line}`);
-        }
-        return [this.difference === null ? 'same' : this.difference.line];
+    /** `same`, or the line of each difference that is listed; of a refused report what `erd compare` writes. */
+    get text() {
+        return linesOfPair(this, this.differences).map(ended).join('');
     }
 }
 
 /**
  * The result of `check`.
- * @param {'not JSON' | object[]} answer the value that `erd_check_data` answers
+ * @param {'not JSON' | object[]} answer the value that `erd_check_data_piece` answers
+ * @param {number} all how many faults the report has
  */
-export function checkedOf(answer) {
-    return new Checked(outcomeOf(answer), faultsOf(answer));
+export function checkedOf(answer, all) {
+    return new Checked(outcomeOf(answer, all), faultsOf(answer), all);
 }
 
 /**
  * The result of `canonical` for a report that has no canonical form.
- * @param {'not JSON' | object[]} answer the value that `erd_check_data` answers
+ * @param {'not JSON' | object[]} answer the value that `erd_canonical_data_piece` answers
+ * @param {number} all how many faults the report has
  */
-export function withoutCanonical(answer) {
-    return new Canonical(outcomeOf(answer), faultsOf(answer), null);
+export function withoutCanonical(answer, all) {
+    return new Canonical(outcomeOf(answer, all), faultsOf(answer), all, null);
 }
 
 /**
@@ -75,28 +94,43 @@ export function withoutCanonical(answer) {
  * @param {Uint8Array} bytes the canonical form
  */
 export function withCanonical(bytes) {
-    return new Canonical('accepted', [], bytes);
+    return new Canonical('accepted', [], 0, bytes);
 }
 
 /**
  * The result of `compare`.
- * @param {null | object} answer the value that `erd_compare_data` answers
+ * @param {null | object} answer the value that `erd_compare_data_piece` answers
+ * @param {number} all how many faults the report has
  */
-export function comparedOf(answer) {
+export function comparedOf(answer, all) {
     if (answer === null) {
         return new Compared('same', {});
     }
-    if ('refused' in answer) {
-        return new Compared(outcomeOf(answer.faults), { side: answer.refused, faults: faultsOf(answer.faults) });
-    }
-    return new Compared('different', { difference: differenceOf(answer) });
+    return 'refused' in answer ? new Compared(outcomeOf(answer.faults, all), refusalOf(answer, all))
+        : new Compared('different', { difference: differenceOf(answer) });
 }
 
-function outcomeOf(answer) {
+/**
+ * The result of `differences`.
+ * @param {object | object[]} answer the value that `erd_differences_data` answers
+ * @param {number} all how many entries the list has
+ */
+export function differencesOf(answer, all) {
+    if ('refused' in answer) {
+        return new Differences(outcomeOf(answer.faults, all), refusalOf(answer, all));
+    }
+    return new Differences(all === 0 ? 'same' : 'different', { differences: answer.map(differenceOf), allDifferences: all });
+}
+
+function refusalOf({ refused, faults }, all) {
+    return { side: refused, faults: faultsOf(faults), allFaults: all };
+}
+
+function outcomeOf(answer, all) {
     if (answer === 'not JSON') {
         return answer;
     }
-    return answer.length === 0 ? 'accepted' : 'refused';
+    return all === 0 ? 'accepted' : 'refused';
 }
 
 function faultsOf(answer) {
@@ -117,6 +151,14 @@ function differenceOf({ part, key, how, member }) {
 // The lines of `erd check` for a report, without their line feeds. A name in a line may have a line feed itself.
 function linesOfReport({ outcome, faults }) {
     return outcome === 'refused' ? faults.map((fault) => fault.line) : [outcome];
+}
+
+// The lines about two reports: why one is refused, or else `same` or how they differ.
+function linesOfPair(result, differences) {
+    if (result.side !== null) {
+        return linesOfReport(result).map((line) => `${result.side}: ${line}`);
+    }
+    return result.same ? ['same'] : differences.map((difference) => difference.line);
 }
 
 function ended(line) {

@@ -64,11 +64,55 @@ def test_results(top):
     assert erd.compare(b'{', left).status == 2
 
 
-def test_a_long_list_of_faults(top):
+def many_faults(top, name):
+    """A report with five thousand faults below a member of this name."""
     report = (top / 'examples' / 'one-unit.json').read_text('utf-8')
-    found = erd.check(report.replace('{', '{"Remarks":[' + ','.join(['1.5'] * 5000) + '],', 1))
-    assert len(found.faults) == 5000
-    assert found.faults[4999].pointer == '/Remarks/4999' and found.faults[0].reason == 4
+    return report.replace('{', f'{{"{name}":[' + ','.join(['1.5'] * 5000) + '],', 1)
+
+
+def test_a_long_list_of_faults(top):
+    found = erd.check(many_faults(top, 'Remarks'), most_faults=None)
+    assert (len(found.faults), found.all_faults, found.more) == (5000, 5000, False)
+    assert [fault.pointer for fault in found.faults] == [f'/Remarks/{at}' for at in range(5000)]
+
+
+def test_the_first_faults(top):
+    report = many_faults(top, 'Remarks')
+    found = erd.check(report)
+    assert (len(found.faults), found.all_faults, found.more, found.status) == (1000, 5000, True, 1)
+    assert found.faults[999].pointer == '/Remarks/999'
+    form, right = erd.canonical(report, most_faults=2), erd.compare(report, report, most_faults=2)
+    assert form.check == right.check and len(form.check.faults) == 2 and form.check.all_faults == 5000
+    none = erd.check(report, most_faults=0)
+    assert (none.faults, none.all_faults, none.accepted, none.lines) == ((), 5000, False, ())
+    sides = erd.differences(report, report, most_differences=3)
+    assert (len(sides.check.faults), sides.check.all_faults, sides.more, sides.status) == (3, 5000, True, 1)
+
+
+def test_faults_with_long_places_are_fewer(top):
+    report = many_faults(top, 'n' * 20000)
+    found = erd.check(report)
+    assert 50 < len(found.faults) < 60 and found.all_faults == 5000
+    assert found.faults == erd.check(report, most_faults=None).faults[:len(found.faults)]
+
+
+@pytest.mark.parametrize('most, error', [('5', TypeError), (0.5, TypeError), (-1, ValueError), (2 ** 64, ValueError)])
+def test_what_is_no_number_of_faults(most, error):
+    with pytest.raises(error):
+        erd.check('{}', most_faults=most)
+
+
+def test_differences(top):
+    left = (top / 'examples' / 'county.vendor-a.json').read_bytes()
+    other = left.replace(b'Ingrith Sablewood', b'Ingrid Sablewood')
+    none, found = erd.differences(left, left), erd.differences(left, other)
+    assert none and (none.lines, none.status, none.more) == (('same',), 0, False)
+    assert not found and (found.status, found.all_differences) == (1, len(found.differences))
+    assert found.differences[0] == erd.compare(left, other).difference
+    assert found.lines[0] == 'candidate ["local-level","","K-12"]: member "BallotName"'
+    assert erd.differences(left, other, most_differences=0).all_differences == len(found.differences)
+    refused = erd.differences(left, b'{')
+    assert (refused.refused, refused.lines, refused.status) == ('right', ('right: not JSON',), 2)
 
 
 def test_several_threads(top):

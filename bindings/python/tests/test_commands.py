@@ -2,6 +2,7 @@
 
 import hashlib
 import json
+import os
 import subprocess
 import sys
 
@@ -41,6 +42,10 @@ def test_command(run, case):
         lines = text_of(case / 'compare.txt')
         found = run('compare', *preference(case), case / 'left.json', case / 'right.json')
         assert found == (STATUSES.get(lines, 1), lines, '')
+        status, out, err = run('differences', *preference(case), case / 'left.json', case / 'right.json')
+        assert (status, err) == (found[0], '')
+        assert out == (text_of(case / 'differences.txt') or out)
+        assert out == lines if lines.startswith(('left: ', 'right: ', 'same')) else out.startswith(lines)
         return
     status = STATUSES.get(lines, 1)
     assert run('check', *preference(case), case / 'input.json') == (status, lines, '')
@@ -54,6 +59,20 @@ def test_most_bytes(run, tmp_path, size, wanted):
     report = tmp_path / 'blanks'
     report.write_bytes(b' ' * size)
     assert run('check', report) == wanted
+
+
+@pytest.mark.skipif(not hasattr(os, 'wait4'), reason='the system does not say how much memory a process takes')
+@pytest.mark.parametrize('words', [['check'], ['canon'], ['compare'], ['differences'], ['-c', 'import erd, sys; erd.canonical(open(sys.argv[1], "rb").read())']])
+def test_a_square_list_takes_little_memory(tmp_path, words):
+    report = tmp_path / 'square.json'
+    report.write_text('{"@type":"ElectionResults.ElectionReport","Election":[],"' + 'n' * 25000 + '":[' + ','.join(['1.5'] * 6000) + ']}')
+    files = [report] * (2 if words[0] in ('compare', 'differences') else 1)
+    module = [] if words[0] == '-c' else ['-m', 'erd']
+    process = subprocess.Popen([sys.executable, *module, *words, *files], stdout=subprocess.DEVNULL, stderr=subprocess.DEVNULL)
+    _, status, used = os.wait4(process.pid, 0)
+    process.returncode = os.waitstatus_to_exitcode(status)
+    assert process.returncode == (0 if words[0] == '-c' else 1)
+    assert used.ru_maxrss < 100_000
 
 
 def rows_of_suite(top):

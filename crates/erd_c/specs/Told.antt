@@ -6,9 +6,12 @@ use Rattle.erd_canon.specs.Bytes.{IsCanonicalBytes}
 use Rattle.erd_canon.specs.Limits.{most_bytes}
 use Rattle.erd_canon.specs.Run.{IsToldFaults, IsToldNotJson}
 use Rattle.erd_canon.specs.Statuses.{outcome_status}
+use Rattle.erd_canon.specs.declared.data.piece.Piece.{Piece}
+use Rattle.erd_canon.specs.declared.data.piece.Told.{Told as PieceTold}
 use Rattle.erd_canon.specs.declared.engines.outcome.Outcome.{Outcome}
 use Rattle.erd_canon.specs.declared.engines.outcome.Outcome.TheVariants.{Good, Bad, NotJson}
 use Rattle.erd_c.specs.declared.told.Told.{Told}
+use Rattle.erd_c.specs.declared.told.Wanted.{Wanted}
 
 -- The preference that a call is given: this text if the flag is set, and otherwise none.
 abbrev pub preference : Bool → List ℕ → Preference
@@ -57,3 +60,29 @@ pub record IsCall (Answers : Outcome → List ℕ → Type 0) (Wrong : Type 0) (
   pub silent : 3 ≤ told.outcome → HasNoText told before after
   pub wrong : (told.outcome ≡ 3) ↔ Wrong
   pub known : told.outcome ≤ 4
+
+-- The piece of a list that is wanted.
+abbrev pub piece_of : Wanted → Piece
+piece_of wanted = record { first = wanted.first; most = wanted.most; enough_bytes = wanted.enough_bytes }
+
+-- The call tells this of the list, and keeps what is wanted.
+pub record IsToldOf (told : PieceTold) (before after : Wanted) : Type 0 where
+  pub count : after.told ≡ told.count
+  pub all : after.all ≡ told.all
+  pub piece : piece_of after ≡ piece_of before
+  pub prefers : after.prefers ≡ before.prefers
+
+-- The call tells of no list.
+abbrev pub IsToldNothing : Wanted → Wanted → Type 0
+IsToldNothing before after = IsToldOf (record { count = 0; all = 0 }) before after
+
+-- The call tells some outcome, some text and this of its list, and these are an answer.
+pub record IsPieceTold (Answers : Piece → Outcome → PieceTold → List ℕ → Type 0) (before after : Wanted) (outcome : Outcome) (text : List ℕ) : Type 0 where
+  pub told : PieceTold
+  pub telling : IsToldOf told before after
+  pub answers : Answers (piece_of before) outcome told text
+
+-- All that a call tells that is asked for a piece of a list: with 3 or 4 it tells of no list.
+pub record IsPieceCall (Answers : Piece → Outcome → PieceTold → List ℕ → Type 0) (Wrong : Type 0) (wanted asked : Wanted) (told : Told) (before after : List ℕ) : Type 0 where
+  pub call : IsCall (IsPieceTold Answers wanted asked) Wrong told before after
+  pub silent : 3 ≤ told.outcome → IsToldNothing wanted asked

@@ -8,11 +8,16 @@ ghost use Rattle.erd_canon.specs.Run.{IsChecked, IsCompared};
 ghost use Rattle.erd_c.specs.Told.{HasCanonicalText, IsCall, IsWrong, preference};
 
 mod answers;
+mod pieces;
 mod told;
 
 use answers::{canonical, checked, checked_data, compared, compared_data};
 use std::alloc::Global;
-pub use told::Told;
+pub use pieces::{
+    erd_tell_canonical_data_piece, erd_tell_check_data_piece, erd_tell_compare_data_piece,
+    erd_tell_differences_data,
+};
+pub use told::{Told, Wanted};
 use told::{given, tell};
 
 /// Checks a report, as `erd check` does.

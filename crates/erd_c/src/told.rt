@@ -2,9 +2,10 @@
 
 ghost use Rattle.std.specs.Prelude.{◌≡◌, IfOk, IfErr, OnOk, OnErr};
 ghost use Rattle.std.specs.Option.{option_copied};
-ghost use Rattle.erd_c.specs.Told.{HasNoText, IsPut, IsTelling, IsWrong, preference};
+ghost use Rattle.erd_c.specs.Told.{HasNoText, IsPut, IsTelling, IsToldNothing, IsToldOf, IsWrong, piece_of, preference};
 
-use erd_canon::{MOST_BYTES, Outcome, RunFault};
+use erd_canon::{MOST_BYTES, Outcome, Piece, PieceAnswer, RunFault, Told as PieceTold};
+use std::alloc::AllocError;
 use std::str;
 
 /// The result of a call.
@@ -17,6 +18,45 @@ pub struct Told {
     /// The length of the text in bytes, or 0 if there is none. The text is at the front of the room if it fits, and the rest of
     /// the room is as before. Otherwise the room is as before.
     pub length: usize,
+}
+
+/// What a caller wants of an answer that is a list, and what it is told of the list.
+#[repr(C)]
+#[derive(Drop)]
+pub struct Wanted {
+    /// How many entries of the list are left out at its front.
+    pub first: usize,
+    /// The most entries that the text may have.
+    pub most: usize,
+    /// No entry begins once those before it in the text have so many bytes.
+    pub enough_bytes: usize,
+    /// Told: how many entries of the list the text has.
+    pub told: usize,
+    /// Told: how many entries the list has.
+    pub all: usize,
+    /// Whether the call has a preferred type of identifier.
+    pub prefers: bool,
+}
+
+impl Wanted {
+    /// Returns the piece of the list that is wanted.
+    pub(crate) fn piece(&self) -> Piece
+        ensures { result ≡ piece_of self.now }
+    {
+        Piece {
+            first: self.first,
+            most: self.most,
+            enough_bytes: self.enough_bytes,
+        }
+    }
+
+    /// Tells of a list, and keeps what is wanted.
+    pub(crate) fn tell(&mut self, told: &PieceTold)
+        ensures { IsToldOf told.now self.old self.new }
+    {
+        self.told = told.count;
+        self.all = told.all;
+    }
 }
 
 /// Returns the preferred type of identifier, or none. If the type is not UTF-8, or the longest report is too long, the error
@@ -55,6 +95,33 @@ pub(crate) fn tell(answer: Result<(Outcome, Vec<u8>), RunFault>, room: &mut [u8]
         }
         Err(_) => textless(4),
     }
+}
+
+/// Converts the answer of a call that was asked for a piece of a list, as `tell` does, and tells of the list.
+pub(crate) fn tell_piece(
+    answer: Result<PieceAnswer, AllocError>,
+    wanted: &mut Wanted,
+    room: &mut [u8],
+) -> Told
+    ensures answered { IfOk answer (λ it. IsTelling it.outcome it.text.items result room.old room.new × IsToldOf it.told wanted.old wanted.new) }
+    ensures faulty { IfErr answer (λ _. (result.outcome ≡ 4) × HasNoText result room.old room.new × IsToldNothing wanted.old wanted.new) }
+{
+    match answer {
+        Ok(answer) => {
+            wanted.tell(&answer.told);
+            tell(Ok((answer.outcome, answer.text)), room)
+        }
+        Err(_) => tell_nothing(textless(4), wanted),
+    }
+}
+
+/// Tells of no list, and returns the result.
+pub(crate) fn tell_nothing(told: Told, wanted: &mut Wanted) -> Told
+    ensures result { result ≡ told }
+    ensures wanted { IsToldNothing wanted.old wanted.new }
+{
+    wanted.tell(&PieceTold { count: 0, all: 0 });
+    told
 }
 
 /// Returns a result without a text.

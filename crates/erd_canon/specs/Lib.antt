@@ -9,6 +9,7 @@ pub mod Reading  -- what came from a reader
 pub mod Run  -- what a run read and wrote that ends with an outcome
 pub mod DataValues  -- the JSON values of faults and of a comparison
 pub mod DataAnswers  -- what the calls answer as data
+pub mod Pieces  -- which entries of a list an answer has if its caller bounds them
 pub mod Writing  -- what a writer holds after a failed write
 pub mod Statuses  -- exit statuses, and the words of faults
 pub mod ExactLines  -- the exact command lines

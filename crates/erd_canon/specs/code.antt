@@ -3,3 +3,4 @@ pub mod Chunks  -- what one read adds
 pub mod SideRefusals  -- what is written of a refusal on one of two sides
 pub mod RefusalData  -- the JSON value of a refusal
 pub mod Pending  -- what moves from a buffer to a writer
+pub mod Fronts  -- the front of a list that a piece shows

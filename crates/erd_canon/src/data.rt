@@ -5,4 +5,7 @@ pub(crate) mod compare;
 pub(crate) mod differences;
 mod fault_texts;
 mod fault_values;
+mod listed;
+pub(crate) mod piece;
+pub(crate) mod pieces;
 mod refusals;

@@ -1,6 +1,7 @@
 //! A short example of each public call, as a caller writes it. The doc comment of the call has the same lines.
 mod bytes;
 mod data;
+mod pieces;
 mod engines;
 mod index;
 mod reports;

@@ -55,11 +55,60 @@ static uint32_t handed_on(enum erd_outcome outcome, struct answer answer, addres
         return handed_on(outcome, answer, text, length);                                                                       \
     }
 
+/* A piece of a list as a caller of 32 bits has it. */
+struct narrow_piece {
+    uint32_t first, most, enough_bytes, told, all;
+};
+
+static struct erd_piece piece_at(address place) {
+    if (place == 0)
+        return (struct erd_piece){0, SIZE_MAX, SIZE_MAX, 0, 0};
+    const struct narrow_piece *piece = at(place);
+    return (struct erd_piece){piece->first, piece->most, piece->enough_bytes, 0, 0};
+}
+
+static void tell_at(address place, const struct erd_piece *told) {
+    if (place == 0)
+        return;
+    struct narrow_piece *piece = at(place);
+    piece->told = (uint32_t)told->told;
+    piece->all = (uint32_t)told->all;
+}
+
+#define PIECE_OF_REPORT(name)                                                                                                  \
+    uint32_t exported_##name(address bytes, uint32_t size, address prefer, address piece, address text, address length)        \
+        EXPORTED(#name);                                                                                                       \
+    uint32_t exported_##name(address bytes, uint32_t size, address prefer, address piece, address text, address length) {      \
+        struct answer answer = {NULL, 0};                                                                                      \
+        struct erd_piece wide = piece_at(piece);                                                                               \
+        enum erd_outcome outcome =                                                                                             \
+            name(at(bytes), size, at(prefer), &wide, text != 0 ? &answer.text : NULL, &answer.length);                         \
+        tell_at(piece, &wide);                                                                                                 \
+        return handed_on(outcome, answer, text, length);                                                                       \
+    }
+
+#define PIECE_OF_TWO_REPORTS(name)                                                                                             \
+    uint32_t exported_##name(address left, uint32_t left_size, address right, uint32_t right_size, address prefer,             \
+                             address piece, address text, address length) EXPORTED(#name);                                     \
+    uint32_t exported_##name(address left, uint32_t left_size, address right, uint32_t right_size, address prefer,             \
+                             address piece, address text, address length) {                                                    \
+        struct answer answer = {NULL, 0};                                                                                      \
+        struct erd_piece wide = piece_at(piece);                                                                               \
+        enum erd_outcome outcome = name(at(left), left_size, at(right), right_size, at(prefer), &wide,                         \
+                                        text != 0 ? &answer.text : NULL, &answer.length);                                      \
+        tell_at(piece, &wide);                                                                                                 \
+        return handed_on(outcome, answer, text, length);                                                                       \
+    }
+
 ON_REPORT(erd_check)
 ON_REPORT(erd_canonical)
 ON_REPORT(erd_check_data)
 ON_TWO_REPORTS(erd_compare)
 ON_TWO_REPORTS(erd_compare_data)
+PIECE_OF_REPORT(erd_check_data_piece)
+PIECE_OF_REPORT(erd_canonical_data_piece)
+PIECE_OF_TWO_REPORTS(erd_compare_data_piece)
+PIECE_OF_TWO_REPORTS(erd_differences_data)
 
 void exported_erd_free(address room) EXPORTED("erd_free");
 void exported_erd_free(address room) {

@@ -15,57 +15,72 @@ library is tested with the conformance suite.
 Each call takes the bytes of a report, or its text, and gives the same result for the same arguments each time. Several
 threads may call at once. `prefer` is the type of identifier that the keys of objects follow, such as `fips`.
 
+A list of faults has at most `most_faults` of them, and fewer if their texts together have more than a megabyte, since the list
+of all can be as long as the square of the report; `all_faults` is how many there are. None asks for all of them. The same holds
+for `most_differences`.
+
 Each call raises TooLong for a report of more than 67,108,864 bytes, MemoryError if memory runs out, and TypeError for what is
 neither bytes nor text. `prefer` may not have a zero character in it, or half a surrogate pair (ValueError).
 """
 
 from __future__ import annotations
 
-import json
 from typing import Optional, Union
 
-from .library import BAD, GOOD, TooLong, call, version
+from .library import TooLong, version
+from .listing import MOST_LISTED, listed
 from .repeats import RepeatedName, repeated_names
-from .results import Canonical, Check, Comparison, Difference, Fault, check_of, comparison_of
+from .results import (Canonical, Check, Comparison, Difference, Differences, Fault, check_of, comparison_of, differences_of)
 
-__all__ = ['Canonical', 'Check', 'Comparison', 'Difference', 'Fault', 'RepeatedName', 'TooLong', 'canonical', 'check', 'compare',
-           'repeated_names', 'version']
+__all__ = ['Canonical', 'Check', 'Comparison', 'Difference', 'Differences', 'Fault', 'MOST_LISTED', 'RepeatedName', 'TooLong',
+           'canonical', 'check', 'compare', 'differences', 'repeated_names', 'version']
 
 Report = Union[bytes, bytearray, memoryview, str]
 
 
-def check(report: Report, *, prefer: Optional[str] = None) -> Check:
-    """Returns whether the report is accepted, with every fault of the first phase that finds one.
+def check(report: Report, *, prefer: Optional[str] = None, most_faults: Optional[int] = MOST_LISTED) -> Check:
+    """Returns whether the report is accepted, with the faults of the first phase that finds one.
 
     >>> check('{').lines
     ('not JSON',)
     """
-    _, text = call('erd_check_data', (bytes_of(report),), bytes_of_type(prefer))
-    return check_of(json.loads(text))
+    data, count = listed('erd_check_data_piece', (bytes_of(report),), prefer, most_faults)
+    return check_of(data, count)
 
 
-def canonical(report: Report, *, prefer: Optional[str] = None) -> Canonical:
+def canonical(report: Report, *, prefer: Optional[str] = None, most_faults: Optional[int] = MOST_LISTED) -> Canonical:
     """Returns the canonical form of the report, or its faults if it is refused.
 
     >>> canonical('{').form is None
     True
     """
-    data = bytes_of(report)
-    outcome, text = call('erd_canonical', (data,), bytes_of_type(prefer))
-    if outcome == GOOD:
-        return Canonical(form=text, check=Check(is_json=True))
-    return Canonical(form=None, check=check(data, prefer=prefer) if outcome == BAD else Check(is_json=False))
+    data, count = listed('erd_canonical_data_piece', (bytes_of(report),), prefer, most_faults)
+    if isinstance(data, bytes):
+        return Canonical(form=data, check=Check(is_json=True))
+    return Canonical(form=None, check=check_of(data, count))
 
 
-def compare(left: Report, right: Report, *, prefer: Optional[str] = None) -> Comparison:
+def compare(left: Report, right: Report, *, prefer: Optional[str] = None, most_faults: Optional[int] = MOST_LISTED) -> Comparison:
     """Returns whether the two reports mean the same, or the first object in which they differ, or the faults of the first
     report that is refused.
 
     >>> compare('{', '{').lines
     ('left: not JSON',)
     """
-    _, text = call('erd_compare_data', (bytes_of(left), bytes_of(right)), bytes_of_type(prefer))
-    return comparison_of(json.loads(text))
+    data, count = listed('erd_compare_data_piece', (bytes_of(left), bytes_of(right)), prefer, most_faults)
+    return comparison_of(data, count)
+
+
+def differences(left: Report, right: Report, *, prefer: Optional[str] = None,
+                most_differences: Optional[int] = MOST_LISTED) -> Differences:
+    """Returns all objects in which the two reports differ, or the faults of the first report that is refused, of which there
+    are at most as many in the list.
+
+    >>> differences('{', '{').lines
+    ('left: not JSON',)
+    """
+    data, count = listed('erd_differences_data', (bytes_of(left), bytes_of(right)), prefer, most_differences)
+    return differences_of(data, count)
 
 
 def bytes_of(report: Report) -> bytes:
@@ -75,17 +90,6 @@ def bytes_of(report: Report) -> bytes:
     if isinstance(report, (bytes, bytearray, memoryview)):
         return bytes(report)
     raise TypeError(f'a report is bytes or text, and not {type(report).__name__}')
-
-
-def bytes_of_type(prefer: Optional[str]) -> Optional[bytes]:
-    """Returns the type of identifier as the library takes it."""
-    if prefer is None:
-        return None
-    if not isinstance(prefer, str):
-        raise TypeError(f'prefer is text, and not {type(prefer).__name__}')
-    if '\0' in prefer:
-        raise ValueError('prefer has a zero character in it')
-    return prefer.encode('utf-8')
 
 
 def __getattr__(name: str) -> str:

@@ -3,6 +3,10 @@
 python -m erd < REPORT
 python -m erd check|canon [--prefer TYPE] FILE
 python -m erd compare [--prefer TYPE] LEFT RIGHT
+
+One command is of this package alone, and lists all differences:
+
+python -m erd differences [--prefer TYPE] LEFT RIGHT
 """
 
 from __future__ import annotations
@@ -10,9 +14,11 @@ from __future__ import annotations
 import argparse
 import os
 import sys
-from typing import BinaryIO, List, NoReturn, Optional
+from typing import BinaryIO, List, NoReturn, Optional, Tuple
 
-from . import Canonical, TooLong, canonical, check, compare, version
+from . import TooLong, version
+from .listing import each_piece
+from .results import check_of, comparison_of, differences_of
 
 MOST_BYTES = 67108864
 WRONG, NO_MEMORY = 3, 4
@@ -42,7 +48,8 @@ def parser() -> Parser:
     commands = top.add_subparsers(dest='command', metavar='COMMAND')
     for name, files, words in (('check', ['FILE'], 'say whether a report is accepted, or list its faults'),
                                ('canon', ['FILE'], 'write the canonical form of a report'),
-                               ('compare', ['LEFT', 'RIGHT'], 'say whether two reports mean the same, or where they differ first')):
+                               ('compare', ['LEFT', 'RIGHT'], 'say whether two reports mean the same, or where they differ first'),
+                               ('differences', ['LEFT', 'RIGHT'], 'list all differences in meaning of two reports')):
         command = commands.add_parser(name, help=words, description=words, allow_abbrev=False)
         command.add_argument('--prefer', metavar='TYPE', type=not_empty, help='the type of identifier that keys follow')
         for file in files:
@@ -100,32 +107,40 @@ def write(file: BinaryIO, data: bytes) -> None:
         raise Stop('write failed') from None
 
 
-def write_form(result: Canonical) -> int:
-    """Writes the canonical form, or else the faults to standard error, and returns the exit status."""
-    if result.form is not None:
-        write(sys.stdout.buffer, result.form)
-    else:
-        write(sys.stderr.buffer, result.check.text.encode('utf-8'))
-    return result.check.status
+# The call of each command, and what makes the result of an answer of it.
+CALLS = {
+    'check': ('erd_check_data_piece', check_of),
+    'canon': ('erd_canonical_data_piece', check_of),
+    'compare': ('erd_compare_data_piece', comparison_of),
+    'differences': ('erd_differences_data', differences_of),
+}
+
+
+def write_each(command: str, reports: Tuple[bytes, ...], prefer: Optional[str]) -> int:
+    """Writes what the command writes, piece by piece, so that no list is in memory as a whole, and returns the exit status."""
+    call, result_of = CALLS[command]
+    status = 0
+    for data, count in each_piece(call, reports, prefer, None):
+        if isinstance(data, bytes):
+            write(sys.stdout.buffer, data)
+        else:
+            result = result_of(data, count)
+            write(sys.stderr.buffer if command == 'canon' else sys.stdout.buffer, result.text.encode('utf-8'))
+            status = result.status
+    return status
 
 
 def answer(words: argparse.Namespace) -> int:
     """Does what the command line asks for, and returns the exit status."""
     if words.command is None:
-        return write_form(canonical(read(0)))
-    if words.command == 'compare':
+        return write_each('canon', (read(0),), None)
+    if words.command in ('compare', 'differences'):
         with Input(words.LEFT) as left_file, Input(words.RIGHT) as right_file:
-            left, right = read(left_file.handle), read(right_file.handle)
-        result = compare(left, right, prefer=words.prefer)
-        write(sys.stdout.buffer, result.text.encode('utf-8'))
-        return result.status
-    with Input(words.FILE) as file:
-        report = read(file.handle)
-    if words.command == 'canon':
-        return write_form(canonical(report, prefer=words.prefer))
-    found = check(report, prefer=words.prefer)
-    write(sys.stdout.buffer, found.text.encode('utf-8'))
-    return found.status
+            reports = (read(left_file.handle), read(right_file.handle))
+    else:
+        with Input(words.FILE) as file:
+            reports = (read(file.handle),)
+    return write_each(words.command, reports, words.prefer)
 
 
 def main(words: Optional[List[str]] = None) -> int:

@@ -40,7 +40,7 @@ def judge(file: str, prefer: Optional[str], steps: Sequence[str] = ()) -> Row:
         if steps:
             data, done = prepare(data, steps)
             told = ', '.join(f'{step.name} {len(step.made)}' for step in done if step.made)
-        result = canonical(data, prefer=prefer)
+        result = canonical(data, prefer=prefer, most_faults=1)
     except NotJson:
         return Row(file, NOT_JSON)
     except TooLong:
@@ -53,4 +53,4 @@ def judge(file: str, prefer: Optional[str], steps: Sequence[str] = ()) -> Row:
         return Row(file, f'{type(error).__name__}: {error}')
     if result.form is not None:
         return Row(file, ACCEPTED, sha256=hashlib.sha256(result.form).hexdigest(), prepared=told)
-    return Row(file, REFUSED if result.check.is_json else NOT_JSON, len(result.check.faults), prepared=told)
+    return Row(file, REFUSED if result.check.is_json else NOT_JSON, result.check.all_faults, prepared=told)

@@ -5,13 +5,28 @@ from __future__ import annotations
 import ctypes
 import os
 import sys
+from dataclasses import dataclass
 from functools import lru_cache
 from pathlib import Path
-from typing import Optional, Tuple
+from typing import Iterator, Optional, Tuple
 
 GOOD, BAD, NOT_JSON, WRONG, NO_MEMORY = range(5)
 
 NAME = {'win32': 'erd.dll', 'darwin': 'liberd.dylib'}.get(sys.platform, 'liberd.so.0')
+
+
+# More entries than any list has.
+ALL = 2 ** (8 * ctypes.sizeof(ctypes.c_size_t)) - 1
+
+# No further entry of a list begins once those before it have so many bytes: a list of faults can be as long as the square of its
+# report, so a call asks for one piece after another.
+BYTES_OF_PIECE = 2 ** 20
+
+
+class Piece(ctypes.Structure):
+    """Which entries of a list an answer is to have, and what it tells of the list: `struct erd_piece`."""
+
+    _fields_ = [(name, ctypes.c_size_t) for name in ('first', 'most', 'enough_bytes', 'told', 'all')]
 
 
 class TooLong(ValueError):
@@ -36,9 +51,10 @@ def load(path: str) -> ctypes.CDLL:
     loaded = ctypes.CDLL(path)
     text = [ctypes.POINTER(ctypes.c_void_p), ctypes.POINTER(ctypes.c_size_t)]
     report = [ctypes.c_char_p, ctypes.c_size_t]
-    for call, reports in (('erd_check_data', 1), ('erd_canonical', 1), ('erd_compare_data', 2)):
+    for call, reports in (('erd_check_data_piece', 1), ('erd_canonical_data_piece', 1), ('erd_compare_data_piece', 2),
+                          ('erd_differences_data', 2)):
         function = getattr(loaded, call)
-        function.argtypes = report * reports + [ctypes.c_char_p] + text
+        function.argtypes = report * reports + [ctypes.c_char_p, ctypes.POINTER(Piece)] + text
         function.restype = ctypes.c_int
     loaded.erd_free.argtypes = [ctypes.c_void_p]
     loaded.erd_free.restype = None
@@ -58,16 +74,40 @@ def version() -> str:
     return library().erd_version().decode('ascii')
 
 
-def call(name: str, reports: Tuple[bytes, ...], prefer: Optional[bytes]) -> Tuple[int, bytes]:
-    """Calls the library, and returns the outcome and the text."""
+@dataclass(frozen=True)
+class Answer:
+    """What the library answers to a call."""
+
+    outcome: int
+    text: bytes
+    told: int
+    """How many entries of a list the text has."""
+
+    all: int
+    """How many entries the list has."""
+
+
+def pieces(name: str, reports: Tuple[bytes, ...], prefer: Optional[bytes], most: int) -> Iterator[Answer]:
+    """Gives the answers with one piece of a list after another. An answer without a list is the only one."""
+    first = 0
+    while True:
+        answer = call(name, reports, prefer, Piece(first, most, BYTES_OF_PIECE))
+        yield answer
+        first += answer.told
+        if answer.told == 0 or first >= answer.all:
+            return
+
+
+def call(name: str, reports: Tuple[bytes, ...], prefer: Optional[bytes], piece: Piece) -> Answer:
+    """Calls the library, and returns its answer."""
     text, length = ctypes.c_void_p(), ctypes.c_size_t()
     arguments = [value for report in reports for value in (report, len(report))]
-    outcome = getattr(library(), name)(*arguments, prefer, ctypes.byref(text), ctypes.byref(length))
+    outcome = getattr(library(), name)(*arguments, prefer, ctypes.byref(piece), ctypes.byref(text), ctypes.byref(length))
     try:
         if outcome == NO_MEMORY:
             raise MemoryError('out of memory')
         if outcome == WRONG:
             raise TooLong()
-        return outcome, bytes((ctypes.c_char * length.value).from_address(text.value))
+        return Answer(outcome, bytes((ctypes.c_char * length.value).from_address(text.value)), piece.told, piece.all)
     finally:
         library().erd_free(text)

@@ -74,7 +74,7 @@ class Fault:
 
 @dataclass(frozen=True)
 class Difference:
-    """The first object in which two reports differ, and how they differ there.
+    """An object in which two reports differ, and how they differ there.
 
     >>> Difference(part='style', key=('local-level', '', 'S1'), how='member', member='OrderedContent').line
     'style ["local-level","","S1"]: member "OrderedContent"'
@@ -90,7 +90,7 @@ class Difference:
     """One of `only left`, `only right`, `other class` and `member`."""
 
     member: Optional[str] = None
-    """The first member, by name, in which the two objects differ, if `how` is `member`."""
+    """A member in which the two objects differ, if `how` is `member`."""
 
     @property
     def line(self) -> str:
@@ -108,30 +108,38 @@ class Check:
     """Whether the bytes are JSON at all."""
 
     faults: Tuple[Fault, ...] = ()
-    """Every fault of the first phase that finds one, in the order of their places."""
+    """The faults of the first phase that finds one, in the order of their places, from the first one on."""
+
+    all_faults: int = 0
+    """How many faults the report has."""
+
+    @property
+    def more(self) -> bool:
+        """Whether the report has more faults than are listed."""
+        return len(self.faults) < self.all_faults
 
     @property
     def accepted(self) -> bool:
         """Whether the report is accepted."""
-        return self.is_json and not self.faults
+        return self.is_json and self.all_faults == 0
 
     @property
     def status(self) -> int:
         """The exit status of `erd check`: 0 if accepted, 1 if refused, 2 if the bytes are not JSON."""
         if not self.is_json:
             return 2
-        return 1 if self.faults else 0
+        return 1 if self.all_faults else 0
 
     @property
     def lines(self) -> Tuple[str, ...]:
-        """The lines that `erd check` writes."""
+        """The lines that `erd check` writes, as far as the faults are listed."""
         if not self.is_json:
             return ('not JSON',)
-        return tuple(fault.line for fault in self.faults) or ('accepted',)
+        return ('accepted',) if self.accepted else tuple(fault.line for fault in self.faults)
 
     @property
     def text(self) -> str:
-        """What `erd check` writes, each line with its line feed."""
+        """These lines, each with its line feed."""
         return ''.join(line + '\n' for line in self.lines)
 
     def __bool__(self) -> bool:
@@ -184,14 +192,63 @@ class Comparison:
 
     @property
     def lines(self) -> Tuple[str, ...]:
-        """The lines that `erd compare` writes."""
+        """The lines that `erd compare` writes, as far as the faults of a refused report are listed."""
         if self.check is not None:
             return tuple(f'{self.refused}: {line}' for line in self.check.lines)
         return ('same',) if self.difference is None else (self.difference.line,)
 
     @property
     def text(self) -> str:
-        """What `erd compare` writes, each line with its line feed."""
+        """These lines, each with its line feed."""
+        return ''.join(line + '\n' for line in self.lines)
+
+    def __bool__(self) -> bool:
+        return self.same
+
+
+@dataclass(frozen=True)
+class Differences:
+    """All differences of two reports; or which of them is refused, and why."""
+
+    differences: Tuple[Difference, ...] = ()
+    """The differences in rising order by part, key and member, from the first one on."""
+
+    all_differences: int = 0
+    """How many differences the reports have."""
+
+    refused: Optional[str] = None
+    """`left` or `right`, if that report is refused. The right one is judged only if the left one is accepted."""
+
+    check: Optional[Check] = None
+    """The result of checking the report that is refused."""
+
+    @property
+    def more(self) -> bool:
+        """Whether there are more differences, or more faults of a refused report, than are listed."""
+        return len(self.differences) < self.all_differences or (self.check is not None and self.check.more)
+
+    @property
+    def same(self) -> bool:
+        """Whether both reports are accepted and mean the same."""
+        return self.refused is None and self.all_differences == 0
+
+    @property
+    def status(self) -> int:
+        """The exit status of `erd compare`: 0 if same, 2 if a report is not JSON, otherwise 1."""
+        if self.check is not None:
+            return self.check.status
+        return 0 if self.same else 1
+
+    @property
+    def lines(self) -> Tuple[str, ...]:
+        """`same`, or the line of each difference that is listed; of a refused report the lines of `erd compare`."""
+        if self.check is not None:
+            return tuple(f'{self.refused}: {line}' for line in self.check.lines)
+        return ('same',) if self.same else tuple(difference.line for difference in self.differences)
+
+    @property
+    def text(self) -> str:
+        """These lines, each with its line feed."""
         return ''.join(line + '\n' for line in self.lines)
 
     def __bool__(self) -> bool:
@@ -203,18 +260,31 @@ def fault_of(data: dict) -> Fault:
     return Fault(tuple(data['place']), data['reason'], data.get('name'))
 
 
-def check_of(data: object) -> Check:
-    """Returns the result that the library's JSON for `check` describes."""
+def difference_of(data: dict) -> Difference:
+    """Returns the difference that one object of the library's JSON describes."""
+    key = None if data['key'] is None else tuple(data['key'])
+    return Difference(data['part'], key, data['how'], data.get('member'))
+
+
+def check_of(data: object, all_faults: int) -> Check:
+    """Returns the result that the library's JSON for `check` describes, of a report with so many faults."""
     if data == 'not JSON':
         return Check(is_json=False)
-    return Check(is_json=True, faults=tuple(map(fault_of, data)))
+    return Check(is_json=True, faults=tuple(map(fault_of, data)), all_faults=all_faults)
 
 
-def comparison_of(data: object) -> Comparison:
-    """Returns the result that the library's JSON for `compare` describes."""
+def comparison_of(data: object, all_faults: int) -> Comparison:
+    """Returns the result that the library's JSON for `compare` describes. A refused report has so many faults."""
     if data is None:
         return Comparison()
     if 'refused' in data:
-        return Comparison(refused=data['refused'], check=check_of(data['faults']))
-    key = None if data['key'] is None else tuple(data['key'])
-    return Comparison(difference=Difference(data['part'], key, data['how'], data.get('member')))
+        return Comparison(refused=data['refused'], check=check_of(data['faults'], all_faults))
+    return Comparison(difference=difference_of(data))
+
+
+def differences_of(data: object, all_entries: int) -> Differences:
+    """Returns the result that the library's JSON for `differences` describes: a list of so many differences, or of so many
+    faults."""
+    if 'refused' in data:
+        return Differences(refused=data['refused'], check=check_of(data['faults'], all_entries))
+    return Differences(tuple(map(difference_of, data)), all_entries)

@@ -1,5 +1,5 @@
 -- The texts of the values that calls answer as data.
-use Rattle.erd_canon.proofs.Common.{◌≡◌, ℕ, ◌^◌, ◌<◌, ◌≤◌, false, ◌⊎◌, List, [], ◌++◌, pos, negsuc, Some, codes, IsUtf8, sym, refl, ap, ◌∙◌, subst, inl, inr, append_assoc, arith, Num, unsigned, negative, float, Data, number, string, array, object, Items, no_items, item, Members, no_members, member, depth, read, max_depth, number_text, outline, items_outline, members_outline, has_float, compact_text, IsFittingNumber, HasFittingNumbers, ItemsHaveFittingNumbers, MembersHaveFittingNumbers, IsTree, Preference, digits, serde_json_on_literals, signed_decimal, Difference, refused_data, IsComparison, IsSomeReport, RefusedAs, TellsRefusalAs, AppendsRefusal, IsRefusalAnswer, IsSideAnswer, Refusal, refusal, Outcome, Bad, Good, NotJson}
+use Rattle.erd_canon.proofs.Common.{◌≡◌, ℕ, ◌^◌, ◌<◌, ◌≤◌, false, ◌⊎◌, List, [], ◌++◌, pos, negsuc, Some, codes, IsUtf8, sym, refl, ap, ◌∙◌, subst, inl, inr, append_assoc, arith, Num, unsigned, negative, float, Data, number, string, array, object, Items, no_items, item, Members, no_members, member, depth, read, max_depth, number_text, outline, items_outline, members_outline, has_float, compact_text, IsFittingNumber, HasFittingNumbers, ItemsHaveFittingNumbers, MembersHaveFittingNumbers, IsTree, Preference, digits, serde_json_on_literals, signed_decimal, Difference, Option, comparison_data, refused_data, IsComparison, IsSomeReport, RefusedAs, TellsRefusalAs, AppendsRefusal, IsRefusalAnswer, IsSideAnswer, Refusal, refusal, Outcome, Bad, Good, NotJson}
 use Rattle.std.proofs.lemmas.Bool.{cases_eq}
 use Rattle.serde_json.proofs.Texts.{print-outline}
 use Rattle.json.specs.Lex.{tokens}
@@ -11,6 +11,7 @@ use Rattle.json.proofs.Printed.Trees.{ArePrintable-json_tokens}
 use Rattle.erd_normal.proofs.texts.FormTexts.{form_read}
 use Rattle.erd_compare.specs.DifferenceData.{difference_data}
 use Rattle.erd_canon.specs.DataAnswers.{IsDataText, IsCheckData, IsCheckedData, IsComparedData, IsRefusalData}
+use Rattle.erd_canon.specs.Run.{comparison_outcome}
 use Rattle.erd_canon.proofs.data_values.DataTrees.{refusal_value, refused_depth, refused_tree, difference_value}
 
 -- ---- texts that are written piece by piece
@@ -89,19 +90,21 @@ refused_pieces side why = refl
 joined : (a b c d e : List ℕ) → (((a ++ b) ++ c) ++ d) ++ e ≡ a ++ (b ++ (c ++ (d ++ e)))
 joined a b c d e = simp append_assoc
 
+pub side_text : (side : List ℕ) (why : Data) (first second third fourth text : List ℕ) → IsTree why → depth why ≤ 3 → HasFittingNumbers why → second ≡ first ++ compact_text why
+    → first ≡ codes "{\"faults\":" → third ≡ second ++ codes ",\"refused\":" → fourth ≡ third ++ compact_text (string side) → text ≡ fourth ++ codes "}" → IsUtf8 text
+    → IsDataText text (refused_data side why)
+side_text side why first second third fourth text tree low fits wrote begun named sided ended utf8 =
+    let pieces : text ≡ (((codes "{\"faults\":" ++ compact_text why) ++ codes ",\"refused\":") ++ compact_text (string side)) ++ codes "}" =
+    ended ∙ ap (λ t. t ++ codes "}") (sided ∙ ap (λ t. t ++ compact_text (string side)) (named ∙ ap (λ t. t ++ codes ",\"refused\":") (wrote ∙ ap (λ t. t ++ compact_text why) begun))) in
+    let is : text ≡ compact_text (refused_data side why) =
+    pieces ∙ joined (codes "{\"faults\":") (compact_text why) (codes ",\"refused\":") (compact_text (string side)) (codes "}") ∙ sym (refused_pieces side why) in
+    data_text text (refused_data side why) utf8 is (refused_tree side why tree) (fits, (tt, tt)) (omega (arith, refused_depth side why low))
+
 pub side_answer : (side : List ℕ) (refused : Refusal) (outcome : Outcome) (first second third fourth text : List ℕ) (a : AppendsRefusal refused outcome first second) → first ≡ codes "{\"faults\":"
     → third ≡ second ++ codes ",\"refused\":" → fourth ≡ third ++ compact_text (string side) → text ≡ fourth ++ codes "}" → IsUtf8 text → IsSideAnswer side refused outcome text
 side_answer side refused outcome first second third fourth text a begun named sided ended utf8 =
     let v = refusal_value refused outcome a.value a.tells in
-    let pieces : text ≡ (((codes "{\"faults\":" ++ compact_text a.value) ++ codes ",\"refused\":") ++ compact_text (string side)) ++ codes "}" =
-    ended ∙ ap (λ t. t ++ codes "}") (sided ∙ ap (λ t. t ++ compact_text (string side)) (named ∙ ap (λ t. t ++ codes ",\"refused\":") (a.wrote ∙ ap (λ t. t ++ compact_text a.value) begun))) in
-    let is : text ≡ compact_text (refused_data side a.value) =
-    pieces ∙ joined (codes "{\"faults\":") (compact_text a.value) (codes ",\"refused\":") (compact_text (string side)) (codes "}") ∙ sym (refused_pieces side a.value) in
-    record {
-      why = a.value;
-      tells = a.tells;
-      is_text = data_text text (refused_data side a.value) utf8 is (refused_tree side a.value v.0) (a.fits, (tt, tt)) (omega (arith, refused_depth side a.value v.1));
-    }
+    record { why = a.value; tells = a.tells; is_text = side_text side a.value first second third fourth text v.0 v.1 a.fits a.wrote begun named sided ended utf8 }
 
 -- ---- what the calls answer as data, from what the calls on bytes answer
 
@@ -143,13 +146,13 @@ right_refused π left right refused outcome text accepted is a = record {
   is_text = a.is_text;
 }
 
--- the answer of a comparison if two accepted reports differ
-pub differ : (π : Preference) (left right text : List ℕ) (d : Difference) (v : Data) → IsComparison π left right (Some d) → v ≡ difference_data d → (has_float v ≡ false → text ≡ compact_text v)
-    → (depth v ≤ max_depth → read text ≡ Some v) → IsUtf8 text → IsComparedData π left right Bad text
-differ π left right text d v is same written read_back utf8 =
-    let known = difference_value d in
-    record {
-      value = difference_data d;
-      compared = inr (inr (Some d, is, refl, refl));
-      is_text = value_text text v (difference_data d) utf8 same known.1 (omega (arith, known.0)) written read_back;
-    }
+-- the text of a difference
+pub difference_text : (text : List ℕ) (d : Difference) (v : Data) → v ≡ difference_data d → (has_float v ≡ false → text ≡ compact_text v) → (depth v ≤ max_depth → read text ≡ Some v) → IsUtf8 text
+    → IsDataText text (difference_data d)
+difference_text text d v same written read_back utf8 =
+    let known = difference_value d in value_text text v (difference_data d) utf8 same known.1 (omega (arith, known.0)) written read_back
+
+-- the answer of a comparison of two accepted reports
+pub both_compared : (π : Preference) (left right text : List ℕ) (outcome : Outcome) (found : Option Difference) → IsComparison π left right found → outcome ≡ comparison_outcome found
+    → IsDataText text (comparison_data found) → IsComparedData π left right outcome text
+both_compared π left right text outcome found is ends written = record { value = comparison_data found; compared = inr (inr (found, is, ends, refl)); is_text = written }

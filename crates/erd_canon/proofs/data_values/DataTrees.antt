@@ -1,5 +1,5 @@
 -- The values that calls answer as data are trees, nest little, and have no number that is not whole.
-use Rattle.erd_canon.proofs.Common.{◌≡◌, ℕ, ◌≤◌, false, List, [], ◌∷◌, map, Some, None, Option, sym, refl, subst, arith, Data, depth, items_depth, items_of, has_float, items_have_float, Reason, reason, IsTree, AreTrees, Fault, Difference, step_data, fault_data, refused_data, TellsRefusalAs, Refusal, refusal, Outcome, Bad, NotJson}
+use Rattle.erd_canon.proofs.Common.{◌≡◌, ℕ, ◌≤◌, false, List, [], ◌∷◌, map, Some, None, Option, sym, refl, subst, arith, Data, depth, items_depth, items_of, has_float, items_have_float, Reason, reason, IsTree, AreTrees, Fault, Difference, step_data, fault_data, faults_data, refused_data, TellsRefusalAs, Refusal, refusal, Outcome, Bad, NotJson}
 use Rattle.erd_tables.specs.declared.place.Step.{Step}
 use Rattle.erd_tables.specs.declared.place.Step.TheVariants.{Name, At}
 use Rattle.erd_meaning.specs.declared.keys.key.Key.{Key}
@@ -66,10 +66,14 @@ fault_whole f = at f.reason (steps_whole f.place)
 
 -- ---- refusals and differences
 
+-- the array of faults
+pub faults_value : (faults : List Fault) → IsTree (faults_data faults) × (depth (faults_data faults) ≤ 3)
+faults_value faults = (faults_tree faults, omega (arith, faults_depth faults))
+
 -- what is told of a refusal
 pub refusal_value : (refused : Refusal) (outcome : Outcome) (value : Data) → TellsRefusalAs refused outcome value → IsTree value × (depth value ≤ 3)
 refusal_value (refusal.Faults faults) Bad value is =
-    subst (λ d. IsTree d × (depth d ≤ 3)) (sym is) (faults_tree faults, omega (arith, faults_depth faults))
+    subst (λ d. IsTree d × (depth d ≤ 3)) (sym is) (faults_value faults)
 refusal_value refusal.NotJson NotJson value is = subst (λ d. IsTree d × (depth d ≤ 3)) (sym is) (tt, omega arith)
 refusal_value refused outcome value is = absurd is
 

@@ -43,6 +43,9 @@ fitting : (ds : List Difference) → ItemsHaveFittingNumbers (items_of (map diff
 fitting [] = tt
 fitting (d ∷ ds) = ((tree_at d.part d.key d.how).1, fitting ds)
 
+pub difference_fits : (d : Difference) → HasFittingNumbers (difference_data d)
+difference_fits d = (tree_at d.part d.key d.how).1
+
 low : (ds : List Difference) → items_depth (items_of (map difference_data ds)) ≤ 2
 low [] = omega arith
 low (d ∷ ds) = let here = (difference_value d).0 in omega (arith, here, low ds)
@@ -71,6 +74,11 @@ right_refused π left right refused outcome text accepted is a = record {
 pub both_listed : (π : Preference) (left right text : List ℕ) (outcome : Outcome) (ds : List Difference) → AreCompared π left right ds → outcome ≡ listing_outcome ds → IsDataText text (differences_data ds)
     → IsListedData π left right outcome text
 both_listed π left right text outcome ds is ends written = record { value = differences_data ds; listed = inr (inr (ds, is, ends, refl)); is_text = written }
+
+-- what holds of any answer
+pub always : {T E : Type 0} (r : Result T E) (P : Type 0) → P → IfOk r (λ _. P)
+always (Ok x) P p = p
+always (Err e) P p = tt
 
 -- what follows from two facts about an answer
 pub both_facts : {T E : Type 0} (r : Result T E) (P Q R : T → Type 0) → ((x : T) → P x → Q x → R x) → IfOk r P → IfOk r Q → IfOk r R

@@ -67,7 +67,7 @@ pub fn check_data_with(
 }
 
 /// Returns the answer for an accepted report, which has no faults.
-fn accepted(alloc: Global) -> Result<Answer, AllocError>
+pub(crate) fn accepted(alloc: Global) -> Result<Answer, AllocError>
     ensures outcome { IfOk result (λ answer. answer.outcome ≡ Outcome.Good) }
     ensures text { IfOk result (λ answer. IsDataText (string_bytes answer.text) (faults_data [])) }
 {

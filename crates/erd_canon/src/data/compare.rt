@@ -1,6 +1,8 @@
-ghost use Rattle.std.specs.Prelude.{string_bytes, IfOk, None};
+ghost use Rattle.std.specs.Prelude.{◌≡◌, string_bytes, IfOk, None};
 ghost use Rattle.std.specs.Option.{option_copied};
-ghost use Rattle.erd_canon.specs.DataAnswers.{IsComparedData};
+ghost use Rattle.erd_canon.specs.DataAnswers.{IsComparedData, IsDataText};
+ghost use Rattle.erd_canon.specs.DataValues.{comparison_data};
+ghost use Rattle.erd_canon.specs.Run.{comparison_outcome};
 ghost use Rattle.erd_canon.specs.code.RefusalData.{IsSideAnswer};
 
 use crate::bytes::comparison::compare_bytes_with;
@@ -8,6 +10,7 @@ use crate::bytes::refusal::{Refusal, Side};
 use crate::data::check::Answer;
 use crate::data::refusals::{push_refusal, push_string};
 use crate::engines::outcome::Outcome;
+use erd_compare::Difference;
 use serde_json::Value;
 use std::alloc::{AllocError, Global};
 
@@ -53,17 +56,27 @@ pub fn compare_data_with(
     ensures { IfOk result (λ answer. IsComparedData (option_copied prefer.entry) left.now right.now answer.outcome (string_bytes answer.text)) }
 {
     match compare_bytes_with(alloc, left, right, prefer) {
-        Ok(None) => Ok(Answer {
-            outcome: Outcome::Good,
-            text: Value::Null.to_string(alloc)?,
-        }),
-        Ok(Some(difference)) => Ok(Answer {
-            outcome: Outcome::Bad,
-            text: difference.to_value(alloc)?.to_string(alloc)?,
-        }),
+        Ok(found) => compared(alloc, &found),
         Err(Side::Left(refusal)) => refused_side(alloc, "left", &refusal),
         Err(Side::Right(refusal)) => refused_side(alloc, "right", &refusal),
         Err(Side::Memory) => Err(AllocError),
+    }
+}
+
+/// Returns the answer for two accepted reports with this first difference, or with none.
+pub(crate) fn compared(alloc: Global, found: &Option<Difference>) -> Result<Answer, AllocError>
+    ensures outcome { IfOk result (λ answer. answer.outcome ≡ comparison_outcome found.now) }
+    ensures text { IfOk result (λ answer. IsDataText (string_bytes answer.text) (comparison_data found.now)) }
+{
+    match found {
+        None => Ok(Answer {
+            outcome: Outcome::Good,
+            text: Value::Null.to_string(alloc)?,
+        }),
+        Some(difference) => Ok(Answer {
+            outcome: Outcome::Bad,
+            text: difference.to_value(alloc)?.to_string(alloc)?,
+        }),
     }
 }
 

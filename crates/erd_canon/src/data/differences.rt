@@ -1,7 +1,6 @@
 ghost use Rattle.std.specs.Prelude.{◌≡◌, ◌++◌, string_bytes, IfOk, None, OnOk};
 ghost use Rattle.std.specs.Option.{option_copied};
-ghost use Rattle.serde_json.specs.Written.{comma_if, compact_text};
-ghost use Rattle.erd_compare.specs.DifferenceData.{difference_data};
+ghost use Rattle.serde_json.specs.Written.{compact_text};
 ghost use Rattle.erd_canon.specs.DataAnswers.{IsDataText, IsListedData, listing_outcome};
 ghost use Rattle.erd_canon.specs.DataValues.{differences_data};
 
@@ -9,7 +8,7 @@ use crate::bytes::differences::differences_of;
 use crate::bytes::refusal::Side;
 use crate::data::check::Answer;
 use crate::data::compare::refused_side;
-use crate::data::fault_texts::push_comma;
+use crate::data::listed::push_entry;
 use crate::engines::outcome::Outcome;
 use erd_compare::Difference;
 use std::alloc::{AllocError, Global};
@@ -76,7 +75,7 @@ fn listed(alloc: Global, found: &[Difference]) -> Result<Answer, AllocError>
 }
 
 /// Returns the outcome for two accepted reports with these differences.
-fn outcome_of(found: &[Difference]) -> Outcome
+pub(crate) fn outcome_of(found: &[Difference]) -> Outcome
     ensures { result ≡ listing_outcome found.now }
 {
     match found.first() {
@@ -97,24 +96,8 @@ fn push_differences(
     text.push('[')?;
     let mut later = false;
     for difference in found {
-        push_difference(alloc, later, difference, text)?;
+        push_entry(alloc, later, difference, text)?;
         later = true;
     }
     text.push(']')
-}
-
-/// Appends the JSON object of a difference, after a comma if it is not the first.
-fn push_difference(
-    alloc: Global,
-    later: bool,
-    difference: &Difference,
-    text: &mut String,
-) -> Result<(), AllocError>
-    ensures { OnOk result (string_bytes text.new ≡ string_bytes text.old ++ (comma_if later ++ compact_text (difference_data difference.now))) }
-{
-    push_comma(later, text)?;
-    let value = difference.to_value(alloc)?;
-    let object = value.to_string(alloc)?;
-    text.push_str(object.as_str())?;
-    Ok(())
 }

@@ -1,13 +1,13 @@
-use Rattle.erd_canon.proofs.Common.{string_bytes, option_copied, subst, IfOk-weaker, IsUtf8-string_bytes, view, IsComparison, RefusedSide}
-use Rattle.erd_canon.proofs.data_values.DataTexts.{differ, left_refused, right_refused}
+use Rattle.erd_canon.proofs.Common.{string_bytes, option_copied, subst, IfOk-weaker, RefusedSide}
+use Rattle.erd_canon.proofs.data_values.DataTexts.{both_compared, left_refused, right_refused}
+use Rattle.erd_canon.proofs.runs.Listings.{both_facts}
 use Rattle.erd_canon.proofs.data.compare.compare_data_with.Goals as goal
 
-pub returns-in_ok-to_string-in-Ok-Some : goal.returns-in_ok-to_string-in-Ok-Some
-returns-in_ok-to_string-in-Ok-Some c =
-    let text = c.in_ok-to_string-in-Ok-Some in
-    differ (option_copied c.args.prefer) c.args.left.now c.args.right.now (string_bytes text.field-0) c.in-Ok-Some.difference (view c.in_ok-to_value-in-Ok-Some.field-0)
-    (subst (IsComparison (option_copied c.args.prefer) c.args.left.now c.args.right.now) c.in-Ok-Some.field-0-is c.in-Ok-Some.ensures.ok)
-    c.in_ok-to_value-in-Ok-Some.ensures text.ensures.text text.ensures.reads_back (IsUtf8-string_bytes text.field-0)
+pub returns-in-Ok : goal.returns-in-Ok
+returns-in-Ok c =
+    both_facts c.compared.result _ _ _
+    (λ answer outcome text. both_compared (option_copied c.args.prefer) c.args.left.now c.args.right.now (string_bytes answer.text) answer.outcome c.in-Ok.found c.in-Ok.ensures.ok outcome text)
+    c.compared.ensures.outcome c.compared.ensures.text
 
 pub returns-in-Err-Left : goal.returns-in-Err-Left
 returns-in-Err-Left c =

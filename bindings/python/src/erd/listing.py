@@ -1,0 +1,59 @@
+"""Answers with a list, of which a caller takes as much as it wants."""
+
+from __future__ import annotations
+
+import json
+from typing import Iterator, Optional, Tuple
+
+from .library import ALL, GOOD, Answer, pieces
+
+# How many faults, or differences, are listed if the caller names no other number.
+MOST_LISTED = 1000
+
+
+def listed(name: str, reports: Tuple[bytes, ...], prefer: Optional[str], most: Optional[int]) -> Tuple[object, int]:
+    """Returns the value that the library answers, with so many entries of its list, and how many the list has. Entries whose
+    texts are long are fewer than that; but all of them are there if none is the most."""
+    answers = each_piece(name, reports, prefer, most)
+    data, count = next(answers)
+    for more, _ in answers if most is None else ():
+        entries_of(data).extend(entries_of(more))
+    return data, count
+
+
+def each_piece(name: str, reports: Tuple[bytes, ...], prefer: Optional[str], most: Optional[int]) -> Iterator[Tuple[object, int]]:
+    """Gives the values with one piece of the list after another, each with how many entries the list has."""
+    for answer in pieces(name, reports, bytes_of_type(prefer), most_of(most)):
+        yield value_of(name, answer), answer.all
+
+
+def value_of(name: str, answer: Answer) -> object:
+    """Returns the value of an answer: the bytes of a canonical form, or what its JSON reads as."""
+    return answer.text if name == 'erd_canonical_data_piece' and answer.outcome == GOOD else json.loads(answer.text)
+
+
+def entries_of(data: object) -> list:
+    """Returns the list in a value: of faults, or of differences."""
+    return data['faults'] if isinstance(data, dict) else data
+
+
+def most_of(most: Optional[int]) -> int:
+    """Returns the most entries as the library takes them. None is all of them."""
+    if most is None:
+        return ALL
+    if not isinstance(most, int):
+        raise TypeError(f'the most entries are a number, and not {type(most).__name__}')
+    if not 0 <= most <= ALL:
+        raise ValueError('the most entries are no such number')
+    return most
+
+
+def bytes_of_type(prefer: Optional[str]) -> Optional[bytes]:
+    """Returns the type of identifier as the library takes it."""
+    if prefer is None:
+        return None
+    if not isinstance(prefer, str):
+        raise TypeError(f'prefer is text, and not {type(prefer).__name__}')
+    if '\0' in prefer:
+        raise ValueError('prefer has a zero character in it')
+    return prefer.encode('utf-8')

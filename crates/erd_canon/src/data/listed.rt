@@ -1,0 +1,111 @@
+ghost use Rattle.std.specs.Prelude.{ℕ, List, ◌≡◌, ◌∷◌, ◌++◌, length, string_bytes, IfOk, OnOk};
+ghost use Rattle.std.specs.Slice.Iter.{iter_rest};
+ghost use Rattle.std.specs.Iterator.Adapters.{IterYieldsInOrder};
+ghost use Rattle.serde_json.specs.Data.{Data};
+ghost use Rattle.serde_json.specs.Written.{comma_if, compact_text};
+ghost use Rattle.erd_check.specs.Numbers.{HasFittingNumbers};
+ghost use Rattle.erd_compare.specs.DifferenceData.{difference_data};
+ghost use Rattle.erd_canon.specs.DataValues.{fault_data};
+ghost use Rattle.erd_canon.specs.code.Fronts.{AppendsPiece, IsReached};
+
+use crate::data::fault_values::fault_value;
+use crate::data::piece::Piece;
+use erd_compare::Difference;
+use erd_tables::Fault;
+use std::alloc::{AllocError, Global};
+use std::slice::Iter;
+
+/// An entry of a list that a call answers.
+pub(crate) trait Listed {
+    // The JSON value of the entry.
+    ghost value: { Self → Data };
+
+    /// Returns the compact text of the JSON value of the entry. A number in it fits 64 bits.
+    fn json(&self, alloc: Global) -> Result<String, AllocError>
+        ensures text { IfOk result (λ text. string_bytes text ≡ compact_text (value self.now)) }
+        ensures fits { OnOk result (HasFittingNumbers (value self.now)) };
+}
+
+impl Listed for Fault {
+    ghost value = { fault_data };
+
+    fn json(&self, alloc: Global) -> Result<String, AllocError> {
+        fault_value(alloc, self)?.to_string(alloc)
+    }
+}
+
+impl Listed for Difference {
+    ghost value = { difference_data };
+
+    fn json(&self, alloc: Global) -> Result<String, AllocError> {
+        self.to_value(alloc)?.to_string(alloc)
+    }
+}
+
+/// Appends the JSON array of a piece of the entries, and returns how many they are. Only the text of the array and that of one
+/// entry are in memory at a time.
+pub(crate) fn push_piece<T: Listed>(
+    alloc: Global,
+    entries: Iter<'_, T>,
+    piece: &Piece,
+    text: &mut String,
+) -> Result<usize, AllocError>
+    requires { IterYieldsInOrder T }
+    ensures { IfOk result (λ count. AppendsPiece T.value piece.now (iter_rest entries.entry) (record { count = count; all = length (iter_rest entries.entry) }) (string_bytes text.old) (string_bytes text.new)) }
+{
+    text.push('[')?;
+    let mut ahead = *piece;
+    for entry in entries {
+        pass_entry(alloc, entry, piece, &mut ahead, text)?;
+    }
+    text.push(']')?;
+    Ok(piece.most - ahead.most)
+}
+
+/// Passes the next entry of a list: appends it if what is ahead of the piece has room for it.
+fn pass_entry<T: Listed>(
+    alloc: Global,
+    entry: &T,
+    piece: &Piece,
+    ahead: &mut Piece,
+    text: &mut String,
+) -> Result<(), AllocError>
+    ensures { OnOk result ((entries : List T) (before : List ℕ) (rest : List T) → IsReached T.value piece.now entries before (string_bytes text.old) ahead.old (entry.now ∷ rest)
+        → IsReached T.value piece.now entries before (string_bytes text.new) ahead.new rest) }
+{
+    if ahead.first > 0 {
+        ahead.first -= 1;
+        return Ok(());
+    }
+    if ahead.most == 0 || ahead.enough_bytes == 0 {
+        return Ok(());
+    }
+    let size = push_entry(alloc, ahead.most < piece.most, entry, text)?;
+    ahead.most -= 1;
+    ahead.enough_bytes = ahead.enough_bytes.saturating_sub(size);
+    Ok(())
+}
+
+/// Appends the JSON value of an entry, after a comma if it is not the first, and returns how many bytes the value has.
+pub(crate) fn push_entry<T: Listed>(
+    alloc: Global,
+    later: bool,
+    entry: &T,
+    text: &mut String,
+) -> Result<usize, AllocError>
+    ensures size { IfOk result (λ size. size ≡ length (compact_text (T.value entry.now))) }
+    ensures wrote { OnOk result (string_bytes text.new ≡ string_bytes text.old ++ (comma_if later ++ compact_text (T.value entry.now))) }
+    ensures fits { OnOk result (HasFittingNumbers (T.value entry.now)) }
+{
+    push_comma(later, text)?;
+    let object = entry.json(alloc)?;
+    text.push_str(object.as_str())?;
+    Ok(object.len())
+}
+
+/// Appends a comma if the item that follows is not the first.
+pub(crate) fn push_comma(later: bool, text: &mut String) -> Result<(), AllocError>
+    ensures { OnOk result (string_bytes text.new ≡ string_bytes text.old ++ comma_if later) }
+{
+    if later { text.push(',') } else { Ok(()) }
+}
