@@ -36,7 +36,7 @@ export class FaultCards {
     }
 
     saveButton() {
-        const saved = async () => save(new Blob([await this.client.ask('lines', { index: this.file.index })]), 'faults.txt');
+        const saved = async () => save(new Blob(await this.client.ask('lines', { index: this.file.index })), 'faults.txt');
         return element('p', { class: 'save' }, button(say('faults.save'), saved), ' ', element('span', { class: 'note' }, say('faults.saveNote')));
     }
 

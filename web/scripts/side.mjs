@@ -77,7 +77,7 @@ export class Side {
         return {
             size: this.bytes === null ? this.file.size : this.bytes.length,
             outcome,
-            ...(outcome === 'refused' ? { faults: this.checked.faults.length + (this.checked.moreFaults ?? 0) } : {}),
+            ...(outcome === 'refused' ? { faults: this.checked.allFaults } : {}),
             ...(outcome === 'refused' && this.checked.faults.some(({ reason }) => reason === NOT_PRE_ELECTION) ? { status: this.status() } : {}),
             ...(outcome === 'notJson' ? { trouble: this.trouble() } : {}),
         };
