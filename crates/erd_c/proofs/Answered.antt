@@ -7,8 +7,12 @@ use Rattle.erd_canon.specs.Run.{IsAnswered, IsWholeRun}
 use Rattle.erd_canon.specs.declared.engines.outcome.Outcome.{Outcome}
 use Rattle.erd_canon.specs.declared.engines.outcome.Outcome.TheVariants.{Good, Bad, NotJson}
 use Rattle.erd_canon.specs.Statuses.{outcome_status}
-use Rattle.erd_c.specs.Told.{HasCanonicalText, HasNoText, IsCall, IsTelling}
+use Rattle.erd_canon.specs.declared.data.piece.Piece.{Piece}
+use Rattle.erd_canon.specs.declared.data.piece.PieceAnswer.{PieceAnswer}
+use Rattle.erd_canon.specs.declared.data.piece.Told.{Told as PieceTold}
+use Rattle.erd_c.specs.Told.{HasCanonicalText, HasNoText, IsCall, IsPieceCall, IsPieceTold, IsTelling, IsToldNothing, IsToldOf, piece_of}
 use Rattle.erd_c.specs.declared.told.Told.{Told}
+use Rattle.erd_c.specs.declared.told.Wanted.{Wanted}
 
 -- a reader of these bytes that is at its end gave them
 all_came : (bytes given came : List ℕ) (limit : ℕ) (after : Option (List ℕ)) → given ≡ bytes → IsReadWhole limit (Some given) after came → came ≡ bytes
@@ -58,4 +62,36 @@ call_of outcome items Answers Wrong (Err fault) told before after right answers 
   silent = λ _. faulty.1;
   wrong = (λ is. absurd (omega (arith, is, faulty.0)), λ wrong. absurd (right wrong));
   known = omega (arith, faulty.0);
+}
+
+-- a call for a piece whose arguments are right tells its answer and of its list, or that memory ran out
+pub piece_call_of : {F : Type 0} (Answers : Piece → Outcome → PieceTold → List ℕ → Type 0) (Wrong : Type 0) (r : Result PieceAnswer F) (wanted asked : Wanted) (told : Told) (before after : List ℕ)
+    → ¬ Wrong → IfOk r (λ it. Answers (piece_of wanted) it.outcome it.told it.text.items)
+    → IfOk r (λ it. IsTelling it.outcome it.text.items told before after × IsToldOf it.told wanted asked)
+    → IfErr r (λ _. (told.outcome ≡ 4) × HasNoText told before after × IsToldNothing wanted asked) → IsPieceCall Answers Wrong wanted asked told before after
+piece_call_of Answers Wrong (Ok it) wanted asked told before after right answers telling faulty =
+    let status = telling.0.status in
+    let low : told.outcome < 3 = omega (arith, status, status_below it.outcome) in
+    record {
+      call = record {
+        answered = λ _. record {
+          outcome = it.outcome;
+          text = it.text.items;
+          answers = record { told = it.told; telling = telling.1; answers = answers };
+          telling = telling.0;
+        };
+        silent = λ high. absurd (omega (arith, high, low));
+        wrong = (λ is. absurd (omega (arith, is, low)), λ wrong. absurd (right wrong));
+        known = omega (arith, low);
+      };
+      silent = λ high. absurd (omega (arith, high, low));
+    }
+piece_call_of Answers Wrong (Err fault) wanted asked told before after right answers telling faulty = record {
+  call = record {
+    answered = λ low. absurd (omega (arith, faulty.0, low));
+    silent = λ _. faulty.1;
+    wrong = (λ is. absurd (omega (arith, is, faulty.0)), λ wrong. absurd (right wrong));
+    known = omega (arith, faulty.0);
+  };
+  silent = λ _. faulty.2;
 }

@@ -12,11 +12,11 @@ mod pieces;
 mod told;
 
 use answers::{canonical, checked, checked_data, compared, compared_data};
-use std::alloc::Global;
 pub use pieces::{
     erd_tell_canonical_data_piece, erd_tell_check_data_piece, erd_tell_compare_data_piece,
     erd_tell_differences_data,
 };
+use std::alloc::Global;
 pub use told::{Told, Wanted};
 use told::{given, tell};
 

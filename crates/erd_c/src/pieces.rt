@@ -29,7 +29,11 @@ pub extern "C" fn erd_tell_check_data_piece(
         (IsWrong wanted.old.prefers prefer.now (length bytes.now)) wanted.old wanted.new result room.old room.new }
 {
     match given(wanted.prefers, prefer, bytes.len()) {
-        Ok(prefer) => tell_piece(check_data_piece(alloc, bytes, prefer, &wanted.piece()), wanted, room),
+        Ok(prefer) => tell_piece(
+            check_data_piece(alloc, bytes, prefer, &wanted.piece()),
+            wanted,
+            room,
+        ),
         Err(told) => tell_nothing(told, wanted),
     }
 }
@@ -52,7 +56,11 @@ pub extern "C" fn erd_tell_canonical_data_piece(
         (IsWrong wanted.old.prefers prefer.now (length bytes.now)) wanted.old wanted.new result room.old room.new }
 {
     match given(wanted.prefers, prefer, bytes.len()) {
-        Ok(prefer) => tell_piece(canonical_data_piece(alloc, bytes, prefer, &wanted.piece()), wanted, room),
+        Ok(prefer) => tell_piece(
+            canonical_data_piece(alloc, bytes, prefer, &wanted.piece()),
+            wanted,
+            room,
+        ),
         Err(told) => tell_nothing(told, wanted),
     }
 }
@@ -78,7 +86,11 @@ pub extern "C" fn erd_tell_compare_data_piece(
         (IsWrong wanted.old.prefers prefer.now (max (length left.now) (length right.now))) wanted.old wanted.new result room.old room.new }
 {
     match given(wanted.prefers, prefer, left.len().max(right.len())) {
-        Ok(prefer) => tell_piece(compare_data_piece(alloc, left, right, prefer, &wanted.piece()), wanted, room),
+        Ok(prefer) => tell_piece(
+            compare_data_piece(alloc, left, right, prefer, &wanted.piece()),
+            wanted,
+            room,
+        ),
         Err(told) => tell_nothing(told, wanted),
     }
 }
@@ -104,7 +116,11 @@ pub extern "C" fn erd_tell_differences_data(
         (IsWrong wanted.old.prefers prefer.now (max (length left.now) (length right.now))) wanted.old wanted.new result room.old room.new }
 {
     match given(wanted.prefers, prefer, left.len().max(right.len())) {
-        Ok(prefer) => tell_piece(differences_data_piece(alloc, left, right, prefer, &wanted.piece()), wanted, room),
+        Ok(prefer) => tell_piece(
+            differences_data_piece(alloc, left, right, prefer, &wanted.piece()),
+            wanted,
+            room,
+        ),
         Err(told) => tell_nothing(told, wanted),
     }
 }

@@ -1,9 +1,9 @@
 //! A short example of each public call, as a caller writes it. The doc comment of the call has the same lines.
 mod bytes;
 mod data;
-mod pieces;
 mod engines;
 mod index;
+mod pieces;
 mod reports;
 mod shapes;
 mod tables;

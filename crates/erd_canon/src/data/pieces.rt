@@ -27,7 +27,11 @@ use std::alloc::{AllocError, Global};
 /// `AllocError` if out of memory.
 ///
 /// ```
-/// let piece = Piece { first: 1, most: 1_000, enough_bytes: 1_048_576 };
+/// let piece = Piece {
+///     first: 1,
+///     most: 1_000,
+///     enough_bytes: 1_048_576,
+/// };
 /// let answer = check_data_piece(alloc, BARE.as_bytes(), None, &piece)?;
 /// let fault = r#"[{"name":"Status","place":[],"reason":2}]"#;
 /// assert_eq!(rt; answer.text.as_slice(), fault.as_bytes());
@@ -55,7 +59,11 @@ pub fn check_data_piece(
 /// `AllocError` if out of memory.
 ///
 /// ```
-/// let piece = Piece { first: 0, most: 1_000, enough_bytes: 1_048_576 };
+/// let piece = Piece {
+///     first: 0,
+///     most: 1_000,
+///     enough_bytes: 1_048_576,
+/// };
 /// let answer = canonical_data_piece(alloc, "{".as_bytes(), None, &piece)?;
 /// assert_eq!(rt; answer.text.as_slice(), "\"not JSON\"".as_bytes());
 /// ```
@@ -85,7 +93,11 @@ pub fn canonical_data_piece(
 /// `AllocError` if out of memory.
 ///
 /// ```
-/// let piece = Piece { first: 0, most: 1, enough_bytes: 1_048_576 };
+/// let piece = Piece {
+///     first: 0,
+///     most: 1,
+///     enough_bytes: 1_048_576,
+/// };
 /// let answer = compare_data_piece(alloc, BARE.as_bytes(), one, None, &piece)?;
 /// let why = r#"{"faults":[{"name":"Election","place":[],"reason":2}],"refused":"left"}"#;
 /// assert_eq!(rt; answer.text.as_slice(), why.as_bytes());
@@ -116,7 +128,11 @@ pub fn compare_data_piece(
 /// `AllocError` if out of memory.
 ///
 /// ```
-/// let piece = Piece { first: 1, most: 1_000, enough_bytes: 1_048_576 };
+/// let piece = Piece {
+///     first: 1,
+///     most: 1_000,
+///     enough_bytes: 1_048_576,
+/// };
 /// let answer = differences_data_piece(alloc, one, other, None, &piece)?;
 /// assert_eq!(rt; answer.text.as_slice(), "[]".as_bytes());
 /// assert!(rt; answer.outcome.status() == 1 && answer.told.all == 1);

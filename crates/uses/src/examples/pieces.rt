@@ -8,7 +8,11 @@ use std::test::Fail;
 #[test]
 fn second_fault(rt: HostRuntime) -> Result<(), Fail> {
     let alloc = rt.alloc();
-    let piece = Piece { first: 1, most: 1_000, enough_bytes: 1_048_576 };
+    let piece = Piece {
+        first: 1,
+        most: 1_000,
+        enough_bytes: 1_048_576,
+    };
     let answer = check_data_piece(alloc, BARE.as_bytes(), None, &piece)?;
     let fault = r#"[{"name":"Status","place":[],"reason":2}]"#;
     assert_eq!(rt; answer.text.as_slice(), fault.as_bytes());
@@ -19,7 +23,11 @@ fn second_fault(rt: HostRuntime) -> Result<(), Fail> {
 #[test]
 fn no_form(rt: HostRuntime) -> Result<(), Fail> {
     let alloc = rt.alloc();
-    let piece = Piece { first: 0, most: 1_000, enough_bytes: 1_048_576 };
+    let piece = Piece {
+        first: 0,
+        most: 1_000,
+        enough_bytes: 1_048_576,
+    };
     let answer = canonical_data_piece(alloc, "{".as_bytes(), None, &piece)?;
     assert_eq!(rt; answer.text.as_slice(), "\"not JSON\"".as_bytes());
     Ok(())
@@ -28,7 +36,11 @@ fn no_form(rt: HostRuntime) -> Result<(), Fail> {
 #[test]
 fn first_fault_of_a_side(rt: HostRuntime) -> Result<(), Fail> {
     let (alloc, one) = (rt.alloc(), REPORT.as_bytes());
-    let piece = Piece { first: 0, most: 1, enough_bytes: 1_048_576 };
+    let piece = Piece {
+        first: 0,
+        most: 1,
+        enough_bytes: 1_048_576,
+    };
     let answer = compare_data_piece(alloc, BARE.as_bytes(), one, None, &piece)?;
     let why = r#"{"faults":[{"name":"Election","place":[],"reason":2}],"refused":"left"}"#;
     assert_eq!(rt; answer.text.as_slice(), why.as_bytes());
@@ -39,7 +51,11 @@ fn first_fault_of_a_side(rt: HostRuntime) -> Result<(), Fail> {
 #[test]
 fn no_second_difference(rt: HostRuntime) -> Result<(), Fail> {
     let (alloc, one, other) = (rt.alloc(), REPORT.as_bytes(), OTHER_NAME.as_bytes());
-    let piece = Piece { first: 1, most: 1_000, enough_bytes: 1_048_576 };
+    let piece = Piece {
+        first: 1,
+        most: 1_000,
+        enough_bytes: 1_048_576,
+    };
     let answer = differences_data_piece(alloc, one, other, None, &piece)?;
     assert_eq!(rt; answer.text.as_slice(), "[]".as_bytes());
     assert!(rt; answer.outcome.status() == 1 && answer.told.all == 1);

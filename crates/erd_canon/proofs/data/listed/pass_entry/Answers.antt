@@ -6,10 +6,10 @@ use Rattle.erd_canon.proofs.data.listed.pass_entry.Goals.{then-ahead-eq0-via-the
 pub returns-then-ahead-eq0 : goal.returns-then-ahead-eq0
 returns-then-ahead-eq0 g c = λ entries before rest is.
     elim c.then-ahead-eq0.branch [
-      then-ahead-eq0-via-then-ahead-eq0 w ↦
-        stopped g.T.Listed.value c.args.piece.now entries before (string_bytes c.args.text.now) c.args.ahead.now c.args.entry.now rest (omega (arith, c.if-ahead-gt0.false)) (inl (omega (arith, w.if-ahead-eq0.true))) is
+      | then-ahead-eq0-via-then-ahead-eq0 w ↦
+          stopped g.T.Listed.value c.args.piece.now entries before (string_bytes c.args.text.now) c.args.ahead.now c.args.entry.now rest (omega (arith, c.if-ahead-gt0.false)) (inl (omega (arith, w.if-ahead-eq0.true))) is
       | then-ahead-eq0-via-else-ahead-eq0+then-ahead-eq0-2 w ↦
-        stopped g.T.Listed.value c.args.piece.now entries before (string_bytes c.args.text.now) c.args.ahead.now c.args.entry.now rest (omega (arith, c.if-ahead-gt0.false)) (inr (omega (arith, w.if-ahead-eq0-2.true))) is
+          stopped g.T.Listed.value c.args.piece.now entries before (string_bytes c.args.text.now) c.args.ahead.now c.args.entry.now rest (omega (arith, c.if-ahead-gt0.false)) (inr (omega (arith, w.if-ahead-eq0-2.true))) is
     ]
 
 pub returns : goal.returns
