@@ -65,8 +65,8 @@ pub extern "C" fn erd_tell_canonical_data_piece(
     }
 }
 
-/// Compares the meanings of two reports, as `erd_tell_compare_data` does, and answers with a piece of the list of faults if one is
-/// refused.
+/// Compares the meanings of two reports, as `erd_tell_compare_data` does, and answers with a piece of the list of faults if one
+/// is refused.
 ///
 /// The text is the compact JSON that `erd_canon::compare_data_piece` answers, with no line end.
 ///
@@ -95,8 +95,8 @@ pub extern "C" fn erd_tell_compare_data_piece(
     }
 }
 
-/// Lists the differences in meaning of two reports, and answers with a piece of the list; or with a piece of the list of faults if
-/// one is refused.
+/// Lists the differences in meaning of two reports, and answers with a piece of the list; or with a piece of the list of faults
+/// if one is refused.
 ///
 /// The text is the compact JSON that `erd_canon::differences_data_piece` answers, with no line end.
 ///
