@@ -6,9 +6,8 @@ use Rattle.erd_c.proofs.pieces.erd_tell_canonical_data_piece.Goals as goal
 
 pub returns-in-Ok : goal.returns-in-Ok
 returns-in-Ok c =
-    let answers = (λ π piece outcome told text. IsFormPiece π c.args.bytes.now piece outcome told text) in
-    piece_call_of (answers (preference c.args.wanted.now.prefers c.args.prefer.now)) (IsWrong c.args.wanted.now.prefers c.args.prefer.now (length c.args.bytes.now)) c.canonical_data_piece.result c.args.wanted.now
+    piece_call_of (λ piece outcome told text. IsFormPiece (preference c.args.wanted.now.prefers c.args.prefer.now) c.args.bytes.now piece outcome told text) (IsWrong c.args.wanted.now.prefers c.args.prefer.now (length c.args.bytes.now)) c.canonical_data_piece.result c.args.wanted.now
     c.tell_piece.new.wanted c.tell_piece.result c.args.room.now c.tell_piece.new.room c.in-Ok.ensures.right
-    (subst (λ p. IfOk c.canonical_data_piece.result (λ it. answers (preference c.args.wanted.now.prefers c.args.prefer.now) p it.outcome it.told it.text.items)) c.piece.ensures
-    (subst (λ π. IfOk c.canonical_data_piece.result (λ it. answers π c.piece.result it.outcome it.told it.text.items)) c.in-Ok.ensures.given c.canonical_data_piece.ensures))
+    (subst (λ p. IfOk c.canonical_data_piece.result (λ it. IsFormPiece (preference c.args.wanted.now.prefers c.args.prefer.now) c.args.bytes.now p it.outcome it.told it.text.items)) c.piece.ensures
+    (subst (λ π. IfOk c.canonical_data_piece.result (λ it. IsFormPiece π c.args.bytes.now c.piece.result it.outcome it.told it.text.items)) c.in-Ok.ensures.given c.canonical_data_piece.ensures))
     c.tell_piece.ensures.answered c.tell_piece.ensures.faulty
