@@ -1,5 +1,9 @@
 """Large files: the page stays alive, tells what it does, and can be stopped; and how fast the answers are."""
-from session import EXAMPLES
+import json
+import shutil
+import subprocess
+
+from session import EXAMPLES, ROOT, report_of_units
 
 COUNTY = EXAMPLES / 'county.vendor-a.json'
 LONGEST_PAUSE = 1000
@@ -21,6 +25,8 @@ def run(session):
     alive(session)
     stages(session)
     verdict_first(session)
+    same_pair(session)
+    many_differences(session)
     speed(session)
     no_memory(session)
 
@@ -67,6 +73,59 @@ def verdict_first(session):
     session.becomes('25 MB twice: cancelled', lambda: session.text('#stopped'), 'Cancelled. The verdict stands; what would have followed it is not here.')
     session.equal('25 MB twice: the verdict stays', session.verdict(), 'These two files do not say the same')
     other.unlink()
+
+
+UNITS_OF_40_MB = 152_000
+
+# How many milliseconds the proved code takes for a comparison in Node, the best of three.
+COMPARE = """
+    const { load } = await import(process.argv[1] + 'bindings/js/index.mjs');
+    const { readFileSync } = await import('node:fs');
+    const erd = await load(readFileSync(new URL(process.argv[1] + 'out/portable/erd.wasm')));
+    const [left, right] = process.argv.slice(2).map((name) => new Uint8Array(readFileSync(name)));
+    const times = [1, 2, 3].map(() => {
+        const start = performance.now();
+        erd.compare(left, right);
+        return performance.now() - start;
+    });
+    console.log(JSON.stringify(Math.min(...times)));"""
+
+
+def same_pair(session):
+    """Two files of 40 MB that mean the same: the verdict takes at most half as long again as the comparison. Node and Chromium have one
+    engine. A busy machine may need several tries."""
+    if session.browser.name != 'Chromium' or shutil.which('node') is None:
+        return
+    path = report_of_units(session.work / 'pair.json', UNITS_OF_40_MB)
+    other = session.file('other.json', path.read_bytes().replace(b'"GeneratedDate": "', b'"GeneratedDate": "3'))
+    tries = []
+    while len(tries) < TRIES and (not tries or tries[-1][1] > 1.5 * tries[-1][0]):
+        ran = subprocess.run(['node', '--input-type=module', '-e', COMPARE, ROOT.as_uri() + '/', path, other], capture_output=True, check=True)
+        session.fresh()
+        session.choose(0, path, other)
+        session.browser.until("return document.getElementById('verdict') !== null", seconds=200)
+        tries.append((round(json.loads(ran.stdout)), int(milliseconds(session))))
+        session.equal('40 MB twice: the verdict', session.text('#verdict'), 'These two files define the same ballots')
+        session.click('#cancel')
+    session.said('40 MB twice: the comparison takes %d ms, the page %d ms' % tries[-1], '' if tries[-1][1] <= 1.5 * tries[-1][0] else repr(tries))
+    path.unlink()
+    other.unlink()
+
+
+def many_differences(session):
+    """10,000 differences: all are counted, some are listed, and the page stays alive."""
+    path = report_of_units(session.work / 'units.json', 10_000)
+    other = session.file('renamed.json', path.read_text(encoding='utf-8').replace('"Precinct ', '"Ward '))
+    pauses = []
+    while len(pauses) < TRIES and (not pauses or pauses[-1] >= LONGEST_PAUSE):
+        session.fresh()
+        session.browser.script(WATCH)
+        session.choose(0, path, other)
+        session.browser.until("return document.querySelector('.others') !== null && document.documentElement.dataset.busy === 'no'", seconds=200)
+        pauses.append(session.browser.script('return window.longestPause'))
+    session.equal('10,000 differences: the heading', session.text('#all-differences'), 'All 10,000 differences')
+    session.equal('10,000 differences: how many are listed', len(session.texts('.others > .differences > li')), 50)
+    session.said('10,000 differences: the page stays alive (%d ms)' % pauses[-1], '' if pauses[-1] < LONGEST_PAUSE else 'pauses of %s ms' % pauses)
 
 
 def speed(session):

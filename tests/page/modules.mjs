@@ -8,7 +8,6 @@ import { isUnchangedLine } from '../../web/scripts/ballot_changes.mjs';
 import { renamed, talliesOf } from '../../web/scripts/causes.mjs';
 import { csvOf } from '../../web/scripts/csv.mjs';
 import { whyNotJson } from '../../web/scripts/diagnosis.mjs';
-import { allDifferences } from '../../web/scripts/differences.mjs';
 import { compactText, readCanonical } from '../../web/scripts/exact.mjs';
 import { excerptOf, Lines } from '../../web/scripts/excerpt.mjs';
 import { Meaning } from '../../web/scripts/meaning.mjs';
@@ -83,7 +82,7 @@ function isValueOf(bytes, found, place) {
     return JSON.stringify(JSON.parse(new TextDecoder().decode(bytes.subarray(start, end)))) === JSON.stringify(value);
 }
 
-// The first of all differences is the first difference of the proved code, and there is none where the two mean the same.
+// Each difference has two values that differ, and its lines are those of the program.
 function tryPair(name, [left, right], prefer) {
     const compared = erd.compare(left, right, { prefer });
     const { outcome, difference } = compared;
@@ -91,13 +90,13 @@ function tryPair(name, [left, right], prefer) {
     if (outcome !== 'same' && outcome !== 'different') {
         return;
     }
+    const { differences } = erd.differences(left, right, { prefer, mostDifferences: null });
+    equal(`${name}: the first difference`, differences[0]?.line ?? null, difference?.line ?? null);
     const meanings = [left, right].map((bytes) => new Meaning(readCanonical(erd.canonical(bytes, { prefer }).bytes), prefer));
-    const [first = null] = allDifferences(...meanings);
-    const wanted = difference === null ? null : [difference.part, difference.key, difference.how, difference.member];
-    equal(`${name}: the first difference`, first === null ? null : [first.part, first.key, first.how, first.member], wanted);
-    if (difference?.how === 'member') {
-        const { rows, there } = rowsOfDifference(meanings, difference);
-        equal(`${name}: both values`, rows.some((row) => !row.same) || there[0] !== there[1], true);
+    for (const entry of differences) {
+        const { rows, there, classes } = rowsOfDifference(meanings, entry);
+        const isShown = entry.how === 'member' ? rows.some((row) => !row.same) || there[0] !== there[1] : classes[0] !== classes[1];
+        equal(`${name}: both values of ${entry.line}`, isShown, true);
     }
 }
 
@@ -173,8 +172,9 @@ wordsOf.forEach(([difference, word]) => equal(`the word of ${JSON.stringify(diff
 const county = readFileSync(new URL('examples/county.canonical.json', ROOT), 'utf8');
 const meaningOf = (text) => new Meaning(readCanonical(encoder.encode(text)), null);
 for (const [value, other] of [['K-12', 'K-99'], ['P-1', 'P-1x'], ['C-SHERIFF', 'C-0'], ['MEADOW', 'A']]) {
-    const pair = [meaningOf(county), meaningOf(county.replaceAll(`"Value":"${value}"`, `"Value":"${other}"`))];
-    const entries = allDifferences(...pair);
+    const texts = [county, county.replaceAll(`"Value":"${value}"`, `"Value":"${other}"`)];
+    const pair = texts.map(meaningOf);
+    const entries = erd.differences(...texts.map((text) => encoder.encode(text)), { mostDifferences: null }).differences;
     const { pairs, isCaused } = renamed(pair, entries);
     equal(`${value} under another identifier`, [pairs.map(({ keys }) => keys.map((key) => key[2])), isCaused.every(Boolean), entries.length > 2],
         [[[value, other]], true, true]);

@@ -21,8 +21,8 @@ parts=("$@")
 [ "${1:-}" != --pictures ] || parts=()
 [ "${1:-}" != --views ] || parts=(views)
 mkdir "$work/others"
-sed 's/^const MOST_LISTED = .*;$/const MOST_LISTED = 1;/' "$page" > "$work/others/short.html"
-said 'the page that lists one difference' "$(! cmp -s "$page" "$work/others/short.html" || echo 'it is the same page')"
+sed 's/^const MOST_WITH_VALUES = .*;$/const MOST_WITH_VALUES = 1;/' "$page" > "$work/others/short.html"
+said 'the page that shows no values' "$(! cmp -s "$page" "$work/others/short.html" || echo 'it is the same page')"
 if command -v node > /dev/null; then
     if [ ${#parts[@]} -eq 0 ]; then
         for name in modules parts; do

@@ -22,7 +22,7 @@ const notJson = (node) => ({
 const others = (node) => ({
     heading: text(node.querySelector('h3')),
     tallies: every('.tallies tr', node, (row) => texts('th, td', row)),
-    entries: every(':scope > .differences > li', node, (entry) => [text(entry.querySelector('summary')), ...table(entry)]),
+    entries: every(':scope > .differences > li', node, (entry) => [text(entry.querySelector('summary') ?? entry), ...table(entry)]),
 });
 const first = (node) => [text(node.querySelector('.sentence')), ...table(node)];
 const seen = (node) => [text(node.querySelector('h3')), ...texts('li', node)];

@@ -51,7 +51,7 @@ STOP = ('stop', '!')
 WORDS = {
     'verdict.same': r'^(?!.*\bnot?\b).*\bsame\b', 'verdict.different': r'\bnot\b', 'verdict.accepted': r'^Accepted$',
     'verdict.refused': r'^Refused\b', 'verdict.notJson': r'^Not JSON$', 'verdict.notCompared': r"\bcan't\b",
-    'sentence.same': r'\bcan differ only\b', 'sentence.different': r'\bdifference\b', 'sentence.accepted': r'\{name\} is accepted\b',
+    'sentence.same': r'\bcan differ only\b', 'sentence.different': r'\bdifferences\b', 'sentence.accepted': r'\{name\} is accepted\b',
     'sentence.refused': r'\{name\} is refused\b', 'sentence.notJson': r'\{name\} is not JSON\b',
     'difference.only left': r'\{left\} only\b', 'difference.only right': r'\{right\} only\b',
     'difference.other class': r'\{leftClass\} in \{left\} .*\{rightClass\} in \{right\}', 'record.file1': r'\bFirst\b',
@@ -110,10 +110,12 @@ class Result:
         names = [f'{side}.json' for side in SIDES] if len(self.specs) == 2 else ['only.json']
         self.paths = [made(session, spec, name) for spec, name in zip(self.specs, names)]
         self.answers = [Answer(program, path, self.prefer, spec.get('outcome')) for spec, path in zip(self.specs, self.paths)]
-        self.compared = None
+        self.compared, self.lines = None, []
         self.is_listed = row.get('others') is not None
+        self.has_values = row.get('page') != 'short'
         if len(self.paths) == 2 and all(it.outcome == 'accepted' for it in self.answers):
             self.line = program.run(self.prefer, 'compare', *self.paths)[1].decode('utf-8').rstrip('\n')
+            self.lines = program.run(self.prefer, 'differences', *self.paths)[1].decode('utf-8').splitlines() if self.is_listed else []
             self.compared = row.get('compared') or ('same' if self.line == 'same' else 'different')
 
     def tried(self):
@@ -125,6 +127,8 @@ class Result:
         wanted = self.wanted()
         dates = [line[1] for line in found['record']['lines'] if line[0] == say('record.date')]
         around = {date_text(before - datetime.timedelta(minutes=minutes)) for minutes in (0, 1)}
+        listed = [{name: entry.get(name) for name in ('part', 'key', 'how', 'member')} for entry in self.entries]
+        self.session.equal(self.name + ', the list of the program', listed, [difference_of(line) for line in self.lines] if self.compared == 'different' else [])
         self.session.said(self.name + ', the date', '' if len(dates) == 1 and set(dates) <= around else f'{dates}, not {around}')
         found['record']['lines'] = [line for line in found['record']['lines'] if line[0] != say('record.date')]
         for part in wanted:
@@ -152,11 +156,11 @@ class Result:
         return {
             'tone': f'banner {tone}', 'sign': sign, 'heading': heading, 'announced': heading, 'notices': self.notices(), 'sentences': sentences,
             'envelope': (ENVELOPE + self.envelope()) if self.compared in ('same', 'different') else [], 'headings': self.headings(),
-            'seen': [self.seen()] if self.is_listed else [],
+            'seen': [self.seen()] if self.is_listed and self.has_values else [],
             'faults': [self.faults(it, side) for it, side in self.each('refused')],
             'notJson': [self.not_json(it, side) for it, side in self.each('notJson')],
             'first': [self.entry(self.first())] if self.compared == 'different' else [], 'others': self.others(),
-            'notes': [say('difference.noOthers' if self.is_listed else 'difference.tooLarge')] if is_one else [],
+            'notes': ([say('difference.noOthers')] if is_one else []) + ([] if self.has_values else [say('difference.tooLarge')]),
             'record': self.record(heading), 'chosen': self.chosen(), 'prefer': self.types(),
         }
 
@@ -191,7 +195,7 @@ class Result:
 
     def headings(self):
         found = self.notices()
-        if self.is_listed:
+        if self.is_listed and self.has_values:
             found.append(self.seen()[0])
         if self.compared == 'different':
             found.append(say('difference.first'))
@@ -252,15 +256,12 @@ class Result:
     # ---- differences
 
     def first(self):
-        """The first difference: its line comes from the program. Where no others are listed, there is no more than that line."""
-        part, key, how = re.fullmatch(r'(\w+)(?: (\[.*\]))?: (.*)', self.line).groups()
-        member = re.fullmatch(r'member (".*")', how)
-        said = {'part': part, 'key': key and json.loads(key), 'how': 'member' if member else how, 'member': member and json.loads(member[1])}
-        return {'titles': [], **said, **(self.row.get('first') or {})}
+        """The first difference: its line comes from the program."""
+        return {'titles': [], **difference_of(self.line), **(self.row.get('first') or {})}
 
     def entry(self, entry):
         """A difference as it is shown: its sentence, and its table."""
-        return [self.sentence_on(entry), *(self.table(entry) if self.is_listed else [])]
+        return [self.sentence_on(entry), *(self.table(entry) if self.has_values else [])]
 
     def other(self, entry):
         """A difference of the list. Its table has no more than its sentence needs."""
@@ -375,6 +376,13 @@ class Result:
         self.session.browser.script('arguments[0].scrollIntoView()', button)
         button.click()
         return self.session.downloaded(name)
+
+
+def difference_of(line):
+    """A difference, from its line."""
+    part, key, how = re.fullmatch(r'(\w+)(?: (\[.*\]))?: (.*)', line).groups()
+    member = re.fullmatch(r'member (".*")', how)
+    return {'part': part, 'key': key and json.loads(key), 'how': 'member' if member else how, 'member': member and json.loads(member[1])}
 
 
 def parts_of(name, found, wanted):

@@ -29,6 +29,9 @@ export function firstDifference(first, names) {
 
 /** A difference of the list: its sentence, and its values when it is opened. */
 export function differenceEntry(entry, names) {
+    if (entry.rows === undefined) {
+        return element('li', {}, sentence(entry, names));
+    }
     const details = element('details', {}, element('summary', {}, sentence(entry, names)));
     const groups = entry.rows === null ? objectGroups(entry) : memberGroups(entry);
     details.addEventListener('toggle', () => details.append(table(groups, names)), { once: true });

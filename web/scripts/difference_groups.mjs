@@ -1,7 +1,5 @@
-// All differences of two files in groups: those that stand by themselves, and those that follow from another identifier alone.
+// The proved list of differences in groups: those that stand by themselves, and those that follow from another identifier alone.
 import { renamed, talliesOf } from './causes.mjs';
-import { allDifferences } from './differences.mjs';
-import { Meaning } from './meaning.mjs';
 import { rowsOfDifference } from './rows.mjs';
 import { countsOf, wordOf } from './seen.mjs';
 
@@ -11,15 +9,16 @@ const MOST_TYPES = 12;
 
 export class Differences {
     /**
-     * @param {Meaning[]} meanings
+     * @param {{part: string, key: string[] | null, how: string, member?: string}[]} entries the proved list
+     * @param {import('./meaning.mjs').Meaning[] | null} meanings null where the files are too large for their values to be shown
      * @param {Record<string, Record<string, string>>} seen what a voter sees
      */
-    constructor(meanings, seen) {
+    constructor(entries, meanings, seen) {
         this.meanings = meanings;
-        const entries = allDifferences(...meanings);
-        const { pairs, isCaused } = entries.length > MOST_PAIRED ? { pairs: [], isCaused: [] } : renamed(meanings, entries);
+        const { pairs, isCaused } = meanings === null || entries.length > MOST_PAIRED ? { pairs: [], isCaused: [] } : renamed(meanings, entries);
         this.pairs = pairs;
-        this.entries = entries.map((entry, index) => ({ ...entry, word: this.wordOf(seen, entry, isCaused[index] === true) }));
+        this.entries = meanings === null ? entries
+            : entries.map((entry, index) => ({ ...entry, word: this.wordOf(seen, entry, isCaused[index] === true) }));
         this.groups = {
             all: this.entries,
             own: this.entries.filter((_, index) => !isCaused[index]),
@@ -43,7 +42,7 @@ export class Differences {
         return {
             count: this.entries.length,
             first: this.shown(this.entries[0]),
-            seen: countsOf(this.entries.map(({ word }) => word)),
+            seen: this.meanings === null ? null : countsOf(this.entries.map(({ word }) => word)),
             tallies: talliesOf(this.entries),
             pairs: this.pairs,
             counts: { own: this.groups.own.length, caused: this.groups.caused.length },
@@ -56,21 +55,15 @@ export class Differences {
     }
 
     shown(entry) {
-        return { ...entry, ...rowsOfDifference(this.meanings, entry) };
+        return this.meanings === null ? entry : { ...entry, ...rowsOfDifference(this.meanings, entry) };
     }
 
-    /** How many differences there are under each type, where there are fewer; the fewest first. */
-    underTypes(types, prefer) {
-        if (this.entries.length > MOST_PAIRED || types.length > MOST_TYPES) {
+    /** How many differences there are under each type, where there are fewer; the fewest first. `countOf` tells how many, or null. */
+    underTypes(types, countOf) {
+        if (this.meanings === null || this.entries.length > MOST_PAIRED || types.length > MOST_TYPES) {
             return [];
         }
-        return types.filter((type) => type !== prefer).map((type) => ({ type, count: this.countUnder(type) }))
+        return types.map((type) => ({ type, count: countOf(type) }))
             .filter(({ count }) => count !== null && count < this.entries.length).sort((one, other) => one.count - other.count);
-    }
-
-    // Null where two objects would have one key, so that the files would be refused.
-    countUnder(type) {
-        const meanings = this.meanings.map(({ report }) => new Meaning(report, type));
-        return meanings.some((meaning) => meaning.hasTwins) ? null : allDifferences(...meanings).length;
     }
 }

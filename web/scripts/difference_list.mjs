@@ -15,14 +15,15 @@ const MOST_PAIRS = 50;
  * @param {string[]} names
  */
 export async function differenceList(client, listed, names) {
-    const { count, tallies, pairs, counts } = listed;
+    const { count, tallies, pairs, counts, seen } = listed;
     if (count === 1) {
         return element('p', {}, say('difference.noOthers'));
     }
     const own = counts.own === 0 ? [] : await growing(client, 'own', counts.own, names);
     return element('section', { 'aria-labelledby': 'all-differences', class: 'others' },
         element('h3', { id: 'all-differences' }, say('difference.all', { count })),
-        element('p', { class: 'note' }, say('difference.notProved')),
+        element('p', { class: 'note' }, say('difference.proved')),
+        seen === null ? null : element('p', { class: 'note' }, say('difference.notProved')),
         talliesShown(tallies, names), ...own, ...await pairsShown(client, pairs, counts.caused, names));
 }
 

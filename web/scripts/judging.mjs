@@ -9,8 +9,8 @@ import { preparingOf } from './preparing.mjs';
 import { isNoMemory, Side } from './side.mjs';
 import { trailOf } from './trail.mjs';
 
-/** The most bytes of two canonical forms whose differences are all listed. */
-const MOST_LISTED = 80_000_000;
+/** The most bytes of two canonical forms of which values are shown beside each other. */
+const MOST_WITH_VALUES = 80_000_000;
 
 /** A judgement of one file or two, under one preference. */
 export class Judgement {
@@ -82,15 +82,36 @@ export class Judgement {
         return sums;
     }
 
-    /** What is known of all differences; null where the files are too large for a list. */
+    /** What is known of all differences: the proved list, and what helps to read it. Null where there is no memory for the list. */
     list(_question, tell) {
-        const forms = this.sides.map((side) => side.canonical(this.erd, this.prefer, tell));
-        if (forms.includes(null) || forms[0].length + forms[1].length > MOST_LISTED) {
+        tell({ stage: 'listing' });
+        const found = this.differencesUnder(this.prefer, null);
+        if (found === null) {
             return null;
         }
-        tell({ stage: 'listing' });
-        this.differences = new Differences(this.meanings(tell), this.seen);
+        const forms = this.sides.map((side) => side.canonical(this.erd, this.prefer, tell));
+        const isShown = !forms.includes(null) && forms[0].length + forms[1].length <= MOST_WITH_VALUES;
+        this.differences = new Differences(found.differences, isShown ? this.meanings(tell) : null, this.seen);
         return this.differences.told();
+    }
+
+    // The proved list under a type of identifier; null if there is no memory for it.
+    differencesUnder(prefer, mostDifferences) {
+        const [left, right] = this.sides;
+        try {
+            return this.erd.differences(left.bytes, right.bytes, { prefer, mostDifferences });
+        } catch (error) {
+            if (isNoMemory(error)) {
+                return null;
+            }
+            throw error;
+        }
+    }
+
+    // How many differences there are under a type; null where the files would be refused.
+    countUnder(type) {
+        const found = this.differencesUnder(type, 1);
+        return found === null || found.side !== null ? null : found.allDifferences;
     }
 
     /** Some of the differences of a group, as what the page shows. */
@@ -101,7 +122,7 @@ export class Judgement {
     /** The types of identifier that lead to fewer differences, the one with the fewest first. */
     types({ types }, tell) {
         tell({ stage: 'types' });
-        return this.differences.underTypes(types, this.prefer);
+        return this.differences.underTypes(types.filter((type) => type !== this.prefer), (type) => this.countUnder(type));
     }
 
     // What the canonical forms say.

@@ -1,5 +1,5 @@
-// What a canonical form says, as records by key: docs/PROFILE.md, "What a report means". It serves to show values and to list
-// all differences; the first difference itself comes from the proved code.
+// What a canonical form says, as records by key: docs/PROFILE.md, "What a report means". It serves to show the values of a
+// difference, and to find an object again under another identifier. What differs comes from the proved code.
 import { ENVELOPE } from './envelope.mjs';
 import { compactText } from './exact.mjs';
 import { orderOfKeys, orderOfTexts, textOfKey } from '../../bindings/js/lib/order.mjs';
@@ -46,7 +46,6 @@ export class Meaning {
         this.named = new Map();
         this.selections = new Map();
         this.aliases = new Map();
-        this.hasTwins = false;
         this.addReport(report);
     }
 
@@ -73,9 +72,7 @@ export class Meaning {
     }
 
     add(thing) {
-        const things = this.things.get(thing.part);
-        this.hasTwins ||= things.has(textOfKey(thing.key));
-        things.set(textOfKey(thing.key), thing);
+        this.things.get(thing.part).set(textOfKey(thing.key), thing);
         if (Object.hasOwn(thing.object, '@id')) {
             this.named.set(thing.object['@id'], thing);
         }

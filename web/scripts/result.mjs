@@ -77,11 +77,13 @@ export class Result {
         if (!this.isCurrent()) {
             return;
         }
+        if (this.listed === null || this.listed.seen === null) {
+            this.put('note', element('p', { class: 'note' }, say(this.listed === null ? 'difference.noList' : 'difference.tooLarge')));
+        }
         if (this.listed === null) {
-            this.put('note', element('p', { class: 'note' }, say('difference.tooLarge')));
             return;
         }
-        this.put('seen', seenBox(this.listed));
+        this.put('seen', this.listed.seen === null ? null : seenBox(this.listed));
         this.put('differences', firstDifference(this.listed.first, this.names), await differenceList(this.client, this.listed, this.names));
         await this.showRecord();
         const types = await this.client.ask('types', { types: this.types }, this.tell);
