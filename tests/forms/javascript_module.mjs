@@ -181,11 +181,11 @@ WebAssembly.Instance = class {
         instances++;
         this.exports = {
             ...exports,
-            erd_check_data(...arguments_) {
+            erd_check_data_piece(...arguments_) {
                 if (traps) {
                     throw new WebAssembly.RuntimeError('unreachable');
                 }
-                return exports.erd_check_data(...arguments_);
+                return exports.erd_check_data_piece(...arguments_);
             },
         };
     }
