@@ -64,11 +64,13 @@ INDEXES["compared names"] = (write_ins, colliding.NAME, COUNT, {"joined salts of
 
 
 def counted(index, made, folder):
-    """The instructions of `check` on a report, or of `compare` on it and itself."""
-    path = os.path.join(folder, "report")
-    with open(path, "w", encoding="utf-8") as file:
-        json.dump(made, file)
-    return instructions(["./erd", "compare", path, path] if index == "compared names" else ["./erd", "check", path])
+    """The instructions of `check` on a report, or of `compare` on it and a copy with a blank more: equal bytes are judged once."""
+    path, copy = os.path.join(folder, "report"), os.path.join(folder, "copy")
+    text = json.dumps(made)
+    for name, said in ((path, text), (copy, text + " ")):
+        with open(name, "w", encoding="utf-8") as file:
+            file.write(said)
+    return instructions(["./erd", "compare", path, copy] if index == "compared names" else ["./erd", "check", path])
 
 
 def tell(is_held, words):
