@@ -11,6 +11,8 @@ pub mod DataValues  -- the JSON values of faults and of a comparison
 pub mod DataAnswers  -- what the calls answer as data
 pub mod Pieces  -- which entries of a list an answer has if its caller bounds them
 pub mod Writing  -- what a writer holds after a failed write
+pub mod Devices  -- what contracts know of readers and writers
+pub mod Engines  -- all that a run of each engine does to its devices
 pub mod Statuses  -- exit statuses, and the words of faults
 pub mod ExactLines  -- the exact command lines
 pub mod Subcommands  -- the command line, as the parser of command lines sees it

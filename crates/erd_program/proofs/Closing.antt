@@ -1,8 +1,9 @@
 -- What was done with files, from the lists of closed files before they were opened.
 use Rattle.std.proofs.Common.{◌≡◌, ◌++◌, ◌∷◌, ◌∙◌, [], ℕ, List, ap, ap₂, append_assoc, subst}
+use Rattle.erd_canon.specs.Devices.{BeforeAfter, between}
 use Rattle.erd_meaning.specs.Keys.{Preference}
 use Rattle.erd_program.specs.Files.{AreFilesCompared, IsFileCanonicalised, IsFileChecked}
-use Rattle.erd_program.specs.World.{BeforeAfter, Outside, between}
+use Rattle.erd_program.specs.World.{Outside}
 
 -- two entries, one after the other
 pub twice : {A : Type 0} (a b c : List A) (x y : A) → b ≡ a ++ x ∷ [] → c ≡ b ++ y ∷ [] → c ≡ a ++ x ∷ y ∷ []

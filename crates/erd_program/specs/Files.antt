@@ -1,12 +1,13 @@
 -- What is done with standard input, or with the files that a request names.
 use Rattle.std.specs.Prelude.{◌≡◌, ◌++◌, ◌∷◌, [], ℕ, List, None, Result, Ok, Err, codes}
+use Rattle.erd_canon.specs.Devices.{BeforeAfter, Writer, between}
+use Rattle.erd_canon.specs.Engines.{IsCanonRun, IsCheckRun, IsCompareRun}
 use Rattle.erd_canon.specs.declared.engines.outcome.Outcome.{Outcome}
 use Rattle.erd_canon.specs.declared.engines.outcome.RunFault.{RunFault}
 use Rattle.erd_meaning.specs.Keys.{Preference}
 use Rattle.erd_program.specs.declared.files.WorldFault.{WorldFault}
-use Rattle.erd_program.specs.Engines.{IsCanonRun, IsCheckRun, IsCompareRun}
 use Rattle.erd_program.specs.Messages.{IsSaid, IsTold, run_status, world_status, world_text}
-use Rattle.erd_program.specs.World.{BeforeAfter, Outside, Writer, between}
+use Rattle.erd_program.specs.World.{Outside}
 
 -- The outside did not give something. The program wrote nothing but these words, or that it is out of memory, to standard
 -- error.
@@ -48,7 +49,7 @@ pub record AreFilesCompared {F File I O E : Type 0} (known : Outside F File I O 
   pub answer : Result Outcome RunFault
   pub left_left : File
   pub right_left : File
-  pub run : IsCompareRun known.file known.out π answer (between left left_left) (between right right_left) out
+  pub run : IsCompareRun known.file known.file known.out π answer (between left left_left) (between right right_left) out
   pub are_closed : closed.after ≡ closed.before ++ (left_name, left_left) ∷ (right_name, right_left) ∷ []
   pub status_is : status ≡ run_status answer
   pub told : IsTold known.err answer err

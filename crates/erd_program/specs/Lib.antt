@@ -1,6 +1,5 @@
 -- The definitions of this crate, in the order in which one would read them:
 pub mod World  -- what the program has of the outside
 pub mod Messages  -- what is said on a stream, and with which status
-pub mod Engines  -- what a run of an engine does to its devices
 pub mod Files  -- what is done with the files of a request
 pub mod Program  -- what the program does for the words of its command line

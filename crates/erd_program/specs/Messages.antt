@@ -1,6 +1,7 @@
 -- What the program says on a stream, and with which status it ends.
 use Rattle.std.specs.Prelude.{◌≡◌, ◌++◌, ◌∷◌, [], ℕ, true, false, List, Result, Ok, Err}
 use Rattle.std.specs.Io.KnownBytes.{Appends}
+use Rattle.erd_canon.specs.Devices.{BeforeAfter, Writer}
 use Rattle.erd_canon.specs.declared.engines.outcome.Outcome.{Outcome}
 use Rattle.erd_canon.specs.declared.engines.outcome.RunFault.{RunFault}
 use Rattle.erd_canon.specs.declared.engines.outcome.RunFault.TheVariants as run
@@ -8,7 +9,6 @@ use Rattle.erd_canon.specs.Statuses.{outcome_status, fault_status, fault_words}
 use Rattle.erd_canon.specs.Writing.{IsPartWritten}
 use Rattle.erd_program.specs.declared.files.WorldFault.{WorldFault}
 use Rattle.erd_program.specs.declared.files.WorldFault.TheVariants.{Refused, Memory}
-use Rattle.erd_program.specs.World.{BeforeAfter, Writer}
 
 -- The text was written, or a first part of it if that failed, and nothing else. To a stream that had failed, nothing was
 -- written.

@@ -1,6 +1,7 @@
 -- What the program does for the words of its command line.
 use Rattle.std.specs.Prelude.{◌≡◌, ◌⊎◌, ◌++◌, ◌∷◌, [], ℕ, true, false, List, Result, Ok, Err, MatchResult, codes}
 use Rattle.std.specs.Io.KnownBytes.{Appends}
+use Rattle.erd_canon.specs.Devices.{BeforeAfter, Writer, between}
 use Rattle.erd_canon.specs.declared.commands.request.Request.{Request}
 use Rattle.erd_canon.specs.declared.commands.request.Request.TheVariants.{Filter, Check, Canon, Compare}
 use Rattle.erd_canon.specs.declared.commands.request.LineFault.{LineFault}
@@ -14,7 +15,7 @@ use Rattle.erd_program.specs.declared.files.WorldFault.TheVariants.{Memory}
 use Rattle.erd_program.specs.declared.world.World.{World}
 use Rattle.erd_program.specs.Files.{IsCanonAnswer, IsCheckAnswer, IsCompareAnswer, IsInputCanonicalised, IsRefused}
 use Rattle.erd_program.specs.Messages.{IsSaid, fault_text}
-use Rattle.erd_program.specs.World.{BeforeAfter, Outside, Writer, between}
+use Rattle.erd_program.specs.World.{Outside}
 
 -- Standard input was left alone.
 abbrev pub LeavesInput : {F I O E : Type 0} → BeforeAfter (World F I O E) → Type 0

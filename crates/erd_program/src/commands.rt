@@ -1,8 +1,9 @@
 ghost use Rattle.std.specs.Prelude.{◌≡◌, ◌++◌, ◌∷◌, [], Result, IfOk, false};
 ghost use Rattle.std.specs.Option.{option_copied};
+ghost use Rattle.erd_canon.specs.Devices.{between, reader_of, writer_of};
 ghost use Rattle.erd_program.specs.declared.files.WorldFault.{WorldFault};
 ghost use Rattle.erd_program.specs.Files.{AreFilesCompared, IsCanonAnswer, IsCheckAnswer, IsCompareAnswer, IsFileCanonicalised, IsFileChecked, IsInputCanonicalised};
-ghost use Rattle.erd_program.specs.World.{between, outside, reader, writer};
+ghost use Rattle.erd_program.specs.World.{outside};
 
 use crate::files::{Files, WorldFault};
 use crate::messages::{ended, refused};
@@ -26,9 +27,9 @@ pub(crate) fn filter<F: Files, I: Source, O: Sink, E: Sink, D: Disposal>(
     requires out_works { O.has_failed world.old.out ≡ false }
     requires err_works { E.has_failed world.old.err ≡ false }
     ensures files { world.new.files ≡ world.old.files }
-    ensures done { IsInputCanonicalised (outside F.opened F.beside F.closed (reader F.File.remaining F.File.has_failed F.File.reads F.File.given)
-        (reader I.remaining I.has_failed I.reads I.given) (writer O.contents O.has_failed O.is_flushed O.flushes)
-        (writer E.contents E.has_failed E.is_flushed E.flushes))
+    ensures done { IsInputCanonicalised (outside F.opened F.beside F.closed (reader_of F.File.remaining F.File.has_failed F.File.reads F.File.given)
+        (reader_of I.remaining I.has_failed I.reads I.given) (writer_of O.contents O.has_failed O.is_flushed O.flushes)
+        (writer_of E.contents E.has_failed E.is_flushed E.flushes))
         result (between world.old.input world.new.input) (between world.old.out world.new.out)
         (between world.old.err world.new.err) }
 {
@@ -56,9 +57,9 @@ pub(crate) fn check<F: Files, I: Source, O: Sink, E: Sink, D: Disposal>(
     ensures input { world.new.input ≡ world.old.input }
     ensures done { (given : Result F.File WorldFault)
         × (F.opened world.new.files ≡ F.opened world.old.files ++ (name.now, given) ∷ [])
-        × IsCheckAnswer (outside F.opened F.beside F.closed (reader F.File.remaining F.File.has_failed F.File.reads F.File.given)
-        (reader I.remaining I.has_failed I.reads I.given) (writer O.contents O.has_failed O.is_flushed O.flushes)
-        (writer E.contents E.has_failed E.is_flushed E.flushes))
+        × IsCheckAnswer (outside F.opened F.beside F.closed (reader_of F.File.remaining F.File.has_failed F.File.reads F.File.given)
+        (reader_of I.remaining I.has_failed I.reads I.given) (writer_of O.contents O.has_failed O.is_flushed O.flushes)
+        (writer_of E.contents E.has_failed E.is_flushed E.flushes))
         (option_copied prefer.entry) name.now given result (between (F.closed world.old.files) (F.closed world.new.files))
         (between world.old.out world.new.out) (between world.old.err world.new.err) }
 {
@@ -82,9 +83,9 @@ fn check_file<F: Files, I: Source, O: Sink, E: Sink, D: Disposal>(
     requires err_works { E.has_failed world.old.err ≡ false }
     ensures input { world.new.input ≡ world.old.input }
     ensures opened { F.opened world.new.files ≡ F.opened world.old.files }
-    ensures done { IsFileChecked (outside F.opened F.beside F.closed (reader F.File.remaining F.File.has_failed F.File.reads F.File.given)
-        (reader I.remaining I.has_failed I.reads I.given) (writer O.contents O.has_failed O.is_flushed O.flushes)
-        (writer E.contents E.has_failed E.is_flushed E.flushes))
+    ensures done { IsFileChecked (outside F.opened F.beside F.closed (reader_of F.File.remaining F.File.has_failed F.File.reads F.File.given)
+        (reader_of I.remaining I.has_failed I.reads I.given) (writer_of O.contents O.has_failed O.is_flushed O.flushes)
+        (writer_of E.contents E.has_failed E.is_flushed E.flushes))
         (option_copied prefer.entry) name.now file result (between (F.closed world.old.files) (F.closed world.new.files))
         (between world.old.out world.new.out) (between world.old.err world.new.err) }
 {
@@ -106,9 +107,9 @@ pub(crate) fn canon<F: Files, I: Source, O: Sink, E: Sink, D: Disposal>(
     ensures input { world.new.input ≡ world.old.input }
     ensures done { (given : Result F.File WorldFault)
         × (F.opened world.new.files ≡ F.opened world.old.files ++ (name.now, given) ∷ [])
-        × IsCanonAnswer (outside F.opened F.beside F.closed (reader F.File.remaining F.File.has_failed F.File.reads F.File.given)
-        (reader I.remaining I.has_failed I.reads I.given) (writer O.contents O.has_failed O.is_flushed O.flushes)
-        (writer E.contents E.has_failed E.is_flushed E.flushes))
+        × IsCanonAnswer (outside F.opened F.beside F.closed (reader_of F.File.remaining F.File.has_failed F.File.reads F.File.given)
+        (reader_of I.remaining I.has_failed I.reads I.given) (writer_of O.contents O.has_failed O.is_flushed O.flushes)
+        (writer_of E.contents E.has_failed E.is_flushed E.flushes))
         (option_copied prefer.entry) name.now given result (between (F.closed world.old.files) (F.closed world.new.files))
         (between world.old.out world.new.out) (between world.old.err world.new.err) }
 {
@@ -132,9 +133,9 @@ fn canon_file<F: Files, I: Source, O: Sink, E: Sink, D: Disposal>(
     requires err_works { E.has_failed world.old.err ≡ false }
     ensures input { world.new.input ≡ world.old.input }
     ensures opened { F.opened world.new.files ≡ F.opened world.old.files }
-    ensures done { IsFileCanonicalised (outside F.opened F.beside F.closed (reader F.File.remaining F.File.has_failed F.File.reads F.File.given)
-        (reader I.remaining I.has_failed I.reads I.given) (writer O.contents O.has_failed O.is_flushed O.flushes)
-        (writer E.contents E.has_failed E.is_flushed E.flushes))
+    ensures done { IsFileCanonicalised (outside F.opened F.beside F.closed (reader_of F.File.remaining F.File.has_failed F.File.reads F.File.given)
+        (reader_of I.remaining I.has_failed I.reads I.given) (writer_of O.contents O.has_failed O.is_flushed O.flushes)
+        (writer_of E.contents E.has_failed E.is_flushed E.flushes))
         (option_copied prefer.entry) name.now file result (between (F.closed world.old.files) (F.closed world.new.files))
         (between world.old.out world.new.out) (between world.old.err world.new.err) }
 {
@@ -165,9 +166,9 @@ pub(crate) fn compare<F: Files, I: Source, O: Sink, E: Sink, D: Disposal>(
     ensures done { (a b : Result F.File WorldFault)
         × (F.opened world.new.files ≡ F.opened world.old.files ++ (left.now, a) ∷ (right.now, b) ∷ [])
         × (F.beside world.new.files ≡ F.beside world.old.files ++ (right.now, a) ∷ [])
-        × IsCompareAnswer (outside F.opened F.beside F.closed (reader F.File.remaining F.File.has_failed F.File.reads F.File.given)
-        (reader I.remaining I.has_failed I.reads I.given) (writer O.contents O.has_failed O.is_flushed O.flushes)
-        (writer E.contents E.has_failed E.is_flushed E.flushes))
+        × IsCompareAnswer (outside F.opened F.beside F.closed (reader_of F.File.remaining F.File.has_failed F.File.reads F.File.given)
+        (reader_of I.remaining I.has_failed I.reads I.given) (writer_of O.contents O.has_failed O.is_flushed O.flushes)
+        (writer_of E.contents E.has_failed E.is_flushed E.flushes))
         (option_copied prefer.entry) left.now right.now a b result (between (F.closed world.old.files)
         (F.closed world.new.files)) (between world.old.out world.new.out) (between world.old.err world.new.err) }
 {
@@ -228,9 +229,9 @@ fn compare_files<F: Files, I: Source, O: Sink, E: Sink, D: Disposal>(
     ensures input { world.new.input ≡ world.old.input }
     ensures opened { F.opened world.new.files ≡ F.opened world.old.files }
     ensures beside { F.beside world.new.files ≡ F.beside world.old.files }
-    ensures done { AreFilesCompared (outside F.opened F.beside F.closed (reader F.File.remaining F.File.has_failed F.File.reads F.File.given)
-        (reader I.remaining I.has_failed I.reads I.given) (writer O.contents O.has_failed O.is_flushed O.flushes)
-        (writer E.contents E.has_failed E.is_flushed E.flushes))
+    ensures done { AreFilesCompared (outside F.opened F.beside F.closed (reader_of F.File.remaining F.File.has_failed F.File.reads F.File.given)
+        (reader_of I.remaining I.has_failed I.reads I.given) (writer_of O.contents O.has_failed O.is_flushed O.flushes)
+        (writer_of E.contents E.has_failed E.is_flushed E.flushes))
         (option_copied prefer.entry) left.entry.0.now right.entry.0.now left.entry.1 right.entry.1
         result (between (F.closed world.old.files) (F.closed world.new.files)) (between world.old.out world.new.out)
         (between world.old.err world.new.err) }

@@ -1,9 +1,10 @@
 ghost use Rattle.std.specs.Prelude.{◌≡◌, ◌∷◌, [], map, string_bytes, OnOk, OnErr, false, true};
 ghost use Rattle.std.specs.Io.KnownBytes.{Appends};
+ghost use Rattle.erd_canon.specs.Devices.{between, reader_of, writer_of};
 ghost use Rattle.erd_canon.specs.Writing.{IsPartWritten};
 ghost use Rattle.erd_program.specs.Messages.{IsSaid};
 ghost use Rattle.erd_program.specs.Program.{AreWordsAnswered, IsDone, IsHelped, IsLineRefused, IsProgramRun, words_given};
-ghost use Rattle.erd_program.specs.World.{between, outside, reader, writer};
+ghost use Rattle.erd_program.specs.World.{outside};
 
 use crate::commands::{canon, check, compare, filter};
 use crate::files::{Files, WorldFault};
@@ -31,9 +32,9 @@ pub fn run_program<F: Files, I: Source, O: Sink, E: Sink, D: Disposal>(
     requires input_works { I.has_failed world.old.input ≡ false }
     requires out_works { O.has_failed world.old.out ≡ false }
     requires err_works { E.has_failed world.old.err ≡ false }
-    ensures { IsProgramRun (outside F.opened F.beside F.closed (reader F.File.remaining F.File.has_failed F.File.reads F.File.given)
-        (reader I.remaining I.has_failed I.reads I.given) (writer O.contents O.has_failed O.is_flushed O.flushes)
-        (writer E.contents E.has_failed E.is_flushed E.flushes))
+    ensures { IsProgramRun (outside F.opened F.beside F.closed (reader_of F.File.remaining F.File.has_failed F.File.reads F.File.given)
+        (reader_of I.remaining I.has_failed I.reads I.given) (writer_of O.contents O.has_failed O.is_flushed O.flushes)
+        (writer_of E.contents E.has_failed E.is_flushed E.flushes))
         (words_given (λ all. map string_bytes all.items) words) result (between world.old world.new) }
 {
     match words {
@@ -52,9 +53,9 @@ fn answered<F: Files, I: Source, O: Sink, E: Sink, D: Disposal>(
     requires input_works { I.has_failed world.old.input ≡ false }
     requires out_works { O.has_failed world.old.out ≡ false }
     requires err_works { E.has_failed world.old.err ≡ false }
-    ensures { AreWordsAnswered (outside F.opened F.beside F.closed (reader F.File.remaining F.File.has_failed F.File.reads F.File.given)
-        (reader I.remaining I.has_failed I.reads I.given) (writer O.contents O.has_failed O.is_flushed O.flushes)
-        (writer E.contents E.has_failed E.is_flushed E.flushes))
+    ensures { AreWordsAnswered (outside F.opened F.beside F.closed (reader_of F.File.remaining F.File.has_failed F.File.reads F.File.given)
+        (reader_of I.remaining I.has_failed I.reads I.given) (writer_of O.contents O.has_failed O.is_flushed O.flushes)
+        (writer_of E.contents E.has_failed E.is_flushed E.flushes))
         (map string_bytes words.now) result (between world.old world.new) }
 {
     match command_line(alloc, words) {
@@ -73,9 +74,9 @@ fn done<F: Files, I: Source, O: Sink, E: Sink, D: Disposal>(
     requires input_works { I.has_failed world.old.input ≡ false }
     requires out_works { O.has_failed world.old.out ≡ false }
     requires err_works { E.has_failed world.old.err ≡ false }
-    ensures { IsDone (outside F.opened F.beside F.closed (reader F.File.remaining F.File.has_failed F.File.reads F.File.given)
-        (reader I.remaining I.has_failed I.reads I.given) (writer O.contents O.has_failed O.is_flushed O.flushes)
-        (writer E.contents E.has_failed E.is_flushed E.flushes))
+    ensures { IsDone (outside F.opened F.beside F.closed (reader_of F.File.remaining F.File.has_failed F.File.reads F.File.given)
+        (reader_of I.remaining I.has_failed I.reads I.given) (writer_of O.contents O.has_failed O.is_flushed O.flushes)
+        (writer_of E.contents E.has_failed E.is_flushed E.flushes))
         request.now result (between world.old world.new) }
 {
     match request {
@@ -91,8 +92,8 @@ fn done<F: Files, I: Source, O: Sink, E: Sink, D: Disposal>(
 // Says why the command line has no request, and returns the exit status.
 fn line_refused<O: Sink, E: Sink>(fault: LineFault, out: &mut O, err: &mut E) -> u8
     requires out_works { O.has_failed out.old ≡ false }
-    ensures { IsLineRefused (writer O.contents O.has_failed O.is_flushed O.flushes)
-        (writer E.contents E.has_failed E.is_flushed E.flushes)
+    ensures { IsLineRefused (writer_of O.contents O.has_failed O.is_flushed O.flushes)
+        (writer_of E.contents E.has_failed E.is_flushed E.flushes)
         fault result (between out.old out.new) (between err.old err.new) }
 {
     match fault {
@@ -108,8 +109,8 @@ fn line_refused<O: Sink, E: Sink>(fault: LineFault, out: &mut O, err: &mut E) ->
 // Writes the help text to standard output, and returns the exit status.
 fn help<O: Sink, E: Sink>(text: &str, out: &mut O, err: &mut E) -> u8
     requires out_works { O.has_failed out.old ≡ false }
-    ensures { IsHelped (writer O.contents O.has_failed O.is_flushed O.flushes)
-        (writer E.contents E.has_failed E.is_flushed E.flushes)
+    ensures { IsHelped (writer_of O.contents O.has_failed O.is_flushed O.flushes)
+        (writer_of E.contents E.has_failed E.is_flushed E.flushes)
         text.now result (between out.old out.new) (between err.old err.new) }
 {
     match write_and_flush(out, text.as_bytes()) {

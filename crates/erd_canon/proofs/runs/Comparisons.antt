@@ -1,7 +1,8 @@
 -- What a comparison of two accepted reports answers, and what is written of it.
 use Rattle.erd_canon.proofs.Common.{◌≡◌, ℕ, List, [], ◌∷◌, map, OnOk, Some, codes, Option, refl, subst, inl, inr, Data, IsAccepted, Preference, meaning, IfOk, Ok, Err, Result, IsDifference, Appends, fault_line, Difference, IsTreeOf, text_of_lines, IsRefusal, lines_of_side, IsCompareText, IsComparison, IsReadWhole, IsSomeReport, RefusedAs, IsSideRefused, IsCompared, IsCompareWritten, IsToldCompare, Refusal, refusal, Outcome, Bad, Good, NotJson, RunFault}
 use Rattle.erd_compare.specs.DifferenceLine.{difference_line}
-use Rattle.erd_canon.specs.code.SideRefusals.{IsRefusalWritten, TellsRefusal}
+use Rattle.erd_canon.specs.Writing.{IsComparePartWritten}
+use Rattle.erd_canon.specs.code.SideRefusals.{IsRefusalPartWritten, IsRefusalWritten, TellsRefusal}
 
 -- the first difference of the meanings of two trees that bytes are
 pub compared : (π : Preference) (left right : List ℕ) (t u r s : Data) (found : Option Difference) → IsTreeOf left t → IsAccepted π t → r ≡ t → IsTreeOf right u → IsAccepted π u → s ≡ u
@@ -40,6 +41,26 @@ right_refusal_written π left right refused (Ok outcome) before after accepted i
   wrote = written.wrote;
 }
 right_refusal_written π left right refused (Err fault) before after accepted is written = tt
+
+-- a first part of what is written of the refusal of the left bytes
+pub left_refusal_part : (π : Preference) (left right : List ℕ) (refused : Refusal) (before after : Option (List ℕ)) → RefusedAs π left refused
+    → IsRefusalPartWritten (codes "left: ") refused before after → IsComparePartWritten π left right before after
+left_refusal_part π left right refused before after is written = record {
+  outcome = written.outcome;
+  text = written.text;
+  compared = inl (side_refused π (codes "left: ") left refused written.outcome written.text is written.tells);
+  part = written.part;
+}
+
+-- a first part of what is written of the refusal of the right bytes
+pub right_refusal_part : (π : Preference) (left right : List ℕ) (refused : Refusal) (before after : Option (List ℕ)) → IsSomeReport π left → RefusedAs π right refused
+    → IsRefusalPartWritten (codes "right: ") refused before after → IsComparePartWritten π left right before after
+right_refusal_part π left right refused before after accepted is written = record {
+  outcome = written.outcome;
+  text = written.text;
+  compared = inr (inl (accepted, side_refused π (codes "right: ") right refused written.outcome written.text is written.tells));
+  part = written.part;
+}
 
 -- where an answer holds that the line of the first difference was written
 pub difference_written : (π : Preference) (left right text : List ℕ) (d : Difference) (r : Result Outcome RunFault) (before after : Option (List ℕ)) → IsComparison π left right (Some d)

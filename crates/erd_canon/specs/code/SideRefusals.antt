@@ -5,6 +5,7 @@ use Rattle.erd_tables.specs.Faults.{fault_line}
 use Rattle.erd_canon.specs.declared.engines.outcome.Outcome.{Outcome}
 use Rattle.erd_canon.specs.declared.engines.outcome.Outcome.TheVariants.{Bad, NotJson}
 use Rattle.erd_canon.specs.EngineTexts.{lines_of_side, text_of_lines}
+use Rattle.erd_canon.specs.Writing.{IsPartWritten}
 use Rattle.erd_canon.specs.declared.bytes.refusal.Refusal.{Refusal}
 use Rattle.erd_canon.specs.declared.bytes.refusal.Refusal.TheVariants as refusal
 
@@ -19,3 +20,11 @@ pub record IsRefusalWritten (side : List ℕ) (refused : Refusal) (outcome : Out
   pub text : List ℕ
   pub tells : TellsRefusal side refused outcome text
   pub wrote : Appends before after text
+
+-- What is written about a refusal on one side has this text. If the bytes of the writer are known, a first part of it was
+-- written, and nothing else.
+pub record IsRefusalPartWritten (side : List ℕ) (refused : Refusal) (before after : Option (List ℕ)) : Type 0 where
+  pub outcome : Outcome
+  pub text : List ℕ
+  pub tells : TellsRefusal side refused outcome text
+  pub part : IsPartWritten before after text

@@ -1,11 +1,11 @@
-ghost use Rattle.std.specs.Prelude.{ℕ, List, ◌≡◌, ◌≢◌, ◌↔◌, ◌⊎◌, ◌+◌, ◌<◌, ◌≤◌, false, true, Err, IfErr, IfOk, OnOk, IsErrOf, None};
+ghost use Rattle.std.specs.Prelude.{ℕ, List, ◌≡◌, ◌⊎◌, false, true, Err, IfErr, IfOk, OnOk, None};
 ghost use Rattle.std.specs.Option.{option_copied};
+ghost use Rattle.erd_canon.specs.Devices.{between, reader_of, writer_of};
 ghost use Rattle.erd_canon.specs.EngineTexts.{IsRefusal};
-ghost use Rattle.erd_canon.specs.Limits.{most_bytes, most_reads};
-ghost use Rattle.erd_canon.specs.Reading.{Exceeds};
+ghost use Rattle.erd_canon.specs.Engines.{IsCanonRun};
 ghost use Rattle.erd_canon.specs.Refused.{IsSomeReport};
-ghost use Rattle.erd_canon.specs.Run.{IsAcceptedInput, IsAnswerWritten, IsRefusedInput, IsToldRun, IsWholeRun};
-ghost use Rattle.erd_canon.specs.Writing.{IsAnswerPartWritten, IsBrokenRun};
+ghost use Rattle.erd_canon.specs.Run.{IsAnswerWritten};
+ghost use Rattle.erd_canon.specs.Writing.{IsAnswerPartWritten};
 
 use crate::bytes::canonical::canonical_of_input;
 use crate::bytes::disposal::{Disposal, Free};
@@ -42,43 +42,9 @@ pub fn run_canon<S: Source, O: Sink, E: Sink>(
     requires reader_works { S.has_failed reader.old ≡ false }
     requires out_works { O.has_failed out.old ≡ false }
     requires err_works { E.has_failed err.old ≡ false }
-
-    // What an outcome means.
-    ensures whole { IfOk result (λ outcome. IsWholeRun None most_bytes outcome (S.remaining reader.old) (S.remaining reader.new)
-        (O.contents out.old) (O.contents out.new) (E.contents err.old) (E.contents err.new)) }
-    ensures told { IfOk result (λ _. IsToldRun None most_bytes (S.remaining reader.old) (S.remaining reader.new)
-        (O.contents out.old) (O.contents out.new) (E.contents err.old) (E.contents err.new)) }
-    ensures flushed { OnOk result ((O.is_flushed out.new ≡ true) × (E.is_flushed err.new ≡ true)) }
-
-    // If the fault is not `Write`, nothing was written or flushed.
-    ensures quiet { IfErr result (λ fault. fault ≢ RunFault.Write → (out.new ≡ out.old) × (err.new ≡ err.old)) }
-
-    // If it is `Write`, each writer holds a first part of its text.
-    ensures broken { result ≡ Err RunFault.Write → IsBrokenRun None most_bytes (S.remaining reader.old) (S.remaining reader.new)
-        (O.contents out.old) (O.contents out.new) (E.contents err.old) (E.contents err.new) }
-
-    // After a failed write to `out`, `err` is unchanged. Before a failed write, nothing is flushed. `err` is flushed only
-    // after `out`.
-    ensures out_first { O.has_failed out.new ≡ true → O.flushes out.new ≡ O.flushes out.old → err.new ≡ err.old }
-    ensures writes_first { E.has_failed err.new ≡ true → E.flushes err.new ≡ E.flushes err.old
-        → O.flushes out.new ≡ O.flushes out.old }
-    ensures flush_order { (E.flushes err.new ≡ E.flushes err.old) ⊎ (O.is_flushed out.new ≡ true) }
-
-    // If a write to `out` fails, the report is accepted. If a write to `err` fails, the report is refused.
-    ensures out_needed { O.has_failed out.new ≡ true → O.flushes out.new ≡ O.flushes out.old
-        → IsAcceptedInput None most_bytes (S.remaining reader.old) (S.remaining reader.new) }
-    ensures err_needed { E.has_failed err.new ≡ true → E.flushes err.new ≡ E.flushes err.old
-        → IsRefusedInput None most_bytes (S.remaining reader.old) (S.remaining reader.new) }
-
-    // When each fault is returned.
-    ensures read { IsErrOf result RunFault.Read ↔ (S.has_failed reader.new ≡ true) }
-    ensures write { IsErrOf result RunFault.Write
-        ↔ ((O.has_failed out.new ≡ true) ⊎ (E.has_failed err.new ≡ true)) }
-    ensures too_long { result ≡ Err RunFault.TooLong
-        → Exceeds most_bytes (S.remaining reader.old) (S.remaining reader.new) }
-    ensures too_many { result ≡ Err RunFault.TooLong
-        → S.given reader.old + most_bytes < S.given reader.new }
-    ensures calls { S.reads reader.new ≤ S.reads reader.old + most_reads }
+    ensures { IsCanonRun (reader_of S.remaining S.has_failed S.reads S.given) (writer_of O.contents O.has_failed O.is_flushed O.flushes)
+        (writer_of E.contents E.has_failed E.is_flushed E.flushes)
+        None result (between reader.old reader.new) (between out.old out.new) (between err.old err.new) }
 {
     run_canon_with(alloc, reader, out, err, None)
 }
@@ -112,43 +78,9 @@ pub fn run_canon_with<S: Source, O: Sink, E: Sink>(
     requires reader_works { S.has_failed reader.old ≡ false }
     requires out_works { O.has_failed out.old ≡ false }
     requires err_works { E.has_failed err.old ≡ false }
-
-    // What an outcome means.
-    ensures whole { IfOk result (λ outcome. IsWholeRun (option_copied prefer.entry) most_bytes outcome (S.remaining reader.old) (S.remaining reader.new)
-        (O.contents out.old) (O.contents out.new) (E.contents err.old) (E.contents err.new)) }
-    ensures told { IfOk result (λ _. IsToldRun (option_copied prefer.entry) most_bytes (S.remaining reader.old) (S.remaining reader.new)
-        (O.contents out.old) (O.contents out.new) (E.contents err.old) (E.contents err.new)) }
-    ensures flushed { OnOk result ((O.is_flushed out.new ≡ true) × (E.is_flushed err.new ≡ true)) }
-
-    // If the fault is not `Write`, nothing was written or flushed.
-    ensures quiet { IfErr result (λ fault. fault ≢ RunFault.Write → (out.new ≡ out.old) × (err.new ≡ err.old)) }
-
-    // If it is `Write`, each writer holds a first part of its text.
-    ensures broken { result ≡ Err RunFault.Write → IsBrokenRun (option_copied prefer.entry) most_bytes (S.remaining reader.old) (S.remaining reader.new)
-        (O.contents out.old) (O.contents out.new) (E.contents err.old) (E.contents err.new) }
-
-    // After a failed write to `out`, `err` is unchanged. Before a failed write, nothing is flushed. `err` is flushed only
-    // after `out`.
-    ensures out_first { O.has_failed out.new ≡ true → O.flushes out.new ≡ O.flushes out.old → err.new ≡ err.old }
-    ensures writes_first { E.has_failed err.new ≡ true → E.flushes err.new ≡ E.flushes err.old
-        → O.flushes out.new ≡ O.flushes out.old }
-    ensures flush_order { (E.flushes err.new ≡ E.flushes err.old) ⊎ (O.is_flushed out.new ≡ true) }
-
-    // If a write to `out` fails, the report is accepted. If a write to `err` fails, the report is refused.
-    ensures out_needed { O.has_failed out.new ≡ true → O.flushes out.new ≡ O.flushes out.old
-        → IsAcceptedInput (option_copied prefer.entry) most_bytes (S.remaining reader.old) (S.remaining reader.new) }
-    ensures err_needed { E.has_failed err.new ≡ true → E.flushes err.new ≡ E.flushes err.old
-        → IsRefusedInput (option_copied prefer.entry) most_bytes (S.remaining reader.old) (S.remaining reader.new) }
-
-    // When each fault is returned.
-    ensures read { IsErrOf result RunFault.Read ↔ (S.has_failed reader.new ≡ true) }
-    ensures write { IsErrOf result RunFault.Write
-        ↔ ((O.has_failed out.new ≡ true) ⊎ (E.has_failed err.new ≡ true)) }
-    ensures too_long { result ≡ Err RunFault.TooLong
-        → Exceeds most_bytes (S.remaining reader.old) (S.remaining reader.new) }
-    ensures too_many { result ≡ Err RunFault.TooLong
-        → S.given reader.old + most_bytes < S.given reader.new }
-    ensures calls { S.reads reader.new ≤ S.reads reader.old + most_reads }
+    ensures { IsCanonRun (reader_of S.remaining S.has_failed S.reads S.given) (writer_of O.contents O.has_failed O.is_flushed O.flushes)
+        (writer_of E.contents E.has_failed E.is_flushed E.flushes)
+        (option_copied prefer.entry) result (between reader.old reader.new) (between out.old out.new) (between err.old err.new) }
 {
     run_canon_disposing(alloc, reader, out, err, prefer, &Free)
 }
@@ -181,43 +113,9 @@ pub fn run_canon_disposing<S: Source, O: Sink, E: Sink, D: Disposal>(
     requires reader_works { S.has_failed reader.old ≡ false }
     requires out_works { O.has_failed out.old ≡ false }
     requires err_works { E.has_failed err.old ≡ false }
-
-    // What an outcome means.
-    ensures whole { IfOk result (λ outcome. IsWholeRun (option_copied prefer.entry) most_bytes outcome (S.remaining reader.old) (S.remaining reader.new)
-        (O.contents out.old) (O.contents out.new) (E.contents err.old) (E.contents err.new)) }
-    ensures told { IfOk result (λ _. IsToldRun (option_copied prefer.entry) most_bytes (S.remaining reader.old) (S.remaining reader.new)
-        (O.contents out.old) (O.contents out.new) (E.contents err.old) (E.contents err.new)) }
-    ensures flushed { OnOk result ((O.is_flushed out.new ≡ true) × (E.is_flushed err.new ≡ true)) }
-
-    // If the fault is not `Write`, nothing was written or flushed.
-    ensures quiet { IfErr result (λ fault. fault ≢ RunFault.Write → (out.new ≡ out.old) × (err.new ≡ err.old)) }
-
-    // If it is `Write`, each writer holds a first part of its text.
-    ensures broken { result ≡ Err RunFault.Write → IsBrokenRun (option_copied prefer.entry) most_bytes (S.remaining reader.old) (S.remaining reader.new)
-        (O.contents out.old) (O.contents out.new) (E.contents err.old) (E.contents err.new) }
-
-    // After a failed write to `out`, `err` is unchanged. Before a failed write, nothing is flushed. `err` is flushed only
-    // after `out`.
-    ensures out_first { O.has_failed out.new ≡ true → O.flushes out.new ≡ O.flushes out.old → err.new ≡ err.old }
-    ensures writes_first { E.has_failed err.new ≡ true → E.flushes err.new ≡ E.flushes err.old
-        → O.flushes out.new ≡ O.flushes out.old }
-    ensures flush_order { (E.flushes err.new ≡ E.flushes err.old) ⊎ (O.is_flushed out.new ≡ true) }
-
-    // If a write to `out` fails, the report is accepted. If a write to `err` fails, the report is refused.
-    ensures out_needed { O.has_failed out.new ≡ true → O.flushes out.new ≡ O.flushes out.old
-        → IsAcceptedInput (option_copied prefer.entry) most_bytes (S.remaining reader.old) (S.remaining reader.new) }
-    ensures err_needed { E.has_failed err.new ≡ true → E.flushes err.new ≡ E.flushes err.old
-        → IsRefusedInput (option_copied prefer.entry) most_bytes (S.remaining reader.old) (S.remaining reader.new) }
-
-    // When each fault is returned.
-    ensures read { IsErrOf result RunFault.Read ↔ (S.has_failed reader.new ≡ true) }
-    ensures write { IsErrOf result RunFault.Write
-        ↔ ((O.has_failed out.new ≡ true) ⊎ (E.has_failed err.new ≡ true)) }
-    ensures too_long { result ≡ Err RunFault.TooLong
-        → Exceeds most_bytes (S.remaining reader.old) (S.remaining reader.new) }
-    ensures too_many { result ≡ Err RunFault.TooLong
-        → S.given reader.old + most_bytes < S.given reader.new }
-    ensures calls { S.reads reader.new ≤ S.reads reader.old + most_reads }
+    ensures { IsCanonRun (reader_of S.remaining S.has_failed S.reads S.given) (writer_of O.contents O.has_failed O.is_flushed O.flushes)
+        (writer_of E.contents E.has_failed E.is_flushed E.flushes)
+        (option_copied prefer.entry) result (between reader.old reader.new) (between out.old out.new) (between err.old err.new) }
 {
     let bytes = read_all(alloc, reader)?;
     write_answer(alloc, bytes, out, err, prefer, disposal)

@@ -1,8 +1,9 @@
-ghost use Rattle.std.specs.Prelude.{◌≡◌, ◌≢◌, ◌↔◌, ◌⊎◌, ◌+◌, ◌<◌, ◌≤◌, false, true, Err, IfErr, IfOk, OnOk, IsErrOf, None};
+ghost use Rattle.std.specs.Prelude.{◌≡◌, ◌⊎◌, false, true, Err, IfErr, IfOk, OnOk, None};
 ghost use Rattle.std.specs.Option.{option_copied};
-ghost use Rattle.erd_canon.specs.Limits.{most_bytes, most_reads};
-ghost use Rattle.erd_canon.specs.Reading.{Exceeds};
-ghost use Rattle.erd_canon.specs.Run.{IsCheckWritten, IsToldCheck, IsWholeCheck};
+ghost use Rattle.erd_canon.specs.Devices.{between, reader_of, writer_of};
+ghost use Rattle.erd_canon.specs.Engines.{IsCheckRun};
+ghost use Rattle.erd_canon.specs.Run.{IsCheckWritten};
+ghost use Rattle.erd_canon.specs.Writing.{IsCheckPartWritten};
 
 use crate::bytes::acceptance::check_input;
 use crate::bytes::disposal::{Disposal, Free};
@@ -36,25 +37,8 @@ pub fn run_check<S: Source, O: Sink>(
 ) -> Result<Outcome, RunFault>
     requires reader_works { S.has_failed reader.old ≡ false }
     requires out_works { O.has_failed out.old ≡ false }
-
-    // What an outcome means.
-    ensures whole { IfOk result (λ outcome. IsWholeCheck None most_bytes outcome (S.remaining reader.old) (S.remaining reader.new)
-        (O.contents out.old) (O.contents out.new)) }
-    ensures told { IfOk result (λ _. IsToldCheck None most_bytes (S.remaining reader.old) (S.remaining reader.new)
-        (O.contents out.old) (O.contents out.new)) }
-    ensures flushed { OnOk result (O.is_flushed out.new ≡ true) }
-
-    // If the fault is not `Write`, nothing was written or flushed.
-    ensures quiet { IfErr result (λ fault. fault ≢ RunFault.Write → out.new ≡ out.old) }
-
-    // When each fault is returned.
-    ensures read { IsErrOf result RunFault.Read ↔ (S.has_failed reader.new ≡ true) }
-    ensures write { IsErrOf result RunFault.Write ↔ (O.has_failed out.new ≡ true) }
-    ensures too_long { result ≡ Err RunFault.TooLong
-        → Exceeds most_bytes (S.remaining reader.old) (S.remaining reader.new) }
-    ensures too_many { result ≡ Err RunFault.TooLong
-        → S.given reader.old + most_bytes < S.given reader.new }
-    ensures calls { S.reads reader.new ≤ S.reads reader.old + most_reads }
+    ensures { IsCheckRun (reader_of S.remaining S.has_failed S.reads S.given) (writer_of O.contents O.has_failed O.is_flushed O.flushes)
+        None result (between reader.old reader.new) (between out.old out.new) }
 {
     run_check_with(alloc, reader, out, None)
 }
@@ -84,25 +68,8 @@ pub fn run_check_with<S: Source, O: Sink>(
 ) -> Result<Outcome, RunFault>
     requires reader_works { S.has_failed reader.old ≡ false }
     requires out_works { O.has_failed out.old ≡ false }
-
-    // What an outcome means.
-    ensures whole { IfOk result (λ outcome. IsWholeCheck (option_copied prefer.entry) most_bytes outcome (S.remaining reader.old) (S.remaining reader.new)
-        (O.contents out.old) (O.contents out.new)) }
-    ensures told { IfOk result (λ _. IsToldCheck (option_copied prefer.entry) most_bytes (S.remaining reader.old) (S.remaining reader.new)
-        (O.contents out.old) (O.contents out.new)) }
-    ensures flushed { OnOk result (O.is_flushed out.new ≡ true) }
-
-    // If the fault is not `Write`, nothing was written or flushed.
-    ensures quiet { IfErr result (λ fault. fault ≢ RunFault.Write → out.new ≡ out.old) }
-
-    // When each fault is returned.
-    ensures read { IsErrOf result RunFault.Read ↔ (S.has_failed reader.new ≡ true) }
-    ensures write { IsErrOf result RunFault.Write ↔ (O.has_failed out.new ≡ true) }
-    ensures too_long { result ≡ Err RunFault.TooLong
-        → Exceeds most_bytes (S.remaining reader.old) (S.remaining reader.new) }
-    ensures too_many { result ≡ Err RunFault.TooLong
-        → S.given reader.old + most_bytes < S.given reader.new }
-    ensures calls { S.reads reader.new ≤ S.reads reader.old + most_reads }
+    ensures { IsCheckRun (reader_of S.remaining S.has_failed S.reads S.given) (writer_of O.contents O.has_failed O.is_flushed O.flushes)
+        (option_copied prefer.entry) result (between reader.old reader.new) (between out.old out.new) }
 {
     run_check_disposing(alloc, reader, out, prefer, &Free)
 }
@@ -133,25 +100,8 @@ pub fn run_check_disposing<S: Source, O: Sink, D: Disposal>(
 ) -> Result<Outcome, RunFault>
     requires reader_works { S.has_failed reader.old ≡ false }
     requires out_works { O.has_failed out.old ≡ false }
-
-    // What an outcome means.
-    ensures whole { IfOk result (λ outcome. IsWholeCheck (option_copied prefer.entry) most_bytes outcome (S.remaining reader.old) (S.remaining reader.new)
-        (O.contents out.old) (O.contents out.new)) }
-    ensures told { IfOk result (λ _. IsToldCheck (option_copied prefer.entry) most_bytes (S.remaining reader.old) (S.remaining reader.new)
-        (O.contents out.old) (O.contents out.new)) }
-    ensures flushed { OnOk result (O.is_flushed out.new ≡ true) }
-
-    // If the fault is not `Write`, nothing was written or flushed.
-    ensures quiet { IfErr result (λ fault. fault ≢ RunFault.Write → out.new ≡ out.old) }
-
-    // When each fault is returned.
-    ensures read { IsErrOf result RunFault.Read ↔ (S.has_failed reader.new ≡ true) }
-    ensures write { IsErrOf result RunFault.Write ↔ (O.has_failed out.new ≡ true) }
-    ensures too_long { result ≡ Err RunFault.TooLong
-        → Exceeds most_bytes (S.remaining reader.old) (S.remaining reader.new) }
-    ensures too_many { result ≡ Err RunFault.TooLong
-        → S.given reader.old + most_bytes < S.given reader.new }
-    ensures calls { S.reads reader.new ≤ S.reads reader.old + most_reads }
+    ensures { IsCheckRun (reader_of S.remaining S.has_failed S.reads S.given) (writer_of O.contents O.has_failed O.is_flushed O.flushes)
+        (option_copied prefer.entry) result (between reader.old reader.new) (between out.old out.new) }
 {
     let bytes = read_all(alloc, reader)?;
     write_checked(alloc, bytes, out, prefer, disposal)
@@ -170,6 +120,7 @@ fn write_checked<O: Sink, D: Disposal>(
     ensures flushed { OnOk result (O.is_flushed out.new ≡ true) }
     ensures works { OnOk result (O.has_failed out.new ≡ false) }
     ensures memory { result ≡ Err RunFault.Memory → out.new ≡ out.old }
+    ensures broken { result ≡ Err RunFault.Write → IsCheckPartWritten (option_copied prefer.entry) bytes.items (O.contents out.old) (O.contents out.new) }
     ensures write { result ≡ Err RunFault.Write → O.has_failed out.new ≡ true }
     ensures faults { IfErr result (λ fault. (fault ≡ RunFault.Memory) ⊎ (fault ≡ RunFault.Write)) }
 {

@@ -1,12 +1,12 @@
-ghost use Rattle.std.specs.Prelude.{◌≡◌, ◌≢◌, ◌↔◌, ◌⊎◌, ◌+◌, ◌<◌, ◌≤◌, [], ◌∷◌, false, true, Err, IfErr, IfOk, OnOk, IsErrOf, None};
+ghost use Rattle.std.specs.Prelude.{◌≡◌, ◌⊎◌, [], ◌∷◌, false, true, Err, IfErr, IfOk, OnOk, None};
 ghost use Rattle.std.specs.Option.{option_copied};
-ghost use Rattle.std.specs.Io.KnownBytes.{IsAtEnd};
 ghost use Rattle.erd_compare.specs.DifferenceLine.{difference_line};
+ghost use Rattle.erd_canon.specs.Devices.{between, reader_of, writer_of};
 ghost use Rattle.erd_canon.specs.EngineTexts.{text_of_lines};
-ghost use Rattle.erd_canon.specs.Limits.{most_bytes, most_reads};
-ghost use Rattle.erd_canon.specs.Reading.{Exceeds};
-ghost use Rattle.erd_canon.specs.Run.{IsCompareWritten, IsToldCompare, IsWholeCompare};
-ghost use Rattle.erd_canon.specs.code.SideRefusals.{IsRefusalWritten};
+ghost use Rattle.erd_canon.specs.Engines.{IsCompareRun};
+ghost use Rattle.erd_canon.specs.Run.{IsCompareWritten};
+ghost use Rattle.erd_canon.specs.Writing.{IsComparePartWritten};
+ghost use Rattle.erd_canon.specs.code.SideRefusals.{IsRefusalPartWritten, IsRefusalWritten};
 
 use crate::bytes::comparison::compare_inputs;
 use crate::bytes::disposal::{Disposal, Free};
@@ -44,32 +44,9 @@ pub fn run_compare<S: Source, T: Source, O: Sink>(
     requires left_works { S.has_failed left.old ≡ false }
     requires right_works { T.has_failed right.old ≡ false }
     requires out_works { O.has_failed out.old ≡ false }
-
-    // What an outcome means.
-    ensures whole { IfOk result (λ outcome. IsWholeCompare None most_bytes outcome (S.remaining left.old) (S.remaining left.new)
-        (T.remaining right.old) (T.remaining right.new) (O.contents out.old) (O.contents out.new)) }
-    ensures told { IfOk result (λ _. IsToldCompare None most_bytes (S.remaining left.old) (S.remaining left.new)
-        (T.remaining right.old) (T.remaining right.new) (O.contents out.old) (O.contents out.new)) }
-    ensures flushed { OnOk result (O.is_flushed out.new ≡ true) }
-
-    // If the fault is not `Write`, nothing was written or flushed.
-    ensures quiet { IfErr result (λ fault. fault ≢ RunFault.Write → out.new ≡ out.old) }
-
-    // The right reader is read only after the left one was read to its end, and not after a read of the left one failed.
-    ensures left_first { (right.new ≡ right.old) ⊎ IsAtEnd (S.remaining left.new) }
-    ensures left_failed { S.has_failed left.new ≡ true → right.new ≡ right.old }
-
-    // When each fault is returned. If the left report is too long, the right one is not read.
-    ensures read { IsErrOf result RunFault.Read ↔ ((S.has_failed left.new ≡ true) ⊎ (T.has_failed right.new ≡ true)) }
-    ensures write { IsErrOf result RunFault.Write ↔ (O.has_failed out.new ≡ true) }
-    ensures too_long { result ≡ Err RunFault.TooLong
-        → (Exceeds most_bytes (S.remaining left.old) (S.remaining left.new) × (right.new ≡ right.old))
-        ⊎ Exceeds most_bytes (T.remaining right.old) (T.remaining right.new) }
-    ensures too_many { result ≡ Err RunFault.TooLong
-        → ((S.given left.old + most_bytes < S.given left.new) × (right.new ≡ right.old))
-        ⊎ (T.given right.old + most_bytes < T.given right.new) }
-    ensures left_calls { S.reads left.new ≤ S.reads left.old + most_reads }
-    ensures right_calls { T.reads right.new ≤ T.reads right.old + most_reads }
+    ensures { IsCompareRun (reader_of S.remaining S.has_failed S.reads S.given) (reader_of T.remaining T.has_failed T.reads T.given)
+        (writer_of O.contents O.has_failed O.is_flushed O.flushes)
+        None result (between left.old left.new) (between right.old right.new) (between out.old out.new) }
 {
     run_compare_with(alloc, left, right, out, None)
 }
@@ -103,32 +80,9 @@ pub fn run_compare_with<S: Source, T: Source, O: Sink>(
     requires left_works { S.has_failed left.old ≡ false }
     requires right_works { T.has_failed right.old ≡ false }
     requires out_works { O.has_failed out.old ≡ false }
-
-    // What an outcome means.
-    ensures whole { IfOk result (λ outcome. IsWholeCompare (option_copied prefer.entry) most_bytes outcome (S.remaining left.old) (S.remaining left.new)
-        (T.remaining right.old) (T.remaining right.new) (O.contents out.old) (O.contents out.new)) }
-    ensures told { IfOk result (λ _. IsToldCompare (option_copied prefer.entry) most_bytes (S.remaining left.old) (S.remaining left.new)
-        (T.remaining right.old) (T.remaining right.new) (O.contents out.old) (O.contents out.new)) }
-    ensures flushed { OnOk result (O.is_flushed out.new ≡ true) }
-
-    // If the fault is not `Write`, nothing was written or flushed.
-    ensures quiet { IfErr result (λ fault. fault ≢ RunFault.Write → out.new ≡ out.old) }
-
-    // The right reader is read only after the left one was read to its end, and not after a read of the left one failed.
-    ensures left_first { (right.new ≡ right.old) ⊎ IsAtEnd (S.remaining left.new) }
-    ensures left_failed { S.has_failed left.new ≡ true → right.new ≡ right.old }
-
-    // When each fault is returned. If the left report is too long, the right one is not read.
-    ensures read { IsErrOf result RunFault.Read ↔ ((S.has_failed left.new ≡ true) ⊎ (T.has_failed right.new ≡ true)) }
-    ensures write { IsErrOf result RunFault.Write ↔ (O.has_failed out.new ≡ true) }
-    ensures too_long { result ≡ Err RunFault.TooLong
-        → (Exceeds most_bytes (S.remaining left.old) (S.remaining left.new) × (right.new ≡ right.old))
-        ⊎ Exceeds most_bytes (T.remaining right.old) (T.remaining right.new) }
-    ensures too_many { result ≡ Err RunFault.TooLong
-        → ((S.given left.old + most_bytes < S.given left.new) × (right.new ≡ right.old))
-        ⊎ (T.given right.old + most_bytes < T.given right.new) }
-    ensures left_calls { S.reads left.new ≤ S.reads left.old + most_reads }
-    ensures right_calls { T.reads right.new ≤ T.reads right.old + most_reads }
+    ensures { IsCompareRun (reader_of S.remaining S.has_failed S.reads S.given) (reader_of T.remaining T.has_failed T.reads T.given)
+        (writer_of O.contents O.has_failed O.is_flushed O.flushes)
+        (option_copied prefer.entry) result (between left.old left.new) (between right.old right.new) (between out.old out.new) }
 {
     run_compare_disposing(alloc, left, right, out, prefer, &Free)
 }
@@ -161,32 +115,9 @@ pub fn run_compare_disposing<S: Source, T: Source, O: Sink, D: Disposal>(
     requires left_works { S.has_failed left.old ≡ false }
     requires right_works { T.has_failed right.old ≡ false }
     requires out_works { O.has_failed out.old ≡ false }
-
-    // What an outcome means.
-    ensures whole { IfOk result (λ outcome. IsWholeCompare (option_copied prefer.entry) most_bytes outcome (S.remaining left.old) (S.remaining left.new)
-        (T.remaining right.old) (T.remaining right.new) (O.contents out.old) (O.contents out.new)) }
-    ensures told { IfOk result (λ _. IsToldCompare (option_copied prefer.entry) most_bytes (S.remaining left.old) (S.remaining left.new)
-        (T.remaining right.old) (T.remaining right.new) (O.contents out.old) (O.contents out.new)) }
-    ensures flushed { OnOk result (O.is_flushed out.new ≡ true) }
-
-    // If the fault is not `Write`, nothing was written or flushed.
-    ensures quiet { IfErr result (λ fault. fault ≢ RunFault.Write → out.new ≡ out.old) }
-
-    // The right reader is read only after the left one was read to its end, and not after a read of the left one failed.
-    ensures left_first { (right.new ≡ right.old) ⊎ IsAtEnd (S.remaining left.new) }
-    ensures left_failed { S.has_failed left.new ≡ true → right.new ≡ right.old }
-
-    // When each fault is returned. If the left report is too long, the right one is not read.
-    ensures read { IsErrOf result RunFault.Read ↔ ((S.has_failed left.new ≡ true) ⊎ (T.has_failed right.new ≡ true)) }
-    ensures write { IsErrOf result RunFault.Write ↔ (O.has_failed out.new ≡ true) }
-    ensures too_long { result ≡ Err RunFault.TooLong
-        → (Exceeds most_bytes (S.remaining left.old) (S.remaining left.new) × (right.new ≡ right.old))
-        ⊎ Exceeds most_bytes (T.remaining right.old) (T.remaining right.new) }
-    ensures too_many { result ≡ Err RunFault.TooLong
-        → ((S.given left.old + most_bytes < S.given left.new) × (right.new ≡ right.old))
-        ⊎ (T.given right.old + most_bytes < T.given right.new) }
-    ensures left_calls { S.reads left.new ≤ S.reads left.old + most_reads }
-    ensures right_calls { T.reads right.new ≤ T.reads right.old + most_reads }
+    ensures { IsCompareRun (reader_of S.remaining S.has_failed S.reads S.given) (reader_of T.remaining T.has_failed T.reads T.given)
+        (writer_of O.contents O.has_failed O.is_flushed O.flushes)
+        (option_copied prefer.entry) result (between left.old left.new) (between right.old right.new) (between out.old out.new) }
 {
     let left_bytes = read_all(alloc, left)?;
     let right_bytes = read_all(alloc, right)?;
@@ -207,6 +138,8 @@ fn write_compared<O: Sink, D: Disposal>(
     ensures flushed { OnOk result (O.is_flushed out.new ≡ true) }
     ensures works { OnOk result (O.has_failed out.new ≡ false) }
     ensures memory { result ≡ Err RunFault.Memory → out.new ≡ out.old }
+    ensures broken { result ≡ Err RunFault.Write
+        → IsComparePartWritten (option_copied prefer.entry) left.items right.items (O.contents out.old) (O.contents out.new) }
     ensures write { result ≡ Err RunFault.Write → O.has_failed out.new ≡ true }
     ensures faults { IfErr result (λ fault. (fault ≡ RunFault.Memory) ⊎ (fault ≡ RunFault.Write)) }
 {
@@ -234,6 +167,7 @@ fn write_refusal<O: Sink>(
     ensures flushed { OnOk result (O.is_flushed out.new ≡ true) }
     ensures works { OnOk result (O.has_failed out.new ≡ false) }
     ensures memory { result ≡ Err RunFault.Memory → out.new ≡ out.old }
+    ensures broken { result ≡ Err RunFault.Write → IsRefusalPartWritten side.now refusal.now (O.contents out.old) (O.contents out.new) }
     ensures write { result ≡ Err RunFault.Write → O.has_failed out.new ≡ true }
     ensures faults { IfErr result (λ fault. (fault ≡ RunFault.Memory) ⊎ (fault ≡ RunFault.Write)) }
 {

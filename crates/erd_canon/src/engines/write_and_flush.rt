@@ -41,6 +41,7 @@ pub(crate) fn write_side_faults<O: Sink>(
     ensures outcome { IfOk result (λ answer. answer ≡ Outcome.Bad) }
     ensures fault { IfErr result (λ fault. fault ≡ RunFault.Write) }
     ensures wrote { OnOk result (Appends (O.contents out.old) (O.contents out.new) (text_of_lines (lines_of_side side.now (map fault_line faults.now)))) }
+    ensures part { IsPartWritten (O.contents out.old) (O.contents out.new) (text_of_lines (lines_of_side side.now (map fault_line faults.now))) }
     ensures flushed { OnOk result (O.is_flushed out.new ≡ true) }
     ensures works { OnOk result (O.has_failed out.new ≡ false) }
     ensures failed { OnErr result (O.has_failed out.new ≡ true) }
@@ -60,6 +61,7 @@ pub(crate) fn write_faults<O: Sink>(
     ensures outcome { IfOk result (λ answer. answer ≡ Outcome.Bad) }
     ensures fault { IfErr result (λ fault. fault ≡ RunFault.Write) }
     ensures wrote { OnOk result (Appends (O.contents out.old) (O.contents out.new) (text_of_lines (map fault_line faults.now))) }
+    ensures part { IsPartWritten (O.contents out.old) (O.contents out.new) (text_of_lines (map fault_line faults.now)) }
     ensures flushed { OnOk result (O.is_flushed out.new ≡ true) }
     ensures works { OnOk result (O.has_failed out.new ≡ false) }
     ensures failed { OnErr result (O.has_failed out.new ≡ true) }

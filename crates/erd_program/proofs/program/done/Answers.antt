@@ -1,7 +1,7 @@
 use Rattle.std.proofs.Common.{◌∙◌, ap, subst, sym}
+use Rattle.erd_canon.specs.Devices.{between}
 use Rattle.erd_canon.specs.declared.commands.request.Request.TheVariants.{Compare}
 use Rattle.erd_program.specs.Program.{IsDone}
-use Rattle.erd_program.specs.World.{between}
 use Rattle.erd_program.proofs.program.done.Goals as goal
 
 pub returns-in-Compare : goal.returns-in-Compare

@@ -1,9 +1,36 @@
-use Rattle.erd_canon.proofs.Common.{option_copied, most_bytes}
-use Rattle.erd_canon.proofs.runs.CheckTexts.{told_of_check}
+use Rattle.erd_canon.proofs.Common.{option_copied, ap, Err, most_bytes, rules}
+use Rattle.erd_canon.proofs.runs.CheckTexts.{not_of_fault, told_of_check}
 use Rattle.erd_canon.proofs.runs.KnownBytes.{read_whole}
 use Rattle.erd_canon.proofs.engines.check.run_check_disposing.Goals as goal
 
-pub returns-clause-told : goal.returns-clause-told
-returns-clause-told g c =
-    told_of_check (option_copied c.args.prefer) most_bytes c.write_checked.result c.in_ok-bytes.bytes.items (g.S.Source.remaining c.args.reader.now) (g.S.Source.remaining c.read_all.new.source) _ _
-    (read_whole c.in_ok-bytes.ensures.all c.in_ok-bytes.bytes.ok.0 c.in_ok-bytes.ensures.limit) c.write_checked.ensures.written
+pub returns : goal.returns
+returns g c =
+    let whole = read_whole c.in_ok-bytes.ensures.all c.in_ok-bytes.bytes.ok.0 c.in_ok-bytes.ensures.limit in
+    record {
+      whole = search rules;
+      told =
+          told_of_check (option_copied c.args.prefer) most_bytes c.write_checked.result c.in_ok-bytes.bytes.items (g.S.Source.remaining c.args.reader.now) (g.S.Source.remaining c.read_all.new.source) _ _ whole
+          c.write_checked.ensures.written;
+      flushed = search rules;
+      quiet = search rules;
+      broken = λ fault. record { input = c.in_ok-bytes.bytes.items; whole = whole; written = c.write_checked.ensures.broken fault };
+      read = search rules;
+      write = search rules;
+      too_long = search rules;
+      too_many = search rules;
+      calls = search rules;
+    }
+
+pub returns-in_err-bytes : goal.returns-in_err-bytes
+returns-in_err-bytes g c = record {
+  whole = search rules;
+  told = search rules;
+  flushed = search rules;
+  quiet = search rules;
+  broken = λ e. absurd (not_of_fault c.from_residual.result c.in_err-bytes.field-0.0 c.from_residual.ensures.1 (λ w. c.in_err-bytes.ensures.no_write (ap Err w)) e);
+  read = search rules;
+  write = search rules;
+  too_long = search rules;
+  too_many = search rules;
+  calls = search rules;
+}
