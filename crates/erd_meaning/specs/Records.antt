@@ -124,7 +124,7 @@ plain_value π t kind.Languages d = unless_empty (a_json_set (json_set (entries_
 plain_value π t kind.Content d = unless_empty (a_content (content_of π t d)) d
 plain_value π t k d = None
 
--- True for a member of the report that is in the envelope and so no part of its meaning.
+-- True for a member of the report that is in the envelope, and so not part of its meaning.
 abbrev pub is_in_envelope : Class → List ℕ → Bool
 is_in_envelope class.ElectionReport name = is_envelope_name name
 is_in_envelope c name = false

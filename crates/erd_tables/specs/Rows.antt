@@ -17,8 +17,8 @@ infix 20 ◌is◌
 abbrev pub ◌is◌ : List ℕ → MemberKind → Row
 name is kind = record { name = name; kind = kind }
 
--- The members of a report that say how the file was produced. They are checked, but they are no part of what the report
--- means. (class ElectionReport)
+-- The members of a report that say how the file was produced. They are checked, but they are not part of what the
+-- report means. (class ElectionReport)
 abbrev pub envelope_rows : List Row
 envelope_rows =
     (codes "Format" is Word) ∷ (codes "GeneratedDate" is Word) ∷ (codes "Issuer" is Word) ∷ (codes "IssuerAbbreviation" is Word)

@@ -63,7 +63,7 @@ pub fn member_kind(class: Class, name: &str) -> MemberKind
 }
 
 /// Returns `true` if and only if the member of this name in a report belongs to its envelope. The envelope says how the file
-/// came about, and is no part of what the report means. docs/PROFILE.md lists its members.
+/// came about, and is not part of what the report means. docs/PROFILE.md lists its members.
 ///
 /// ```
 /// assert!(rt; is_envelope("Issuer"));

@@ -79,37 +79,38 @@ pub(crate) fn push_object_faults(
 {
     let elections = Path::Member(&Path::Root, "Election");
     let election = Path::Entry(&elections, spot.election);
+    let name = member_of(family);
     match family {
         Family::Unit | Family::Party | Family::Person | Family::Office | Family::Header => {
-            push_below(alloc, &Path::Root, family, spot, lacks_key, earlier, faults)
+            let array = Path::Member(&Path::Root, name);
+            push_entry_faults(alloc, &array, spot.entry, lacks_key, earlier, faults)
         }
         Family::Candidate | Family::Contest | Family::Style => {
-            push_below(alloc, &election, family, spot, lacks_key, earlier, faults)
+            let array = Path::Member(&election, name);
+            push_entry_faults(alloc, &array, spot.entry, lacks_key, earlier, faults)
         }
         Family::Selection => {
             let contests = Path::Member(&election, "Contest");
             let contest = Path::Entry(&contests, spot.contest);
-            push_below(alloc, &contest, family, spot, lacks_key, earlier, faults)
+            let array = Path::Member(&contest, name);
+            push_entry_faults(alloc, &array, spot.entry, lacks_key, earlier, faults)
         }
     }
 }
 
-/// Adds the faults of an object that stands in an array of the value at the path.
-fn push_below(
+/// Adds the faults of identity of an entry of the array at the path.
+fn push_entry_faults(
     alloc: Global,
-    owner: &Path,
-    family: Family,
-    spot: Spot,
+    array: &Path,
+    entry: usize,
     lacks_key: bool,
     earlier: Earlier,
     faults: &mut Vec<Fault>,
 ) -> Result<(), AllocError>
     ensures { IfOk result (λ _. faults.new.items ≡ faults.old.items
-        ++ faults_told lacks_key earlier.has_key earlier.has_id
-        ((steps_of owner.now ++ Name (member_name family) ∷ []) ++ At spot.entry ∷ [])) }
+        ++ faults_told lacks_key earlier.has_key earlier.has_id (steps_of array.now ++ At entry ∷ [])) }
 {
-    let array = Path::Member(&*owner, member_of(family));
-    let path = Path::Entry(&array, spot.entry);
+    let path = Path::Entry(&*array, entry);
     push_identity_faults(alloc, lacks_key, earlier, &path, faults)
 }
 

@@ -142,7 +142,7 @@ fn may_have_references(want: Want) -> bool
 }
 
 impl<'b, 'a> ReferenceJudge<'b, 'a> {
-    /// Returns `true` only if a member with this text is no reference that has a fault.
+    /// Returns `true` only if a member with this text is not a faulty reference.
     fn is_clear_text(&self, want: Want, text: &str) -> bool
         ensures { result ≡ true → (outer : Data) → reference_reasons_told (map shown self.now.objects.now) outer want false (string text.now) ≡ [] }
     {
