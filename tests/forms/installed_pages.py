@@ -9,6 +9,10 @@ import re
 import sys
 
 ROOT = pathlib.Path(__file__).resolve().parents[2]
+sys.dont_write_bytecode = True
+sys.path.append(str(ROOT / 'tests' / 'shared'))
+from cases import tell_cases  # noqa: E402
+
 FOLDERS = sorted(path.name for path in ROOT.iterdir() if path.is_dir() and not path.name.startswith('.') and path.name != 'out')
 
 
@@ -33,17 +37,5 @@ def cases(folder):
     yield 'there are pages', True, len(pages) > 5
 
 
-def main():
-    passed = failed = 0
-    for title, wanted, found in cases(pathlib.Path(sys.argv[1])):
-        if wanted == found:
-            passed += 1
-        else:
-            failed += 1
-            print(f'FAILED: {title}: {found} is not installed')
-    print(f'{passed} passed, {failed} failed')
-    return int(failed > 0)
-
-
 if __name__ == '__main__':
-    sys.exit(main())
+    sys.exit(tell_cases(cases(pathlib.Path(sys.argv[1])), lambda _, found: f'{found} is not installed'))

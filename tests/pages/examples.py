@@ -23,6 +23,7 @@ import tempfile
 ROOT = pathlib.Path(__file__).resolve().parents[2]
 sys.path[:0] = [str(ROOT / 'tests' / 'shared'), str(ROOT / 'tests' / 'reports')]
 import texts_of_data  # noqa: E402
+from cases import tell_cases  # noqa: E402
 from exports import rearranged  # noqa: E402
 
 SESSIONS = ('README.md', 'docs/USING.md', 'docs/FIXES.md', 'docs/WALKTHROUGH.md')
@@ -318,7 +319,6 @@ def headings():
 
 
 def main():
-    passed = failed = 0
     with tempfile.TemporaryDirectory() as name:
         folder = pathlib.Path(name)
         workshop(folder)
@@ -328,14 +328,7 @@ def main():
             cases += [examples_of_reasons(folder), sessions(folder)]
         else:
             print('skipped the sessions and the reasons: there is no jq')
-        for title, wanted, found in itertools.chain(*cases):
-            if wanted == found:
-                passed += 1
-            else:
-                failed += 1
-                print(f'FAILED: {title}: the page has\n{wanted}\nand not\n{found}')
-    print(f'{passed} passed, {failed} failed')
-    return int(failed > 0)
+        return tell_cases(itertools.chain(*cases), lambda wanted, found: f'the page has\n{wanted}\nand not\n{found}')
 
 
 if __name__ == '__main__':

@@ -14,9 +14,10 @@ import sys
 
 ROOT = pathlib.Path(__file__).resolve().parents[2]
 sys.dont_write_bytecode = True
-sys.path[:0] = [str(ROOT / 'tests' / 'reports'), str(ROOT / 'web')]
+sys.path[:0] = [str(ROOT / 'tests' / 'reports'), str(ROOT / 'tests' / 'shared'), str(ROOT / 'web')]
 import documented  # noqa: E402
 import seen  # noqa: E402
+from cases import tell_cases  # noqa: E402
 from member_table import table_of_page  # noqa: E402
 
 SPECS = ROOT / 'crates' / 'erd_tables' / 'specs'
@@ -235,18 +236,6 @@ def compare_kit():
         yield 'the kit of README.md', [version], re.findall(r'proved with `(.*?)`', read('README.md'))
 
 
-def main():
-    passed = failed = 0
-    for name, wanted, found in [*compare_tables(), *compare_seen(), *compare_limits(), *compare_reasons(), *compare_statuses(), *compare_preferring(),
-                                *compare_links(), *compare_kit()]:
-        if wanted == found:
-            passed += 1
-        else:
-            failed += 1
-            print(f'FAILED: {name}: {found} is there, and not {wanted}')
-    print(f'{passed} passed, {failed} failed')
-    return int(failed > 0)
-
-
 if __name__ == '__main__':
-    sys.exit(main())
+    sys.exit(tell_cases([*compare_tables(), *compare_seen(), *compare_limits(), *compare_reasons(), *compare_statuses(), *compare_preferring(),
+                         *compare_links(), *compare_kit()]))

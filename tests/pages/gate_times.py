@@ -6,6 +6,10 @@ import re
 import sys
 
 ROOT = pathlib.Path(__file__).resolve().parents[2]
+sys.dont_write_bytecode = True
+sys.path.append(str(ROOT / 'tests' / 'shared'))
+from cases import tell_cases  # noqa: E402
+
 COSTS = ROOT / 'out' / 'gate-costs'
 # One machine takes two fifths more than another, and a part of some seconds varies by more than that.
 MOST, SLACK = 1.5, 15
@@ -59,17 +63,10 @@ def cases():
         yield 'the seconds of %s' % ', '.join(names), told if is_near else found, told
 
 
-def main():
-    passed = failed = 0
-    for name, wanted, found in cases():
-        passed += wanted == found
-        failed += wanted != found
-        if wanted != found:
-            what = (set(map(str, wanted)) ^ set(map(str, found))) if isinstance(wanted, list) else f'{found} in place of {wanted}'
-            print(f'FAILED: {name}: {what}')
-    print(f'{passed} passed, {failed} failed')
-    return int(failed > 0)
+def why(wanted, found):
+    """What only one of the two has, or the one beside the other."""
+    return set(map(str, wanted)) ^ set(map(str, found)) if isinstance(wanted, list) else f'{found} in place of {wanted}'
 
 
 if __name__ == '__main__':
-    sys.exit(main())
+    sys.exit(tell_cases(cases(), why))

@@ -10,7 +10,9 @@ import sys
 
 ROOT = pathlib.Path(__file__).resolve().parents[2]
 sys.dont_write_bytecode = True
+sys.path.append(str(ROOT / 'tests' / 'shared'))
 import examples  # noqa: E402
+from cases import tell_cases  # noqa: E402
 
 # The pages with a quoted block, the beginning of the block, and the files of which one has it. White space may differ.
 QUOTES = (
@@ -105,17 +107,5 @@ def run_elsewhere():
         yield 'a JSON block of docs/DATA.md is one line', (1, True), (text.count('\n'), text[0] in '[{')
 
 
-def main():
-    passed = failed = 0
-    for name, wanted, found in [*quoted(), *cited(), *made(), *run_elsewhere()]:
-        if wanted == found:
-            passed += 1
-        else:
-            failed += 1
-            print(f'FAILED: {name}: {found} is there, and not {wanted}')
-    print(f'{passed} passed, {failed} failed')
-    return int(failed > 0)
-
-
 if __name__ == '__main__':
-    sys.exit(main())
+    sys.exit(tell_cases([*quoted(), *cited(), *made(), *run_elsewhere()]))

@@ -9,6 +9,7 @@
 `steps.py COUNT SEED` tries COUNT damaged reports in place of 500, and `steps.py COUNT SEED agreement` only whether both agree. The verdicts
 are those of the reference program.
 """
+import itertools
 import json
 import pathlib
 import random
@@ -20,11 +21,12 @@ import tempfile
 
 ROOT = pathlib.Path(__file__).resolve().parents[2]
 EXAMPLES = ROOT / 'examples'
-sys.path[:0] = [str(ROOT / folder) for folder in ('bindings/python/src', 'reference', 'tests/reports')]
+sys.path[:0] = [str(ROOT / folder) for folder in ('bindings/python/src', 'reference', 'tests/reports', 'tests/shared')]
 sys.dont_write_bytecode = True
 import damages  # noqa: E402
 import small_reports  # noqa: E402
 import erd_reference  # noqa: E402
+from cases import tell_cases  # noqa: E402
 from member_table import table_of_page  # noqa: E402
 from exports import rearranged  # noqa: E402
 import vendor_exports  # noqa: E402
@@ -367,16 +369,7 @@ def main(count=500, seed=1, part=None):
         cases.append(agreement(int(count), dice))
     else:
         print('skipped the steps in JavaScript: there is no node')
-    passed = failed = 0
-    for group in cases:
-        for name, wanted, found in group:
-            if wanted == found:
-                passed += 1
-            else:
-                failed += 1
-                print(f'FAILED  {name}: {str(found)[:1500]} is there, and not {str(wanted)[:1500]}')
-    print(f'{passed} passed, {failed} failed')
-    return int(failed > 0)
+    return tell_cases(itertools.chain(*cases))
 
 
 if __name__ == '__main__':
