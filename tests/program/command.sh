@@ -1,6 +1,6 @@
 #!/usr/bin/env bash
-# Runs the built program as a user does, on files, pipes and closed descriptors. ERD names the program, if it is not ./erd. One line
-# a case.
+# Runs the built program as a user does: on the table of command lines (tests/forms/command_lines.txt), files, pipes and closed
+# descriptors. ERD names the program, if it is not ./erd. One line a case.
 set -u
 . "$(dirname "$0")/../shared/start.sh" || exit 1
 erd=${ERD:-$PWD/erd}
@@ -11,8 +11,8 @@ one=examples/one-unit.json
 canonical=examples/one-unit.canonical.json
 small=examples/small-ballot.json
 
-run "$one"
-expect 'a report with one unit' 0 "$canonical" ''
+python3 tests/forms/command_lines.py '' program "$erd" > "$work/lines"
+counted 'the table of command lines' "$work/lines"
 
 run "$canonical"
 expect 'canonical output fed back' 0 "$canonical" ''
@@ -79,17 +79,11 @@ status=$?
 cp "$work/out" "$work/wanted_out"
 expect 'a long key that many selections name' 0 "$work/wanted_out" ''
 
-# Fault lines go to standard error.
 sed 's/"Value":"U2"/"Value":"U1"/' "$small" > "$work/twins"
-run "$work/twins"
-expect 'two units with one key' 1 "$work/empty" $'/GpUnit/1: identifier used twice\n'
 "$erd" < "$work/twins" > "$work/out" 2> /dev/full
 status=$?
 : > "$work/err"
 expect 'fault lines on a full device' 3 "$work/empty" ''
-
-run "$work/empty"
-expect 'no bytes' 2 "$work/empty" $'not JSON\n'
 
 size=$(wc -c < "$one")
 { cat "$one"; head -c $((67108864 - size)) /dev/zero | tr '\0' ' '; } > "$work/large"
@@ -151,7 +145,11 @@ expect 'standard error closed, and not needed' 0 "$canonical" ''
 status=$?
 expect 'standard error closed, and needed' 3 "$work/empty" ''
 
-. tests/program/command_words.sh
+"$erd" nosuch > "$work/out" 2>&-
+status=$?
+: > "$work/err"
+expect 'usage with standard error closed' 3 "$work/empty" ''
+
 . tests/program/command_files.sh
 . tests/program/command_rearranged.sh
 . tests/program/command_many.sh

@@ -1,53 +1,6 @@
 # For command.sh: files of every kind, failing devices, and the two vendors of the county and of two elections.
 
-# stopped NAME ERR WORD ..: the run ends early, with these words on standard error
-stopped() {
-    local name=$1 words=$2
-    shift 2
-    call "$@"
-    expect_text "$name" 3 '' "$words"$'\n'
-}
-
 missing=$work/nosuch
-for name in check canon; do
-    stopped "$name of a missing file" 'cannot open' "$name" "$missing"
-    stopped "$name of a file below a file" 'cannot open' "$name" "$one/below"
-    stopped "$name of a folder" 'read failed' "$name" examples
-done
-# Both files are opened before either is read, and the left one is read first.
-stopped 'a missing left file' 'cannot open' compare "$missing" "$one"
-stopped 'a missing right file' 'cannot open' compare "$one" "$missing"
-stopped 'one missing file on both sides' 'cannot open' compare "$missing" "$missing"
-stopped 'an empty name on both sides' 'cannot open' compare '' ''
-stopped 'no JSON on the left, and a missing right file' 'cannot open' compare tests/shared/refuse.c "$missing"
-stopped 'a folder on the left, and a missing right file' 'cannot open' compare examples "$missing"
-stopped 'a folder on the left' 'read failed' compare examples "$one"
-stopped 'a folder on the right' 'read failed' compare "$one" examples
-stopped 'no JSON on the left, and a folder on the right' 'read failed' compare tests/shared/refuse.c examples
-
-# The file that is named is the one that is opened.
-call canon "$one"
-expect 'the form of a named file' 0 "$canonical" ''
-call compare "$one" "$canonical"
-expect_text 'a named file and its form' 0 $'same\n' ''
-call compare "$canonical" "$one"
-expect_text 'a form and the named file' 0 $'same\n' ''
-
-# One file on both sides, which is read twice.
-sed 's/pre-election/certified/; s/"VotesAllowed":1/"VotesAllowed":1.5/' "$small" > "$work/refused"
-call compare "$work/refused" "$work/refused"
-expect_text 'one refused file on both sides' 1 \
-    $'left: /Election/0/Contest/0/VotesAllowed: not a whole number\nleft: /Status: not pre-election\n' ''
-call compare --prefer fips "$work/refused" "$work/refused"
-expect_text 'one refused file on both sides, under a preference' 1 \
-    $'left: /Election/0/Contest/0/VotesAllowed: not a whole number\nleft: /Status: not pre-election\n' ''
-call compare tests/shared/refuse.c tests/shared/refuse.c
-expect_text 'one file on both sides that is not JSON' 2 $'left: not JSON\n' ''
-call compare "$small" "$small"
-expect_text 'one accepted file on both sides' 0 $'same\n' ''
-sed 's/"VotesAllowed":1/"VotesAllowed":2/' "$small" > "$work/as_long"
-call compare "$small" "$work/as_long"
-expect_text 'a file of the same length with another digit' 1 $'contest ["local-level","","C1"]: member "VotesAllowed"\n' ''
 
 # A file without leave to read. Root has leave to read all, so it gives that up.
 bare=()

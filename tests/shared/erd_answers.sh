@@ -16,19 +16,6 @@ expect_text() {
     expect "$1" "$2" "$work/wanted_text" "$4"
 }
 
-# expect_part NAME STATUS WHERE PART ..: the last run wrote a text with these parts to out or err, and nothing to the other
-expect_part() {
-    local name=$1 wanted=$2 here=$3 there=err why='' part
-    [ "$here" = err ] && there=out
-    shift 3
-    [ "$status" -eq "$wanted" ] || why+="status $status, not $wanted; "
-    [ -s "$work/$there" ] && why+="$there has '$(head -c 200 "$work/$there")'; "
-    for part in "$@"; do
-        grep -qF -e "$part" "$work/$here" || why+="$here has no '$part'; "
-    done
-    said "$name" "$why"
-}
-
 # expect_other NAME FILE: the last run wrote a text, and not that of the file
 expect_other() {
     local why=''
