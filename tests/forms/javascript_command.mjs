@@ -1,7 +1,7 @@
 // Tries the command of the package for JavaScript on the conformance suite, in this process: `node javascript_command.mjs PACKAGE`,
 // the folder of the package with its erd.wasm. It takes each case of two reports and each case with a preference, which tell
-// exchanged files and a lost preference; tests/javascript.sh starts the command itself. One line for each case that fails; at the
-// end stand the counts.
+// exchanged files and a lost preference; tests/forms/javascript_package.sh starts the command itself. One line for each case that
+// fails; at the end stand the counts.
 import fs, { existsSync, readdirSync, readFileSync } from 'node:fs';
 import { syncBuiltinESMExports } from 'node:module';
 import { join, resolve } from 'node:path';

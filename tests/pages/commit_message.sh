@@ -1,7 +1,9 @@
 #!/usr/bin/env bash
-# Tries the hook that asks for a commit message with a body (.githooks/commit-msg), in a real repository. One line a case.
+# Tries the hook that asks for a commit message with a body (.githooks/commit-msg), and the commands of docs/RELEASING.md that find a
+# commit, in a real repository. One line a case.
 set -u
 . "$(dirname "$0")/../shared/start.sh" || exit 1
+. tests/shared/commands.sh
 command -v git > /dev/null || { echo 'skipped the hook for messages: there is no git'; counts; exit; }
 export HOME=$work GIT_CONFIG_NOSYSTEM=1 GIT_AUTHOR_NAME=a GIT_AUTHOR_EMAIL=a@a.example GIT_COMMITTER_NAME=a GIT_COMMITTER_EMAIL=a@a.example
 hooks=$PWD/.githooks
@@ -28,4 +30,32 @@ refused $'Sort each family once\nas each was sorted twice.' 'no empty line follo
 refused $'sort each family once\n\nWhy.' 'the subject begins with a small letter'
 refused $'Sort each family once.\n\nWhy.' 'the subject ends with a full stop'
 refused "$(printf 'S%.0s' {1..73})"$'\n\nWhy.' 'the subject is longer than 72 characters'
+
+# of_page NUMBER: the git commands of the page, which stand in the block with this number
+of_page() {
+    block docs/RELEASING.md sh "$1" | grep '^git '
+}
+
+# answers ANSWER: a commit whose program gives this answer on the report of the page
+answers() {
+    echo "$1" > "$work/clone/answer"
+    git -C "$work/clone" add answer
+    git -C "$work/clone" commit -q --allow-empty -m "Answer $1" -m 'Why.'
+    git -C "$work/clone" rev-parse HEAD
+}
+
+passes $'Pass the gate\n\nWhy.\n\nGate: 8511 passed, 0 failed'
+passes $'Fail the gate\n\nWhy.\n\nGate: 8510 passed, 1 failed'
+run env -C "$work/clone" sh -c "$(of_page 4)"
+equal 'the commits that passed the gate' "$(cut -d ' ' -f 3- "$work/out")" 'Pass the gate'
+
+mkdir "$work/words"
+printf '#!/bin/sh\n[ "$*" = "-s try FILE=%s COMMAND=check" ] && cat answer\n' "$HOME/report.json" > "$work/words/make"
+chmod +x "$work/words/make"
+good=$(answers accepted)
+answers accepted > "$work/before"
+bad=$(answers '/Status: not pre-election')
+for answer in '/Status: missing member' 'not accepted'; do answers "$answer" > "$work/last"; done
+run env -C "$work/clone" PATH="$work/words:$PATH" sh -c "$(of_page 5 | sed "s/BAD/$(cat "$work/last")/; s/GOOD/$good/")"
+equal 'the commit that brought another answer' "$(sed -n 's/ is the first bad commit$//p' "$work/out")" "$bad"
 counts

@@ -1,8 +1,7 @@
 """Holds what several pages and texts say against the one place that has it: the member table of docs/PROFILE.md against the
 rows of `specs/`, what a voter sees against the member table, the limit on bytes against the constant of the code, exit statuses
-against their definition, what the table of reasons names against the code, the calls that take a preference against the code, and
-links against the pages. One line a case that
-fails, and at the end the counts.
+against their definition, what the table of reasons names against the code, the calls that take a preference against the code, links
+against the pages, and lists of pictures and scripts against the folders. One line a case that fails, and at the end the counts.
 """
 
 import os
@@ -226,6 +225,23 @@ def compare_links():
         yield f'the links of {page} that lead nowhere', [], broken
 
 
+def compare_pictures():
+    """Each picture of docs/ is on a page."""
+    shown = {path for page in pages() for path, _ in links(page)}
+    pictures = {path.relative_to(ROOT) for kind in ('png', 'svg') for path in ROOT.glob(f'docs/*.{kind}')}
+    yield 'the pictures that no page shows', [], sorted(map(str, pictures - shown))
+
+
+def compare_lists():
+    """web/README.md lists each script of the page, and tests/README.md no script that its folder lacks."""
+    rows = [row for row in re.findall(r'^\| (`[^|]*) \|', read('web/README.md'), re.M) if not re.search(r'\.(html|json|py|css)`', row)]
+    found = {name for row in rows for name in re.findall(r'`(\w+)`', row)}
+    yield 'the scripts of web/README.md', sorted(path.stem for path in ROOT.glob('web/scripts/*.mjs')), sorted(found)
+    for folder, row in re.findall(r'^\| `(\w+)/` \|(.*)$', read('tests/README.md'), re.M):
+        names = re.findall(r'`([\w.]+\.\w+)`', row)
+        yield f'what tests/{folder} lacks', [], [name for name in names if not (ROOT / 'tests' / folder / name).exists()]
+
+
 # ---- the kit
 
 
@@ -238,4 +254,4 @@ def compare_kit():
 
 if __name__ == '__main__':
     sys.exit(tell_cases([*compare_tables(), *compare_seen(), *compare_limits(), *compare_reasons(), *compare_statuses(), *compare_preferring(),
-                         *compare_links(), *compare_kit()]))
+                         *compare_links(), *compare_pictures(), *compare_lists(), *compare_kit()]))

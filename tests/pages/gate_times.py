@@ -1,6 +1,6 @@
-"""Holds the first table of docs/GATE.md against tests/gate.sh, its seconds against those of the last run of the gate here, which
-leaves them in out/gate-costs, and the minutes that the README tells against those of the page. One line a case that fails, and at
-the end the counts."""
+"""Holds the first table of docs/GATE.md and the table of tests/README.md against tests/gate.sh, the seconds of the first against those
+of the last run of the gate here, which leaves them in out/gate-costs, and the minutes that the README tells against those of the
+page. One line a case that fails, and at the end the counts."""
 import pathlib
 import re
 import sys
@@ -44,9 +44,17 @@ def parts():
     return found | {EDITS}
 
 
+def named_nowhere():
+    """The scripts among the parts that tests/README.md does not name."""
+    page = (ROOT / 'tests' / 'README.md').read_text(encoding='utf-8')
+    scripts = {pathlib.Path(part.split()[0]) for part in parts()}
+    return [str(path) for path in scripts if path.parts[0] == 'tests' and f'`{path.name}`' not in page]
+
+
 def cases():
     listed = [name for names, _ in rows() for name in names]
     yield 'the parts that the page has', sorted(listed), sorted(parts())
+    yield 'the parts that tests/README.md does not name', [], sorted(named_nowhere())
     found, told = minutes()
     yield 'the minutes of the gate, told once', 1, len(found)
     yield 'the minutes that the README tells', found, told

@@ -1,7 +1,7 @@
 """Holds the blocks of the pages against where they come from: contracts and definitions against the sources, and edits, wrong
-lines and cases against their files. Names of the code that pages for developers cite are in the sources, and make knows what
-pages ask of it. Each session and each JSON example stands on a page that another test runs. One line a case that fails, and at
-the end the counts.
+lines and cases against their files. Names of the code that pages for developers cite are in the sources, make knows what pages ask
+of it, and the files that a page names are there. Each session and each JSON example stands on a page that another test runs. One
+line a case that fails, and at the end the counts.
 """
 
 import pathlib
@@ -51,6 +51,11 @@ def blocks(page):
             word = None
 
 
+def codes(page):
+    """What a page has in blocks and between backquotes."""
+    return [text for _, text in blocks(page)] + re.findall(r'`([^`\n]+)`', read(page))
+
+
 def bare(text):
     """A text with one blank in place of white space, and without words that only wrong lines need."""
     text = re.sub(r'^(?:case|batch|gate): .*\n', '', text, flags=re.M)
@@ -90,9 +95,18 @@ def made():
     """Each `make` of a page is a target of the Makefile."""
     targets = set(re.findall(r'^([a-z][a-z-]*):', read('Makefile'), re.M))
     for page in pages():
-        codes = [text for _, text in blocks(page)] + re.findall(r'`([^`\n]+)`', read(page))
-        names = {name for code in codes for name in re.findall(r'^(?:sudo )?make ([a-z][a-z-]*)', code, re.M)}
+        names = {name for code in codes(page) for name in re.findall(r'^(?:sudo )?make ([a-z][a-z-]*)', code, re.M)}
         yield f'{page}: what make does not know', [], sorted(names - targets)
+
+
+def named():
+    """Each file of the repository that a page names is there, from the top or from the page."""
+    folders = '|'.join(re.escape(path.name) for path in ROOT.iterdir() if path.is_dir() and path.name not in ('.git', 'out'))
+    path = re.compile(rf'(?<![\w./~$-])((?:{folders})/(?!\w+/out/)[\w./*-]*[\w*])')
+    for page in pages():
+        names = {name for code in codes(page) for name in path.findall(code)}
+        missing = [name for name in names if not any(any(folder.glob(name)) for folder in (ROOT, (ROOT / page).parent))]
+        yield f'{page}: the files that are not there', [], sorted(missing)
 
 
 def run_elsewhere():
@@ -108,4 +122,4 @@ def run_elsewhere():
 
 
 if __name__ == '__main__':
-    sys.exit(tell_cases([*quoted(), *cited(), *made(), *run_elsewhere()]))
+    sys.exit(tell_cases([*quoted(), *cited(), *made(), *named(), *run_elsewhere()]))
