@@ -2,7 +2,8 @@
 # a command whose last line is 'N passed, M failed'. It needs counting.sh.
 #
 # Each part has a folder below $results, numbered in the order of the table at the end. It has the file `command`; once the part
-# has begun, `said` and `process`; at its end `processor`, `clock` and `status`, or `lost` where what ran it has died.
+# has begun, `said` and `process`; at its end `processor`, `clock` and `status`, or `lost` where what ran it has died. With the file
+# `is_cheaper` its cost is shown, but not kept for tests/pages/gate_times.py.
 results=$(mktemp -d) || exit 1
 began=$SECONDS
 count=0
@@ -153,7 +154,7 @@ sum_up() {
     for folder in "$results"/[0-9]*/; do
         [ -e "$folder/status" ] || continue
         cost "$(spent "$folder/processor")" "$(cat "$folder/clock")" "$(cat "$folder/command")"
-        printf '%s\t%s\n' "$(spent "$folder/processor")" "$(cat "$folder/command")" >> "$results/costs"
+        [ -e "$folder/is_cheaper" ] || printf '%s\t%s\n' "$(spent "$folder/processor")" "$(cat "$folder/command")" >> "$results/costs"
     done
     mkdir -p out && cp "$results/costs" out/gate-costs
     cost "$(cat "$results"/[0-9]*/processor 2> /dev/null | spent -)" $((SECONDS - began)) 'all parts'
