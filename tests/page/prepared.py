@@ -86,9 +86,13 @@ def accepted(session, name, data):
     session.equal(f'{name}: its name', session.text('#name-0 bdi'), copy)
     session.becomes(f'{name}: the sums in the record', lambda: [session.text(f'.record .sum[data-sum="{kind}"]') for kind in ('original', 'file')],
                     [sha256(data), sha256(prepared)])
-    steps = [f'{WORDS["step." + it.name]} ({len(it.made):,})' for it in done]
-    session.equal(f'{name}: the steps in the record', session.texts('.record .steps-done li'), steps)
+    session.equal(f'{name}: the steps in the record', session.texts('.record .steps-done li'), told(done))
     session.equal(f'{name}: the file stays', path.read_bytes(), data)
+
+
+def told(done):
+    """What the page writes of the steps that were done."""
+    return [f'{WORDS["step." + it.name]} ({len(it.made):,})' for it in done]
 
 
 def saved(session, name, clicks):
@@ -111,7 +115,7 @@ def previewed(session, name, done):
 
 
 def unticked(session):
-    """A step that is taken back is not done, and the others tell what they do without it."""
+    """A step that is taken back is not done, although it would change something, and the others tell what they do without it."""
     path = EXAMPLES / 'county-general.raw.json'
     clicks = begun(session, path)
     clicks.step('#step-0-names')
@@ -119,10 +123,11 @@ def unticked(session):
     names = [step for step in steps_of('taken', 'chosen') if step != 'names']
     clicks.on('#prepare-check-0')
     session.becomes('a copy without identifiers', session.verdict, 'Refused: 57 faults')
-    session.equal('its steps', 'Names as identifiers' in session.text('.prepared-copy'), False)
+    prepared, done = Preparation(path.read_bytes()).prepare(names)
+    session.equal('its steps', session.texts('.prepared-copy .steps-done li'), told(done))
+    session.becomes('its steps in the record', lambda: session.texts('.record .steps-done li'), told(done))
     saved(session, 'county-general.prepared.json', clicks)
-    session.equal('it is saved as it was judged', sha256(session.downloaded('county-general.prepared.json')),
-                  sha256(Preparation(path.read_bytes()).prepare(names)[0]))
+    session.equal('it is saved as it was judged', sha256(session.downloaded('county-general.prepared.json')), sha256(prepared))
 
 
 def two_copies(session):
