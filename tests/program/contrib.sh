@@ -53,6 +53,7 @@ faulty "$folder/d.json"
 run contrib/check-folder.sh "$folder"
 expect_text 'a refused file in a folder' 1 "$folder/d.json"$'\n  /Odd^[/@id: carried identity\n  /Status: not pre-election'
 printf x > "$folder/e.json"
+cp examples/one-unit.json "$folder/f.json"
 run contrib/check-folder.sh "$folder"
 expect 'the highest status of all' 2
 equal 'the names of what is not accepted' "$(grep -v '^ ' "$work/out")" "$folder/d.json"$'\n'"$folder/e.json"
