@@ -3,7 +3,6 @@
 import copy
 import json
 import pathlib
-import re
 
 HERE = pathlib.Path(__file__).resolve().parent
 REPORTS = ('input', 'left', 'right')

@@ -3,8 +3,6 @@ import pathlib
 import re
 
 ROOT = pathlib.Path(__file__).resolve().parent.parent
-# The kit's own ways to the system: they come with the compiler, and have no folder of documents.
-OF_THE_COMPILER = {'std', 'core', 'libc', 'os'}
 KNOWN = r'(?:MIT|Apache-2\.0|BSL-1\.0|BSD-3-Clause|Zlib|Unlicense)'
 
 

@@ -21,10 +21,6 @@ from member_table import table_of_page  # noqa: E402
 
 SPECS = ROOT / 'crates' / 'erd_tables' / 'specs'
 
-# A member whose required array may not be empty, or is told of by reason 12 alone, has a note behind it in the page.
-NOTES = {'(reason 12)', '(not empty)'}
-FAMILIES = {'unit', 'party', 'person', 'office', 'header', 'candidate', 'contest', 'style', 'selection'}
-
 
 def read(path):
     return (ROOT / path).read_text(encoding='utf-8')

@@ -2,7 +2,6 @@
 
 A damage changes a report in place. The reports are those of `examples/`.
 """
-import itertools
 
 CLASS = 'ElectionResults.'
 COUNTY = 'county.vendor-a.json'

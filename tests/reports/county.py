@@ -5,7 +5,7 @@ import json
 import random
 import sys
 
-from reports import CLASS, candidate, contest, identifier, label, named, ordered_contest, report, selection, style, translation, unit
+from reports import candidate, contest, identifier, label, named, ordered_contest, report, selection, style, translation, unit
 
 CONTESTS_OF_STYLE = 26
 SELECTIONS = 4

@@ -71,13 +71,6 @@ export function stepsOf(...groups) {
     return STEPS.filter(({ group }) => groups.includes(group)).map(({ name }) => name);
 }
 
-/** Does one step on a copy of the tree. @returns {{tree: unknown, made: object[], left: object[]}} */
-export function doStep(tree, name) {
-    const copy = copyOf(tree);
-    const { made, left } = actOn(copy, TREE_STEPS.find((step) => step.name === name));
-    return { tree: made.length === 0 ? tree : copy, made, left };
-}
-
 function actOn(tree, step, changes = new Changes()) {
     if (tree instanceof Map) {
         step.act(tree, changes);
