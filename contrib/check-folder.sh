@@ -3,11 +3,11 @@
 #
 #     check-folder.sh [--prefer TYPE] [--] FOLDER|FILE ..
 #
-# For each file that is not accepted, and each *.json in a folder, it prints the name of the file and then the lines of
-# `erd check`, each after two spaces. Of a very long list it prints the beginning. It ends with the highest status of
-# `erd check`: 0 if every file is accepted (erd(1) lists the statuses). ERD names the program, if it is not `erd`, and JOBS says how
-# many files are judged at a time, if not one on each processor. Python's `python -m erd.many` is faster, since it starts no program
-# for each file.
+# It checks each FILE, and each *.json file that stands in a FOLDER itself. For each one that is not accepted it prints the name,
+# and then the lines of `erd check`, each after two spaces. Of a very long list it prints the beginning. It ends with the highest
+# status of `erd check`: 0 if every file is accepted (erd(1) lists the statuses). ERD names the program, if it is not `erd`, and
+# JOBS says how many files are judged at a time, if not one on each processor. Python's `python -m erd.many` is faster, since it
+# starts no program for each file.
 set -u
 erd=${ERD:-erd}
 jobs=${JOBS:-$(getconf _NPROCESSORS_ONLN 2> /dev/null || echo 1)}

@@ -66,7 +66,7 @@ def main():
     table("Time over read and write", sizes, rows, lambda i, name: "%.2f" % (rows[i][name][0] / rows[i][unit][0]))
     table("Peak memory over read and write", sizes, rows, lambda i, name: "%.2f" % (rows[i][name][1] / rows[i][unit][1]))
     table("Processor time, seconds", sizes, rows, lambda i, name: "%.2f" % rows[i][name][0])
-    table("Peak memory, MB", sizes, rows, lambda i, name: "%.0f" % rows[i][name][1])
+    table("Peak memory, MiB", sizes, rows, lambda i, name: "%.0f" % rows[i][name][1])
     print("Exponent of growth of the time, from each size to the next, and from the first to the last:")
     for name in rows[0]:
         steps = [(i, i + 1) for i in range(len(sizes) - 1)] + [(0, len(sizes) - 1)]

@@ -29,6 +29,9 @@ from exports import rearranged  # noqa: E402
 SESSIONS = ('README.md', 'docs/USING.md', 'docs/FIXES.md', 'docs/WALKTHROUGH.md')
 BASE = 'examples/county.vendor-a.json'
 DATA_PAGES = ('docs/DATA.md', 'bindings/c/erd.h')
+# Reports that lack nearly everything: a line that shows a fault has to pass over what is absent.
+BARE = ({}, {'Election': []}, {'Election': [{}], 'GpUnit': [{}]}, {'Election': [{'Contest': [{}], 'BallotStyle': [{}]}]},
+        {'Election': [{'Contest': [{'ContestSelection': [{}, {}]}], 'Candidate': [{}]}], 'GpUnit': None, 'Party': [{}]})
 
 
 def read(path):
@@ -85,9 +88,12 @@ def sessions(folder):
 
 
 def rearranged_recipe(page, command, folder):
-    """What a recipe prepares is the same if the export lists its objects in another order and has other system names."""
-    recipe = re.fullmatch(r'(erd-prepare (?:.* )?)(\S+\.json) > (\S+)(?: 2> \S+)?\n', command)
+    """What a recipe prepares is the same if the export lists its objects in another order and has other system names. A recipe
+    is a command that makes an accepted file of a refused one, or prepares an accepted one."""
+    recipe = re.fullmatch(r'((?:erd-prepare|jq) (?:.* )?)(\S+\.json) > (\S+)(?: 2> \S+)?\n', command)
     if recipe is None or run(f'erd check {recipe[3]}', folder) != 'accepted\n':
+        return
+    if command.startswith('jq ') and run(f'erd check {recipe[2]}', folder) == 'accepted\n':
         return
     report = json.loads((folder / recipe[2]).read_text(encoding='utf-8-sig'))
     for number in range(3):
@@ -276,6 +282,10 @@ def examples_of_reasons(folder):
         for command in re.findall(r'`((?:jq|grep) .*? FILE)`', shown):
             output = run(command.replace('FILE', 'before.json'), folder)
             yield f'{heading}: {command} shows something', True, output.strip() not in ('', 'null') and 'error' not in output
+            for bare in BARE:
+                written(folder, 'bare.json', bare)
+                said = run(command.replace('FILE', 'bare.json'), folder)
+                yield f'{heading}: {command} passes over what {json.dumps(bare)} lacks', False, 'error' in said
 
 
 def examples_of_differences(folder):

@@ -61,8 +61,8 @@ def canonical(report: Report, *, prefer: Optional[str] = None, most_faults: Opti
 
 
 def compare(left: Report, right: Report, *, prefer: Optional[str] = None, most_faults: Optional[int] = MOST_LISTED) -> Comparison:
-    """Returns whether the two reports mean the same, or the first object in which they differ, or the faults of the first
-    report that is refused.
+    """Returns whether the two reports mean the same, with their first difference if they don't, or the faults of the first report
+    that is refused.
 
     >>> compare('{', '{').lines
     ('left: not JSON',)
@@ -73,8 +73,8 @@ def compare(left: Report, right: Report, *, prefer: Optional[str] = None, most_f
 
 def differences(left: Report, right: Report, *, prefer: Optional[str] = None,
                 most_differences: Optional[int] = MOST_LISTED) -> Differences:
-    """Returns all objects in which the two reports differ, or the faults of the first report that is refused, of which there
-    are at most as many in the list.
+    """Returns the differences of the two reports in rising order, or the faults of the first report that is refused: at most
+    `most_differences` of either.
 
     >>> differences('{', '{').lines
     ('left: not JSON',)
