@@ -102,7 +102,7 @@ def made():
 def named():
     """Each file of the repository that a page names is there, from the top or from the page."""
     folders = '|'.join(re.escape(path.name) for path in ROOT.iterdir() if path.is_dir() and path.name not in ('.git', 'out'))
-    path = re.compile(rf'(?<![\w./~$-])((?:{folders})/(?!\w+/out/)[\w./*-]*[\w*])')
+    path = re.compile(rf'(?<![\w./~$-])((?:{folders})/(?![\w*]+/out\b)[\w./*-]*[\w*])')
     for page in pages():
         names = {name for code in codes(page) for name in path.findall(code)}
         missing = [name for name in names if not any(any(folder.glob(name)) for folder in (ROOT, (ROOT / page).parent))]
