@@ -96,13 +96,13 @@ def repeated_names(report: Union[bytes, bytearray, memoryview, str], *, most: Op
     """Returns the names that are written more than once in one object, in the order in which their objects end; the first
     `most` of them, or all if that is None.
 
-    Raises ValueError if the report is not JSON. It says nothing about the meaning of the report: `erd` reads the last value
+    Raises ValueError if the report is not JSON, or is a text that has no form in UTF-8. It says nothing about the meaning of the report: `erd` reads the last value
     of such a name.
 
     >>> [(name.pointer, name.times) for name in repeated_names('{"a": [{"b": 1, "b": 2}], "c": 3}')]
     [('/a/0/b', 2)]
     """
-    text = report if isinstance(report, str) else bytes(report).decode('utf-8')
+    text = (report.encode('utf-8') if isinstance(report, str) else bytes(report)).decode('utf-8')
     reader = _Reader()
     try:
         root = json.loads(text, object_pairs_hook=reader.object, parse_constant=_no_number,

@@ -43,8 +43,11 @@ def test_text_bytes_and_buffers_are_alike(top):
     assert len(forms) == 1 and None not in forms
 
 
-def test_half_a_surrogate_pair_is_not_json():
-    assert erd.check('"\ud800"').text == 'not JSON\n'
+@pytest.mark.parametrize('call', [erd.check, erd.canonical, lambda report: erd.compare('{}', report),
+                                  lambda report: erd.differences(report, '{}'), erd.repeated_names])
+def test_half_a_surrogate_pair_is_an_error_of_the_caller(call):
+    with pytest.raises(ValueError, match='surrogate'):
+        call('"\ud800"')
 
 
 def test_a_zero_byte_does_not_end_a_report():

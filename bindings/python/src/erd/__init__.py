@@ -20,7 +20,8 @@ of all can be as long as the square of the report; `all_faults` is how many ther
 for `most_differences`.
 
 Each call raises TooLong for a report of more than 67,108,864 bytes, MemoryError if memory runs out, and TypeError for what is
-neither bytes nor text. `prefer` may not have a zero character in it, or half a surrogate pair (ValueError).
+neither bytes nor text. A text that has half a surrogate pair in it has no form in UTF-8, and raises ValueError as a report and as
+`prefer`. So does a `prefer` with a zero character in it.
 """
 
 from __future__ import annotations
@@ -28,7 +29,7 @@ from __future__ import annotations
 from typing import Optional, Union
 
 from .library import TooLong, version
-from .listing import MOST_LISTED, listed
+from .listing import MOST_LISTED, listed, utf_8
 from .repeats import RepeatedName, repeated_names
 from .results import (Canonical, Check, Comparison, Difference, Differences, Fault, check_of, comparison_of, differences_of)
 
@@ -86,7 +87,7 @@ def differences(left: Report, right: Report, *, prefer: Optional[str] = None,
 def bytes_of(report: Report) -> bytes:
     """Returns the bytes of a report. A text is taken in UTF-8."""
     if isinstance(report, str):
-        return report.encode('utf-8', 'surrogatepass')
+        return utf_8(report, 'a report')
     if isinstance(report, (bytes, bytearray, memoryview)):
         return bytes(report)
     raise TypeError(f'a report is bytes or text, and not {type(report).__name__}')

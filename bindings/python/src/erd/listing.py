@@ -56,4 +56,13 @@ def bytes_of_type(prefer: Optional[str]) -> Optional[bytes]:
         raise TypeError(f'prefer is text, and not {type(prefer).__name__}')
     if '\0' in prefer:
         raise ValueError('prefer has a zero character in it')
-    return prefer.encode('utf-8')
+    return utf_8(prefer, 'prefer')
+
+
+def utf_8(text: str, what: str) -> bytes:
+    """Returns the bytes of a text. Half a surrogate pair has none: Python has such a character where bytes were read as another
+    text, or where the JSON of a program split a character."""
+    try:
+        return text.encode('utf-8')
+    except UnicodeEncodeError:
+        raise ValueError(f'{what} has half a surrogate pair, so it has no form in UTF-8') from None
