@@ -1,4 +1,5 @@
-"""What the page has to say of files: the answers of the reference program, the words of docs/FIXES.md and the texts of the page."""
+"""What the page has to say of files: the answers of the reference program, the words of docs/FIXES.md and of the table of what a voter
+sees, and the texts of the page."""
 import hashlib
 import importlib.machinery
 import importlib.util
@@ -39,7 +40,19 @@ def fixes():
     return dict(section_of_fixes(heading, body) for heading, body in zip(parts[::2], parts[1::2]))
 
 
+def seen():
+    """For each class the word of each of its members, as the table "What a voter sees" of docs/PROFILE.md has them."""
+    table = (ROOT / 'docs' / 'PROFILE.md').read_text(encoding='utf-8').split('## What a voter sees\n')[1].split('\n## ')[0]
+    words = {}
+    for row in re.findall(r'^\| (.*) \|$', table, re.M):
+        classes, members, word, _ = row.split(' | ')
+        for name in classes.split(', '):
+            words.setdefault(name, {}).update(dict.fromkeys(members.replace('`', '').split(', '), word))
+    return words
+
+
 FIXES = fixes()
+SEEN = seen()
 
 
 class Fault:

@@ -9,17 +9,13 @@ import json
 import os
 import pathlib
 import re
-import sys
 import urllib.parse
 import urllib.request
 import zoneinfo
 
 import answers
-from answers import FIXES, Answer, say
+from answers import FIXES, SEEN, Answer, say
 from session import EXAMPLES, ROOT, SUITE, report_of_units
-
-sys.path.insert(0, str(ROOT / 'web'))
-import seen  # noqa: E402
 
 HERE = pathlib.Path(__file__).parent
 READ = (HERE / 'results.js').read_text(encoding='utf-8')
@@ -30,7 +26,6 @@ ENVELOPE = ['Format', 'GeneratedDate', 'Issuer', 'IssuerAbbreviation', 'VendorAp
 LETTERS = '0123456789ABCDEFGHJKMNPQRSTVWXYZ'
 
 # What a voter sees: the words of the profile, the class of each part in the small ballot, and the list that its objects are in.
-SEEN = seen.read(ROOT / 'docs' / 'PROFILE.md')
 WORDS_OF_SEEN = ('seen', 'in doubt', 'unseen')
 CLASSES = {'report': 'ElectionReport', 'unit': 'ReportingUnit', 'party': 'Party', 'person': 'Person', 'office': 'Office', 'header': 'Header',
            'election': 'Election', 'candidate': 'Candidate', 'contest': 'CandidateContest', 'style': 'BallotStyle'}
