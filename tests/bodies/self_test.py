@@ -1,9 +1,11 @@
 """Tries what tests/bodies/try_edits.py makes of an edit and of what a check says, without the prover, and what
-tests/bodies/wrong_lines.py makes of a list and of what a script says. One line a case that fails, and at the end the counts."""
+tests/bodies/wrong_lines.py makes of a list and of what a script says. It also holds that each wrong body and each wrong line can be
+put in. One line a case that fails, and at the end the counts."""
 import sys
 
 import check_of_edits
 import edited_functions
+import try_edits
 import wrong_lines
 
 SOURCE = """//! A file.
@@ -133,9 +135,34 @@ def line():
 
 
 def batches(*names):
-    lines = [wrong_lines.Line(name, "a", []) for name in names]
+    lines = [wrong_lines.Line(name, "VERSION", []) for name in names]
     text = "".join(f"name: {name}\nfile: a\n" for name in names)
     return wrong_lines.with_batches(text, lines, BROKEN).replace("file: a\n", "").split("\n")[:-1]
+
+
+def misfit(*news):
+    old = wrong_lines.texts_with([wrong_lines.Line("none", "VERSION", [])])["VERSION"]
+    return wrong_lines.misfit([wrong_lines.Line("a", "VERSION", [(old, new)]) for new in news])[:2]
+
+
+def lists_that_do_not_fit():
+    """Batches whose lines can't be put in together, by their lists."""
+    found = [wrong_lines.list_of(path) for path in sorted(wrong_lines.LISTS.glob("*.txt"))]
+    return [f"{one.name}/{why}" for one in found for why in map(wrong_lines.misfit, wrong_lines.batches_of(one.lines)) if why]
+
+
+def edits_that_do_not_fit():
+    """Wrong bodies that can't be put in, or that change no function."""
+    found = []
+    for crate, files in try_edits.chosen(False, ()).items():
+        for file in files:
+            try:
+                functions = edited_functions.applied(
+                    try_edits.text_of(file), lambda path, at=crate: try_edits.text_of(f"{try_edits.TOP}/crates/{at}/{path}"))[1]
+                found += [] if functions else [f"{crate}/{try_edits.name_of(file)}: no function"]
+            except (edited_functions.BadEdit, OSError) as error:
+                found.append(f"{crate}/{try_edits.name_of(file)}: {error}")
+    return found
 
 
 CASES = [
@@ -177,6 +204,10 @@ CASES = [
     ("what it breaks where no case is known", lambda: wrong_lines.name_of("FAILED  a: b: 'x' in place of 'y'", []), "a: b"),
     ("two that are told apart", lambda: batches("one", "two"), ["name: one", "case: a", "batch: 1", "name: two", "case: c", "batch: 1"]),
     ("two that are not", lambda: batches("one", "three"), ["name: one", "case: a", "batch: 1", "name: three", "case: b", "batch: 2"]),
+    ("a line that fits", lambda: misfit("0"), ""),
+    ("two lines on one text", lambda: misfit("0", "1"), "a:"),
+    ("each list fits", lists_that_do_not_fit, []),
+    ("each wrong body fits", edits_that_do_not_fit, []),
     ("a proof", lambda: judged("fn some::a::b::counts: proved"), "no"),
     ("a missing name", lambda: judged(LINE, NAME), "no"),
     ("a missing name beside an open goal", lambda: judged(LINE, GOAL, NAME), "no"),

@@ -87,6 +87,31 @@ def changed(line, text):
     return text
 
 
+def texts_with(lines):
+    """The files that these lines change, with all the lines in them, as path to text."""
+    texts = {}
+    for line in lines:
+        texts[line.file] = changed(line, texts.get(line.file) or (TOP / line.file).read_text(encoding='utf-8'))
+    return texts
+
+
+def misfit(lines):
+    """Why these lines can't stand in the repository together, or nothing."""
+    try:
+        texts_with(lines)
+    except (BadList, OSError) as error:
+        return str(error)
+    return ''
+
+
+def batches_of(lines):
+    """These lines by their batches. One that has none is a batch of its own."""
+    batches = collections.defaultdict(list)
+    for line in lines:
+        batches[line.batch or line.name].append(line)
+    return list(batches.values())
+
+
 class Copy:
     """A copy of the repository, in which lines are wrong for a time."""
 
@@ -186,10 +211,7 @@ class Trial:
 
     def tried(self, lines):
         """Tries the lines batch by batch. What is not noticed in company is tried alone."""
-        batches = collections.defaultdict(list)
-        for line in lines:
-            batches[line.batch or line.name].append(line)
-        for batch in batches.values():
+        for batch in batches_of(lines):
             for line in self.left_by(batch):
                 for last in self.left_by([line]) if len(batch) > 1 else [line]:
                     self.not_noticed(last)
@@ -263,25 +285,27 @@ def cases_that_pass(trial):
 
 
 def with_batches(text, lines, broken):
-    """The text of the list, with the batch and the case of each line. In a batch each line has a case that no other one breaks."""
+    """The text of the list, with the batch and the case of each line. In a batch each line has a case that no other one breaks, and
+    all of them fit together."""
     batches = []
     for line in lines:
         cases = broken.get(line.name)
-        batch = next((it for it in batches if cases and are_told_apart([*it, line.name], broken)), None)
+        batch = next((it for it in batches if cases and are_told_apart([*it, line], broken) and not misfit([*it, line])), None)
         if batch is None and cases:
             batch = []
             batches.append(batch)
         if cases:
-            batch.append(line.name)
+            batch.append(line)
     for number, batch in enumerate(batches, 1):
-        for name in batch:
-            others = set().union(*(broken[it] for it in batch if it != name))
+        for name in (line.name for line in batch):
+            others = set().union(*(broken[it.name] for it in batch if it.name != name))
             case = min(sorted(broken[name] - others), key=len)
             text = re.sub(rf'^(name: {re.escape(name)}\n)(?:case: .*\n|batch: .*\n)*', lambda found: f'{found[1]}case: {case}\nbatch: {number}\n', text, flags=re.M)
     return text
 
 
-def are_told_apart(names, broken):
+def are_told_apart(lines, broken):
+    names = [line.name for line in lines]
     return all(broken[name] - set().union(*(broken[it] for it in names if it != name)) for name in names)
 
 
