@@ -25,18 +25,16 @@ struct wanted {
     size_t first, most, enough_bytes, told, all;
     bool prefers;
 };
-struct told erd_tell_check_data_piece(const uint8_t *bytes, size_t size, const uint8_t *prefer, size_t prefer_size,
-                                      struct wanted *wanted, uint8_t *room, size_t room_size);
-struct told erd_tell_canonical_data_piece(const uint8_t *bytes, size_t size, const uint8_t *prefer, size_t prefer_size,
-                                          struct wanted *wanted, uint8_t *room, size_t room_size);
-struct told erd_tell_compare_data_piece(const uint8_t *left, size_t left_size, const uint8_t *right, size_t right_size,
-                                        const uint8_t *prefer, size_t prefer_size, struct wanted *wanted, uint8_t *room,
-                                        size_t room_size);
-struct told erd_tell_differences_data(const uint8_t *left, size_t left_size, const uint8_t *right, size_t right_size,
-                                      const uint8_t *prefer, size_t prefer_size, struct wanted *wanted, uint8_t *room,
-                                      size_t room_size);
+/* The calls for a piece of a list, of one report or of two. */
+typedef struct told piece_of_report(const uint8_t *bytes, size_t size, const uint8_t *prefer, size_t prefer_size,
+                                    struct wanted *wanted, uint8_t *room, size_t room_size);
+typedef struct told piece_of_pair(const uint8_t *left, size_t left_size, const uint8_t *right, size_t right_size,
+                                  const uint8_t *prefer, size_t prefer_size, struct wanted *wanted, uint8_t *room,
+                                  size_t room_size);
+piece_of_report erd_tell_check_data_piece, erd_tell_canonical_data_piece;
+piece_of_pair erd_tell_compare_data_piece, erd_tell_differences_data;
 
-enum { MOST_BYTES = 67108864, ROOM_FOR_LINES = 4096 };
+enum { MOST_BYTES = 67108864, ROOM_FOR_LINES = 4096, ROOM_FOR_PIECE = 1048576 };
 
 struct bytes {
     const uint8_t *at;
@@ -71,20 +69,25 @@ static struct question question_of(enum call call, struct bytes left, struct byt
     return (struct question){call, left, right, bytes_of(prefer, prefer ? strlen(prefer) : 0), all};
 }
 
+static struct told ask_of_report(piece_of_report *call, struct question *it, uint8_t *room, size_t room_size) {
+    return call(it->left.at, it->left.size, it->prefer.at, it->prefer.size, &it->wanted, room, room_size);
+}
+
+static struct told ask_of_pair(piece_of_pair *call, struct question *it, uint8_t *room, size_t room_size) {
+    return call(it->left.at, it->left.size, it->right.at, it->right.size, it->prefer.at, it->prefer.size, &it->wanted, room,
+                room_size);
+}
+
 static struct told ask_for_piece(struct question *it, uint8_t *room, size_t room_size) {
     switch (it->call) {
     case CHECK_DATA_PIECE:
-        return erd_tell_check_data_piece(it->left.at, it->left.size, it->prefer.at, it->prefer.size, &it->wanted, room,
-                                         room_size);
+        return ask_of_report(erd_tell_check_data_piece, it, room, room_size);
     case CANONICAL_DATA_PIECE:
-        return erd_tell_canonical_data_piece(it->left.at, it->left.size, it->prefer.at, it->prefer.size, &it->wanted, room,
-                                             room_size);
+        return ask_of_report(erd_tell_canonical_data_piece, it, room, room_size);
     case COMPARE_DATA_PIECE:
-        return erd_tell_compare_data_piece(it->left.at, it->left.size, it->right.at, it->right.size, it->prefer.at,
-                                           it->prefer.size, &it->wanted, room, room_size);
+        return ask_of_pair(erd_tell_compare_data_piece, it, room, room_size);
     default:
-        return erd_tell_differences_data(it->left.at, it->left.size, it->right.at, it->right.size, it->prefer.at,
-                                         it->prefer.size, &it->wanted, room, room_size);
+        return ask_of_pair(erd_tell_differences_data, it, room, room_size);
     }
 }
 
@@ -109,6 +112,12 @@ static struct told ask(struct question *it, uint8_t *room, size_t room_size) {
     }
 }
 
+/* The text at the front of the room, with a zero byte behind it. What the text does not need of the room is given back. */
+static char *text_in(uint8_t *room, size_t length) {
+    uint8_t *text = realloc(room, length + 1);
+    return (char *)(text != NULL ? text : room);
+}
+
 /* Calls with this much room for the text. If that is too little, calls once more with as much room as the text needs. The
  * zero byte behind the text has a byte of its own. */
 static enum erd_outcome answer(struct question *it, size_t room_size, char **text, size_t *length) {
@@ -126,7 +135,7 @@ static enum erd_outcome answer(struct question *it, size_t room_size, char **tex
         if (is_told && length != NULL)
             *length = told.length;
         if (is_told && text != NULL)
-            *text = (char *)room;
+            *text = text_in(room, told.length);
         else
             free(room);
         return told.outcome;
@@ -172,15 +181,22 @@ enum erd_outcome erd_compare_data(const void *left, size_t left_size, const void
     return call(&it, ROOM_FOR_LINES, text, length);
 }
 
+/* Room for the text of a list, so that most lists are made at once: as many bytes as are enough, at most a mebibyte, and then one
+ * entry more. */
+static size_t room_for_list(const struct wanted *wanted) {
+    return (wanted->enough_bytes < ROOM_FOR_PIECE ? wanted->enough_bytes : ROOM_FOR_PIECE) + ROOM_FOR_LINES;
+}
+
 /* A call for a piece of a list. Without a piece, it asks for the whole list. */
-static enum erd_outcome call_for_piece(struct question *it, size_t room_size, struct erd_piece *piece, char **text,
+static enum erd_outcome call_for_piece(struct question *it, size_t room_for_form, struct erd_piece *piece, char **text,
                                        size_t *length) {
     if (piece != NULL) {
         it->wanted.first = piece->first;
         it->wanted.most = piece->most;
         it->wanted.enough_bytes = piece->enough_bytes;
     }
-    enum erd_outcome outcome = call(it, room_size, text, length);
+    size_t room_size = room_for_list(&it->wanted);
+    enum erd_outcome outcome = call(it, room_size < room_for_form ? room_for_form : room_size, text, length);
     if (piece != NULL) {
         bool is_told = outcome <= ERD_NOT_JSON;
         piece->told = is_told ? it->wanted.told : 0;
@@ -192,7 +208,7 @@ static enum erd_outcome call_for_piece(struct question *it, size_t room_size, st
 enum erd_outcome erd_check_data_piece(const void *bytes, size_t size, const char *prefer, struct erd_piece *piece,
                                       char **text, size_t *length) {
     struct question it = question_of(CHECK_DATA_PIECE, bytes_of(bytes, size), bytes_of(NULL, 0), prefer);
-    return call_for_piece(&it, ROOM_FOR_LINES, piece, text, length);
+    return call_for_piece(&it, 0, piece, text, length);
 }
 
 enum erd_outcome erd_canonical_data_piece(const void *bytes, size_t size, const char *prefer, struct erd_piece *piece,
@@ -203,15 +219,14 @@ enum erd_outcome erd_canonical_data_piece(const void *bytes, size_t size, const 
 
 enum erd_outcome erd_compare_data_piece(const void *left, size_t left_size, const void *right, size_t right_size,
                                         const char *prefer, struct erd_piece *piece, char **text, size_t *length) {
-    struct question it =
-        question_of(COMPARE_DATA_PIECE, bytes_of(left, left_size), bytes_of(right, right_size), prefer);
-    return call_for_piece(&it, ROOM_FOR_LINES, piece, text, length);
+    struct question it = question_of(COMPARE_DATA_PIECE, bytes_of(left, left_size), bytes_of(right, right_size), prefer);
+    return call_for_piece(&it, 0, piece, text, length);
 }
 
 enum erd_outcome erd_differences_data(const void *left, size_t left_size, const void *right, size_t right_size,
                                       const char *prefer, struct erd_piece *piece, char **text, size_t *length) {
     struct question it = question_of(DIFFERENCES_DATA, bytes_of(left, left_size), bytes_of(right, right_size), prefer);
-    return call_for_piece(&it, ROOM_FOR_LINES, piece, text, length);
+    return call_for_piece(&it, 0, piece, text, length);
 }
 
 void erd_free(char *text) {

@@ -36,7 +36,8 @@ enum erd_outcome {
  *
  * A text has no limit of its own. A report may have very many faults, and the place of each is written in full, so that a text
  * can be many times as long as the report. If a text is longer than 4,096 bytes, or a canonical form than twice its report and
- * 4,096 bytes, the call does its work twice: once to learn the length, and once more into a text of that length.
+ * 4,096 bytes, the call does its work twice: once to learn the length, and once more into a text of that length. A call for a
+ * piece of a list (below) does so if the text is longer than `enough_bytes`, or than a mebibyte, and 4,096 bytes.
  *
  * A name in a text that is not JSON is written as it is in the report, and may have a line feed or any other character. So
  * take a text of lines apart by hand only if you trust the report; the calls that answer with data have no such limit. */

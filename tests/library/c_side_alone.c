@@ -78,36 +78,41 @@ static struct told told_piece(int call, const uint8_t *bytes, const uint8_t *pre
     return told_report(call, bytes, wanted->prefers, prefer, prefer_size, room, room_size);
 }
 
-struct told erd_tell_check_data_piece(const uint8_t *bytes, size_t size, const uint8_t *prefer, size_t prefer_size,
-                                      struct wanted *wanted, uint8_t *room, size_t room_size) {
-    (void)size;
-    return told_piece(5, bytes, prefer, prefer_size, wanted, room, room_size);
-}
+#define OF_REPORT(name, number)                                                                                                \
+    struct told name(const uint8_t *bytes, size_t size, const uint8_t *prefer, size_t prefer_size, struct wanted *wanted,      \
+                     uint8_t *room, size_t room_size) {                                                                        \
+        (void)size;                                                                                                            \
+        return told_piece(number, bytes, prefer, prefer_size, wanted, room, room_size);                                        \
+    }
+#define OF_PAIR(name, number)                                                                                                  \
+    struct told name(const uint8_t *left, size_t left_size, const uint8_t *right, size_t right_size, const uint8_t *prefer,    \
+                     size_t prefer_size, struct wanted *wanted, uint8_t *room, size_t room_size) {                             \
+        (void)left_size, (void)right_size;                                                                                     \
+        return told_piece(number, left == NULL ? left : right, prefer, prefer_size, wanted, room, room_size);                  \
+    }
+OF_REPORT(erd_tell_check_data_piece, 5)
+OF_PAIR(erd_tell_compare_data_piece, 6)
+OF_REPORT(erd_tell_canonical_data_piece, 7)
+OF_PAIR(erd_tell_differences_data, 8)
 
-struct told erd_tell_canonical_data_piece(const uint8_t *bytes, size_t size, const uint8_t *prefer, size_t prefer_size,
-                                          struct wanted *wanted, uint8_t *room, size_t room_size) {
-    (void)size;
-    return told_piece(7, bytes, prefer, prefer_size, wanted, room, room_size);
-}
-
-struct told erd_tell_compare_data_piece(const uint8_t *left, size_t left_size, const uint8_t *right, size_t right_size,
-                                        const uint8_t *prefer, size_t prefer_size, struct wanted *wanted, uint8_t *room,
-                                        size_t room_size) {
-    (void)left_size, (void)right_size;
-    return told_piece(6, left == NULL ? left : right, prefer, prefer_size, wanted, room, room_size);
-}
-
-struct told erd_tell_differences_data(const uint8_t *left, size_t left_size, const uint8_t *right, size_t right_size,
-                                      const uint8_t *prefer, size_t prefer_size, struct wanted *wanted, uint8_t *room,
-                                      size_t room_size) {
-    (void)left_size, (void)right_size;
-    return told_piece(8, left == NULL ? left : right, prefer, prefer_size, wanted, room, room_size);
-}
-
-enum { SIZE = 1000, CALLS = 9 };
-static const char *const names[CALLS] = {"check",      "canonical",   "compare", "check_data", "compare_data", "check_piece",
-                                         "compare_piece", "canonical_piece", "differences"};
+enum { SIZE = 1000, CALLS = 9, FIRST_OF_PIECES = 5, MEBIBYTE = 1048576 };
+static const char *const names[CALLS] = {"check",      "canonical",   "compare", "check_data", "compare_data",
+                                         "check_data_piece", "compare_data_piece", "canonical_data_piece", "differences_data"};
 static const char report[SIZE];
+
+static enum erd_outcome asked_for_piece(int call, struct bytes it, const char *prefer, struct erd_piece *piece, char **text,
+                                        size_t *length) {
+    switch (call) {
+    case 5:
+        return erd_check_data_piece(it.at, it.size, prefer, piece, text, length);
+    case 6:
+        return erd_compare_data_piece(it.at, it.size, it.at, it.size, prefer, piece, text, length);
+    case 7:
+        return erd_canonical_data_piece(it.at, it.size, prefer, piece, text, length);
+    default:
+        return erd_differences_data(it.at, it.size, it.at, it.size, prefer, piece, text, length);
+    }
+}
 
 static enum erd_outcome asked(int call, const void *bytes, size_t size, const char *prefer, char **text, size_t *length) {
     switch (call) {
@@ -121,27 +126,8 @@ static enum erd_outcome asked(int call, const void *bytes, size_t size, const ch
         return erd_check_data(bytes, size, prefer, text, length);
     case 4:
         return erd_compare_data(bytes, size, bytes, size, prefer, text, length);
-    case 5:
-        return erd_check_data_piece(bytes, size, prefer, NULL, text, length);
-    case 6:
-        return erd_compare_data_piece(bytes, size, bytes, size, prefer, NULL, text, length);
-    case 7:
-        return erd_canonical_data_piece(bytes, size, prefer, NULL, text, length);
     default:
-        return erd_differences_data(bytes, size, bytes, size, prefer, NULL, text, length);
-    }
-}
-
-static enum erd_outcome asked_for_piece(int call, size_t size, struct erd_piece *piece) {
-    switch (call) {
-    case 5:
-        return erd_check_data_piece(report, size, NULL, piece, NULL, NULL);
-    case 6:
-        return erd_compare_data_piece(report, size, report, size, NULL, piece, NULL, NULL);
-    case 7:
-        return erd_canonical_data_piece(report, size, NULL, piece, NULL, NULL);
-    default:
-        return erd_differences_data(report, size, report, size, NULL, piece, NULL, NULL);
+        return asked_for_piece(call, (struct bytes){bytes, size}, prefer, NULL, text, length);
     }
 }
 
@@ -158,7 +144,7 @@ static void said(int call, const char *what, size_t number) {
 /* A text of this length comes whole, with a zero byte behind it, after one call if it fits and after two if it does not. */
 static void text_of_length(int call, size_t wanted) {
     char *text = NULL;
-    size_t length = 7, room = call == 1 || call == 7 ? 2 * SIZE + 4096 : 4096;
+    size_t length = 7, room = call >= FIRST_OF_PIECES ? MEBIBYTE + 4096 : call == 1 ? 2 * SIZE + 4096 : 4096;
     next = (struct told){ERD_BAD, wanted};
     calls = 0;
     if (asked(call, report, SIZE, NULL, &text, &length) != ERD_BAD || text == NULL || length != wanted)
@@ -233,11 +219,32 @@ static void one_too_long(int call, size_t left_size, size_t right_size) {
     said(call, "reports, of which one has the size", left_size > right_size ? left_size : right_size);
 }
 
+static enum erd_outcome piece_alone(int call, size_t size, struct erd_piece *piece) {
+    return asked_for_piece(call, (struct bytes){(const uint8_t *)report, size}, NULL, piece, NULL, NULL);
+}
+
+/* There is room for the text of a piece at once if it has hardly more bytes than are enough. */
+static void room_of_piece(int call, size_t enough, size_t room) {
+    for (size_t size = room - 1; size <= room + 1; size++) {
+        struct erd_piece piece = {0, 5, enough, 0, 0};
+        char *text = NULL;
+        next = (struct told){ERD_BAD, size};
+        calls = 0;
+        struct bytes it = {(const uint8_t *)report, SIZE};
+        if (asked_for_piece(call, it, NULL, &piece, &text, NULL) != ERD_BAD || text == NULL)
+            why = "another answer";
+        else if (calls != (size > room ? 2 : 1))
+            why = "another number of calls";
+        erd_free(text);
+        said(call, "a piece whose text has the size", size);
+    }
+}
+
 /* A piece is handed on and told of; without one, the whole list is wanted. */
 static void piece(int call) {
     struct erd_piece piece = {7, 11, 13, 17, 19};
     next = (struct told){ERD_BAD, 3};
-    if (asked_for_piece(call, SIZE, &piece) != ERD_BAD)
+    if (piece_alone(call, SIZE, &piece) != ERD_BAD)
         why = "another answer";
     else if (last_wanted.first != 7 || last_wanted.most != 11 || last_wanted.enough_bytes != 13)
         why = "another piece";
@@ -248,11 +255,11 @@ static void piece(int call) {
     said(call, "a piece behind", 7);
 
     next = (struct told){ERD_NO_MEMORY, 0};
-    if (asked_for_piece(call, SIZE, &piece) != ERD_NO_MEMORY || piece.told != 0 || piece.all != 0)
+    if (piece_alone(call, SIZE, &piece) != ERD_NO_MEMORY || piece.told != 0 || piece.all != 0)
         why = "a list without memory";
     said(call, "no memory for a piece behind", 7);
     piece.told = piece.all = 9;
-    if (asked_for_piece(call, (size_t)67108864 + 1, &piece) != ERD_WRONG || piece.told != 0 || piece.all != 0)
+    if (piece_alone(call, (size_t)67108864 + 1, &piece) != ERD_WRONG || piece.told != 0 || piece.all != 0)
         why = "a list of a report that is too long";
     said(call, "too long for a piece behind", 7);
 
@@ -265,7 +272,8 @@ static void piece(int call) {
 
 int main(void) {
     static char long_preference[60002];
-    static const size_t lengths[] = {0, 1, 15, 4095, 4096, 4097, 6095, 6096, 6097, 6098, 60001, 3000000};
+    static const size_t lengths[] = {0, 1, 15, 4095, 4096, 4097, 6095, 6096, 6097, 6098, 60001, 1052671,
+                                     1052672, 1052673, 3000000};
     memset(long_preference, 'p', sizeof long_preference - 1);
     for (int call = 0; call < CALLS; call++) {
         for (size_t at = 0; at < sizeof lengths / sizeof *lengths; at++)
@@ -287,8 +295,11 @@ int main(void) {
         too_long(call, SIZE_MAX / 2 + 1);
         too_long(call, SIZE_MAX / 2 - 2000);
     }
-    for (int call = 5; call < CALLS; call++)
+    for (int call = FIRST_OF_PIECES; call < CALLS; call++) {
         piece(call);
+        room_of_piece(call, 10000, 14096);
+        room_of_piece(call, 2 * MEBIBYTE, MEBIBYTE + 4096);
+    }
     for (int call = 2; call <= 4; call += 2) {
         one_too_long(call, SIZE, (size_t)67108864 + 1);
         one_too_long(call, (size_t)67108864 + 1, SIZE);

@@ -82,7 +82,7 @@ ${END_OF_PROGRAM}${COMMAND_OF_THE_PACKAGE}`,
     long: `Puts a pre-election ballot definition (NIST SP 1500-100, version 2, JSON) into one canonical form:
 two files have the same canonical form if and only if they mean the same. All that they say of units,
 parties, persons, offices, contests and ballots counts, but not \`@id\` names, the order of members and
-of sets, or the envelope (who made the file, and when).
+of sets, or the envelope (who made the file, when and how, and its notes).
 
 Without a command it reads a report from standard input and writes its canonical form to standard
 output, with no line end. If the report is refused, it writes nothing there, and the faults to
