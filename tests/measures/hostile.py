@@ -1,25 +1,33 @@
-"""Measures the built program on reports that are meant to be slow (tests/reports/hostile_shapes.py), each at two sizes four times
-apart.
+"""Measures the built program on reports that are meant to be slow (tests/reports/hostile_shapes.py), as the table of docs/MEASUREMENTS.md
+has it.
 
-Prints for each shape and each command the processor time at the larger size, and the exponent of growth; then, where there is a
-valgrind, the instructions in place of the time, at two sizes that are a fifth of those: how many times those of a read and write of
-the left report they are, and their exponent. SIZE is the number of entries at the smaller size, or a part of it where an entry is
-large: at the larger size there are a thousand elections. RUNS is how often each command runs; the median processor time counts.
-Words are the names of the shapes to try, and `times` or `instructions` for one of the two tables.
+For each shape and each command it counts the instructions at two sizes, one four times the other: how many times those of a read and
+write of the left report they are at the larger size, and the power of the size with which they grew. Neither the machine nor other
+work on it changes these. Beside them stand the seconds of processor time at twenty times the smaller size, without those of the
+system: the least of some runs.
+
+It tries the shapes of the page, or those that words name. With `--write` it puts their rows into the page, and the day once it has
+tried all. SIZE is the number of entries at the smaller size, or a part of it where an entry is large: a report at twenty times the
+size has a thousand elections. RUNS is how often each command runs. Needs valgrind, `./erd`, and `crates/round_trip` built.
 """
+import datetime
 import json
 import math
 import os
-import shutil
+import pathlib
+import re
 import sys
 import tempfile
 
-from measuring import ROUND_TRIP, instructions, measured
+from measuring import ROUND_TRIP, instructions, least_times
 
 sys.path.insert(0, os.path.join(os.path.dirname(os.path.abspath(__file__)), os.pardir, "reports"))
 import hostile_shapes  # noqa: E402
 
-TABLES = {"times", "instructions"}
+PAGE = pathlib.Path("docs/MEASUREMENTS.md")
+COMMANDS = ("check", "canon", "compare")
+ROW = r"^\| `(%s)` \|(?: [^|]* \|){6}$"
+DAY = r"^The table was measured on .*$"
 # Some shapes are refused, and some pairs differ.
 STATUSES = (0, 1)
 
@@ -43,53 +51,51 @@ def runs_of(shape, n, folder):
     return {"check": ["./erd", "check", path], "canon": ["./erd", "canon", path], "compare": ["./erd", "compare", path, other]}, path
 
 
-def exponent(small, large, least):
-    """The power of the size with which a cost grew."""
-    return math.log(max(large, least) / max(small, least)) / math.log(4)
-
-
-def times(shape, n, folder, runs):
-    """The processor time of each command."""
-    commands, _ = runs_of(shape, n, folder)
-    return {name: time for name, (time, _) in measured({name: (words, None) for name, words in commands.items()}, runs, STATUSES).items()}
-
-
 def counts(shape, n, folder):
     """The instructions of each command, and those of a read and write."""
     commands, left = runs_of(shape, n, folder)
     return {name: instructions(words, None, STATUSES) for name, words in commands.items()}, instructions([ROUND_TRIP], left)
 
 
-def print_times(chosen, size, runs, folder):
-    print("| Shape | Command | Seconds | Exponent |")
-    print("|---|---|---:|---:|")
-    for shape in chosen:
-        small, large = times(shape, size, folder, runs), times(shape, 4 * size, folder, runs)
-        for name in small:
-            print("| `%s` | `%s` | %.2f | %.2f |" % (shape.__name__, name, large[name], exponent(small[name], large[name], 0.001)), flush=True)
-    print()
+def times(shape, n, folder, runs):
+    """The seconds of each command."""
+    commands, _ = runs_of(shape, n, folder)
+    return least_times({name: (words, None) for name, words in commands.items()}, runs, STATUSES)
 
 
-def print_counts(chosen, size, folder):
-    print("| Shape | Command | Instructions over a read and write | Exponent |")
-    print("|---|---|---:|---:|")
-    for shape in chosen:
-        (small, _), (large, base) = counts(shape, size, folder), counts(shape, 4 * size, folder)
-        for name in small:
-            print("| `%s` | `%s` | %.1f | %.2f |" % (shape.__name__, name, large[name] / base, exponent(small[name], large[name], 1)), flush=True)
+def row(shape, size, runs, folder):
+    """The row of a shape. A pair of reports is compared alone."""
+    (small, _), (large, unit) = counts(shape, size, folder), counts(shape, 4 * size, folder)
+    grown = {name: math.log(large[name] / small[name]) / math.log(4) for name in large}
+    seconds = times(shape, 20 * size, folder, runs)
+    cells = ["%.1f, %.2f" % (large[name] / unit, grown[name]) if name in large else "-" for name in COMMANDS]
+    cells += ["%.2f" % seconds[name] if name in seconds else "-" for name in COMMANDS]
+    return "| `%s` | %s |" % (shape.__name__, " | ".join(cells))
+
+
+def write(line, made):
+    """Puts a line into the page, in the place of the one that looks so."""
+    text, count = re.subn(line, made, PAGE.read_text(encoding="utf-8"), flags=re.M)
+    if count != 1:
+        sys.exit("%s has %d lines like %s" % (PAGE, count, line))
+    PAGE.write_text(text, encoding="utf-8")
 
 
 def main():
-    size = int(os.environ.get("SIZE", "5000"))
-    runs = int(os.environ.get("RUNS", "3"))
-    tables = TABLES & set(sys.argv[1:]) or TABLES
-    words = set(sys.argv[1:]) - TABLES
-    chosen = [shape for shape in hostile_shapes.SINGLE + hostile_shapes.PAIRS if not words or shape.__name__ in words]
+    size, runs = int(os.environ.get("SIZE", "1000")), int(os.environ.get("RUNS", "5"))
+    words, is_written = set(sys.argv[1:]) - {"--write"}, "--write" in sys.argv
+    chosen = words or set(re.findall(ROW % r"\w+", PAGE.read_text(encoding="utf-8"), re.M))
+    print("| Shape | `check` | `canon` | `compare` | `check`, s | `canon`, s | `compare`, s |")
+    print("|---|---:|---:|---:|---:|---:|---:|")
     with tempfile.TemporaryDirectory() as folder:
-        if "times" in tables:
-            print_times(chosen, size, runs, folder)
-        if "instructions" in tables and shutil.which("valgrind"):
-            print_counts(chosen, max(size // 5, 1), folder)
+        for shape in hostile_shapes.SINGLE + hostile_shapes.PAIRS:
+            if shape.__name__ in chosen:
+                made = row(shape, size, runs, folder)
+                print(made, flush=True)
+                if is_written:
+                    write(ROW % shape.__name__, made)
+    if is_written and not words:
+        write(DAY, "The table was measured on %s. The seconds are the least of %d runs." % (datetime.date.today(), runs))
 
 
 main()

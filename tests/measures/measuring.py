@@ -16,7 +16,7 @@ PLAIN = "glibc.cpu.hwcaps=-AVX,-AVX2,-AVX512F,-AVX512VL,-AVX512BW,-BMI1,-BMI2,-L
 
 
 def run(command, stdin=None):
-    """Processor time in seconds, peak memory in MB and exit status of one run, whose output goes nowhere."""
+    """What one run used, whose output goes nowhere, and its exit status."""
     child = os.fork()
     if child == 0:
         try:
@@ -29,20 +29,32 @@ def run(command, stdin=None):
         finally:
             os._exit(127)
     _, status, usage = os.wait4(child, 0)
-    return usage.ru_utime + usage.ru_stime, usage.ru_maxrss / 1024, os.waitstatus_to_exitcode(status)
+    return usage, os.waitstatus_to_exitcode(status)
 
 
-def measured(commands, runs, statuses=(0,)):
-    """For each command, by its name, the medians of the processor time and the peak memory of so many runs. The commands run in
-    turn, so that what else the machine does meets all of them alike. Another status than these ends the benchmark."""
+def uses(commands, runs, statuses):
+    """For each command, by its name, what so many runs used. The commands run in turn, so that what else the machine does meets all of
+    them alike. Another status than these ends the benchmark."""
     found = {name: [] for name in commands}
     for _ in range(runs):
         for name, (command, stdin) in commands.items():
-            time, memory, status = run(command, stdin)
+            usage, status = run(command, stdin)
             if status not in statuses:
                 sys.exit("bench: " + " ".join(command) + ": status " + str(status))
-            found[name].append((time, memory))
-    return {name: tuple(statistics.median(values) for values in zip(*each)) for name, each in found.items()}
+            found[name].append(usage)
+    return found
+
+
+def measured(commands, runs):
+    """For each command the medians of its processor time in seconds and its peak memory in MB."""
+    return {name: (statistics.median(each.ru_utime + each.ru_stime for each in found), statistics.median(each.ru_maxrss / 1024 for each in found))
+            for name, found in uses(commands, runs, (0,)).items()}
+
+
+def least_times(commands, runs, statuses):
+    """For each command the least of its processor times in seconds, without those of the system: other work on the machine adds to
+    these more than to it."""
+    return {name: min(each.ru_utime for each in found) for name, found in uses(commands, runs, statuses).items()}
 
 
 def instructions(command, stdin=None, statuses=(0,)):
