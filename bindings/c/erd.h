@@ -90,7 +90,7 @@ enum erd_outcome erd_compare_data(const void *left, size_t left_size, const void
 struct erd_piece {
     size_t first;        /* how many entries are left out at the front of the list */
     size_t most;         /* the most entries that the text may have */
-    size_t enough_bytes; /* no entry begins once those before it in the text have so many bytes */
+    size_t enough_bytes; /* no entry begins once those before it in the text have that many bytes */
     size_t told;         /* set: how many entries the text has */
     size_t all;          /* set: how many entries the list has */
 };

@@ -42,9 +42,9 @@ def most_of(most: Optional[int]) -> int:
     if most is None:
         return ALL
     if not isinstance(most, int):
-        raise TypeError(f'the most entries are a number, and not {type(most).__name__}')
+        raise TypeError(f'the bound on a list is a whole number or None, and not {type(most).__name__}')
     if not 0 <= most <= ALL:
-        raise ValueError('the most entries are no such number')
+        raise ValueError('the bound on a list is below 0 or too large')
     return most
 
 
