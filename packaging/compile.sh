@@ -20,6 +20,10 @@ list=$(packaging/words.sh "$name")
 mapfile -t words <<< "$list"
 
 cd "crates/$name"
+# another call for this crate, as parts of `make test` make them beside each other, waits for this one
+mkdir -p out
+exec 8> out/compile.lock
+flock 8
 to=out${flags:+/flagged}
 mkdir -p "$to"
 kind=lib$name.a
@@ -61,6 +65,6 @@ if [ -e src/main.rt ]; then
         mapfile -t -O "${#linked[@]}" linked <<< "$runtime"
     fi
     "$kit/bin/rattle-link" --target x86_64-unknown-linux-gnu --toolchain "$kit/toolchain" -o "$to/$name" "${linked[@]}"
-else
-    (cd "$top" && sha256sum "crates/$name/$to/$kind") > "$to/module.bc.of"
+    kind=$name
 fi
+(cd "$top" && sha256sum "crates/$name/$to/$kind") > "$to/module.bc.of"

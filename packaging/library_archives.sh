@@ -1,6 +1,6 @@
 #!/usr/bin/env bash
 # Makes the archives of the library that stands in out/portable: out/liberd-VERSION-linux-PROCESSOR.tar.gz for x86_64 and
-# aarch64, and out/erd-VERSION-windows-x86_64.zip, each with the licences, the page on calls and the examples.
+# aarch64, and out/erd-VERSION-windows-x86_64.zip with the program too, each with the licences, the page on calls and the examples.
 set -eu
 cd "$(dirname "$0")/.."
 . packaging/version.sh
@@ -26,4 +26,5 @@ for processor in x86_64 aarch64; do
 done
 name=erd-$version-windows-x86_64
 gathered windows-x86_64 "$name"
+cp out/portable/program-windows/erd.exe "$work/$name"
 zipped "$work/$name" "out/$name.zip"

@@ -33,8 +33,9 @@ OTHERS = """Without a licence of their own
 
 In the forms for other machines there is also code of the tools that made them: of
 LLVM's compiler-rt in erd.wasm (Apache-2.0 WITH LLVM-exception), of GCC's libgcc in
-erd.dll and liberd.so for aarch64 (GPL-3.0-or-later WITH GCC-exception-3.1), and of
-mingw-w64 in erd.dll (MIT, and in the public domain). These exceptions ask for no notice.
+erd.dll, erd.exe, and liberd.so and erd for aarch64 (GPL-3.0-or-later WITH
+GCC-exception-3.1), and of mingw-w64 in erd.dll and erd.exe (MIT, and in the public
+domain). These exceptions ask for no notice.
 """
 
 

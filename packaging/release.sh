@@ -12,6 +12,7 @@ packaging/deb.sh
 packaging/tarball.sh
 packaging/conformance.sh
 packaging/portable/make.sh
+packaging/tarball.sh aarch64
 packaging/library_deb.sh amd64
 packaging/library_deb.sh arm64
 packaging/library_archives.sh

@@ -36,6 +36,19 @@ without_machine() {
         s/^(attributes #[0-9]+ = \{) *\}/\1 "machine"="any" }/' "$1" > "$2"
 }
 
+# is_module_of CRATE: whether the module that packaging/compile.sh has kept is that of the crate as it stands compiled
+is_module_of() {
+    [ -e "crates/$1/out/module.bc" ] && sha256sum --status -c "crates/$1/out/module.bc.of" 2> /dev/null
+}
+
+# proved_module CRATE TEXT: the proved code of a crate as such a module, which is compiled first where it has not been
+proved_module() {
+    is_module_of "$1" || packaging/compile.sh "$1" > out/module.log 2>&1 || { tail -n 20 out/module.log >&2; exit 1; }
+    llvm clang -S -emit-llvm -Xclang -disable-llvm-passes -x ir "crates/$1/out/module.bc" -o "$2.kept"
+    without_machine "$2.kept" "$2"
+    rm "$2.kept"
+}
+
 # from_c FILE MODULE FLAG ..: C as such a module, not optimised yet
 from_c() {
     llvm clang --target=x86_64-unknown-linux-gnu -std=c11 -O3 -Xclang -disable-llvm-passes -fPIC -fno-stack-protector \
@@ -44,16 +57,25 @@ from_c() {
     rm "$parts/c.ll"
 }
 
-# proved_for MACHINE MODULE: the proved code for another machine than x86-64. One instruction of x86-64 stands in it by name, which
-# picks bytes of a vector by their places, and zero where a place is negative; each machine has one of its own that does this.
+# proved_for MACHINE PROVED MODULE: proved code for another machine than x86-64. One instruction of x86-64 stands in it by name,
+# which picks bytes of a vector by their places, and zero where a place is negative; each machine has one of its own that does this.
 proved_for() {
-    sed 's/@llvm\.x86\.ssse3\.pshuf\.b\.128/@pick_bytes/; /^declare .* @pick_bytes(/d' "$parts/proved.ll" > "$2"
-    cat "packaging/portable/pick_bytes/$1.ll" >> "$2"
-    if grep -q '@llvm\.x86\.' "$2"; then
+    sed 's/@llvm\.x86\.ssse3\.pshuf\.b\.128/@pick_bytes/; /^declare .* @pick_bytes(/d' "$2" > "$3"
+    cat "packaging/portable/pick_bytes/$1.ll" >> "$3"
+    if grep -q '@llvm\.x86\.' "$3"; then
         echo "$0: the proved code has instructions of x86-64:" >&2
-        grep -o '@llvm\.x86\.[a-z0-9.]*' "$2" | sort -u >&2
+        grep -o '@llvm\.x86\.[a-z0-9.]*' "$3" | sort -u >&2
         exit 1
     fi
+}
+
+# resource FILE OBJECT: the resource with the version that a file for Windows has, by its name a program or a library
+resource() {
+    local type=1
+    [[ $1 == *.exe ]] || type=2
+    needed binutils-mingw-w64-x86-64 x86_64-w64-mingw32-windres
+    sed "s/@VERSION@/$version/; s/@NUMBERS@/${version//./,},0/; s/@FILE@/$1/; s/@TYPE@/$type/" packaging/portable/erd.rc > "$2.rc"
+    x86_64-w64-mingw32-windres "$2.rc" "$2"
 }
 
 # take_profile: leaves in $profile the flags of clang by which proved code is compiled with the profile. clang would warn of each

@@ -20,7 +20,7 @@ aarch64)
     needed gcc-aarch64-linux-gnu "$linker"
     archive=$parts/aarch64.a
     objects=()
-    proved_for aarch64 "$parts/proved_aarch64.ll"
+    proved_for aarch64 "$parts/proved.ll" "$parts/proved_aarch64.ll"
     take_profile
     for part in proved_aarch64 calls heap; do
         llvm clang --target=aarch64-linux-gnu -O3 -fPIC -Wno-override-module "${profile[@]}" -x ir -c "$parts/$part.ll" \

@@ -1,6 +1,6 @@
 #!/usr/bin/env bash
-# Makes every form of the library in out/portable, with a line for each that says what it needs. Where something is missing it
-# says so, makes the others, and ends with status 1.
+# Makes every form of the library in out/portable, and the program for other machines, with a line for each that says what it
+# needs. Where something is missing it says so, makes the others, and ends with status 1.
 set -u
 cd "$(dirname "$0")/../.." || exit 1
 status=0
@@ -16,4 +16,6 @@ form linux-x86_64 'the C compiler alone' linux.sh x86_64
 form linux-aarch64 'gcc-aarch64-linux-gnu and libc6-dev-arm64-cross' linux.sh aarch64
 form windows-x86_64 'gcc-mingw-w64-x86-64-posix' windows.sh
 form erd.wasm 'binaryen, wabt and libclang-rt-22-dev-wasm64' wasm.sh
+form program-aarch64 'gcc-aarch64-linux-gnu and libc6-dev-arm64-cross' program.sh aarch64
+form program-windows 'gcc-mingw-w64-x86-64-posix' program.sh windows
 exit "$status"

@@ -6,20 +6,10 @@
 set -eu
 cd "$(dirname "$0")/../.."
 . packaging/portable/common.sh
-archive=crates/erd_c/out/liberd_c.a
-module=crates/erd_c/out/module.bc
-
-# is_of_archive: whether the kept module is that of the archive as it stands
-is_of_archive() {
-    [ -e "$module" ] && sha256sum --status -c "$module.of" 2> /dev/null
-}
 
 [ -e out/c/liberd.a ] || packaging/library.sh
-is_of_archive || packaging/compile.sh erd_c > out/module.log 2>&1 || { tail -n 20 out/module.log >&2; exit 1; }
-[ -e "$parts/heap.ll" ] && [ -z "$(find "$module" bindings/c packaging/portable/{module,common}.sh packaging/portable/heap.c \
-    -newer "$parts/heap.ll")" ] && exit
-llvm clang -S -emit-llvm -Xclang -disable-llvm-passes -x ir "$module" -o "$parts/module.ll"
-without_machine "$parts/module.ll" "$parts/proved.ll"
-rm "$parts/module.ll"
+is_module_of erd_c && [ -e "$parts/heap.ll" ] && [ -z "$(find crates/erd_c/out/module.bc bindings/c/erd.[ch] \
+    packaging/portable/{module,common}.sh packaging/portable/heap.c -newer "$parts/heap.ll")" ] && exit
+proved_module erd_c "$parts/proved.ll"
 from_c bindings/c/erd.c "$parts/calls.ll"
 from_c packaging/portable/heap.c "$parts/heap.ll"

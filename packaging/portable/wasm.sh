@@ -28,7 +28,7 @@ for name in "${names[@]}"; do
     wide+=("-D$name=wide_$name")
 done
 from_c bindings/c/erd.c "$parts/wide.ll" "${wide[@]}"
-proved_for wasm "$parts/proved_wasm.ll"
+proved_for wasm "$parts/proved.ll" "$parts/proved_wasm.ll"
 for part in proved_wasm wide heap; do
     compiled "$part" -Wno-override-module -x ir "$parts/$part.ll"
 done

@@ -9,7 +9,6 @@ cd "$(dirname "$0")/../.."
 packaging/portable/module.sh
 linker=x86_64-w64-mingw32-gcc
 needed gcc-mingw-w64-x86-64-posix "$linker"
-needed binutils-mingw-w64-x86-64 x86_64-w64-mingw32-windres
 folder=$made/windows-x86_64
 
 objects=()
@@ -19,8 +18,7 @@ for part in proved calls heap; do
         -o "$parts/$part.windows.o"
     objects+=("$parts/$part.windows.o")
 done
-sed "s/@VERSION@/$version/; s/@NUMBERS@/${version//./,},0/" packaging/portable/erd.rc > "$parts/erd.rc"
-x86_64-w64-mingw32-windres "$parts/erd.rc" "$parts/rc.windows.o"
+resource erd.dll "$parts/rc.windows.o"
 
 rm -rf "$folder"
 mkdir -p "$folder"

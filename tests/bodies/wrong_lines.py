@@ -25,7 +25,8 @@ LINKED = ('examples', 'crates.txt', 'third_party')
 # Crates that are compiled anew, and those that a line changes, have folders of their own there.
 COMPILED = ('erd', 'erd_c', 'erd_program')
 CHANGED = ('erd_canon', 'erd_index', 'erd_meaning')
-MADE = ('erd', 'out/c', 'out/conformance', 'out/conformance.made', 'out/portable/erd.wasm', 'out/portable/linux-x86_64')
+MADE = ('erd', 'out/c', 'out/conformance', 'out/conformance.made', 'out/portable/erd.wasm', 'out/portable/linux-x86_64',
+        *(f'out/portable/parts/program_{machine}_{part}.o' for machine in ('aarch64', 'windows') for part in ('proved', 'heap')))
 
 
 class BadList(Exception):
@@ -145,7 +146,8 @@ class Copy:
                 (self.top / 'crates' / path.name / 'out').mkdir()
             else:
                 (self.top / 'crates' / path.name).symlink_to(path)
-        for name in ('erd_c/out/liberd_c.a', 'erd_c/out/module.bc', 'erd_c/out/module.bc.of', 'erd_program/out/rlib'):
+        for name in ('erd/out/erd', 'erd/out/module.bc', 'erd/out/module.bc.of', 'erd_c/out/liberd_c.a', 'erd_c/out/module.bc',
+                     'erd_c/out/module.bc.of', 'erd_program/out/rlib'):
             made, target = TOP / 'crates' / name, self.top / 'crates' / name
             if made.is_dir():
                 shutil.copytree(made, target)

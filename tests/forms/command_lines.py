@@ -42,7 +42,9 @@ class Case:
 
     @property
     def words(self):
-        return [word for given in json.loads(self.rules['words']) for word in (given if isinstance(given, list) else [given])]
+        for given in json.loads(self.rules['words']):
+            for word in given if isinstance(given, list) else [given]:
+                yield word if isinstance(word, str) else word['text'] * word['times']
 
     def is_for(self, kind):
         """Whether a form of this kind has the case."""
@@ -124,7 +126,7 @@ def wrong(case, run, earlier):
 
 def main(words):
     beside = os.path.abspath([words.pop(1) for _ in range(2)][1]) if words[1:2] == ['--beside'] else None
-    _, form, kind, *command = [os.path.abspath(word) if os.path.isfile(word) else word for word in words]
+    _, form, kind, *command = [os.path.abspath(word) if '/' in word and os.path.isfile(word) else word for word in words]
     earlier, counts = {}, [0, 0]
     for case in filter(lambda it: it.is_for(kind), cases_of(TABLE.read_text(encoding='utf-8'))):
         run = ran(command, case)

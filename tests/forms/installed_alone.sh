@@ -104,6 +104,10 @@ has 'erd-*-windows-x86_64.zip' && command -v x86_64-w64-mingw32-gcc > /dev/null 
     alone 'Windows, by wine' accepted 'python3 -m zipfile -e erd-*-windows-x86_64.zip .' 'cd erd-*-windows-x86_64' 'cp examples/* .' \
         "$(line docs/CALLING.md 'x86_64-w64-mingw32-gcc ')" \
         "WINEDEBUG=-all wine erd_call.exe ../ballots.json 2> /dev/null | tr -d '\r'"
+has 'erd-*-linux-aarch64.tar.gz' && [ -x /usr/bin/qemu-aarch64 ] && alone 'the tarball for aarch64' accepted \
+    'tar xzf erd-*-linux-aarch64.tar.gz' 'qemu-aarch64 -L /usr/aarch64-linux-gnu erd-*-linux-aarch64/bin/erd check ballots.json'
+has 'erd-*-windows-x86_64.zip' && command -v wine > /dev/null && alone 'erd.exe, by wine' accepted \
+    'python3 -m zipfile -e erd-*-windows-x86_64.zip .' 'cd erd-*-windows-x86_64' 'WINEDEBUG=-all wine erd.exe check ../ballots.json 2> /dev/null'
 if has 'erd-*-manylinux*x86_64.whl' && /usr/bin/python3 -c 'import venv' 2> /dev/null; then
     room=("$(line docs/CALLING.md 'python3 -m venv')" "$(line docs/CALLING.md 'python3 -m pip')")
     alone 'Python, as CALLING.md says' accepted "${room[@]}" 'cp examples/* .' "$(line docs/CALLING.md 'python3 erd_call.py')"

@@ -4,25 +4,10 @@
 set -u
 . "$(dirname "$0")/../shared/start.sh" || exit 1
 . tests/shared/commands.sh
+. tests/shared/wine.sh
 made=out/portable
 pairs=${PAIRS:-300}
 seed=${SEED:-$RANDOM}
-
-# Wine keeps a server running for its folder.
-export WINEPREFIX=$work/wine WINEDEBUG=-all
-ended() {
-    [ ! -d "$WINEPREFIX" ] || wineserver -k 2> /dev/null
-    rm -rf "$work"
-}
-trap ended EXIT
-
-# has FORM COMMAND ..: whether each command of a form is there; if not, the form is told as skipped
-has() {
-    local form=$1 command
-    for command in "${@:2}"; do
-        command -v "$command" > /dev/null || { echo "skipped $form: there is no $command"; return 1; }
-    done
-}
 
 # answers FORM COMMAND ..: compares the answers of a form
 answers() {
@@ -76,7 +61,7 @@ of_windows() {
     cp "$folder/erd.dll" "$work"
     run x86_64-w64-mingw32-gcc -std=c11 -O2 -Wall -Wextra -I"$folder" tests/forms/caller.c "$folder/erd.lib" -o "$work/caller.exe"
     expect 'a caller for Windows' 0
-    wine wineboot --init > /dev/null 2>&1
+    begin_wine
     answers windows wine "$work/caller.exe"
 }
 
@@ -96,10 +81,10 @@ run "${CC:-cc}" -std=c11 -O2 -Wall -Wextra -Ibindings/c tests/forms/caller.c out
 expect 'a caller of the library of this machine' 0
 [ "$status" -eq 0 ] || { counts; exit; }
 
-has 'the library for x86_64' readelf && of_linux x86_64 "${CC:-cc}" env LD_LIBRARY_PATH="$made/linux-x86_64"
-has 'the library for aarch64' aarch64-linux-gnu-gcc qemu-aarch64 &&
+has_all 'the library for x86_64' readelf && of_linux x86_64 "${CC:-cc}" env LD_LIBRARY_PATH="$made/linux-x86_64"
+has_all 'the library for aarch64' aarch64-linux-gnu-gcc qemu-aarch64 &&
     of_linux aarch64 aarch64-linux-gnu-gcc qemu-aarch64 -L /usr/aarch64-linux-gnu -E LD_LIBRARY_PATH="$made/linux-aarch64"
-has 'erd.dll' x86_64-w64-mingw32-gcc wine && of_windows
-has 'erd.wasm' wasm-opt wasm2wat node && of_wasm
+has_all 'erd.dll' x86_64-w64-mingw32-gcc wine && of_windows
+has_all 'erd.wasm' wasm-opt wasm2wat node && of_wasm
 
 counts

@@ -4,6 +4,7 @@
 set -u
 . "$(dirname "$0")/../shared/start.sh" || exit 1
 . tests/shared/commands.sh
+. tests/shared/wine.sh
 . packaging/version.sh
 release=$PWD/out/release
 example=$PWD/examples/calling/erd_call.c
@@ -11,12 +12,6 @@ one=$PWD/examples/one-unit.json
 left=$PWD/examples/county.vendor-a.json
 right=$PWD/examples/county.vendor-b.json
 tools=/usr/local/bin:/usr/bin:/bin:/usr/sbin:/sbin
-export WINEPREFIX=$work/wine WINEDEBUG=-all
-ended() {
-    [ ! -d "$WINEPREFIX" ] || wineserver -k 2> /dev/null
-    rm -rf "$work"
-}
-trap ended EXIT
 
 missing=''
 for command in wasm-opt wasm2wat aarch64-linux-gnu-gcc x86_64-w64-mingw32-gcc dpkg-deb dpkg-shlibdeps npm; do
@@ -63,9 +58,10 @@ expect_text 'the bill of materials' 0 ''
 
 # The same in another folder. What is proved and compiled here serves there.
 copy=$work/another/folder
-mkdir -p "$copy/crates/erd_c/out" "$copy/out/c" "$copy/out/profiled"
+mkdir -p "$copy"/crates/erd{,_c}/out "$copy/out/c" "$copy/out/profiled"
 tar --create --exclude=./.git --exclude=./out --exclude=./crates --exclude=node_modules . | tar --extract --directory "$copy"
 cp -p crates/erd_c/out/liberd_c.a crates/erd_c/out/module.bc crates/erd_c/out/module.bc.of "$copy/crates/erd_c/out"
+cp -p crates/erd/out/{erd,module.bc,module.bc.of} "$copy/crates/erd/out"
 cp -p out/c/* "$copy/out/c"
 [ "${PROFILE:-}" = no ] || cp -p out/profiled/* "$copy/out/profiled"
 run "$copy/packaging/release.sh"
@@ -122,6 +118,11 @@ if command -v qemu-aarch64 > /dev/null; then
     plain aarch64-linux-gnu-gcc -I"$work/arm64/usr/include" "$example" -L"$below" -lerd -o "$work/for_arm64"
     expect 'a program for arm64' 0
     answers 'on arm64' qemu-aarch64 -L /usr/aarch64-linux-gnu -E LD_LIBRARY_PATH="$below" "$work/for_arm64"
+    listed 'the files of the tarball for aarch64' packaging/files/erd.tar.txt "erd-$version-linux-aarch64" \
+        < <(gzip -dc "$release/erd-$version-linux-aarch64.tar.gz")
+    tar --extract --gzip --file "$release/erd-$version-linux-aarch64.tar.gz" --directory "$work"
+    plain qemu-aarch64 -L /usr/aarch64-linux-gnu "$work/erd-$version-linux-aarch64/bin/erd" check "$one"
+    expect_text 'the program for arm64' 0 accepted
 else
     echo 'skipped a program for arm64: there is no qemu-aarch64'
 fi
@@ -132,8 +133,10 @@ if command -v wine > /dev/null; then
     folder=$work/erd-$version-windows-x86_64
     plain x86_64-w64-mingw32-gcc -I"$folder" "$folder/examples/erd_call.c" "$folder/erd.lib" -o "$folder/erd_call.exe"
     expect 'a program for Windows' 0
-    env -i HOME="$work" PATH="$tools" WINEPREFIX="$WINEPREFIX" WINEDEBUG=-all wine wineboot --init > /dev/null 2>&1
+    begin_wine
     answers 'on Windows' wine "$folder/erd_call.exe"
+    plain wine "$folder/erd.exe" compare "$left" "$right"
+    expect_text 'erd.exe' 0 same
 else
     echo 'skipped a program for Windows: there is no wine'
 fi

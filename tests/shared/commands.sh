@@ -67,6 +67,14 @@ listed() {
     said "$1" "$(diff "$2" "$work/listed" 2>&1 | grep '^[<>]\|^diff' | head -n 5 | tr '\n' ' ')"
 }
 
+# has_all FORM COMMAND ..: whether each command that a form needs is there; if not, the form is told as skipped
+has_all() {
+    local form=$1 command
+    for command in "${@:2}"; do
+        command -v "$command" > /dev/null || { echo "skipped $form: there is no $command"; return 1; }
+    done
+}
+
 # had TOOL: whether the tool is here; where it isn't, root gets the Debian package of this name
 had() {
     command -v "$1" > /dev/null && return
