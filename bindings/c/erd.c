@@ -33,6 +33,7 @@ typedef struct told piece_of_pair(const uint8_t *left, size_t left_size, const u
                                   size_t room_size);
 piece_of_report erd_tell_check_data_piece, erd_tell_canonical_data_piece;
 piece_of_pair erd_tell_compare_data_piece, erd_tell_differences_data;
+struct told erd_tell_command_line(const uint8_t *words, size_t size, uint8_t *room, size_t room_size);
 
 enum { MOST_BYTES = 67108864, ROOM_FOR_LINES = 4096, ROOM_FOR_PIECE = 1048576 };
 
@@ -50,7 +51,8 @@ enum call {
     CHECK_DATA_PIECE,
     CANONICAL_DATA_PIECE,
     COMPARE_DATA_PIECE,
-    DIFFERENCES_DATA
+    DIFFERENCES_DATA,
+    COMMAND_LINE
 };
 
 struct question {
@@ -107,9 +109,16 @@ static struct told ask(struct question *it, uint8_t *room, size_t room_size) {
     case COMPARE_DATA:
         return erd_tell_compare_data(it->left.at, it->left.size, it->right.at, it->right.size, prefers,
                                      it->prefer.at, it->prefer.size, room, room_size);
+    case COMMAND_LINE:
+        return erd_tell_command_line(it->left.at, it->left.size, room, room_size);
     default:
         return ask_for_piece(it, room, room_size);
     }
+}
+
+/* Wrong words have a text, and wrong arguments of a call have none. */
+static bool has_text(enum call call, uint32_t outcome) {
+    return outcome <= (call == COMMAND_LINE ? (uint32_t)ERD_LINE_WRONG : (uint32_t)ERD_NOT_JSON);
 }
 
 /* The text at the front of the room, with a zero byte behind it. What the text does not need of the room is given back. */
@@ -120,13 +129,13 @@ static char *text_in(uint8_t *room, size_t length) {
 
 /* Calls with this much room for the text. If that is too little, calls once more with as much room as the text needs. The
  * zero byte behind the text has a byte of its own. */
-static enum erd_outcome answer(struct question *it, size_t room_size, char **text, size_t *length) {
+static uint32_t answer(struct question *it, size_t room_size, char **text, size_t *length) {
     while (room_size < SIZE_MAX) {
         uint8_t *room = calloc(room_size + 1, 1);
         if (room == NULL)
             return ERD_NO_MEMORY;
         struct told told = ask(it, room, room_size);
-        int is_told = told.outcome <= ERD_NOT_JSON;
+        bool is_told = has_text(it->call, told.outcome);
         if (is_told && text != NULL && told.length > room_size) {
             free(room);
             room_size = told.length;
@@ -143,11 +152,15 @@ static enum erd_outcome answer(struct question *it, size_t room_size, char **tex
     return ERD_NO_MEMORY;
 }
 
-static enum erd_outcome call(struct question *it, size_t room_size, char **text, size_t *length) {
+static void set_to_none(char **text, size_t *length) {
     if (text != NULL)
         *text = NULL;
     if (length != NULL)
         *length = 0;
+}
+
+static enum erd_outcome call(struct question *it, size_t room_size, char **text, size_t *length) {
+    set_to_none(text, length);
     if (it->left.size > MOST_BYTES || it->right.size > MOST_BYTES)
         return ERD_WRONG;
     return answer(it, text == NULL ? 0 : room_size, text, length);
@@ -227,6 +240,12 @@ enum erd_outcome erd_differences_data(const void *left, size_t left_size, const 
                                       const char *prefer, struct erd_piece *piece, char **text, size_t *length) {
     struct question it = question_of(DIFFERENCES_DATA, bytes_of(left, left_size), bytes_of(right, right_size), prefer);
     return call_for_piece(&it, 0, piece, text, length);
+}
+
+enum erd_line erd_command_line(const void *words, size_t size, char **text, size_t *length) {
+    struct question it = question_of(COMMAND_LINE, bytes_of(words, size), bytes_of(NULL, 0), NULL);
+    set_to_none(text, length);
+    return answer(&it, text == NULL ? 0 : ROOM_FOR_LINES, text, length);
 }
 
 void erd_free(char *text) {

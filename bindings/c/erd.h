@@ -1,6 +1,6 @@
 /* erd: canonical form, check and comparison of pre-election ballot definitions.
  *
- * Each call takes the bytes of one report, or of two, and does what a command of the program `erd` does. The manual page
+ * Each call but erd_command_line takes the bytes of one report, or of two, and does what a command of `erd` does. The manual page
  * erd(1) describes the commands, their texts and the preferred type of identifier. A call keeps no state: its result does
  * not depend on earlier calls, and several threads may call at once. It reads only the bytes that it is given, and never
  * ends the program. */
@@ -116,6 +116,26 @@ enum erd_outcome erd_compare_data_piece(const void *left, size_t left_size, cons
  * is refused, the text is that of erd_compare_data_piece. */
 enum erd_outcome erd_differences_data(const void *left, size_t left_size, const void *right, size_t right_size,
                                       const char *prefer, struct erd_piece *piece, char **text, size_t *length);
+
+/* What the words of a command line are: with ERD_LINE_HELP and ERD_LINE_WRONG, the exit status of the program. */
+enum erd_line {
+    ERD_LINE_HELP = 0,      /* the program writes the text to standard output */
+    ERD_LINE_REQUEST = 1,   /* the text is JSON, and says what the program is asked for */
+    ERD_LINE_WRONG = 3,     /* the program writes the text to standard error */
+    ERD_LINE_NO_MEMORY = 4  /* out of memory; there is no text */
+};
+
+/* Parses the words of a command line, as the program does. `words` points to `size` bytes: the program's name and then the other
+ * words, each ended by a zero byte. It may be null if `size` is 0. `text` and `length` are those of the other calls.
+ *
+ * With ERD_LINE_REQUEST the text is compact JSON in UTF-8, with no line end. It looks like
+ *
+ *     {"command":"check","files":["county.json"],"prefer":"fips"}
+ *
+ * `command` is "check", "canon" or "compare", or "filter" if there is no word behind the name. `files` has the names of the
+ * files, of a comparison the left one first. `prefer` is null if the words state no preference. Words that are not UTF-8 are
+ * wrong. */
+enum erd_line erd_command_line(const void *words, size_t size, char **text, size_t *length);
 
 /* Frees a text that one of these calls returned. Null is allowed, and does nothing. */
 void erd_free(char *text);

@@ -77,6 +77,15 @@ said "the conformance suite: $(tail -n 1 "$work/suite")" "$([ "$status" -eq 0 ] 
 "$erd" odd "$one" > "$work/out" 2> "$work/err"
 status=$?
 expect 'unusual arguments' 0 "$work/empty" ''
+call line erd compare --prefer 'two "words"' a -- -b
+expect_text 'the words of a request' 1 '{"command":"compare","files":["a","-b"],"prefer":"two \"words\""}' ''
+call line erd nosuch
+expect_text 'wrong words' 3 '' $'error: unrecognized subcommand \'nosuch\'\n\nUsage: erd [COMMAND]\n\nFor more information, try \'--help\'.\n'
+call line erd check $'\xff'
+expect_text 'words that are no text' 3 '' $'the arguments are not text\n'
+call line erd help help
+expect_text 'words that ask for help' 0 \
+    $'Print this message or the help of the given subcommand(s)\n\nUsage: erd help [COMMAND]...\n\nArguments:\n  [COMMAND]...  Print help for the subcommand(s)\n' ''
 for vendor in a b; do
     call canon "examples/county.vendor-$vendor.json"
     expect "the county by vendor $vendor" 0 examples/county.canonical.json ''
@@ -140,6 +149,9 @@ refused check "$small"
 refused compare "$one" "$small"
 refused check-data "$work/long/hundred-lines.json"
 refused compare-data "$one" "$small"
+refused line erd compare --prefer local-level "$one" "$small"
+refused line erd check --help
+refused line erd nosuch
 
 # From Python, on the examples, with and without a preference: what the caller in C is told.
 "$compiler" -shared -o "$work/liberd.so" -Wl,--whole-archive out/c/liberd.a -Wl,--no-whole-archive 2> "$work/err"

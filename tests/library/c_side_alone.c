@@ -6,11 +6,17 @@
 
 /* What the next calls tell, and what the last of them was handed. */
 static struct told next;
-static size_t calls, last_room, last_prefer_size;
+static size_t calls, last_room, last_prefer_size, last_size;
 static bool last_prefers;
 static const uint8_t *last_prefer;
 static int last_call;
 static const char *why;
+
+enum { SIZE = 1000, CALLS = 9, LINE = CALLS, FIRST_OF_PIECES = 5, MEBIBYTE = 1048576 };
+static const char *const names[CALLS + 1] = {"check",      "canonical",        "compare",            "check_data",
+                                             "compare_data", "check_data_piece", "compare_data_piece", "canonical_data_piece",
+                                             "differences_data", "command_line"};
+static const char report[SIZE];
 
 static uint8_t letter(size_t at) {
     return (uint8_t)('a' + at % 26);
@@ -23,7 +29,8 @@ static struct told told_next(bool prefers, const uint8_t *prefer, size_t prefer_
     last_prefers = prefers;
     last_prefer = prefer;
     last_prefer_size = prefer_size;
-    for (size_t at = 0; next.outcome <= ERD_NOT_JSON && next.length <= room_size && at < next.length; at++)
+    uint32_t textless = last_call == LINE ? ERD_LINE_NO_MEMORY : ERD_WRONG;
+    for (size_t at = 0; next.outcome < textless && next.length <= room_size && at < next.length; at++)
         room[at] = letter(at);
     return next;
 }
@@ -95,10 +102,10 @@ OF_PAIR(erd_tell_compare_data_piece, 6)
 OF_REPORT(erd_tell_canonical_data_piece, 7)
 OF_PAIR(erd_tell_differences_data, 8)
 
-enum { SIZE = 1000, CALLS = 9, FIRST_OF_PIECES = 5, MEBIBYTE = 1048576 };
-static const char *const names[CALLS] = {"check",      "canonical",   "compare", "check_data", "compare_data",
-                                         "check_data_piece", "compare_data_piece", "canonical_data_piece", "differences_data"};
-static const char report[SIZE];
+struct told erd_tell_command_line(const uint8_t *words, size_t size, uint8_t *room, size_t room_size) {
+    last_size = size;
+    return told_report(LINE, words, false, words, 0, room, room_size);
+}
 
 static enum erd_outcome asked_for_piece(int call, struct bytes it, const char *prefer, struct erd_piece *piece, char **text,
                                         size_t *length) {
@@ -270,6 +277,34 @@ static void piece(int call) {
     said(call, "no piece behind", 0);
 }
 
+/* Wrong words have a text, as help and a request have. */
+static void line(enum erd_line wanted, size_t wanted_length) {
+    char *text = NULL;
+    size_t length = 7;
+    next = (struct told){wanted, wanted_length};
+    calls = 0;
+    if (erd_command_line("erd\0-h", 7, &text, &length) != wanted || text == NULL || length != wanted_length || text[length] != 0)
+        why = "another answer";
+    else if (last_call != LINE || last_size != 7 || calls != (wanted_length > 4096 ? 2 : 1))
+        why = "another call";
+    for (size_t at = 0; why == NULL && at < length; at++)
+        if ((uint8_t)text[at] != letter(at))
+            why = "another text";
+    erd_free(text);
+    said(LINE, "a text of length", wanted_length);
+
+    calls = 0;
+    if (erd_command_line(NULL, 0, NULL, &length) != wanted || length != wanted_length || last_size != 0 || calls != 1
+        || last_room != 0)
+        why = "another answer without a text";
+    said(LINE, "the length alone of", wanted_length);
+    text = (char *)"";
+    next = (struct told){ERD_LINE_NO_MEMORY, wanted_length};
+    if (erd_command_line("erd", 4, &text, &length) != ERD_LINE_NO_MEMORY || text != NULL || length != 0)
+        why = "an answer without memory";
+    said(LINE, "no memory for a text of length", wanted_length);
+}
+
 int main(void) {
     static char long_preference[60002];
     static const size_t lengths[] = {0, 1, 15, 4095, 4096, 4097, 6095, 6096, 6097, 6098, 60001, 1052671,
@@ -299,6 +334,11 @@ int main(void) {
         piece(call);
         room_of_piece(call, 10000, 14096);
         room_of_piece(call, 2 * MEBIBYTE, MEBIBYTE + 4096);
+    }
+    for (size_t at = 0; at < sizeof lengths / sizeof *lengths; at++) {
+        line(ERD_LINE_HELP, lengths[at]);
+        line(ERD_LINE_REQUEST, lengths[at]);
+        line(ERD_LINE_WRONG, lengths[at]);
     }
     for (int call = 2; call <= 4; call += 2) {
         one_too_long(call, SIZE, (size_t)67108864 + 1);

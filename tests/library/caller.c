@@ -1,6 +1,6 @@
 /* Calls the C library as the program would be called: `library [check|canon|compare [--prefer TYPE] FILE ..]`. The words
  * `check-data` and `compare-data` ask for the same as JSON. With `library threads FILE` several threads call at once, and with
- * `library odd FILE` the calls are handed unusual arguments. */
+ * `library odd FILE` the calls are handed unusual arguments. `library line WORD ..` parses the words as a command line. */
 #include "../../bindings/c/erd.h"
 
 #include <pthread.h>
@@ -57,6 +57,24 @@ static int run(const char *command, const char *prefer, const char *left_name, c
     free(left.bytes);
     free(right.bytes);
     return outcome;
+}
+
+/* Writes what the words are answered with where the program writes it: JSON to standard output too. */
+static int line(int count, char **words) {
+    char given[4096], *text;
+    size_t size = 0, length;
+    for (int i = 0; i < count; i++) {
+        size_t more = strlen(words[i]) + 1;
+        if (more > sizeof given - size)
+            return 9;
+        memcpy(given + size, words[i], more);
+        size += more;
+    }
+    enum erd_line found = erd_command_line(given, size, &text, &length);
+    if (length > 0 && fwrite(text, 1, length, found == ERD_LINE_WRONG ? stderr : stdout) != length)
+        return 9;
+    erd_free(text);
+    return found;
 }
 
 /* The number of calls that a thread had answered wrongly. */
@@ -131,6 +149,41 @@ static int odd_data(struct file file) {
     return 0;
 }
 
+/* The number of the first command line that is answered wrongly, or 0. */
+static int odd_lines(void) {
+    static const char filter[] = "{\"command\":\"filter\",\"files\":[],\"prefer\":null}";
+    static const char check[] = "{\"command\":\"check\",\"files\":[\"a\"],\"prefer\":null}";
+    static const char empty[] = "{\"command\":\"check\",\"files\":[\"\"],\"prefer\":null}";
+    static const struct {
+        const char *words;
+        size_t size;
+        enum erd_line line;
+        const char *text;
+    } lines[] = {
+        {NULL, 0, ERD_LINE_REQUEST, filter},
+        {"", 1, ERD_LINE_REQUEST, filter},
+        {"erd", 3, ERD_LINE_REQUEST, filter},
+        {"erd", 4, ERD_LINE_REQUEST, filter},
+        {"erd\0check\0a", 12, ERD_LINE_REQUEST, check},
+        {"erd\0check\0a", 11, ERD_LINE_REQUEST, check},
+        {"\xc3\xa4\0check", 9, ERD_LINE_WRONG, NULL},
+        {"erd\0check\0", 11, ERD_LINE_REQUEST, empty},
+        {"erd\0check\0\xff", 12, ERD_LINE_WRONG, "the arguments are not text\n"},
+        {"\xff", 2, ERD_LINE_WRONG, "the arguments are not text\n"},
+    };
+    for (size_t at = 0; at < sizeof lines / sizeof *lines; at++) {
+        char *text = "";
+        size_t length = 1;
+        if (erd_command_line(lines[at].words, lines[at].size, &text, &length) != lines[at].line)
+            return 41 + (int)at;
+        if (lines[at].text == NULL ? length == 0 : !is_text(text, length, lines[at].text))
+            return 41 + (int)at;
+        erd_free(text);
+    }
+    size_t length = 1;
+    return erd_command_line("erd", 4, NULL, &length) == ERD_LINE_REQUEST && length == strlen(filter) ? 0 : 51;
+}
+
 /* A type of identifier of this many letters. */
 static int preferred(struct file file, size_t size) {
     char *prefer = malloc(size + 1);
@@ -178,12 +231,14 @@ static int odd(const char *name) {
     erd_free(other);
     int wrong = odd_data(file);
     free(file.bytes);
-    return wrong;
+    return wrong ? wrong : odd_lines();
 }
 
 int main(int count, char **words) {
     if (count == 1)
         return run("canon", NULL, NULL, NULL);
+    if (strcmp(words[1], "line") == 0)
+        return line(count - 2, words + 2);
     if (count == 3 && strcmp(words[1], "threads") == 0)
         return threads(words[2]);
     if (count == 3 && strcmp(words[1], "odd") == 0)

@@ -25,8 +25,9 @@ PROMISES = [
     ('What the whole program does (`run_program`)', ['erd_program/Program.IsProgramRun']),
     ('Answers as data (`check_data`, `compare_data`, `differences_data`)', [
         'erd_canon/DataAnswers.IsCheckedData', 'erd_canon/DataAnswers.IsComparedData', 'erd_canon/DataAnswers.IsListedData']),
+    ('The command line as data (`command_line_data`)', ['erd_canon/LineAnswers.IsLineData']),
     ('What the C library tells', ['erd_c/Told.IsCall', 'erd_c/Told.IsWrong', 'erd_c/Told.HasCanonicalText', 'erd_canon/Run.IsChecked',
-                                  'erd_canon/Run.IsCompared']),
+                                  'erd_canon/Run.IsCompared', 'erd_c/Lines.IsLineCall']),
 ]
 
 USE = re.compile(r'^\s*(?:unfoldable )?(?:pub )?use Rattle\.(\w+)\.specs\.([\w.]+?)(?:\.\{([^}]*)\}| as (\w+))$')

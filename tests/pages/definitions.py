@@ -23,13 +23,16 @@ CODE = 'What private functions answer, step by step; a reader may skip it. What 
 # Where the definitions of a file come from, if their comments do not say: the file, or one of its definitions.
 PROFILE = 'profile'
 SOURCES = {
+    'erd_c/Lines': 'this project',
     'erd_c/Told': 'this project',
     'erd_canon/Bytes.IsNotJson': 'RFC 8259, as `serde_json` reads it',
     'erd_canon/DataAnswers': 'docs/DATA.md',
     'erd_canon/DataValues': 'docs/DATA.md',
     'erd_canon/Devices': 'this project',
     'erd_canon/Engines': 'this project',
+    'erd_canon/LineAnswers': 'docs/DATA.md',
     'erd_canon/ReadLines': 'the grammar of `clap`',
+    'erd_canon/ReadLines.IsReadExactly': 'this project',
     'erd_canon/Subcommands': 'this project',
     'erd_canon/Writing': 'this project',
     'erd_check/Faults.is_text': 'RFC 8259, section 3',

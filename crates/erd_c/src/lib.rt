@@ -8,10 +8,12 @@ ghost use Rattle.erd_canon.specs.Run.{IsChecked, IsCompared};
 ghost use Rattle.erd_c.specs.Told.{HasCanonicalText, IsCall, IsWrong, preference};
 
 mod answers;
+mod line;
 mod pieces;
 mod told;
 
 use answers::{canonical, checked, checked_data, compared, compared_data};
+pub use line::erd_tell_command_line;
 pub use pieces::{
     erd_tell_canonical_data_piece, erd_tell_check_data_piece, erd_tell_compare_data_piece,
     erd_tell_differences_data,

@@ -125,7 +125,7 @@ pub(crate) fn tell_nothing(told: Told, wanted: &mut Wanted) -> Told
 }
 
 /// Returns a result without a text.
-fn textless(outcome: u32) -> Told
+pub(crate) fn textless(outcome: u32) -> Told
     ensures outcome { result.outcome ≡ outcome }
     ensures length { result.length ≡ 0 }
 {
@@ -133,7 +133,7 @@ fn textless(outcome: u32) -> Told
 }
 
 /// Puts the text at the front of the room if all of it fits.
-fn put(text: &[u8], room: &mut [u8])
+pub(crate) fn put(text: &[u8], room: &mut [u8])
     ensures { IsPut text.now room.old room.new }
 {
     if text.len() <= room.len() {

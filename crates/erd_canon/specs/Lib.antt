@@ -17,4 +17,5 @@ pub mod Statuses  -- exit statuses, and the words of faults
 pub mod ExactLines  -- the exact command lines
 pub mod Subcommands  -- the command line, as the parser of command lines sees it
 pub mod ReadLines  -- what any words are read as
+pub mod LineAnswers  -- what the words of a command line are answered with as data
 pub mod code  -- what private functions answer, which a reader may skip

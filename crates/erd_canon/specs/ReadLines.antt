@@ -1,5 +1,5 @@
 -- What any words of a command line are read as, by the rules of the program in `clap`'s grammar.
-use Rattle.std.specs.Prelude.{◌≡◌, ◌≢◌, true, ℕ, List, [], Option, Some, None, Result, Ok, Err, codes, bytes_eq, if◌then◌else◌, unwrap_or}
+use Rattle.std.specs.Prelude.{◌≡◌, ◌≢◌, true, ℕ, List, [], ◌∷◌, Option, Some, None, Result, Ok, Err, MatchResult, codes, bytes_eq, if◌then◌else◌, unwrap_or}
 use Rattle.clap.specs.Words.{IsAmong, Row, fault_of, first_of, subcommand_of, takes}
 use Rattle.clap.specs.declared.error.kind.ErrorKind.{ErrorKind}
 use Rattle.clap.specs.declared.error.kind.ErrorKind.TheVariants.{DisplayHelp, OutOfMemory}
@@ -7,6 +7,7 @@ use Rattle.erd_canon.specs.declared.commands.request.LineFault.{LineFault}
 use Rattle.erd_canon.specs.declared.commands.request.LineFault.TheVariants.{Help, Usage, Memory}
 use Rattle.erd_canon.specs.declared.commands.request.Request.{Request}
 use Rattle.erd_canon.specs.declared.commands.request.Request.TheVariants.{Filter, Check, Canon, Compare}
+use Rattle.erd_canon.specs.ExactLines.{HasPlainWords, words_of}
 use Rattle.erd_canon.specs.Subcommands.{program}
 
 -- The word that was given for the required argument with this name.
@@ -34,6 +35,11 @@ IsLineRead words (Err (Help text)) = (takes program words ≢ true) × IsAmong D
 IsLineRead words (Err (Usage text)) =
     (takes program words ≢ true) × ((kind : ErrorKind) × (kind ≢ DisplayHelp) × IsAmong kind (fault_of program words))
 IsLineRead words (Err Memory) = Unit {0}
+
+-- If the words are an exact line of a request, this request was read, or else the program is out of memory.
+abbrev pub IsReadExactly : List (List ℕ) → Result Request LineFault → Type 0
+IsReadExactly words found = (request : Request) (name : List ℕ) → HasPlainWords request → words ≡ name ∷ words_of request
+    → MatchResult found (λ answer. answer ≡ request) (λ fault. fault ≡ Memory)
 
 -- An error of the parser with this kind is passed on as this fault.
 abbrev pub IsFaultFor : ErrorKind → LineFault → Type 0

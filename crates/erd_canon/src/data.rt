@@ -5,6 +5,7 @@ pub(crate) mod compare;
 pub(crate) mod differences;
 mod fault_texts;
 mod fault_values;
+pub(crate) mod line;
 mod listed;
 pub(crate) mod piece;
 pub(crate) mod pieces;

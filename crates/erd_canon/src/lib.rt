@@ -21,6 +21,7 @@ pub use commands::words::command_line;
 pub use data::check::{Answer, check_data, check_data_with};
 pub use data::compare::{compare_data, compare_data_with};
 pub use data::differences::{differences_data, differences_data_with};
+pub use data::line::{LineAnswer, command_line_data};
 pub use data::piece::{Piece, PieceAnswer, Told};
 pub use data::pieces::{
     canonical_data_piece, check_data_piece, compare_data_piece, differences_data_piece,

@@ -1,5 +1,5 @@
 -- What the program does for the words of its command line.
-use Rattle.std.specs.Prelude.{◌≡◌, ◌⊎◌, ◌++◌, ◌∷◌, [], ℕ, true, false, List, Result, Ok, Err, MatchResult, codes}
+use Rattle.std.specs.Prelude.{◌≡◌, ◌⊎◌, ◌++◌, ◌∷◌, [], ℕ, true, false, List, Result, Ok, Err, codes}
 use Rattle.std.specs.Io.KnownBytes.{Appends}
 use Rattle.erd_canon.specs.Devices.{BeforeAfter, Writer, between}
 use Rattle.erd_canon.specs.declared.commands.request.Request.{Request}
@@ -7,8 +7,7 @@ use Rattle.erd_canon.specs.declared.commands.request.Request.TheVariants.{Filter
 use Rattle.erd_canon.specs.declared.commands.request.LineFault.{LineFault}
 use Rattle.erd_canon.specs.declared.commands.request.LineFault.TheVariants as line
 use Rattle.erd_canon.specs.declared.engines.outcome.RunFault.TheVariants as run
-use Rattle.erd_canon.specs.ExactLines.{HasPlainWords, words_of}
-use Rattle.erd_canon.specs.ReadLines.{IsLineRead}
+use Rattle.erd_canon.specs.ReadLines.{IsLineRead, IsReadExactly}
 use Rattle.erd_canon.specs.Writing.{IsPartWritten}
 use Rattle.erd_program.specs.declared.files.WorldFault.{WorldFault}
 use Rattle.erd_program.specs.declared.files.WorldFault.TheVariants.{Memory}
@@ -76,11 +75,6 @@ IsLineAnswered known (Ok request) status world = IsDone known request status wor
 IsLineAnswered known (Err fault) status world =
     LeavesFiles world × (LeavesInput world
     × IsLineRefused known.out known.err fault status (between world.before.out world.after.out) (between world.before.err world.after.err))
-
--- If the words are an exact line of a request, this request was read, or else the program is out of memory.
-abbrev pub IsReadExactly : List (List ℕ) → Result Request LineFault → Type 0
-IsReadExactly words found = (request : Request) (name : List ℕ) → HasPlainWords request → words ≡ name ∷ words_of request
-    → MatchResult found (λ answer. answer ≡ request) (λ fault. fault ≡ line.Memory)
 
 -- Some line was read from the words, and the program answered it.
 pub record AreWordsAnswered {F File I O E : Type 0} (known : Outside F File I O E) (words : List (List ℕ)) (status : ℕ) (world : BeforeAfter (World F I O E)) : Type 0 where

@@ -27,7 +27,7 @@ struct answer {
 };
 
 /* Hands an answer on to the caller's 4 bytes each. */
-static uint32_t handed_on(enum erd_outcome outcome, struct answer answer, address text, address length) {
+static uint32_t handed_on(uint32_t outcome, struct answer answer, address text, address length) {
     if (text != 0)
         *(address *)at(text) = address_of(answer.text);
     if (length != 0)
@@ -109,6 +109,13 @@ PIECE_OF_REPORT(erd_check_data_piece)
 PIECE_OF_REPORT(erd_canonical_data_piece)
 PIECE_OF_TWO_REPORTS(erd_compare_data_piece)
 PIECE_OF_TWO_REPORTS(erd_differences_data)
+
+uint32_t exported_erd_command_line(address words, uint32_t size, address text, address length) EXPORTED("erd_command_line");
+uint32_t exported_erd_command_line(address words, uint32_t size, address text, address length) {
+    struct answer answer = {NULL, 0};
+    enum erd_line line = erd_command_line(at(words), size, text != 0 ? &answer.text : NULL, &answer.length);
+    return handed_on(line, answer, text, length);
+}
 
 void exported_erd_free(address room) EXPORTED("erd_free");
 void exported_erd_free(address room) {

@@ -2,8 +2,9 @@
 use crate::tests::{CANONICAL, OTHER_NAME, REPORT};
 use erd_canon::{
     Disposal, Free, Outcome, ReadFrom, Request, RunFault, Sink, Source, WriteTo, command_line,
-    run_canon, run_canon_disposing, run_canon_with, run_check, run_check_disposing, run_check_with,
-    run_compare, run_compare_disposing, run_compare_with, write_out,
+    command_line_data, run_canon, run_canon_disposing, run_canon_with, run_check,
+    run_check_disposing, run_check_with, run_compare, run_compare_disposing, run_compare_with,
+    write_out,
 };
 use std::alloc::{AllocError, Global};
 use std::mem;
@@ -185,5 +186,18 @@ fn lines(rt: HostRuntime) -> Result<(), Fail> {
     };
     assert_eq!(rt; file.as_str(), "county.json");
     assert_eq!(rt; prefer.text(), Some("fips"));
+    Ok(())
+}
+
+#[test]
+fn lines_as_data(rt: HostRuntime) -> Result<(), Fail> {
+    let alloc = rt.alloc();
+    let words = line_of(alloc)?;
+    let answer = command_line_data(alloc, &words)?;
+    assert_eq!(rt; answer.status, None);
+    assert_eq!(rt;
+        answer.text.as_str(),
+        r#"{"command":"check","files":["county.json"],"prefer":"fips"}"#
+    );
     Ok(())
 }

@@ -1,0 +1,35 @@
+-- The text of the object of a request is read back, and what words are answered with.
+use Rattle.erd_canon.proofs.Common.{◌≡◌, ℕ, ◌≤◌, false, List, Some, None, Option, Result, IsUtf8, sym, refl, subst, arith, Data, depth, read, max_depth, has_float, compact_text, IsLineRead}
+use Rattle.erd_canon.specs.DataAnswers.{IsDataText}
+use Rattle.erd_canon.specs.LineAnswers.{IsAnswerTo, IsLineData, request_data}
+use Rattle.erd_canon.specs.ReadLines.{IsReadExactly}
+use Rattle.erd_canon.specs.declared.commands.request.LineFault.{LineFault}
+use Rattle.erd_canon.specs.declared.commands.request.Request.{Request}
+use Rattle.erd_canon.specs.declared.commands.request.Request.TheVariants.{Filter, Check, Canon, Compare}
+use Rattle.erd_canon.proofs.data_values.DataTexts.{value_text}
+
+-- the object of a request nests little, and has no number
+request_value : (r : Request) → (depth (request_data r) ≤ 2) × (has_float (request_data r) ≡ false)
+request_value Filter = (omega arith, refl)
+request_value (Check file None) = (omega arith, refl)
+request_value (Check file (Some type)) = (omega arith, refl)
+request_value (Canon file None) = (omega arith, refl)
+request_value (Canon file (Some type)) = (omega arith, refl)
+request_value (Compare left right None) = (omega arith, refl)
+request_value (Compare left right (Some type)) = (omega arith, refl)
+
+-- the text of a request
+pub request_text : (text : List ℕ) (r : Request) (v : Data) → v ≡ request_data r → (has_float v ≡ false → text ≡ compact_text v) → (depth v ≤ max_depth → read text ≡ Some v) → IsUtf8 text
+    → IsDataText text (request_data r)
+request_text text r v same written read_back utf8 =
+    let known = request_value r in value_text text v (request_data r) utf8 same known.1 (omega (arith, known.0)) written read_back
+
+-- the answer to what was read from the words
+pub line_data : (words : List (List ℕ)) (found line : Result Request LineFault) (status : Option ℕ) (text : List ℕ) → found ≡ line → IsReadExactly words found → IsLineRead words found
+    → IsAnswerTo line status text → IsLineData words status text
+line_data words found line status text is exact was_read answer = record {
+  found = found;
+  exact = exact;
+  read = was_read;
+  answer = subst (λ r. IsAnswerTo r status text) (sym is) answer;
+}

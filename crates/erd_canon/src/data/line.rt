@@ -1,0 +1,131 @@
+ghost use Rattle.std.specs.Prelude.{◌≡◌, ◌∷◌, [], map, string_bytes, codes, Some, Ok, Err, IfOk};
+ghost use Rattle.serde_json.specs.View.{view};
+ghost use Rattle.erd_canon.specs.LineAnswers.{IsAnswerTo, IsLineData, command_data, preference_data, request_data};
+
+use crate::commands::prefer::Prefer;
+use crate::commands::request::{FileName, LineFault, Request};
+use crate::commands::words::command_line;
+use erd_tables::Text;
+use serde_json::{Value, json};
+use std::alloc::{AllocError, Global};
+
+/// The answer of `command_line_data`.
+#[derive(Debug, Drop)]
+pub struct LineAnswer {
+    /// The exit status of the program for these words, if they make no request: 0 for help, 3 for wrong words. `None` for a
+    /// request.
+    pub status: Option<u8>,
+    /// For a request, compact JSON without a line feed: docs/DATA.md describes its value. Otherwise the text that the program
+    /// writes: help to standard output, and what is wrong with the words to standard error.
+    pub text: String,
+}
+
+/// Parses the words of a command line, as `command_line` does, and answers with a text. The first word is the program's name.
+///
+/// For a request, the text is a JSON object with the command, the names of the files and the preferred type of identifier. For
+/// words that ask for help, it is the help text. For words that are not a command line of the program, the text says why, and how
+/// the program is called.
+///
+/// # Errors
+///
+/// `AllocError` if out of memory.
+///
+/// ```
+/// let answer = command_line_data(alloc, &words)?;
+/// assert_eq!(rt; answer.status, None);
+/// assert_eq!(rt;
+///     answer.text.as_str(),
+///     r#"{"command":"check","files":["county.json"],"prefer":"fips"}"#
+/// );
+/// ```
+pub fn command_line_data(alloc: Global, words: &[String]) -> Result<LineAnswer, AllocError>
+    ensures { IfOk result (λ answer. IsLineData (map string_bytes words.now) answer.status (string_bytes answer.text)) }
+{
+    match command_line(alloc, words) {
+        Ok(request) => requested(alloc, &request),
+        Err(fault) => refused_line(alloc, &fault),
+    }
+}
+
+// The answer for a request.
+fn requested(alloc: Global, request: &Request) -> Result<LineAnswer, AllocError>
+    ensures { IfOk result (λ answer. IsAnswerTo (Ok request.now) answer.status (string_bytes answer.text)) }
+{
+    let value = request_value(alloc, request)?;
+    Ok(LineAnswer {
+        status: None,
+        text: value.to_string(alloc)?,
+    })
+}
+
+// The answer for words that make no request.
+fn refused_line(alloc: Global, fault: &LineFault) -> Result<LineAnswer, AllocError>
+    ensures { IfOk result (λ answer. IsAnswerTo (Err fault.now) answer.status (string_bytes answer.text)) }
+{
+    match fault {
+        LineFault::Help(text) => ending(alloc, 0, text),
+        LineFault::Usage(text) => ending(alloc, 3, text),
+        LineFault::Memory => Err(AllocError),
+    }
+}
+
+// The answer that is a text and an exit status.
+fn ending(alloc: Global, status: u8, text: &Text) -> Result<LineAnswer, AllocError>
+    ensures { IfOk result (λ answer. (answer.status ≡ Some status) × (string_bytes answer.text ≡ text.now)) }
+{
+    Ok(LineAnswer {
+        status: Some(status),
+        text: String::from_str(alloc, text.as_str())?,
+    })
+}
+
+// The JSON object of a request.
+fn request_value(alloc: Global, request: &Request) -> Result<Value, AllocError>
+    ensures { IfOk result (λ value. view value ≡ request_data request.now) }
+{
+    match request {
+        Request::Filter => json!(in alloc; {"command": "filter", "files": [], "prefer": null}),
+        Request::Check(file, prefer) => on_one_file(alloc, "check", file, prefer),
+        Request::Canon(file, prefer) => on_one_file(alloc, "canon", file, prefer),
+        Request::Compare(left, right, prefer) => on_two_files(alloc, left, right, prefer),
+    }
+}
+
+// The JSON object of a command for one file.
+fn on_one_file(
+    alloc: Global,
+    command: &str,
+    file: &FileName,
+    prefer: &Prefer,
+) -> Result<Value, AllocError>
+    ensures { IfOk result (λ value. view value ≡ command_data command.now (file.now ∷ []) prefer.now) }
+{
+    let file = file.as_str();
+    let prefer = preference_value(alloc, prefer)?;
+    json!(in alloc; {"command": command, "files": [file], "prefer": prefer})
+}
+
+// The JSON object of a comparison.
+fn on_two_files(
+    alloc: Global,
+    left: &FileName,
+    right: &FileName,
+    prefer: &Prefer,
+) -> Result<Value, AllocError>
+    ensures { IfOk result (λ value. view value ≡ command_data (codes "compare") (left.now ∷ right.now ∷ []) prefer.now) }
+{
+    let left = left.as_str();
+    let right = right.as_str();
+    let prefer = preference_value(alloc, prefer)?;
+    json!(in alloc; {"command": "compare", "files": [left, right], "prefer": prefer})
+}
+
+// The JSON value of a preference: its type as a string, or null.
+fn preference_value(alloc: Global, prefer: &Prefer) -> Result<Value, AllocError>
+    ensures { IfOk result (λ value. view value ≡ preference_data prefer.now) }
+{
+    match prefer.text() {
+        Some(kind) => Value::try_from_str(alloc, kind),
+        None => Ok(Value::Null),
+    }
+}
