@@ -63,7 +63,7 @@ enum erd_outcome erd_compare(const void *left, size_t left_size, const void *rig
  *     {"name":"Name","place":["Election",0,"Contest",2],"reason":2}
  *
  * `place` has the names of members as strings and positions in arrays, counted from 0, as numbers. `reason` is the number of
- * the reason, from 1 to 18, in docs/PROFILE.md. `name` is the name of the missing member; only reason 2 has it.
+ * the reason in docs/PROFILE.md. `name` is the name of the missing member; only reason 2 has it.
  * docs/DATA.md describes this text and those of the other calls that answer with data. */
 enum erd_outcome erd_check_data(const void *bytes, size_t size, const char *prefer, char **text, size_t *length);
 

@@ -25,7 +25,7 @@ export interface Fault {
     place: (string | number)[];
     /** The place as a JSON Pointer (RFC 6901). */
     pointer: string;
-    /** The number of the reason, 1 to 18. docs/PROFILE.md lists the reasons. */
+    /** The number of the reason. docs/PROFILE.md lists the reasons. */
     reason: number;
     /** The name of the missing member. Only reason 2 has it. */
     name?: string;

@@ -4,12 +4,12 @@
 from what `erd_compare_data` answers. Both take the JSON value that `json.loads` reads from the answer.
 """
 import json
+import pathlib
+import re
 
-# The words of the reasons 1 to 18, as docs/PROFILE.md has them.
-WORDS = ("wrong kind", "missing member ", "wrong class", "not a whole number", "outside the profile",
-         "unknown reference", "carried identity", "not pre-election", "wrong number of elections", "empty array",
-         "repeated", "no external identifier", "identifier used twice", "@id used twice", "unresolved reference",
-         "reference to another family", "selection of another contest", "selection name used twice")
+PROFILE = pathlib.Path(__file__).resolve().parents[2] / "docs" / "PROFILE.md"
+# The words of the reasons, as the table of the profile has them.
+WORDS = re.findall(r"^\| \d+ \| [A-Z]\w+: .* \| `(.+?)(?:NAME)?` \|$", PROFILE.read_text(encoding="utf-8"), re.M)
 MISSING_MEMBER = 2
 
 

@@ -48,7 +48,7 @@ class Fault:
     """The way from the root of the report: names of members, and positions in arrays, counted from 0."""
 
     reason: int
-    """The number of the reason, from 1 to 18. `docs/PROFILE.md` lists them."""
+    """The number of the reason. `docs/PROFILE.md` lists them."""
 
     name: Optional[str] = None
     """The name of the member that is missing, if one is (reason 2)."""
