@@ -29,9 +29,10 @@ exports() {
 # The headers that a compiler brings itself, such as stddef.h: the kit's clang has none.
 headers=(-isystem "$(cc -print-file-name=include)")
 
-# without_machine FILE MODULE: the text of a module, without the names of machine, processor and file
+# without_machine FILE MODULE: the text of a module, without the names of machine, processor and file. The name that the kit's
+# compiler gives each module of proved code stays: the profile knows a function by it too
 without_machine() {
-    sed -E '/^target (triple|datalayout) = /d; /^source_filename = /d; /^; ModuleID = /d
+    sed -E '/^target (triple|datalayout) = /d; /^; ModuleID = /d; /^source_filename = "rattle"$/! { /^source_filename = /d }
         s/ "(target-cpu|target-features|tune-cpu|probe-stack|stack-probe-size|frame-pointer)"(="[^"]*")?//g
         s/^(attributes #[0-9]+ = \{) *\}/\1 "machine"="any" }/' "$1" > "$2"
 }

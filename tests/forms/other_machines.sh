@@ -87,4 +87,9 @@ has_all 'the library for aarch64' aarch64-linux-gnu-gcc qemu-aarch64 &&
 has_all 'erd.dll' x86_64-w64-mingw32-gcc wine && of_windows
 has_all 'erd.wasm' wasm-opt wasm2wat node && of_wasm
 
+# The profile has the name of the module in front of each function that is not exported. Under another name it finds none of them.
+[ ! -e "$made/parts/proved.ll" ] || equal 'the profile knows the proved code by the name of its module' \
+    "$(sed -n 's/^source_filename = "\(.*\)"$/\1/p' "$made/parts/proved.ll")" \
+    "$(sed -n 's/^\([a-z]*\);.*/\1/p' packaging/profile/erd.proftext | sort -u)"
+
 counts
