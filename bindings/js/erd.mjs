@@ -1,8 +1,7 @@
 #!/usr/bin/env node
-// The command: it reads the arguments of the program `erd`, writes what that writes, and ends with its status.
+// The command: the proved code parses the words, as in the program `erd`. It writes what that writes, and ends with its status.
 import { readFileSync } from 'node:fs';
 import { load, NoMemoryError } from './index.mjs';
-import { requestOf, UsageFault } from './lib/arguments.mjs';
 import { bytesOfFile, opened, Stop, write } from './lib/files.mjs';
 
 const STANDARD_OUTPUT = 1;
@@ -10,18 +9,33 @@ const STANDARD_ERROR = 2;
 
 process.exitCode = await run(process.argv.slice(2)).catch(ended);
 
-/** Does what the arguments ask for, and returns the status. */
+/** Does what the words ask for, and returns the status. */
 async function run(words) {
     checkText();
-    const { command, prefer, files, text } = requestOf(words);
-    if (command === 'help') {
-        write(STANDARD_OUTPUT, text);
-        return 0;
+    const erd = await load();
+    const { request, status, bytes } = asked(erd, words);
+    if (request === undefined) {
+        write(status === 0 ? STANDARD_OUTPUT : STANDARD_ERROR, bytes);
+        return status;
     }
+    return answered(erd, request);
+}
+
+// The command of this package alone is asked for before the proved code is: the words behind it are those of `compare`.
+function asked(erd, [first, ...rest]) {
+    if (first !== 'differences') {
+        return erd.commandLine(first === undefined ? [] : [first, ...rest]);
+    }
+    const { request, ...text } = erd.commandLine(['compare', ...rest]);
+    return request === undefined ? text : { request: { ...request, command: first } };
+}
+
+/** Does what a command asks for, and returns the status. */
+function answered(erd, { command, files, prefer }) {
     const reports = opened(files).map(bytesOfFile);
     const name = command === 'filter' ? 'canon' : command;
     let status = 0;
-    for (const { outcome, bytes } of (await load()).written(name, reports, { prefer })) {
+    for (const { outcome, bytes } of erd.written(name, reports, { prefer })) {
         write(name === 'canon' && outcome !== 0 ? STANDARD_ERROR : STANDARD_OUTPUT, bytes);
         status = outcome;
     }
@@ -42,9 +56,6 @@ function ended(error) {
 }
 
 function wordsOf(error) {
-    if (error instanceof UsageFault) {
-        return { words: error.message, status: 3 };
-    }
     if (error instanceof NoMemoryError) {
         return { words: 'no memory\n', status: 4 };
     }
@@ -54,8 +65,12 @@ function wordsOf(error) {
     throw error;
 }
 
-// Node reads an argument that is not UTF-8 as another text. Linux has the bytes of all arguments in a file.
+// Node reads an argument that is not UTF-8 as another text. Linux has the bytes of all arguments in a file. On Windows an argument
+// can have half a surrogate pair.
 function checkText() {
+    if (process.argv.some((word) => /\p{Surrogate}/u.test(word))) {
+        throw new Stop('the arguments are not text');
+    }
     if (!process.argv.some((word) => word.includes('\ufffd'))) {
         return;
     }

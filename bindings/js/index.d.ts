@@ -140,6 +140,19 @@ export class Erd {
      */
     written(command: 'check' | 'canon' | 'compare' | 'differences', reports: Report[], options?: Preference):
         Generator<{ outcome: number; bytes: Uint8Array }>;
+    /**
+     * What the words of a command line ask for, as the program parses them. Help and wrong words have the exit status of the program,
+     * and the bytes that it writes.
+     */
+    commandLine(words: string[]): { request: CommandRequest } | { request?: undefined; status: 0 | 3; bytes: Uint8Array };
+}
+
+/** What the words of a command line ask for. */
+export interface CommandRequest {
+    readonly command: 'filter' | 'check' | 'canon' | 'compare';
+    /** The names of the files, in the order of the words. */
+    readonly files: string[];
+    readonly prefer: string | null;
 }
 
 /** Loads the proved code: `erd.wasm` beside this file, or the module that is handed in. */

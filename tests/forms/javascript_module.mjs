@@ -107,6 +107,15 @@ equal('all faults', erd.check(many.replace(/n{20000}/, 'n'), { mostFaults: null 
 equal('a thousand faults', erd.check(many.replace(/n{20000}/, 'n')).faults.length, 1000);
 equal('pieces of the lines', [...erd.written('check', [many])].length > 90, true);
 
+// The words of a command line.
+const WORDS = ['compare', '--prefer', 'Wähler 🗳', '', 'b'];
+equal('a request', JSON.stringify(erd.commandLine(WORDS)), '{"request":{"command":"compare","files":["","b"],"prefer":"Wähler 🗳"}}');
+equal('no words', JSON.stringify(erd.commandLine([])), '{"request":{"command":"filter","files":[],"prefer":null}}');
+equal('help', erd.commandLine(['--help']).status, 0);
+equal('wrong words', erd.commandLine(['nosuch']).status, 3);
+throws('a word with a zero character', TypeError, () => erd.commandLine(['check', 'a\0b']));
+throws('a word with half a surrogate pair', TypeError, () => erd.commandLine(['check', '\ud800']));
+
 // The forms of a report.
 const bytes = readFileSync(new URL('small-ballot.json', EXAMPLES));
 const form = readFileSync(new URL('small-ballot.canonical.json', EXAMPLES)).toString();

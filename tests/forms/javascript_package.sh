@@ -98,7 +98,7 @@ else
     echo 'skipped the types: not installed: node-typescript'
 fi
 
-# The command: a case of each group of the suite, what the program says of wrong arguments, and of files.
+# The command: a case of each group of the suite, and the table of command lines, beside the program.
 works 'the command' "$erd" examples
 mkdir "$work/suite"
 for name in out/conformance/*/; do
@@ -123,41 +123,8 @@ as_program() {
         cmp "$work/out" "$work/wanted_out" 2>&1; cmp "$work/err" "$work/wanted_err" 2>&1)"
 }
 if [ -x erd ]; then
-    one=examples/one-unit.json
-    for word in check canon compare; do
-        as_program "$word"
-        as_program "$word" -h
-        as_program help "$word"
-        as_program "$word" "$one" "$one" "$one"
-    done
-    # The help of the package has one command more at its end.
-    for word in --help -h; do
-        ./erd "$word" > "$work/wanted_out"
-        run "$erd" "$word"
-        printf '\nThis package has one more command:\n  differences  Lists all differences in meaning of two reports\n' >> "$work/wanted_out"
-        said "the help of the package: $word" "$(cmp "$work/out" "$work/wanted_out" 2>&1)"
-    done
-    as_program help nosuch
-    as_program help help
-    as_program nosuchcommand
-    as_program --version
-    as_program check -x
-    as_program check --prefer
-    as_program check --prefer=
-    as_program check --prefer a --prefer b "$one"
-    as_program check --prefer=local-level "$one"
-    shared=out/conformance/prefer-accepted-under-a-preference
-    run "$erd" check "--prefer=$(cat "$shared/prefer")" "$shared/input.json"
-    expect_text 'as the program: check with a preference in one word' 0 accepted
-    as_program check "$one" --prefer local-level
-    as_program compare "$one" --nosuch
-    as_program check -- -a
-    as_program check /
-    as_program check nosuch.json
-    as_program compare nosuch.json /
-    as_program check $'\xff'
-    as_program canon README.md
-    as_program
+    python3 tests/forms/command_lines.py --beside ./erd 'the command' package "$erd" > "$work/lines.log"
+    counted 'the table of command lines' "$work/lines.log"
     truncate -s 67108864 "$work/long"
     as_program check "$work/long"
     truncate -s +1 "$work/long"

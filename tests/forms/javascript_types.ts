@@ -13,6 +13,8 @@ const difference: Difference | null = compared.difference;
 const all: Differences = erd.differences('', '', { prefer: 'fips', mostDifferences: null });
 const counts: number[] = [erd.check('', { mostFaults: 5 }).allFaults, all.allDifferences, all.differences.length];
 const more: boolean = all.more || checked.more || compared.more;
+const { request } = erd.commandLine(['check', 'a.json']);
+const files: string[] = request?.files ?? [];
 const pieces: Uint8Array[] = [...erd.written('differences', ['', ''])].map((piece) => piece.bytes);
 const side: 'left' | 'right' | null = compared.side;
 const text: string = checked.text + canonical.text + compared.text;
@@ -21,7 +23,7 @@ const errors: Error[] = [new TooLongError(), new NoMemoryError(), new TrapError(
 erd.check(5);
 // @ts-expect-error: there is no such option
 erd.check('', { preferred: 'fips' });
-export { bytes, counts, difference, errors, more, pieces, name, side, steps, text };
+export { bytes, counts, difference, errors, files, more, pieces, name, side, steps, text };
 
 import { Preparation, stepsOf, told } from 'erd/prepare';
 

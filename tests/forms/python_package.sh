@@ -26,6 +26,14 @@ last=$(tail -n 1 "$work/log")
 [[ $last =~ ([0-9]+)\ error ]] && failed=$((failed + BASH_REMATCH[1]))
 [ "$status" -eq 0 ] || [ "$failed" -gt 0 ] || { cat "$work/log"; failed=1; }
 
+# The table of command lines, beside the program.
+if [ -x erd ]; then
+    python3 tests/forms/command_lines.py --beside ./erd 'the command' package "$work/venv/bin/python" -m erd > "$work/lines.log"
+    counted 'the table of command lines' "$work/lines.log"
+else
+    echo 'skipped the program beside the command: make erd has not been run'
+fi
+
 # The program of its page writes what stands beside it.
 mkdir "$work/page"
 block bindings/python/README.md python 1 > "$work/page/page.py"

@@ -164,6 +164,9 @@ def examples_of_data(folder):
             if '..' in text:
                 continue
             answer = json.loads(text)
+            if 'command' in answer:
+                yield f'{page}: {text}', ['command', 'files', 'prefer'], list(answer)
+                continue
             if isinstance(answer, list) and 'how' in answer[0]:
                 yield f'{page}: {text}', *lines_of_differences(folder, answer)
                 continue

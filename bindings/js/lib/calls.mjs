@@ -1,5 +1,5 @@
 // The calls, on top of the module.
-import { Engine, OUTCOME } from './engine.mjs';
+import { Engine, LINE, OUTCOME } from './engine.mjs';
 import { checkedOf, comparedOf, differencesOf, withCanonical, withoutCanonical } from './results.mjs';
 
 /** How many faults, or differences, are listed if the caller names no other number. */
@@ -68,6 +68,22 @@ export class Erd {
         const asked = askedFor(options, 'mostDifferences');
         const { value, all } = this.#list('erd_differences_data', pairOf(left, right), asked);
         return differencesOf(value, all);
+    }
+
+    /**
+     * What the words of a command line ask for, as the program parses them: `request` for a command, or else the `status` with
+     * which the program ends, and the bytes of the text that it writes.
+     * @param {string[]} words without the name of the program
+     */
+    commandLine(words) {
+        if (words.some((word) => word.includes('\0'))) {
+            throw new TypeError('a word has a zero character');
+        }
+        const { line, bytes } = this.#engine.commandLine(encoded(['erd', ...words, ''].join('\0'), 'a word'));
+        if (line === LINE.noMemory) {
+            throw new NoMemoryError();
+        }
+        return line === LINE.request ? { request: JSON.parse(new TextDecoder().decode(bytes)) } : { status: line, bytes };
     }
 
     /**

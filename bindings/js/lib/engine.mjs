@@ -3,6 +3,9 @@
 /** The numbers that its calls return: the exit statuses of the program. */
 export const OUTCOME = { good: 0, bad: 1, notJson: 2, wrong: 3, noMemory: 4 };
 
+/** What the words of a command line are: help and wrong words by the exit status of the program. */
+export const LINE = { help: 0, request: 1, wrong: 3, noMemory: 4 };
+
 // Memory of WebAssembly can't shrink. So an instance whose memory has grown beyond this is not kept for the next call.
 const BYTES_KEPT = 64 * 1024 * 1024;
 
@@ -35,8 +38,7 @@ export class Engine {
      * entries of a list it has, and how many the list has
      */
     call(name, reports, prefer, piece) {
-        const instance = this.#instance ?? this.#fresh();
-        this.#instance = null;
+        const instance = this.#taken();
         const answer = instance === null ? null : answerOf(instance.exports, name, reports, prefer, piece);
         if (answer === null) {
             return { outcome: OUTCOME.noMemory, bytes: new Uint8Array(0), told: 0, all: 0 };
@@ -45,6 +47,28 @@ export class Engine {
             this.#instance = instance;
         }
         return answer;
+    }
+
+    /**
+     * Parses the words of a command line, as the program does.
+     * @param {Uint8Array} words the name of the program and the other words, each ended by a zero byte
+     * @returns {{line: number, bytes: Uint8Array}} what the words are, by the number of `LINE`, and the text
+     */
+    commandLine(words) {
+        const instance = this.#taken();
+        const answer = instance === null ? null : lineOf(instance.exports, words);
+        if (answer === null) {
+            return { line: LINE.noMemory, bytes: new Uint8Array(0) };
+        }
+        this.#instance = instance;
+        return answer;
+    }
+
+    /** The instance that is kept, or a fresh one; null if there is no memory for it. Whoever takes it says whether it is kept on. */
+    #taken() {
+        const instance = this.#instance ?? this.#fresh();
+        this.#instance = null;
+        return instance;
     }
 
     /** An instance, or null if there is no memory for one: the engine then throws a RangeError. */
@@ -62,8 +86,7 @@ export class Engine {
 
 // Makes one call; null if there is no memory for it.
 function answerOf(exports, name, reports, prefer, { first, most, enoughBytes }) {
-    try {
-        const room = new Room(exports);
+    return withRoom(exports, (room) => {
         const words = reports.flatMap((report) => [room.filledWith(report), report.length]);
         const preferred = prefer === null ? 0 : room.filledWith(prefer, 1);
         const piece = room.filledWithNumbers(first, most, enoughBytes, 0, 0);
@@ -71,8 +94,26 @@ function answerOf(exports, name, reports, prefer, { first, most, enoughBytes }) 
         const outcome = exports[name](...words, preferred, piece, places, places + 4);
         const bytes = textAt(exports, places);
         const [told, all] = new Uint32Array(exports.memory.buffer.slice(piece + 12, piece + 20));
-        room.givenBack();
         return { outcome, bytes, told, all };
+    });
+}
+
+// Parses the words of a command line; null if there is no memory for it.
+function lineOf(exports, words) {
+    return withRoom(exports, (room) => {
+        const places = room.taken(8);
+        const line = exports.erd_command_line(room.filledWith(words), words.length, places, places + 4);
+        return { line, bytes: textAt(exports, places) };
+    });
+}
+
+// What a function gives that takes memory of the module, which is then given back; null if there is too little memory.
+function withRoom(exports, called) {
+    try {
+        const room = new Room(exports);
+        const answer = called(room);
+        room.givenBack();
+        return answer;
     } catch (error) {
         if (error instanceof RoomError || error instanceof RangeError) {
             return null;

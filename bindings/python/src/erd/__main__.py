@@ -1,22 +1,20 @@
 """The commands of the program `erd` over the shared library: the same words, texts and exit statuses.
 
-python -m erd < REPORT
-python -m erd check|canon [--prefer TYPE] FILE
-python -m erd compare [--prefer TYPE] LEFT RIGHT
-
-One command is of this package alone, and lists all differences:
+The library parses the words, as the program does. One command is of this package alone. It takes the words of `compare`, and
+lists all differences:
 
 python -m erd differences [--prefer TYPE] LEFT RIGHT
 """
 
 from __future__ import annotations
 
-import argparse
+import contextlib
 import os
 import sys
-from typing import BinaryIO, List, NoReturn, Optional, Tuple
+from typing import BinaryIO, List, Optional, Tuple
 
-from . import TooLong, version
+from . import TooLong
+from .library import LINE_REQUEST, LINE_WRONG, Request, command_line
 from .listing import each_piece
 from .results import check_of, comparison_of, differences_of
 
@@ -30,38 +28,6 @@ class Stop(Exception):
     def __init__(self, words: str, status: int = WRONG) -> None:
         super().__init__(words)
         self.status = status
-
-
-class Parser(argparse.ArgumentParser):
-    """A parser that ends with the status that `erd` has for a wrong command line."""
-
-    def error(self, message: str) -> NoReturn:
-        self.print_usage(sys.stderr)
-        self.exit(WRONG, f'{self.prog}: {message}\n')
-
-
-def parser() -> Parser:
-    """Returns the parser of the command line."""
-    top = Parser(prog='python -m erd', description='With no command: writes the canonical form of the report on standard input.',
-                 allow_abbrev=False)
-    top.add_argument('--version', action='version', version=f'erd {version()}')
-    commands = top.add_subparsers(dest='command', metavar='COMMAND')
-    for name, files, words in (('check', ['FILE'], 'say whether a report is accepted, or list its faults'),
-                               ('canon', ['FILE'], 'write the canonical form of a report'),
-                               ('compare', ['LEFT', 'RIGHT'], 'say whether two reports mean the same, or where they differ first'),
-                               ('differences', ['LEFT', 'RIGHT'], 'list all differences in meaning of two reports')):
-        command = commands.add_parser(name, help=words, description=words, allow_abbrev=False)
-        command.add_argument('--prefer', metavar='TYPE', type=not_empty, help='the type of identifier that keys follow')
-        for file in files:
-            command.add_argument(file)
-    return top
-
-
-def not_empty(text: str) -> str:
-    """Returns the text, or refuses it if it is empty."""
-    if not text:
-        raise argparse.ArgumentTypeError('a value is required')
-    return text
 
 
 class Input:
@@ -130,32 +96,49 @@ def write_each(command: str, reports: Tuple[bytes, ...], prefer: Optional[str]) 
     return status
 
 
-def answer(words: argparse.Namespace) -> int:
+def requested(words: List[str]) -> Tuple[int, Request]:
+    """Returns what the words of the command line are, and what they ask for. `differences` is asked for before the library is:
+    the words behind it are those of `compare`."""
+    lists = words[:1] == ['differences']
+    line, request = command_line(['compare', *words[1:]] if lists else words)
+    if lists and line == LINE_REQUEST:
+        request.command = 'differences'
+    return line, request
+
+
+def answer(request: Request) -> int:
     """Does what the command line asks for, and returns the exit status."""
-    if words.command is None:
+    if request.command == 'filter':
         return write_each('canon', (read(0),), None)
-    if words.command in ('compare', 'differences'):
-        with Input(words.LEFT) as left_file, Input(words.RIGHT) as right_file:
-            reports = (read(left_file.handle), read(right_file.handle))
-    else:
-        with Input(words.FILE) as file:
-            reports = (read(file.handle),)
-    return write_each(words.command, reports, words.prefer)
+    with contextlib.ExitStack() as opened:
+        files = [opened.enter_context(Input(name)) for name in request.files]
+        reports = tuple(read(file.handle) for file in files)
+    return write_each(request.command, reports, request.prefer)
+
+
+def run(words: List[str]) -> int:
+    """Runs the command line, and returns the exit status."""
+    line, request = requested(words)
+    if line == LINE_REQUEST:
+        return answer(request)
+    write(sys.stderr.buffer if line == LINE_WRONG else sys.stdout.buffer, request.text)
+    return line
 
 
 def main(words: Optional[List[str]] = None) -> int:
-    """Runs the command line, and returns the exit status."""
+    """Runs the command line, and returns the exit status. Where it ends early, says why."""
     try:
-        return answer(parser().parse_args(words))
+        return run(sys.argv[1:] if words is None else words)
     except TooLong:
         stop = Stop('too long')
     except MemoryError:
         stop = Stop('no memory', NO_MEMORY)
-    except UnicodeEncodeError:
-        stop = Stop('the arguments are not text')
     except Stop as caught:
         stop = caught
-    sys.stderr.write(f'{stop}\n')
+    try:
+        write(sys.stderr.buffer, f'{stop}\n'.encode('utf-8'))
+    except Stop:
+        pass  # nobody can be told
     return stop.status
 
 

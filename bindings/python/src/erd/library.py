@@ -3,14 +3,18 @@
 from __future__ import annotations
 
 import ctypes
+import json
 import os
 import sys
 from dataclasses import dataclass
 from functools import lru_cache
 from pathlib import Path
-from typing import Iterator, Optional, Tuple
+from typing import Iterator, Optional, Sequence, Tuple
 
 GOOD, BAD, NOT_JSON, WRONG, NO_MEMORY = range(5)
+
+# What the words of a command line are: `enum erd_line`.
+LINE_HELP, LINE_REQUEST, LINE_WRONG = 0, 1, 3
 
 NAME = {'win32': 'erd.dll', 'darwin': 'liberd.dylib'}.get(sys.platform, 'liberd.so.0')
 
@@ -56,6 +60,8 @@ def load(path: str) -> ctypes.CDLL:
         function = getattr(loaded, call)
         function.argtypes = report * reports + [ctypes.c_char_p, ctypes.POINTER(Piece)] + text
         function.restype = ctypes.c_int
+    loaded.erd_command_line.argtypes = report + text
+    loaded.erd_command_line.restype = ctypes.c_int
     loaded.erd_free.argtypes = [ctypes.c_void_p]
     loaded.erd_free.restype = None
     loaded.erd_version.argtypes = []
@@ -72,6 +78,34 @@ def library() -> ctypes.CDLL:
 def version() -> str:
     """Returns the version of the library."""
     return library().erd_version().decode('ascii')
+
+
+@dataclass
+class Request:
+    """What the words of a command line ask for, or the text that is written for them."""
+
+    command: str = ''
+    files: Sequence[str] = ()
+    prefer: Optional[str] = None
+    text: bytes = b''
+
+
+def command_line(words: Sequence[str]) -> Tuple[int, Request]:
+    """Returns what the words of a command line are, by the number of `enum erd_line`, and what they ask for."""
+    data = b''.join(word + b'\0' for word in [b'erd', *map(os.fsencode, words)])
+    text, length = ctypes.c_void_p(), ctypes.c_size_t()
+    line = library().erd_command_line(data, len(data), ctypes.byref(text), ctypes.byref(length))
+    if line == NO_MEMORY:
+        raise MemoryError('out of memory')
+    try:
+        told = ctypes.string_at(text.value, length.value)
+    finally:
+        library().erd_free(text)
+    if line != LINE_REQUEST:
+        return line, Request(text=told)
+    request = Request(**json.loads(told))
+    request.files = [os.fsdecode(name.encode('utf-8')) for name in request.files]
+    return line, request
 
 
 @dataclass(frozen=True)

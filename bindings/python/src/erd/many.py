@@ -17,9 +17,9 @@ from functools import partial
 from pathlib import Path
 from typing import Dict, Iterable, Iterator, List, Optional, TextIO
 
-from . import __main__ as program
 from .journal import Journal
 from .judging import Row, judge
+from .parsing import Parser, not_empty
 from .prepare.__main__ import names_of
 from .running import run_here, run_on_cluster
 
@@ -114,14 +114,14 @@ class Progress:
 
 def parser() -> argparse.ArgumentParser:
     """Returns the parser of the command line."""
-    words = program.Parser(prog='python -m erd.many', allow_abbrev=False, description=(
+    words = Parser(prog='python -m erd.many', allow_abbrev=False, description=(
         'Judges the files, and the *.json files below the folders, and groups those that define the same ballots. The exit status '
         'is the highest that erd check has for one of them.'))
     words.add_argument('names', nargs='+', metavar='FOLDER', help='a folder or a file')
     form = words.add_mutually_exclusive_group()
     form.add_argument('--json', dest='write', action='store_const', const=write_json, help='write a JSON array')
     form.add_argument('--csv', dest='write', action='store_const', const=write_csv, help='write CSV')
-    words.add_argument('--prefer', metavar='TYPE', type=program.not_empty, help='the type of identifier that keys follow')
+    words.add_argument('--prefer', metavar='TYPE', type=not_empty, help='the type of identifier that keys follow')
     words.add_argument('--prepare', metavar='STEPS', type=names_of, default=[], help='judge a copy of each file on which these steps '
                        'of erd-prepare were done: names of steps or of groups, with commas between them; the files stay as they are')
     words.add_argument('--pattern', default='*.json', help='which files of a folder are judged (default: %(default)s)')

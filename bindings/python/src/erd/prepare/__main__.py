@@ -12,6 +12,7 @@ import sys
 from typing import List, Optional
 
 from .. import __main__ as program
+from ..parsing import Parser
 from ..repeats import repeated_names, visible
 from .prepared import STEPS, Done, Preparation, pointer_of, steps_of
 from .step_words import GROUP_WORDS, LEFT_WORDS, STEP_WORDS
@@ -24,7 +25,7 @@ NOT_JSON = 2
 def parser() -> argparse.ArgumentParser:
     """Returns the parser of the command line."""
     groups = ', '.join(f'{name} ({words.lower()})' for name, words in GROUP_WORDS.items())
-    words = program.Parser(prog='erd-prepare', allow_abbrev=False, description=(
+    words = Parser(prog='erd-prepare', allow_abbrev=False, description=(
         'Writes a copy of a report on which steps were done that make an export ready for erd. FILE stays as it is. What was done is '
         f'told on standard error. The groups of steps are {groups}.'))
     words.add_argument('--steps', metavar='NAMES', type=names_of, default=steps_of('taken'),
