@@ -302,7 +302,9 @@ def agreement(count, dice):
             return
         for (name, data, names), line in zip(cases, ran.stdout.decode().splitlines()):
             here, there = prepared_here(data, names), json.loads(line)
-            yield f'{name} with {names}', 'alike', 'alike' if here == there else first_difference(here, there)
+            for part in sorted({*here, *there}):
+                one, other = here.get(part), there.get(part)
+                yield f'{name} with {names}: {part}', 'alike', 'alike' if one == other else first_difference(one, other)
 
 
 def first_difference(here, there):
