@@ -157,15 +157,27 @@ def line_of_data(folder, answer):
     return run(f'erd compare {"whole.json data.json" if "key" in answer else "data.json whole.json"}', folder)
 
 
+def lines_of_request(folder, answer):
+    """What the program writes for the words that make the request, over files of these names that are accepted."""
+    for name in answer['files']:
+        shutil.copy(ROOT / BASE, folder / name)
+    preferring = ['--prefer', answer['prefer']] if answer['prefer'] is not None else []
+    said = run(shlex.join(['erd', answer['command'], *preferring, *answer['files']]), folder)
+    return {'check': 'accepted\n', 'compare': 'same\n'}[answer['command']], said
+
+
 def examples_of_data(folder):
-    """Each answer that a page shows is one that a report can have. `..` stands for what is left out."""
+    """Each answer that a page shows is compact, and one that a report or a command line can have. `..` stands for what is left
+    out."""
     for page in DATA_PAGES:
         for text in re.findall(r'^(?: \*     |(?=[\[{]))([\[{].*)$', read(page), re.M):
             if '..' in text:
                 continue
             answer = json.loads(text)
+            compact = json.dumps(answer, ensure_ascii=False, separators=(',', ':'), sort_keys=True)
+            yield f'{page}: {text} is compact', compact, text
             if 'command' in answer:
-                yield f'{page}: {text}', ['command', 'files', 'prefer'], list(answer)
+                yield f'{page}: {text}', *lines_of_request(folder, answer)
                 continue
             if isinstance(answer, list) and 'how' in answer[0]:
                 yield f'{page}: {text}', *lines_of_differences(folder, answer)
