@@ -15,3 +15,5 @@ pub mod least_difference
 pub mod examples
 -- what is told are all differences: each part, key and name
 pub mod differing
+-- what is told of two contests are all differences of their selections
+pub mod contest_selections

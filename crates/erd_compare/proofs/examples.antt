@@ -3,3 +3,4 @@ pub mod FirstDifferenceExamples
 mod BallotDifferenceExamples
 mod ElectionDifferenceExamples
 mod AllDifferenceExamples
+mod SelectionDifferenceExamples

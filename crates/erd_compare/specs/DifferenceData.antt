@@ -27,6 +27,11 @@ after_member OnlyRight ms = ms
 after_member OtherClass ms = ms
 after_member (Member name) ms = member (codes "member") (string name) ms
 
--- The JSON object of a difference. Its members are `how`, `key`, `member` for the member that differs, and `part`.
+-- The members of the JSON object of a difference, with these behind them: `how`, `key`, `member` for the member that differs, and
+-- `part`.
+abbrev pub difference_members : Difference → Members → Members
+difference_members d ms = member (codes "how") (string (how_words d.how)) (member (codes "key") (key_data d.key) (after_member d.how (member (codes "part") (string (part_text d.part)) ms)))
+
+-- The JSON object of a difference.
 abbrev pub difference_data : Difference → Data
-difference_data d = object (member (codes "how") (string (how_words d.how)) (member (codes "key") (key_data d.key) (after_member d.how (member (codes "part") (string (part_text d.part)) no_members))))
+difference_data d = object (difference_members d no_members)

@@ -10,7 +10,7 @@ use Rattle.erd_tables.specs.Texts.{text_cmp}
 use Rattle.erd_tables.specs.declared.class.Family.{Family}
 use Rattle.erd_tables.specs.declared.class.Family.TheVariants as family
 use Rattle.erd_meaning.specs.Keys.{key_cmp}
-use Rattle.erd_meaning.specs.Meaning.{ObjectRecord, Meaning}
+use Rattle.erd_meaning.specs.Meaning.{Record, ObjectRecord, Meaning}
 use Rattle.erd_meaning.specs.declared.keys.key.Key.{Key}
 use Rattle.erd_compare.specs.declared.difference.Difference.{Difference}
 use Rattle.erd_compare.specs.declared.difference.How.{How}
@@ -104,7 +104,7 @@ Stands x (y ∷ ys) = (y ≡ x) ⊎ Stands x ys
 
 -- A way in which two records differ: only one side has a record; or the classes differ; or the classes are equal, and the
 -- members with this name differ.
-abbrev pub DifferIn : Option ObjectRecord → Option ObjectRecord → How → Type 0
+abbrev pub DifferIn : {V : Type 0} → Option (Record V) → Option (Record V) → How → Type 0
 DifferIn None None how = ⊥
 DifferIn (Some a) None how = how ≡ OnlyLeft
 DifferIn None (Some b) how = how ≡ OnlyRight
@@ -118,7 +118,7 @@ abbrev pub AreDifferent : Meaning → Meaning → Difference → Type 0
 AreDifferent m n d = DifferIn (record_at m d.part d.key) (record_at n d.part d.key) d.how
 
 -- Two records agree, but for the ways that are told.
-abbrev pub AgreeBut : (How → Type 0) → Option ObjectRecord → Option ObjectRecord → Type 0
+abbrev pub AgreeBut : {V : Type 0} → (How → Type 0) → Option (Record V) → Option (Record V) → Type 0
 AgreeBut told None None = ⊤
 AgreeBut told (Some a) None = told OnlyLeft
 AgreeBut told None (Some b) = told OnlyRight

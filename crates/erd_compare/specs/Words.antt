@@ -16,7 +16,9 @@ pub use Rattle.erd_meaning.specs.RankedNames.{with_ranks}
 pub use Rattle.erd_meaning.specs.Records.{carried_members, class_of_node, content_of, contest_node, header_node, is_header_class, is_in_envelope, json_set, key_set, label_of, meaning, node_of, object_record, plain_member, plain_value, selection_map, selection_record}
 pub use Rattle.erd_meaning.specs.SelectionNames.{key_named, keys_named, name_named}
 pub use Rattle.erd_meaning.specs.declared.keys.key.Key.{Key}
-pub use Rattle.erd_compare.specs.DifferenceData.{difference_data, key_data}
+pub use Rattle.erd_compare.specs.DifferenceData.{difference_data, difference_members, how_words, key_data}
 pub use Rattle.erd_compare.specs.DifferenceLine.{difference_line, how_text, key_as_json, key_text, part_text}
 pub use Rattle.erd_compare.specs.Differences.{first_of, record_at, AreDifferences, AreDifferent, IsDifference, Stands}
+pub use Rattle.erd_compare.specs.SelectionData.{detailed_data, label_data, name_data, order_data, selection_data, selections_data, whole_data}
+pub use Rattle.erd_compare.specs.SelectionDifferences.{is_in_selections, selections_with_key, AreDetailedDifferences, AreSelectionDifferences, TellsSelections}
 pub use Rattle.erd_compare.specs.declared.difference.How.TheVariants.{Member, OnlyLeft, OnlyRight}

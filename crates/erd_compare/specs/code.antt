@@ -19,3 +19,4 @@ pub mod RankedSides  -- ranks: the ranks of keys on either side
 pub mod RisingParts  -- the first difference: what two reports have in a part, in the rising order of keys
 pub mod Compared  -- the two reports, and what the code knows of them
 pub mod PlacedObjects  -- objects: where they stand in their reports
+pub mod ContestSelections  -- inside: the selections of a contest at a position of a report, by their names

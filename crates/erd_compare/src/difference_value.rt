@@ -48,7 +48,7 @@ fn without_member(alloc: Global, part: &str, key: Value, how: &str) -> Result<Va
 }
 
 /// Returns the key as a JSON array, or null if there is no key.
-fn key_or_null(alloc: Global, key: Option<&Key>) -> Result<Value, AllocError>
+pub(crate) fn key_or_null(alloc: Global, key: Option<&Key>) -> Result<Value, AllocError>
     ensures { IfOk result (λ value. view value ≡ key_data (option_copied key.entry)) }
 {
     match key {

@@ -107,9 +107,16 @@ pub fn differences(
     let ranks = CommonRanks::of_both(alloc, left, right)?;
     let names = names_of_both(alloc, left, right, &ranks)?;
     let comparer = Comparer::of(alloc, left, right, &ranks, &names);
-    let mut found = Vec::new(alloc);
+    all_differences(&comparer)
+}
+
+/// Returns all differences between the two reports, in rising order.
+pub(crate) fn all_differences(comparer: &Comparer) -> Result<Vec<Difference>, AllocError>
+    ensures { IfOk result (λ found. AreDifferences (meaning comparer.now.left.prefer (view comparer.now.left.tree)) (meaning comparer.now.right.prefer (view comparer.now.right.tree)) found.items) }
+{
+    let mut found = Vec::new(comparer.alloc);
     for part in PARTS {
-        push_differences(&comparer, part, &mut found)?;
+        push_differences(comparer, part, &mut found)?;
     }
     Ok(found)
 }

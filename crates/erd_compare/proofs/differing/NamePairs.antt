@@ -78,7 +78,7 @@ module _ (answers : MemberPair → Bool → Type 0) (d e : Data) (m n : MemberMa
     pub passed : answers pair true → IsWalked text_cmp m n found ls' rs'
     passed told = pass_same nat_list_cmp_total m n found ls rs walked pair.name.now ls' rs' past_left past_right ((decided pair true is told).0 refl)
 
-    -- and one at which it is no is found
+    -- a name at which the answer is no is found
     pub differs : answers pair false → IsWalked text_cmp m n (found ++ (pair.name.now ∷ [])) ls' rs'
     differs told = pass_differing nat_list_cmp_total m n found ls rs walked pair.name.now ls' rs' past_left past_right (λ same. absurd (true≢false (sym ((decided pair false is told).1 same)))) (next_stands ls rs pair.name.now next)
 

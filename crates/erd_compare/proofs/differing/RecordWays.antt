@@ -1,6 +1,7 @@
 -- The ways in which two records differ: in rising order, each of them a way, and all of them or the first.
 use Rattle.erd_compare.proofs.Common.{◌≡◌, ◌≢◌, ℕ, Bool, true, List, [], ◌∷◌, map, Some, None, Option, Ordering, sym, refl, ap, ap₂, ◌∙◌, subst, inl, inr, AllByRecursion, In-map, In-map_from, In-all, option_cmp, text_cmp, Class, MemberValue, ObjectRecord, Differ, DifferIn, AgreeBut, Stands, first_of, member_of, How, Member, OnlyLeft, OnlyRight, OtherClass, hows_of, AreWays, DifferInNames, Ways, ways}
 use Rattle.std.specs.List.Sorted.{IsStrictlySortedBy}
+use Rattle.erd_meaning.specs.Meaning.{Record}
 use Rattle.erd_check.proofs.Order.{all_from_In, sorted_map}
 use Rattle.erd_compare.proofs.differing.Walks.{to_in, to_stands}
 
@@ -39,7 +40,7 @@ module _ (all : Bool) where
       subst (Differ (Some a) (Some b)) same (record { same_class = h.0; differ = h.1.first.differ; least = h.1.first.least })
 
   names_sound : (x y : Option ObjectRecord) (ks : List (List ℕ)) → DifferInNames all x y ks → AllByRecursion (DifferIn x y) (map Member ks)
-  names_sound None None ks h = subst (λ xs. AllByRecursion (DifferIn None None) (map Member xs)) (sym h) tt
+  names_sound None None ks h = subst (λ xs. AllByRecursion (DifferIn {V = MemberValue} None None) (map Member xs)) (sym h) tt
   names_sound (Some a) None ks h = absurd h
   names_sound None (Some b) ks h = absurd h
   names_sound (Some a) (Some b) ks h =
@@ -138,7 +139,7 @@ ways_all (Some a) (Some b) ways.OtherClass h = inl (inl refl)
 ways_all x y (ways.Members names) h = names_all x y (map (λ s. s.now) names.items) h
 
 -- records that are told of agree if more is told
-pub agree_more : (told more : How → Type 0) → ((how : How) → told how → more how) → (x y : Option ObjectRecord) → AgreeBut told x y → AgreeBut more x y
+pub agree_more : {V : Type 0} (told more : How → Type 0) → ((how : How) → told how → more how) → (x y : Option (Record V)) → AgreeBut told x y → AgreeBut more x y
 agree_more told more on None None h = tt
 agree_more told more on (Some a) None h = on OnlyLeft h
 agree_more told more on None (Some b) h = on OnlyRight h

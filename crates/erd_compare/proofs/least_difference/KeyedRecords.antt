@@ -177,7 +177,7 @@ own_record π t c r d w =
 
 module _ (π : Preference) (t : Data) (c : IsComparable π t) (p : Part) where
   -- the record at the key of the object at a position
-  record_here : (k : Option Key) (i : ℕ) (h : HasKeyAt π t (role_of_part p) i k)
+  pub record_here : (k : Option Key) (i : ℕ) (h : HasKeyAt π t (role_of_part p) i k)
       → (a : ObjectRecord) × (object_record π t (role_of_part p) h.object.value ≡ Some a) × HasNoElectionId a × (record_at (meaning π t) p k ≡ Some (record_in_election (holder_key_in π (role_of_part p) t i) a))
   record_here k i h =
       let holds = records_at π t c p in

@@ -35,7 +35,7 @@ module _ (answers : MemberPair → Bool → Type 0) (d e : Data) where
         in_step = λ m n of_one of_other decided. (next_name m n ls rs pair.name.now (h.in_step m n of_one of_other decided) next).pass ((decided pair true is told).0 refl);
       }
 
-      -- and at one at which it is no the maps differ
+      -- if the answer at a name is no, the maps differ there
       pub differ : IsPairOf d e pair → answers pair false → (m n : MemberMap) → IsMapOf d m → IsMapOf e n → DecideNames answers d e m n → DifferAtName m n pair.name.now
       differ is told m n of_one of_other decided =
           let step = h.in_step m n of_one of_other decided in

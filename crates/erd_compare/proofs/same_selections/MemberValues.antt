@@ -48,7 +48,7 @@ selections-Decide π ρ (Ok answer) t u d e found other ds es left right of_d of
 -- ---- other members
 
 -- what a member means that it does by itself is determined by that
-one_plain : (p q : Option PlainValue) → option_map a_plain p ≡ option_map a_plain q → p ≡ q
+pub one_plain : (p q : Option PlainValue) → option_map a_plain p ≡ option_map a_plain q → p ≡ q
 one_plain None None same = refl
 one_plain (Some v) (Some w) same = cc
 one_plain p q same = cc

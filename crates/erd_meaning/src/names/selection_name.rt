@@ -1,5 +1,5 @@
 //! The name of a selection.
-ghost use Rattle.std.specs.Prelude.{◌≡◌, IfOk, fold, refl};
+ghost use Rattle.std.specs.Prelude.{◌≡◌, IfOk, fold, length, option_copied, option_map, refl, slice_get};
 ghost use Rattle.erd_meaning.specs.Words.{eq_by_cmp, name_cmp, after_keys_writes, numbered_name_cmp, numbered_name_writes, numbered_parts, eq_by_cmp_equiv, partial_equiv_from_equiv, partial_order_from_total, as_partial_cmp, name_writes};
 ghost use Rattle.erd_meaning.specs.code.NumberedOrders.{after_keys_cmp};
 ghost use Rattle.erd_meaning.specs.code.Orders.{name_cmp_total, equal_names_alike, name_cmp_exact};
@@ -67,6 +67,90 @@ impl SelectionName {
             label,
             identifier,
         })
+    }
+
+    /// Returns the class of the selection.
+    ///
+    /// ```
+    /// assert_eq!(rt; type_text(name.class()), "ElectionResults.CandidateSelection");
+    /// ```
+    pub fn class(&self) -> Class
+        ensures { result ≡ self.now.class }
+    {
+        self.class
+    }
+
+    /// Returns the number of keys of candidates or parties in the name.
+    ///
+    /// ```
+    /// assert_eq!(rt; name.key_count(), 0);
+    /// ```
+    pub fn key_count(&self) -> usize
+        ensures { result ≡ length self.now.keys }
+    {
+        self.keys.len()
+    }
+
+    /// Returns the key of a candidate or party at the position, or `None` if there is none. Positions count from 0, and the
+    /// keys rise.
+    ///
+    /// ```
+    /// assert!(rt; name.key_at(0).is_none());
+    /// ```
+    pub fn key_at(&self, index: usize) -> Option<&Key>
+        ensures { option_copied result ≡ slice_get self.now.keys index }
+    {
+        match self.keys.get(index) {
+            Some(shared) => Some(shared.key()),
+            None => None,
+        }
+    }
+
+    /// Returns whether the selection is for a write-in.
+    ///
+    /// ```
+    /// assert!(rt; name.is_write_in());
+    /// ```
+    pub fn is_write_in(&self) -> bool
+        ensures { result ≡ self.now.write_in }
+    {
+        self.write_in
+    }
+
+    /// Returns the sequence order of the selection, if it has one.
+    ///
+    /// ```
+    /// assert!(rt; name.sequence_order().is_none());
+    /// ```
+    pub fn sequence_order(&self) -> Option<i128>
+        ensures { result ≡ self.now.order }
+    {
+        self.order
+    }
+
+    /// Returns the compact text of the label of a BallotMeasureSelection, and `None` for any other class.
+    ///
+    /// ```
+    /// assert!(rt; name.label().is_none());
+    /// ```
+    pub fn label(&self) -> Option<&str>
+        ensures { option_map (λ s. s.now) result ≡ self.now.label }
+    {
+        match &self.label {
+            Some(text) => Some(text.as_str()),
+            None => None,
+        }
+    }
+
+    /// Returns the triple that is chosen from the identifiers of the selection, if it has any.
+    ///
+    /// ```
+    /// assert!(rt; name.identifier().is_none());
+    /// ```
+    pub fn identifier(&self) -> Option<&Key>
+        ensures { option_copied result ≡ self.now.identifier }
+    {
+        self.identifier.as_ref()
     }
 
     /// Compares the name with another, one part after another.

@@ -4,7 +4,7 @@ use erd_canon::{
     check_data, check_data_with, compare_bytes, compare_data, compare_data_with, differences_data,
     differences_data_with,
 };
-use erd_compare::Difference;
+use erd_compare::{DetailedDifference, Difference};
 use std::alloc::Global;
 use std::process::Abort;
 use std::test::Fail;
@@ -88,4 +88,29 @@ fn value(rt: HostRuntime) -> Result<(), Fail> {
     let (one, other) = (REPORT.as_bytes(), OTHER_NAME.as_bytes());
     let difference = compare_bytes(alloc, one, other)?.ok_or("no difference")?;
     value_of_difference(&rt, alloc, &difference)
+}
+
+fn value_of_detailed(
+    rt: &impl Abort,
+    alloc: Global,
+    detailed: &DetailedDifference,
+) -> Result<(), Fail> {
+    let text = detailed.to_value(alloc)?.to_string(alloc)?;
+    assert_eq!(rt;
+        text.as_str(),
+        r#"{"how":"member","key":null,"member":"Name","part":"election"}"#
+    );
+    Ok(())
+}
+
+#[test]
+fn detailed_value(rt: HostRuntime) -> Result<(), Fail> {
+    let alloc = rt.alloc();
+    let (one, other) = (REPORT.as_bytes(), OTHER_NAME.as_bytes());
+    let difference = compare_bytes(alloc, one, other)?.ok_or("no difference")?;
+    let detailed = DetailedDifference {
+        difference,
+        selections: None,
+    };
+    value_of_detailed(&rt, alloc, &detailed)
 }

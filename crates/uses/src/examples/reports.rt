@@ -1,13 +1,13 @@
 //! Examples of `erd_meaning`, `erd_normal` and `erd_compare`.
 use crate::callers::report_of;
 use erd_check::{same_json, shape};
-use erd_compare::{differences, first_difference};
+use erd_compare::{How, SelectionDifference, detailed_differences, differences, first_difference};
 use erd_meaning::{
     Key, Named, RankedName, Report, SaltedSet, SelectionName, accept_with, key_of, places_in,
     resolve, resolve_with,
 };
 use erd_normal::{CompactText, SetOrder, in_order, normal_text, normal_tree};
-use erd_tables::{Family, Text};
+use erd_tables::{Family, Text, type_text};
 use serde_json::Value;
 use std::alloc::{AllocError, Global};
 use std::cmp::Ordering;
@@ -151,7 +151,39 @@ fn names(rt: &impl Abort, alloc: Global, report: &Report) -> Result<(), Fail> {
     assert_eq!(rt; contest, 0);
     selection_of_name(rt, report, contest, name);
     lent_name(rt, alloc, name);
+    parts_of_name(rt, name);
+    missing_parts_of_name(rt, name);
+    value_inside(rt, alloc, name)?;
     copied_name(rt, alloc, name)
+}
+
+fn parts_of_name(rt: &impl Abort, name: &SelectionName) {
+    assert_eq!(rt;
+        type_text(name.class()),
+        "ElectionResults.CandidateSelection"
+    );
+    assert_eq!(rt; name.key_count(), 0);
+    assert!(rt; name.is_write_in());
+}
+
+fn missing_parts_of_name(rt: &impl Abort, name: &SelectionName) {
+    assert!(rt; name.key_at(0).is_none());
+    assert!(rt; name.sequence_order().is_none());
+    assert!(rt; name.label().is_none());
+    assert!(rt; name.identifier().is_none());
+}
+
+fn value_inside(rt: &impl Abort, alloc: Global, name: &SelectionName) -> Result<(), Fail> {
+    let inside = SelectionDifference {
+        name: name.try_clone(alloc)?,
+        how: How::OnlyRight,
+    };
+    let text = inside.to_value(alloc)?.to_string(alloc)?;
+    assert_eq!(rt;
+        text.as_str(),
+        r#"{"how":"only right","name":["ElectionResults.CandidateSelection",[],true,null,null,null]}"#
+    );
+    Ok(())
 }
 
 fn selection_of_name(rt: &impl Abort, report: &Report, contest: usize, name: &SelectionName) {
@@ -253,6 +285,7 @@ fn comparisons(rt: HostRuntime) -> Result<(), Fail> {
     let report = report_of(alloc, &tree)?;
     assert!(rt; first_difference(alloc, &report, &report)?.is_none());
     assert!(rt; differences(alloc, &report, &report)?.is_empty());
+    assert!(rt; detailed_differences(alloc, &report, &report)?.is_empty());
     Ok(())
 }
 

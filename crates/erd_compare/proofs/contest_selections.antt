@@ -1,0 +1,7 @@
+pub mod NameSets
+pub mod PlacedNames
+pub mod AddedNames
+pub mod ContestRecords
+pub mod NamedSelections
+pub mod SelectionLists
+pub mod ValueLists

@@ -1,0 +1,90 @@
+-- The names of the selections of a contest are added to a set, from the first selection on.
+use Rattle.erd_compare.proofs.Common.{◌≡◌, ℕ, zero, suc, ◌+◌, ◌<◌, ◌≤◌, map, List, [], ◌∷◌, ◌++◌, length, take, get_or, slice_get, Some, None, codes, Option, option_map, sym, refl, ap, ◌∙◌, subst, arith, slice_get_within, get_or_from_slice_get, Bor, AllByRecursion, all_weakened, length-map, Data, Value, view, selections_before, family, entries_at, Judged, Placed, objects, name_of, take_more, take_all, Stands}
+use Rattle.erd_meaning.proofs.selections.ContestSelections.{all_both}
+use Rattle.erd_meaning.specs.NameParts.{NameParts}
+use Rattle.erd_compare.specs.code.ContestSelections.{AddsNames, AreNamesAmong, selection_values}
+use Rattle.std.specs.BTreeSet.{insert_key}
+use Rattle.erd_compare.proofs.contest_selections.NameSets.{inserted_kept, inserted_there, lent, lent_cmp}
+use Rattle.erd_compare.proofs.contest_selections.PlacedNames.{name_here, object_here, values_of}
+use Rattle.erd_meaning.specs.Lookups.{selection_in}
+
+-- what the set had is there, and the names of the first selections of a contest are
+pub record AreAddedUpTo (a : Judged) (c : ℕ) (before after : List (Bor NameParts)) (i : ℕ) : Type 0 where
+  pub kept : (n : NameParts) → Stands n (lent before) → Stands n (lent after)
+  pub among : AreNamesAmong a (lent after) (take i (selection_values a c))
+
+module _ (a : Judged) (c : ℕ) where
+  -- the selections of the contest at a position that has an object
+  pub values_there : (v : Data) → Some v ≡ option_map (λ (o : Placed). o.value) (slice_get (objects family.Contest (view a.tree)) c) → selection_values a c ≡ entries_at (codes "ContestSelection") v
+  values_there v is = at (slice_get (objects family.Contest (view a.tree)) c) is
+    where
+      at : (o : Option Placed) → Some v ≡ option_map (λ (o : Placed). o.value) o → values_of o ≡ entries_at (codes "ContestSelection") v
+      at None e = cc
+      at (Some o) e = let same : v ≡ o.value = cc in ap (entries_at (codes "ContestSelection")) (sym same)
+
+  pub no_values : (names : List NameParts) → None ≡ option_map (λ (o : Placed). o.value) (slice_get (objects family.Contest (view a.tree)) c) → AreNamesAmong a names (selection_values a c)
+  no_values names is = at (slice_get (objects family.Contest (view a.tree)) c) is
+    where
+      at : (o : Option Placed) → None ≡ option_map (λ (o : Placed). o.value) o → AreNamesAmong a names (values_of o)
+      at None e = tt
+      at (Some o) e = cc
+
+  pub none_added : (before : List (Bor NameParts)) → AreAddedUpTo a c before before 0
+  none_added before = record { kept = λ n s. s; among = tt }
+
+  more_among : (names more : List NameParts) → ((n : NameParts) → Stands n names → Stands n more) → (ds : List Data) → AreNamesAmong a names ds → AreNamesAmong a more ds
+  more_among names more on ds h = all_weakened (λ d. (n : NameParts) → name_of a.prefer (view a.tree) d ≡ Some n → Stands n names) (λ d. (n : NameParts) → name_of a.prefer (view a.tree) d ≡ Some n → Stands n more) ds (λ d named n e. on n (named n e)) h
+
+  -- the next selection of the contest
+  module _ (before after : List (Bor NameParts)) (i : ℕ) (h : AreAddedUpTo a c before after i) (d : Data) (here : slice_get (selection_values a c) i ≡ Some d) where
+    one_longer : (names : List NameParts) → AreNamesAmong a names (take i (selection_values a c)) → ((n : NameParts) → name_of a.prefer (view a.tree) d ≡ Some n → Stands n names) → AreNamesAmong a names (take (i + 1) (selection_values a c))
+    one_longer names among own =
+        subst (AreNamesAmong a names) (sym (take_one (selection_values a c) i d here)) (all_both (λ v. (n : NameParts) → name_of a.prefer (view a.tree) v ≡ Some n → Stands n names) (take i (selection_values a c)) (d ∷ []) among (own, tt))
+      where
+        take_one : (ds : List Data) (i : ℕ) (d : Data) → slice_get ds i ≡ Some d → take (i + 1) ds ≡ take i ds ++ (d ∷ [])
+        take_one ds i d e = take_more ds i d (slice_get_within ds i d e) ∙ ap (λ x. take i ds ++ x ∷ []) (get_or_from_slice_get ds i d d e)
+
+    -- one with a name, which is put into the set
+    pub one_added : (k : Bor NameParts) → name_of a.prefer (view a.tree) d ≡ Some k.now → AreAddedUpTo a c before (insert_key lent_cmp after k) (i + 1)
+    one_added k named = record {
+      kept = λ n s. inserted_kept n k after (h.kept n s);
+      among = one_longer (lent (insert_key lent_cmp after k)) (more_among (lent after) (lent (insert_key lent_cmp after k)) (λ n s. inserted_kept n k after s) (take i (selection_values a c)) h.among)
+          (λ n e. let same : Some k.now ≡ Some n = sym named ∙ e in let name : k.now ≡ n = cc in subst (λ x. Stands x (lent (insert_key lent_cmp after k))) name (inserted_there k after));
+    }
+
+    -- and one without
+    pub none_named : name_of a.prefer (view a.tree) d ≡ None → AreAddedUpTo a c before after (i + 1)
+    none_named nameless = record { kept = h.kept; among = one_longer (lent after) h.among (λ n e. let clash : None ≡ Some n = sym nameless ∙ e in cc) }
+
+  -- all of them
+  pub all_added : (before after : List (Bor NameParts)) (i : ℕ) → length (selection_values a c) ≤ i → AreAddedUpTo a c before after i → AddsNames a (Some c) (lent before) (lent after)
+  all_added before after i end h = (h.kept, subst (AreNamesAmong a (lent after)) (take_all i (selection_values a c) end) h.among)
+
+-- ---- in the code
+
+pub some_at : {A : Type 0} (xs : List A) (i : ℕ) → i < length xs → (x : A) × (slice_get xs i ≡ Some x)
+some_at [] i low = absurd (omega arith)
+some_at (x ∷ xs) zero low = (x, refl)
+some_at (x ∷ xs) (suc i) low = some_at xs i (omega arith)
+
+-- the next selection of a contest
+pub next_value : (a : Judged) (c : ℕ) (v : Data) → Some v ≡ option_map (λ (o : Placed). o.value) (slice_get (objects family.Contest (view a.tree)) c) → (vs : List Value) → map view vs ≡ entries_at (codes "ContestSelection") v
+    → (i : ℕ) → i < length vs → (d : Data) × (slice_get (selection_values a c) i ≡ Some d)
+next_value a c v is vs entries i low =
+    let same : length (selection_values a c) ≡ length vs = ap length (values_there a c v is ∙ sym entries) ∙ length-map vs view in
+    some_at (selection_values a c) i (subst (λ n. i < n) (sym same) low)
+
+-- its name as it was found
+name_read : (o : Option NameParts) (s : Option (ℕ × Bor NameParts)) (c : ℕ) → option_map {U = ℕ × NameParts} (λ (s : ℕ × Bor NameParts). (s.0, s.1.now)) s ≡ option_map {U = ℕ × NameParts} (λ n. (c, n)) o → o ≡ option_map (λ (s : ℕ × Bor NameParts). s.1.now) s
+name_read None None c e = refl
+name_read (Some n) (Some s) c e = let pair : ◌≡◌ {A = ℕ × NameParts} (s.0, s.1.now) (c, n) = cc in ap (λ (p : ℕ × NameParts). Some p.1) (sym pair)
+name_read None (Some s) c e = cc
+name_read (Some n) None c e = cc
+
+pub its_name : (a : Judged) (c start : ℕ) → start ≡ selections_before (view a.tree) c → (i : ℕ) (d : Data) → slice_get (selection_values a c) i ≡ Some d → (found : Option (ℕ × Bor NameParts))
+    → option_map {U = ℕ × NameParts} (λ (s : ℕ × Bor NameParts). (s.0, s.1.now)) found ≡ selection_in a.prefer (view a.tree) (start + i) → name_of a.prefer (view a.tree) d ≡ option_map (λ (s : ℕ × Bor NameParts). s.1.now) found
+its_name a c start counted i d here found is = name_read (name_of a.prefer (view a.tree) d) found c (is ∙ name_here a c start counted i d here)
+
+-- its position is one of the report's
+pub its_position : (a : Judged) (c start : ℕ) → start ≡ selections_before (view a.tree) c → (i : ℕ) (d : Data) → slice_get (selection_values a c) i ≡ Some d → start + i < length (objects family.Selection (view a.tree))
+its_position a c start counted i d here = let o = object_here a c start counted i d here in slice_get_within (objects family.Selection (view a.tree)) (start + i) o.0 o.1

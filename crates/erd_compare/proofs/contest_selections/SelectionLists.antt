@@ -1,0 +1,156 @@
+-- The differences at the names of selections, one name after another in rising order, are all differences of two contests.
+use Rattle.erd_compare.proofs.Common.{◌≡◌, ◌⊎◌, ℕ, ◌+◌, true, List, [], ◌∷◌, ◌++◌, map, drop, slice_get, Some, None, Option, Ordering, Less, sym, refl, ap, ◌∙◌, subst, inl, inr, tied_itself, append-nil, Bor, AllByRecursion, In, In-map, In-map_from, In-all, ordering_then, SelectionRecord, How, Member, AgreeBut, DifferIn, Stands, hows_of, AreWays, Ways, Judged, NameParts}
+use Rattle.std.proofs.lemmas.List.{append_assoc}
+use Rattle.std.specs.List.Sorted.{IsStrictlySortedBy}
+use Rattle.erd_check.proofs.Order.{In-append, In-append_left, In-append_right, all_from_In, sorted_append, sorted_map}
+use Rattle.erd_check.proofs.Positions.{left_there}
+use Rattle.erd_meaning.proofs.selections.ContestSelections.{all_both}
+use Rattle.erd_meaning.specs.SelectionNames.{name_cmp}
+use Rattle.erd_meaning.specs.code.Orders.{name_cmp_total}
+use Rattle.erd_compare.specs.SelectionDifferences.{selection_difference_cmp, AreSelectionDifferences, AreUnlikeSelections, SelectionMap}
+use Rattle.erd_compare.specs.code.ContestSelections.{contest_map, differences_named, whole_record, AddsNames}
+use Rattle.erd_compare.specs.declared.inside.SelectionDifference.{SelectionDifference}
+use Rattle.erd_compare.proofs.contest_selections.ContestRecords.{agree_plain, differ_plain}
+use Rattle.erd_compare.proofs.contest_selections.NameSets.{lent}
+use Rattle.erd_compare.proofs.contest_selections.PlacedNames.{beside_names}
+use Rattle.erd_compare.proofs.differing.RecordWays.{agree_more, way_cmp, ways_all, ways_rise, ways_sound}
+use Rattle.erd_compare.proofs.differing.Walks.{to_in, to_stands}
+
+abbrev the_difference : NameParts → How → SelectionDifference
+the_difference name how = record { name = name; how = how }
+
+-- at one name they are compared by their ways, and else by their names
+at_one_name : (name : NameParts) (h g : How) → way_cmp h g ≡ Less → selection_difference_cmp (the_difference name h) (the_difference name g) ≡ Less
+at_one_name name h g low = ap (λ o. ordering_then o (way_cmp h g)) (tied_itself name_cmp_total name) ∙ low
+
+by_names : (d e : SelectionDifference) → name_cmp d.name e.name ≡ Less → selection_difference_cmp d e ≡ Less
+by_names d e low = ap (λ o. ordering_then o (way_cmp d.how e.how)) low
+
+module _ (m n : SelectionMap) where
+  abbrev Told : List SelectionDifference → NameParts → How → Type 0
+  Told ds name how = Stands (the_difference name how) ds
+
+  -- all differences at the names before these were told
+  pub record ArePassed (found : List SelectionDifference) (rest : List NameParts) : Type 0 where
+    pub rise : IsStrictlySortedBy selection_difference_cmp found
+    pub differ : AllByRecursion (AreUnlikeSelections m n) found
+    pub left : IsStrictlySortedBy name_cmp rest
+    pub below : (d : SelectionDifference) → In d found → (x : NameParts) → In x rest → name_cmp d.name x ≡ Less
+    pub each : (x : NameParts) → Stands x rest ⊎ AgreeBut (Told found x) (m x) (n x)
+
+  -- at first none was
+  pub none_passed : (names : List NameParts) → IsStrictlySortedBy name_cmp names → ((x : NameParts) → ((m x ≡ None) × (n x ≡ None)) ⊎ Stands x names) → ArePassed [] names
+  unfolding IsStrictlySortedBy
+  none_passed names rise beside = record {
+    rise = tt;
+    differ = tt;
+    left = rise;
+    below = λ d none. absurd none;
+    each = λ x. elim (beside x) [
+      | inl (mine, its) ↦ inr (subst (λ r. AgreeBut (Told [] x) r (n x)) (sym mine) (subst (λ (r : Option SelectionRecord). AgreeBut (Told [] x) None r) (sym its) tt))
+      | inr stands ↦ inl stands
+    ];
+  }
+
+  -- those at the next one are told
+  module _ (found : List SelectionDifference) (x : NameParts) (rest : List NameParts) (w : Ways) (h : ArePassed found (x ∷ rest)) (ways : AreWays true (whole_record (m x)) (whole_record (n x)) w) where
+    abbrev new : List SelectionDifference
+    new = differences_named x w
+
+    way_of : (e : SelectionDifference) → In e new → (how : How) × In how (hows_of w) × (the_difference x how ≡ e)
+    way_of e i = In-map_from (the_difference x) (hows_of w) e i
+
+    its_name : (e : SelectionDifference) → In e new → x ≡ e.name
+    its_name e i = ap (λ (d : SelectionDifference). d.name) (way_of e i).2
+
+    more : (y : NameParts) (how : How) → Told found y how → Told (found ++ new) y how
+    more y how s = to_stands (the_difference y how) (found ++ new) (In-append_left (the_difference y how) found new (to_in (the_difference y how) found s))
+
+    here : AgreeBut (Told (found ++ new) x) (m x) (n x)
+    here =
+        agree_more (λ how. Stands how (hows_of w)) (Told (found ++ new) x)
+        (λ how s. to_stands (the_difference x how) (found ++ new) (In-append_right (the_difference x how) found new (In-map (the_difference x) how (hows_of w) (to_in how (hows_of w) s)))) (m x) (n x)
+        (agree_plain (λ how. Stands how (hows_of w)) (m x) (n x) (ways_all (whole_record (m x)) (whole_record (n x)) w ways))
+
+    pub one_passed : ArePassed (found ++ new) rest
+    unfolding IsStrictlySortedBy
+    one_passed = record {
+      rise = sorted_append selection_difference_cmp found new h.rise (sorted_map (the_difference x) way_cmp selection_difference_cmp (at_one_name x) (hows_of w) (ways_rise true (whole_record (m x)) (whole_record (n x)) w ways))
+          (λ d e i j. by_names d e (subst (λ y. name_cmp d.name y ≡ Less) (its_name e j) (h.below d i x (inl refl))));
+      differ = all_both (AreUnlikeSelections m n) found new h.differ
+          (all_from_In (AreUnlikeSelections m n) new (λ e i.
+          let way = way_of e i in
+          subst (AreUnlikeSelections m n) way.2
+          (differ_plain (m x) (n x) way.0 (In-all (DifferIn (whole_record (m x)) (whole_record (n x))) way.0 (hows_of w) (ways_sound true (whole_record (m x)) (whole_record (n x)) w ways) way.1))));
+      left = h.left.1;
+      below = λ d i y j. elim (In-append d found new i) [
+        | inl old ↦ h.below d old y (inr j)
+        | inr now ↦ subst (λ z. name_cmp z y ≡ Less) (its_name d now) (In-all (λ z. name_cmp x z ≡ Less) y rest h.left.0 j)
+      ];
+      each = λ y. elim (h.each y) [
+        | inl (inl same) ↦ inr (subst (λ z. AgreeBut (Told (found ++ new) z) (m z) (n z)) same here)
+        | inl (inr stands) ↦ inl stands
+        | inr agree ↦ inr (agree_more (Told found y) (Told (found ++ new) y) (more y) (m y) (n y) agree)
+      ];
+    }
+
+  -- at the end they are all
+  pub all_passed : (found : List SelectionDifference) (rest : List NameParts) → rest ≡ [] → ArePassed found rest → AreSelectionDifferences m n found
+  all_passed found rest end h = record {
+    rise = h.rise;
+    differ = h.differ;
+    all = λ x. elim (h.each x) [
+      | inl stands ↦ absurd (subst (Stands x) end stands)
+      | inr agree ↦ agree
+    ];
+  }
+
+-- the same for the next name of those that are lent
+pub next_passed : (m n : SelectionMap) (found after : List SelectionDifference) (k : Bor NameParts) {all rest : List (Bor NameParts)} → all ≡ k ∷ rest → ArePassed m n found (lent all) → (w : Ways)
+    → AreWays true (whole_record (m k.now)) (whole_record (n k.now)) w → after ≡ found ++ differences_named k.now w → ArePassed m n after (lent rest)
+next_passed m n found after k {all = all} {rest = rest} next h w ways is =
+    subst (λ ds. ArePassed m n ds (lent rest)) (sym is) (one_passed m n found k.now (lent rest) w (subst (λ ks. ArePassed m n found (lent ks)) next h) ways)
+
+-- ---- the names of two contests
+
+-- what the first set had is in the second
+pub both_names : (a b : Judged) (c d : Option ℕ) (start first second : List NameParts) → AddsNames a c start first → AddsNames b d first second → (x : NameParts)
+    → ((contest_map a c x ≡ None) × (contest_map b d x ≡ None)) ⊎ Stands x second
+both_names a b c d start first second mine its x = at (one c mine) (other d its)
+  where
+    kept : (d : Option ℕ) → AddsNames b d first second → Stands x first → Stands x second
+    kept None its s = its x s
+    kept (Some j) its s = its.0 x s
+
+    one : (c : Option ℕ) → AddsNames a c start first → (contest_map a c x ≡ None) ⊎ Stands x first
+    one None mine = inl refl
+    one (Some i) mine = beside_names a i first mine.1 x
+
+    other : (d : Option ℕ) → AddsNames b d first second → (contest_map b d x ≡ None) ⊎ Stands x second
+    other None its = inl refl
+    other (Some j) its = beside_names b j second its.1 x
+
+    at : (contest_map a c x ≡ None) ⊎ Stands x first → (contest_map b d x ≡ None) ⊎ Stands x second → ((contest_map a c x ≡ None) × (contest_map b d x ≡ None)) ⊎ Stands x second
+    at (inl mine) (inl none) = inl (mine, none)
+    at (inr s) more = inr (kept d its s)
+    at less (inr s) = inr s
+
+-- ---- the differences at one name
+
+-- those in the members with these names
+abbrev pub in_members : NameParts → List (Bor (List ℕ)) → List SelectionDifference
+in_members name ss = map (the_difference name) (map Member (map (λ s. s.now) ss))
+
+-- those from a position on
+abbrev pub in_members_from : NameParts → ℕ → List (Bor (List ℕ)) → List SelectionDifference
+in_members_from name i ss = in_members name (drop i ss)
+
+pub one_member : (name : NameParts) (ss : List (Bor (List ℕ))) (i : ℕ) (s : Bor (List ℕ)) (before after whole : List SelectionDifference) → slice_get ss i ≡ Some s → before ++ in_members_from name i ss ≡ whole
+    → after ≡ before ++ the_difference name (Member s.now) ∷ [] → after ++ in_members_from name (i + 1) ss ≡ whole
+one_member name ss i s before after whole here known is =
+    ap (λ ds. ds ++ in_members_from name (i + 1) ss) is
+    ∙ (append_assoc before (the_difference name (Member s.now) ∷ []) (in_members_from name (i + 1) ss)
+    ∙ (ap (λ xs. before ++ in_members name xs) (sym (left_there ss i s here)) ∙ known))
+
+pub no_member : (name : NameParts) (ss : List (Bor (List ℕ))) (i : ℕ) (before whole : List SelectionDifference) → drop i ss ≡ [] → before ++ in_members_from name i ss ≡ whole → before ≡ whole
+no_member name ss i before whole none known = sym (append-nil before) ∙ (ap (λ xs. before ++ in_members name xs) (sym none) ∙ known)

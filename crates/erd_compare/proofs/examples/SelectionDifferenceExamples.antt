@@ -1,0 +1,50 @@
+-- The list of all differences of the selections of two contests, and lists that are not.
+use Rattle.erd_compare.proofs.Common.{ℕ, Bool, true, List, [], ◌∷◌, Some, None, Option, refl, inl, SelectionRecord, Class, Key, OnlyLeft, OnlyRight}
+use Rattle.std.specs.List.Sorted.{IsStrictlySortedBy}
+use Rattle.std.specs.Prelude.{ℤ}
+use Rattle.erd_tables.specs.declared.class.Class.TheVariants as class
+use Rattle.erd_meaning.specs.NameParts.{NameParts}
+use Rattle.erd_compare.specs.Differences.{AgreeBut, Stands}
+use Rattle.erd_compare.specs.SelectionDifferences.{AreSelectionDifferences, SelectionMap}
+use Rattle.erd_compare.specs.declared.inside.SelectionDifference.{SelectionDifference}
+
+abbrev bare : SelectionRecord
+bare = record { class = class.CandidateSelection; members = λ name. None }
+
+-- a write-in line
+abbrev line : NameParts
+line = record { class = class.CandidateSelection; keys = []; write_in = true; order = None; label = None; identifier = None }
+
+abbrev sole : Class → List Key → Bool → Option ℤ → Option (List ℕ) → Option Key → Option SelectionRecord
+sole class.CandidateSelection [] true None None None = Some bare
+sole c ks w o l i = None
+
+-- one contest has the line, and the other has no selection
+abbrev one : SelectionMap
+one n = sole n.class n.keys n.write_in n.order n.label n.identifier
+
+abbrev other : SelectionMap
+other n = None
+
+abbrev only : SelectionDifference
+only = record { name = line; how = OnlyLeft }
+
+agree : (c : Class) (ks : List Key) (w : Bool) (o : Option ℤ) (l : Option (List ℕ)) (i : Option Key)
+    → AgreeBut (λ how. Stands (record { name = record { class = c; keys = ks; write_in = w; order = o; label = l; identifier = i }; how = how }) (only ∷ [])) (sole c ks w o l i) (other line)
+agree class.CandidateSelection [] true None None None = inl refl
+agree c ks w o l i = tt
+
+pub are_all : AreSelectionDifferences one other (only ∷ [])
+unfolding IsStrictlySortedBy
+are_all = record { rise = (tt, tt); differ = (refl, tt); all = λ n. agree n.class n.keys n.write_in n.order n.label n.identifier }
+
+-- a list that leaves it out, one that has it twice, and one on the other side
+not_without : AreSelectionDifferences one other [] → ⊥
+not_without h = h.all line
+
+not_twice : AreSelectionDifferences one other (only ∷ only ∷ []) → ⊥
+unfolding IsStrictlySortedBy
+not_twice h = absurd (cc h.rise.0.0)
+
+not_turned : AreSelectionDifferences one other (record { name = line; how = OnlyRight } ∷ []) → ⊥
+not_turned h = absurd (cc h.differ.0)

@@ -1,0 +1,63 @@
+-- The selections of a contest that stands at a position of a report, by their names.
+use Rattle.std.specs.Prelude.{◌≡◌, ℕ, List, [], Bool, map, find, Option, Some, None, option_and_then, option_map, unwrap_or, codes}
+use Rattle.std.specs.BTreeSet.{BTreeSet}
+use Rattle.std.specs.Borrow.{Bor}
+use Rattle.std.specs.List.{AllByRecursion}
+use Rattle.std.specs.Option.{option_cmp}
+use Rattle.std.specs.Ordering.{is_eq}
+use Rattle.serde_json.specs.Data.{Data}
+use Rattle.serde_json.specs.View.{view}
+use Rattle.erd_check.specs.Values.{entries_at}
+use Rattle.erd_meaning.specs.Judged.{Judged}
+use Rattle.erd_meaning.specs.Meaning.{a_plain, Meaning, ObjectRecord, SelectionRecord}
+use Rattle.erd_meaning.specs.NameParts.{NameParts}
+use Rattle.erd_meaning.specs.Objects.{contests}
+use Rattle.erd_meaning.specs.Records.{selection_map}
+use Rattle.erd_meaning.specs.SelectionNames.{name_cmp, name_of}
+use Rattle.std.specs.List.{slice_get}
+use Rattle.erd_compare.specs.Differences.{Stands}
+use Rattle.erd_compare.specs.SelectionDifferences.{SelectionMap, IsDetailed}
+use Rattle.erd_compare.specs.code.DifferingWays.{hows_of}
+use Rattle.erd_compare.specs.declared.detailed.DetailedDifference.{DetailedDifference}
+use Rattle.erd_compare.specs.declared.difference.Difference.{Difference}
+use Rattle.erd_compare.specs.declared.inside.SelectionDifference.{SelectionDifference}
+use Rattle.erd_compare.specs.declared.objects.ways.Ways.{Ways}
+
+-- The values of the selections of the contest at the position, or no values if there is no such contest.
+abbrev pub selection_values : Judged → ℕ → List Data
+selection_values a c = unwrap_or (option_map (λ o. entries_at (codes "ContestSelection") o.value) (slice_get (contests (view a.tree)) c)) []
+
+-- What they mean, by their names. No position stands for a contest without selections.
+abbrev pub contest_map : Judged → Option ℕ → SelectionMap
+contest_map a None name = None
+contest_map a (Some c) name = selection_map a.prefer (view a.tree) (selection_values a c) name
+
+-- True if the selection has the name.
+abbrev pub has_name_in : Judged → NameParts → Data → Bool
+has_name_in a name d = is_eq (option_cmp name_cmp (name_of a.prefer (view a.tree) d) (Some name))
+
+-- The record of a selection as that of any other object.
+abbrev pub whole_record : Option SelectionRecord → Option ObjectRecord
+whole_record found = option_map (λ r. record { class = r.class; members = λ name. option_map a_plain (r.members name) }) found
+
+-- The names in a set.
+abbrev pub names_in_set : BTreeSet (Bor NameParts) → List NameParts
+names_in_set names = map (λ name. name.now) names.keys
+
+-- The names of these selections are among the names.
+abbrev pub AreNamesAmong : Judged → List NameParts → List Data → Type 0
+AreNamesAmong a names ds = AllByRecursion (λ d. (name : NameParts) → name_of a.prefer (view a.tree) d ≡ Some name → Stands name names) ds
+
+-- The names with those of the selections of the contest at the position, and maybe others.
+abbrev pub AddsNames : Judged → Option ℕ → List NameParts → List NameParts → Type 0
+AddsNames a None before after = (name : NameParts) → Stands name before → Stands name after
+AddsNames a (Some c) before after = ((name : NameParts) → Stands name before → Stands name after) × AreNamesAmong a after (selection_values a c)
+
+-- The differences at the name of a selection, one for each way.
+abbrev pub differences_named : NameParts → Ways → List SelectionDifference
+differences_named name ways = map (λ how. record { name = name; how = how }) (hows_of ways)
+
+-- These are the differences, each with those of the selections.
+pub record AreDetailsOf (m n : Meaning) (ds : List Difference) (es : List DetailedDifference) : Type 0 where
+  pub list : map (λ e. e.difference) es ≡ ds
+  pub selections : AllByRecursion (IsDetailed m n) es

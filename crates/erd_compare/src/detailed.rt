@@ -1,0 +1,106 @@
+//! The list of all differences, with what differs inside the selections of contests.
+ghost use Rattle.std.specs.Prelude.{◌≡◌, option_copied, option_map, IfOk};
+ghost use Rattle.erd_compare.specs.Words.{view, meaning, is_in_selections, selections_with_key, AreDetailedDifferences, TellsSelections};
+ghost use Rattle.erd_compare.specs.code.ContestSelections.{contest_map, AreDetailsOf};
+ghost use Rattle.erd_compare.specs.code.KeyedDifferences.{IsComparable};
+
+use crate::comparer::Comparer;
+use crate::difference::{Difference, How, Part};
+use crate::first::all_differences;
+use crate::inside::{SelectionDifference, selection_differences};
+use crate::ranks::common_ranks::CommonRanks;
+use crate::ranks::name_numbers::names_of_both;
+use erd_meaning::{Key, Report};
+use erd_tables::Family;
+use std::alloc::{AllocError, Global};
+
+/// A difference between two reports, with what differs inside the selections of a contest.
+#[derive(Debug, Drop)]
+pub struct DetailedDifference {
+    /// The difference.
+    pub difference: Difference,
+    /// All differences of the selections, in rising order, if two contests differ in their member `ContestSelection`, and `None`
+    /// for any other difference.
+    pub selections: Option<Vec<SelectionDifference>>,
+}
+
+/// Returns what `differences` does, each difference with what differs inside the selections of the contest. Both reports must
+/// have been resolved under the same preference.
+///
+/// The differences of selections rise by the names of the selections, and then by the names of members. If only one contest
+/// has a selection with a name, that is one difference. Otherwise there is one for each member that differs.
+///
+/// # Errors
+///
+/// `AllocError` if out of memory.
+///
+/// ```
+/// assert!(rt; detailed_differences(alloc, &report, &report)?.is_empty());
+/// ```
+pub fn detailed_differences(
+    alloc: Global,
+    left: &Report,
+    right: &Report,
+) -> Result<Vec<DetailedDifference>, AllocError>
+    requires one_preference { left.now.prefer ≡ right.now.prefer }
+    ensures { IfOk result (λ found. AreDetailedDifferences (meaning left.now.prefer (view left.now.tree)) (meaning right.now.prefer (view right.now.tree)) found.items) }
+{
+    // read for what they ensure: both trees are accepted, and their numbers are whole
+    let _one = left.tree();
+    let _other = right.tree();
+    let ranks = CommonRanks::of_both(alloc, left, right)?;
+    let names = names_of_both(alloc, left, right, &ranks)?;
+    let comparer = Comparer::of(alloc, left, right, &ranks, &names);
+    with_selections(&comparer, all_differences(&comparer)?)
+}
+
+/// Returns the differences, each with what differs inside the selections of the contest.
+fn with_selections(
+    comparer: &Comparer,
+    differences: Vec<Difference>,
+) -> Result<Vec<DetailedDifference>, AllocError>
+    ensures { IfOk result (λ found. AreDetailsOf (meaning comparer.now.left.prefer (view comparer.now.left.tree)) (meaning comparer.now.right.prefer (view comparer.now.right.tree)) differences.items found.items) }
+{
+    let mut found = Vec::with_capacity(comparer.alloc, differences.len())?;
+    for difference in differences {
+        let selections = selections_of(comparer, &difference)?;
+        found.push(DetailedDifference {
+            difference,
+            selections,
+        })?;
+    }
+    Ok(found)
+}
+
+/// Returns the differences of the selections, if the difference is in the selections of a contest.
+fn selections_of(
+    comparer: &Comparer,
+    difference: &Difference,
+) -> Result<Option<Vec<SelectionDifference>>, AllocError>
+    ensures { IfOk result (λ told. TellsSelections (meaning comparer.now.left.prefer (view comparer.now.left.tree)) (meaning comparer.now.right.prefer (view comparer.now.right.tree)) difference.now (option_map (λ v. v.items) told)) }
+{
+    if !is_in_selections(difference) {
+        return Ok(None);
+    }
+    let contest = contest_with_key(comparer.left(), difference.key.as_ref());
+    let other_contest = contest_with_key(comparer.right(), difference.key.as_ref());
+    Ok(Some(selection_differences(comparer, contest, other_contest)?))
+}
+
+/// Returns whether the difference is in the selections of two contests of one class.
+fn is_in_selections(difference: &Difference) -> bool
+    ensures { result ≡ is_in_selections difference.now }
+{
+    match (difference.part, &difference.how) {
+        (Part::Contest, How::Member(name)) => name.as_str() == "ContestSelection",
+        _ => false,
+    }
+}
+
+/// Returns the position of the contest with a key, if there is one.
+fn contest_with_key(report: &Report, key: Option<&Key>) -> Option<usize>
+    requires { IsComparable report.now.prefer (view report.now.tree) }
+    ensures { contest_map report.now result ≡ selections_with_key (meaning report.now.prefer (view report.now.tree)) (option_copied key.entry) }
+{
+    report.find(Family::Contest, key?)
+}
