@@ -31,8 +31,8 @@ typedef struct told piece_of_report(const uint8_t *bytes, size_t size, const uin
 typedef struct told piece_of_pair(const uint8_t *left, size_t left_size, const uint8_t *right, size_t right_size,
                                   const uint8_t *prefer, size_t prefer_size, struct wanted *wanted, uint8_t *room,
                                   size_t room_size);
-piece_of_report erd_tell_check_data_piece, erd_tell_canonical_data_piece;
-piece_of_pair erd_tell_compare_data_piece, erd_tell_differences_data;
+piece_of_report erd_tell_check_piece, erd_tell_canonical_piece, erd_tell_check_data_piece, erd_tell_canonical_data_piece;
+piece_of_pair erd_tell_compare_piece, erd_tell_differences, erd_tell_compare_data_piece, erd_tell_differences_data;
 struct told erd_tell_command_line(const uint8_t *words, size_t size, uint8_t *room, size_t room_size);
 
 enum { MOST_BYTES = 67108864, ROOM_FOR_LINES = 4096, ROOM_FOR_PIECE = 1048576 };
@@ -48,6 +48,10 @@ enum call {
     COMPARE,
     CHECK_DATA,
     COMPARE_DATA,
+    CHECK_PIECE,
+    CANONICAL_PIECE,
+    COMPARE_PIECE,
+    DIFFERENCES,
     CHECK_DATA_PIECE,
     CANONICAL_DATA_PIECE,
     COMPARE_DATA_PIECE,
@@ -82,6 +86,14 @@ static struct told ask_of_pair(piece_of_pair *call, struct question *it, uint8_t
 
 static struct told ask_for_piece(struct question *it, uint8_t *room, size_t room_size) {
     switch (it->call) {
+    case CHECK_PIECE:
+        return ask_of_report(erd_tell_check_piece, it, room, room_size);
+    case CANONICAL_PIECE:
+        return ask_of_report(erd_tell_canonical_piece, it, room, room_size);
+    case COMPARE_PIECE:
+        return ask_of_pair(erd_tell_compare_piece, it, room, room_size);
+    case DIFFERENCES:
+        return ask_of_pair(erd_tell_differences, it, room, room_size);
     case CHECK_DATA_PIECE:
         return ask_of_report(erd_tell_check_data_piece, it, room, room_size);
     case CANONICAL_DATA_PIECE:
@@ -216,6 +228,30 @@ static enum erd_outcome call_for_piece(struct question *it, size_t room_for_form
         piece->all = is_told ? it->wanted.all : 0;
     }
     return outcome;
+}
+
+enum erd_outcome erd_check_piece(const void *bytes, size_t size, const char *prefer, struct erd_piece *piece,
+                                 char **text, size_t *length) {
+    struct question it = question_of(CHECK_PIECE, bytes_of(bytes, size), bytes_of(NULL, 0), prefer);
+    return call_for_piece(&it, 0, piece, text, length);
+}
+
+enum erd_outcome erd_canonical_piece(const void *bytes, size_t size, const char *prefer, struct erd_piece *piece,
+                                     char **text, size_t *length) {
+    struct question it = question_of(CANONICAL_PIECE, bytes_of(bytes, size), bytes_of(NULL, 0), prefer);
+    return call_for_piece(&it, 2 * size + ROOM_FOR_LINES, piece, text, length);
+}
+
+enum erd_outcome erd_compare_piece(const void *left, size_t left_size, const void *right, size_t right_size,
+                                   const char *prefer, struct erd_piece *piece, char **text, size_t *length) {
+    struct question it = question_of(COMPARE_PIECE, bytes_of(left, left_size), bytes_of(right, right_size), prefer);
+    return call_for_piece(&it, 0, piece, text, length);
+}
+
+enum erd_outcome erd_differences(const void *left, size_t left_size, const void *right, size_t right_size,
+                                 const char *prefer, struct erd_piece *piece, char **text, size_t *length) {
+    struct question it = question_of(DIFFERENCES, bytes_of(left, left_size), bytes_of(right, right_size), prefer);
+    return call_for_piece(&it, 0, piece, text, length);
 }
 
 enum erd_outcome erd_check_data_piece(const void *bytes, size_t size, const char *prefer, struct erd_piece *piece,

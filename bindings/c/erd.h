@@ -35,9 +35,10 @@ enum erd_outcome {
  *   null, and so may `length`.
  *
  * A text has no limit of its own. A report may have very many faults, and the place of each is written in full, so that a text
- * can be many times as long as the report. If a text is longer than 4,096 bytes, or a canonical form than twice its report and
- * 4,096 bytes, the call does its work twice: once to learn the length, and once more into a text of that length. A call for a
- * piece of a list (below) does so if the text is longer than `enough_bytes`, or than a mebibyte, and 4,096 bytes.
+ * can be many times as long as the report. Take such a list piece by piece (below). If a text is longer than 4,096 bytes, or a
+ * canonical form than twice its report and 4,096 bytes, the call does its work twice: once to learn the length, and once more
+ * into a text of that length. A call for a piece of a list does so if the text is longer than `enough_bytes`, or than a
+ * mebibyte, and 4,096 bytes.
  *
  * A name in a text that is not JSON is written as it is in the report, and may have a line feed or any other character. So
  * take a text of lines apart by hand only if you trust the report; the calls that answer with data have no such limit. */
@@ -97,6 +98,24 @@ struct erd_piece {
 
 /* In each call that follows, `piece` may be null: the answer then has the whole list. */
 
+/* Checks a report, as erd_check does, and answers with the lines of a piece of the list of faults. */
+enum erd_outcome erd_check_piece(const void *bytes, size_t size, const char *prefer, struct erd_piece *piece,
+                                 char **text, size_t *length);
+
+/* Canonicalises a report, as erd_canonical does. If the report is refused, the text is that of erd_check_piece. */
+enum erd_outcome erd_canonical_piece(const void *bytes, size_t size, const char *prefer, struct erd_piece *piece,
+                                     char **text, size_t *length);
+
+/* Compares two reports, as erd_compare does. If a report is refused, the text has the lines of a piece of its faults. */
+enum erd_outcome erd_compare_piece(const void *left, size_t left_size, const void *right, size_t right_size,
+                                   const char *prefer, struct erd_piece *piece, char **text, size_t *length);
+
+/* Lists all differences of two reports. The text has a line for each difference in the piece, in rising order by part, key and
+ * member; the first of the list is that of erd_compare. It is the line `same` if the two mean the same, and the outcome is then
+ * ERD_GOOD. If a report is refused, the text is that of erd_compare_piece. Each line is ended by one line feed. */
+enum erd_outcome erd_differences(const void *left, size_t left_size, const void *right, size_t right_size,
+                                 const char *prefer, struct erd_piece *piece, char **text, size_t *length);
+
 /* Checks a report, as erd_check_data does, and answers with a piece of the list of faults. */
 enum erd_outcome erd_check_data_piece(const void *bytes, size_t size, const char *prefer, struct erd_piece *piece,
                                       char **text, size_t *length);
@@ -110,10 +129,9 @@ enum erd_outcome erd_canonical_data_piece(const void *bytes, size_t size, const 
 enum erd_outcome erd_compare_data_piece(const void *left, size_t left_size, const void *right, size_t right_size,
                                         const char *prefer, struct erd_piece *piece, char **text, size_t *length);
 
-/* Lists all differences of two reports. The text is compact JSON in UTF-8, with no line end: an array with an object for each
- * difference in the piece, in rising order by part, key and member. The objects are those of erd_compare_data, and the first of
- * the list is the one that it answers. The array is empty if the two mean the same, and the outcome is then ERD_GOOD. If a report
- * is refused, the text is that of erd_compare_data_piece. */
+/* Lists all differences of two reports, as erd_differences does. The text is compact JSON in UTF-8, with no line end: an array
+ * with an object for each difference in the piece. The objects are those of erd_compare_data. The array is empty if the two mean
+ * the same. If a report is refused, the text is that of erd_compare_data_piece. */
 enum erd_outcome erd_differences_data(const void *left, size_t left_size, const void *right, size_t right_size,
                                       const char *prefer, struct erd_piece *piece, char **text, size_t *length);
 

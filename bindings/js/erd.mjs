@@ -34,9 +34,9 @@ function asked(erd, [first, ...rest]) {
 function answered(erd, { command, files, prefer }) {
     const reports = opened(files).map(bytesOfFile);
     const name = command === 'filter' ? 'canon' : command;
+    const take = (bytes, outcome) => write(name === 'canon' && outcome !== 0 ? STANDARD_ERROR : STANDARD_OUTPUT, bytes);
     let status = 0;
-    for (const { outcome, bytes } of erd.written(name, reports, { prefer })) {
-        write(name === 'canon' && outcome !== 0 ? STANDARD_ERROR : STANDARD_OUTPUT, bytes);
+    for (const { outcome } of erd.written(name, reports, { prefer }, take)) {
         status = outcome;
     }
     return status;

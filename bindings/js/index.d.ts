@@ -107,6 +107,9 @@ export class Differences {
     get text(): string;
 }
 
+/** A command, by what it does. */
+export type Command = 'check' | 'canon' | 'compare' | 'differences';
+
 /** The calls. Each throws a `TypeError` if an argument is wrong, and a `TrapError` if the module stops. */
 export class Erd {
     constructor(module: WebAssembly.Module);
@@ -138,8 +141,13 @@ export class Erd {
      * What a command writes, piece by piece: the exit status of the command, and the next bytes that it writes. No list of faults is
      * in memory as a whole.
      */
-    written(command: 'check' | 'canon' | 'compare' | 'differences', reports: Report[], options?: Preference):
-        Generator<{ outcome: number; bytes: Uint8Array }>;
+    written(command: Command, reports: Report[], options?: Preference): Generator<{ outcome: number; bytes: Uint8Array }>;
+    /**
+     * The same, with what `take` returns in place of the bytes. The bytes that `take` is handed stand in the memory of the module;
+     * they are others when it has returned. So a caller that only hands them on needs no copy.
+     */
+    written<T>(command: Command, reports: Report[], options: Preference | undefined, take: (bytes: Uint8Array, outcome: number) => T):
+        Generator<{ outcome: number; bytes: T }>;
     /**
      * What the words of a command line ask for, as the program parses them. Help and wrong words have the exit status of the program,
      * and the bytes that it writes.

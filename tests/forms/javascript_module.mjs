@@ -105,7 +105,11 @@ equal('three faults', erd.check(many, { mostFaults: 3 }).faults.map(({ pointer }
 equal('no faults of many', `${erd.check(many, { mostFaults: 0 }).outcome} ${erd.check(many, { mostFaults: 0 }).allFaults}`, 'refused 5001');
 equal('all faults', erd.check(many.replace(/n{20000}/, 'n'), { mostFaults: null }).faults.length, 5001);
 equal('a thousand faults', erd.check(many.replace(/n{20000}/, 'n')).faults.length, 1000);
-equal('pieces of the lines', [...erd.written('check', [many])].length > 90, true);
+const pieces = [...erd.written('check', [many])];
+equal('pieces of the lines', pieces.length > 90, true);
+equal('each piece has its own bytes', new TextDecoder().decode(pieces[0].bytes.subarray(0, 9)), '/Election');
+equal('what is taken of the pieces', [...erd.written('check', [many], {}, (bytes, outcome) => bytes.length * outcome)].map(({ bytes }) => bytes).join(),
+    pieces.map(({ bytes }) => bytes.length).join());
 
 // The words of a command line.
 const WORDS = ['compare', '--prefer', 'Wähler 🗳', '', 'b'];

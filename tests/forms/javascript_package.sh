@@ -146,15 +146,21 @@ rm "$work/blanks"
 # A file of 50 kB whose list of faults has 150 MB: one long name above many faults.
 python3 -c "print('{\"@type\":\"ElectionResults.ElectionReport\",\"Election\":[],\"' + 'n' * 25000 + '\":[' + ','.join(['1.5'] * 6000) + ']}')" \
     > "$work/square.json"
+# The most memory of the process itself, as the system says at its end: what a wait says has the memory of its parent in it. One
+# thread compiles, so that it is nearly the same each time; with the four that are usual it is up to 25 MB more.
+cat > "$work/peak.cjs" <<'END'
+const { readFileSync, writeFileSync } = require('node:fs');
+process.on('exit', () => writeFileSync(process.env.ROOM, readFileSync('/proc/self/status', 'utf8').match(/VmHWM:\s*(\d+) kB/)[1]));
+END
 for words in check canon compare differences; do
     files=("$work/square.json")
     [[ $words == c*e || $words == d* ]] && files+=("$work/square.json")
-    most=$(python3 -c 'import resource, subprocess, sys
-subprocess.run(sys.argv[1:], stdout=subprocess.DEVNULL, stderr=subprocess.DEVNULL)
-print(resource.getrusage(resource.RUSAGE_CHILDREN).ru_maxrss)' "$erd" "$words" "${files[@]}")
-    # Node takes some 50 MB with nothing but the module, and lets garbage of nearly 100 MB stand.
-    said "a square list: $words" "$([ "$most" -lt 170000 ] || echo "$most kB of memory")"
+    ROOM=$work/room NODE_OPTIONS="--require $work/peak.cjs --v8-pool-size=1" "$erd" "$words" "${files[@]}" > "$work/out" 2> "$work/err"
+    status=$?
+    most=$(cat "$work/room")
+    said "a square list: $words" "$([ "$status" -eq 1 ] || echo "status $status; ")$([ "$most" -lt 100000 ] || echo "$most kB of memory")"
 done
+rm "$work/out" "$work/err"
 
 "$erd" canon examples/one-unit.json > /dev/full 2> "$work/err"
 status=$?

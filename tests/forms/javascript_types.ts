@@ -16,6 +16,7 @@ const more: boolean = all.more || checked.more || compared.more;
 const { request } = erd.commandLine(['check', 'a.json']);
 const files: string[] = request?.files ?? [];
 const pieces: Uint8Array[] = [...erd.written('differences', ['', ''])].map((piece) => piece.bytes);
+const taken: number[] = [...erd.written('check', [''], {}, (some, outcome) => some.length + outcome)].map((piece) => piece.bytes);
 const side: 'left' | 'right' | null = compared.side;
 const text: string = checked.text + canonical.text + compared.text;
 const errors: Error[] = [new TooLongError(), new NoMemoryError(), new TrapError()];
@@ -23,7 +24,7 @@ const errors: Error[] = [new TooLongError(), new NoMemoryError(), new TrapError(
 erd.check(5);
 // @ts-expect-error: there is no such option
 erd.check('', { preferred: 'fips' });
-export { bytes, counts, difference, errors, files, more, pieces, name, side, steps, text };
+export { bytes, counts, difference, errors, files, more, pieces, name, side, steps, taken, text };
 
 import { Preparation, stepsOf, told } from 'erd/prepare';
 

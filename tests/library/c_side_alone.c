@@ -12,10 +12,11 @@ static const uint8_t *last_prefer;
 static int last_call;
 static const char *why;
 
-enum { SIZE = 1000, CALLS = 9, LINE = CALLS, FIRST_OF_PIECES = 5, MEBIBYTE = 1048576 };
+enum { SIZE = 1000, CALLS = 13, LINE = CALLS, FIRST_OF_PIECES = 5, MEBIBYTE = 1048576 };
 static const char *const names[CALLS + 1] = {"check",      "canonical",        "compare",            "check_data",
                                              "compare_data", "check_data_piece", "compare_data_piece", "canonical_data_piece",
-                                             "differences_data", "command_line"};
+                                             "differences_data", "check_piece", "compare_piece", "canonical_piece",
+                                             "differences", "command_line"};
 static const char report[SIZE];
 
 static uint8_t letter(size_t at) {
@@ -101,6 +102,10 @@ OF_REPORT(erd_tell_check_data_piece, 5)
 OF_PAIR(erd_tell_compare_data_piece, 6)
 OF_REPORT(erd_tell_canonical_data_piece, 7)
 OF_PAIR(erd_tell_differences_data, 8)
+OF_REPORT(erd_tell_check_piece, 9)
+OF_PAIR(erd_tell_compare_piece, 10)
+OF_REPORT(erd_tell_canonical_piece, 11)
+OF_PAIR(erd_tell_differences, 12)
 
 struct told erd_tell_command_line(const uint8_t *words, size_t size, uint8_t *room, size_t room_size) {
     last_size = size;
@@ -116,8 +121,16 @@ static enum erd_outcome asked_for_piece(int call, struct bytes it, const char *p
         return erd_compare_data_piece(it.at, it.size, it.at, it.size, prefer, piece, text, length);
     case 7:
         return erd_canonical_data_piece(it.at, it.size, prefer, piece, text, length);
-    default:
+    case 8:
         return erd_differences_data(it.at, it.size, it.at, it.size, prefer, piece, text, length);
+    case 9:
+        return erd_check_piece(it.at, it.size, prefer, piece, text, length);
+    case 10:
+        return erd_compare_piece(it.at, it.size, it.at, it.size, prefer, piece, text, length);
+    case 11:
+        return erd_canonical_piece(it.at, it.size, prefer, piece, text, length);
+    default:
+        return erd_differences(it.at, it.size, it.at, it.size, prefer, piece, text, length);
     }
 }
 

@@ -6,9 +6,10 @@ import importlib.util
 import json
 import os
 import sys
+from typing import NamedTuple, Optional
 
 from by_ctypes import Library, both
-from texts_of_data import compact, differences_text
+from texts_of_data import check_text, compact, compare_text, difference_line, differences_text, fault_line
 
 # More entries, and more bytes, than any list has.
 ALL = 2 ** 64 - 1
@@ -43,24 +44,74 @@ def failure_of(library, suite, case):
 
 def failure_of_pieces(library, command, case, suite, prefer):
     """What is wrong in the answers with a piece of a list, held against the whole list, or None: each piece of one entry, the piece
-    behind all, pieces that some bytes end, and the whole list in one."""
+    behind all, pieces that some bytes end, and the whole list in one; each as JSON and as lines."""
     if command == "check":
-        reports, whole, name = [suite.contents(case, "input.json")], library.check_data, "erd_check_data_piece"
-    else:
-        reports, whole, name = [suite.contents(case, it) for it in ("left.json", "right.json")], library.compare_data, "erd_compare_data_piece"
-    outcome, text = whole(*reports, prefer)
+        reports = [suite.contents(case, "input.json")]
+        outcome, text = library.check_data(*reports, prefer)
+        wanted = json.loads(text)
+        lists = [List("erd_check", reports, prefer, outcome, wanted, check_text(wanted))]
+        if outcome != 0:
+            lists.append(List("erd_canonical", reports, prefer, outcome, wanted, check_text(wanted)))
+        why = failure_of_form(library, reports[0], prefer) if outcome == 0 else None
+        return why or failure_of_lists(library, lists)
+    reports = [suite.contents(case, it) for it in ("left.json", "right.json")]
+    outcome, text = library.compare_data(*reports, prefer)
     wanted = json.loads(text)
-    why = failure_of_list(library, name, reports, prefer, outcome, wanted)
-    if why or command == "check":
-        return why
-    lines = suite.contents(case, "differences.txt")
     found = library.piece("erd_differences_data", reports, prefer, 0, ALL, ALL)
     listed = json.loads(found[1])
+    lines = suite.contents(case, "differences.txt")
     if lines is not None and isinstance(listed, list) and differences_text(listed) != lines.decode():
         return f"the list of differences is {listed}"
     if isinstance(wanted, dict) and "refused" not in wanted and listed[:1] != [wanted]:
         return f"the list begins with {listed[:1]}, and not with {wanted}"
-    return failure_of_list(library, "erd_differences_data", reports, prefer, found[0], listed)
+    text_of_list = differences_text(listed) if isinstance(listed, list) else compare_text(listed)
+    return failure_of_lists(library, [List("erd_compare", reports, prefer, outcome, wanted, compare_text(wanted)),
+                                      List("erd_differences", reports, prefer, found[0], listed, text_of_list)])
+
+
+def failure_of_form(library, report, prefer):
+    """What is wrong in the canonical form of an accepted report, where a piece of a list is asked for, or None."""
+    form = (*library.canonical(report, prefer), 0, 0)
+    for name in ("erd_canonical_piece", "erd_canonical_data_piece"):
+        if library.piece(name, [report], prefer, 0, 0, 0) != form:
+            return f"{name} has another form"
+    return None
+
+
+class List(NamedTuple):
+    """A call, and what it answers: the value with the whole list, and the text of all lines."""
+    call: str
+    reports: list
+    prefer: Optional[bytes]
+    outcome: int
+    wanted: object
+    text: str
+
+    def line_of(self, entry):
+        """The line of an entry, with its side in front."""
+        if "reason" not in entry:
+            return difference_line(entry) + "\n"
+        side = f"{self.wanted['refused']}: " if isinstance(self.wanted, dict) else ""
+        return side + fault_line(entry) + "\n"
+
+    def json_of(self, shown):
+        return with_entries(self.wanted, shown)
+
+    def lines_of(self, shown):
+        return "".join(map(self.line_of, shown)) if entries_in(self.wanted) else self.text
+
+
+def failure_of_lists(library, lists):
+    """What is wrong in the first of these lists that is not as it should be, or None."""
+    for it in lists:
+        data = "erd_differences_data" if it.call == "erd_differences" else f"{it.call}_data_piece"
+        lines = it.call if it.call == "erd_differences" else f"{it.call}_piece"
+        why = failure_of_list(library, it, data, lambda entry: compact(json.loads(json.dumps(entry, sort_keys=True))),
+                              lambda text, shown: json.loads(text) == it.json_of(shown)) \
+            or failure_of_list(library, it, lines, it.line_of, lambda text, shown: text == it.lines_of(shown))
+        if why:
+            return why
+    return None
 
 
 def entries_in(value):
@@ -76,17 +127,17 @@ def with_entries(value, entries):
     return {**value, "faults": entries}
 
 
-def failure_of_list(library, name, reports, prefer, outcome, wanted):
-    entries = entries_in(wanted)
-    sizes = [len(compact(json.loads(json.dumps(it, sort_keys=True))).encode()) for it in entries]
+def failure_of_list(library, it, name, text_of_entry, is_right):
+    entries = entries_in(it.wanted)
+    sizes = [len(text_of_entry(entry).encode()) for entry in entries]
     for first in sorted({0, 1, 2, len(entries) - 1, len(entries), len(entries) + 1, ALL} - {-1}):
         for most in (0, 1, 2, ALL):
             for enough in (0, 1, sum(sizes[first:first + 2]), sum(sizes[first:first + 2]) + 1, ALL):
                 shown = []
                 while len(shown) < most and first + len(shown) < len(entries) and sum(sizes[first:first + len(shown)]) < enough:
                     shown.append(entries[first + len(shown)])
-                found, text, told, count = library.piece(name, reports, prefer, first, most, enough)
-                if (found, json.loads(text), told, count) != (outcome, with_entries(wanted, shown), len(shown), len(entries)):
+                found, text, told, count = library.piece(name, it.reports, it.prefer, first, most, enough)
+                if (found, told, count) != (it.outcome, len(shown), len(entries)) or not is_right(text, shown):
                     return f"{name} of {first}, {most}, {enough}: {found} {text[:200]} {told} {count}"
     return None
 

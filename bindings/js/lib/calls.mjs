@@ -45,29 +45,29 @@ export class Erd {
     /** Checks a report, as `erd check` does. */
     check(report, options) {
         const asked = askedFor(options, 'mostFaults');
-        const { value, all } = this.#list('erd_check_data_piece', [bytesOf(report, 'the report')], asked);
-        return checkedOf(value, all);
+        const { taken, all } = this.#list('erd_check_data_piece', [bytesOf(report, 'the report')], asked);
+        return checkedOf(taken, all);
     }
 
     /** Canonicalises a report, as `erd canon` does. */
     canonical(report, options) {
         const asked = askedFor(options, 'mostFaults');
-        const { bytes, value, all } = this.#list('erd_canonical_data_piece', [bytesOf(report, 'the report')], asked);
-        return value === undefined ? withCanonical(bytes) : withoutCanonical(value, all);
+        const { outcome, taken, all } = this.#list('erd_canonical_data_piece', [bytesOf(report, 'the report')], asked);
+        return outcome === OUTCOME.good ? withCanonical(taken) : withoutCanonical(taken, all);
     }
 
     /** Compares two reports, as `erd compare` does. */
     compare(left, right, options) {
         const asked = askedFor(options, 'mostFaults');
-        const { value, all } = this.#list('erd_compare_data_piece', pairOf(left, right), asked);
-        return comparedOf(value, all);
+        const { taken, all } = this.#list('erd_compare_data_piece', pairOf(left, right), asked);
+        return comparedOf(taken, all);
     }
 
     /** Lists the differences of two reports. */
     differences(left, right, options) {
         const asked = askedFor(options, 'mostDifferences');
-        const { value, all } = this.#list('erd_differences_data', pairOf(left, right), asked);
-        return differencesOf(value, all);
+        const { taken, all } = this.#list('erd_differences_data', pairOf(left, right), asked);
+        return differencesOf(taken, all);
     }
 
     /**
@@ -87,48 +87,49 @@ export class Erd {
     }
 
     /**
-     * What a command writes, piece by piece, so that no list is in memory as a whole: for each piece the outcome and the bytes.
+     * What a command writes, piece by piece, so that no list is in memory as a whole: for each piece the outcome and what `take`
+     * makes of the bytes, which stand in the memory of the module until `take` returns. Without `take` it is a copy of them.
      * @param {'check' | 'canon' | 'compare' | 'differences'} command
      */
-    *written(command, reports, options) {
-        const { call, resultOf } = COMMANDS[command];
+    *written(command, reports, options, take = copied) {
         const { prefer } = askedFor(options, 'mostFaults');
         const bytesOfReports = reports.map((report) => bytesOf(report, 'a report'));
-        for (const { outcome, bytes, value, all } of this.#pieces(call, bytesOfReports, prefer, ALL)) {
-            yield { outcome, bytes: value === undefined ? bytes : new TextEncoder().encode(resultOf(value, all).text) };
+        for (const { outcome, taken } of this.#pieces(COMMANDS[command], bytesOfReports, prefer, ALL, take)) {
+            yield { outcome, bytes: taken };
         }
     }
 
     // An answer with so many entries of its list, and how many the list has. Entries whose texts are long are fewer than that; but
     // all of them are there if the caller asked for all.
     #list(call, reports, { prefer, most }) {
-        const pieces = this.#pieces(call, reports, prefer, most ?? ALL);
+        const isForm = (outcome) => call === 'erd_canonical_data_piece' && outcome === OUTCOME.good;
+        const pieces = this.#pieces(call, reports, prefer, most ?? ALL,
+            (bytes, outcome) => (isForm(outcome) ? copied(bytes) : JSON.parse(new TextDecoder().decode(bytes))));
         const { value: answer } = pieces.next();
-        const entries = entriesOf(answer.value);
+        const entries = entriesOf(answer.taken);
         for (const piece of most === null ? pieces : []) {
-            for (const entry of entriesOf(piece.value)) {
+            for (const entry of entriesOf(piece.taken)) {
                 entries.push(entry);
             }
         }
         return answer;
     }
 
-    // The answers with one piece of a list after another. What is canonical bytes has no value.
-    *#pieces(call, reports, prefer, most) {
+    // The answers with one piece of a list after another.
+    *#pieces(call, reports, prefer, most, take) {
         for (let first = 0, isLast = false; !isLast;) {
-            const answer = this.#call(call, reports, prefer, { first, most, enoughBytes: BYTES_OF_PIECE });
-            const isForm = call === 'erd_canonical_data_piece' && answer.outcome === OUTCOME.good;
-            yield { ...answer, value: isForm ? undefined : JSON.parse(new TextDecoder().decode(answer.bytes)) };
+            const answer = this.#call(call, reports, prefer, { first, most, enoughBytes: BYTES_OF_PIECE }, take);
+            yield answer;
             first += answer.told;
             isLast = first >= answer.all || answer.told === 0;
         }
     }
 
-    #call(name, reports, prefer, piece) {
+    #call(name, reports, prefer, piece, take) {
         if (reports.some((report) => report.length > MOST_BYTES)) {
             throw new TooLongError();
         }
-        const answer = this.#engine.call(name, reports, prefer, piece);
+        const answer = this.#engine.call(name, reports, prefer, piece, take);
         if (answer.outcome === OUTCOME.noMemory) {
             throw new NoMemoryError();
         }
@@ -136,13 +137,17 @@ export class Erd {
     }
 }
 
-/** The call of each command, and what makes the result of an answer of it. */
+/** The call of each command. */
 const COMMANDS = {
-    check: { call: 'erd_check_data_piece', resultOf: checkedOf },
-    canon: { call: 'erd_canonical_data_piece', resultOf: withoutCanonical },
-    compare: { call: 'erd_compare_data_piece', resultOf: comparedOf },
-    differences: { call: 'erd_differences_data', resultOf: differencesOf },
+    check: 'erd_check_piece',
+    canon: 'erd_canonical_piece',
+    compare: 'erd_compare_piece',
+    differences: 'erd_differences',
 };
+
+function copied(bytes) {
+    return bytes.slice();
+}
 
 // The list in an answer: of faults, or of differences.
 function entriesOf(value) {

@@ -34,14 +34,17 @@ export class Engine {
      * @param {Uint8Array[]} reports one report or two
      * @param {Uint8Array | null} prefer the preferred type of identifier
      * @param {{first: number, most: number, enoughBytes: number}} piece which entries of a list the answer is to have
-     * @returns {{outcome: number, bytes: Uint8Array, told: number, all: number}} the outcome, the text of the answer, how many
-     * entries of a list it has, and how many the list has
+     * @param {(bytes: Uint8Array, outcome: number) => T} take is handed the text of the answer, if it has one. The bytes stand in
+     * the memory of the module, and are others when `take` has returned
+     * @returns {{outcome: number, taken: T | undefined, told: number, all: number}} the outcome, what `take` returned, how many
+     * entries of a list the text has, and how many the list has
+     * @template T
      */
-    call(name, reports, prefer, piece) {
+    call(name, reports, prefer, piece, take) {
         const instance = this.#taken();
-        const answer = instance === null ? null : answerOf(instance.exports, name, reports, prefer, piece);
+        const answer = instance === null ? null : answerOf(instance.exports, name, reports, prefer, piece, take);
         if (answer === null) {
-            return { outcome: OUTCOME.noMemory, bytes: new Uint8Array(0), told: 0, all: 0 };
+            return { outcome: OUTCOME.noMemory, taken: undefined, told: 0, all: 0 };
         }
         if (answer.outcome !== OUTCOME.noMemory && instance.exports.memory.buffer.byteLength <= BYTES_KEPT) {
             this.#instance = instance;
@@ -85,16 +88,15 @@ export class Engine {
 }
 
 // Makes one call; null if there is no memory for it.
-function answerOf(exports, name, reports, prefer, { first, most, enoughBytes }) {
+function answerOf(exports, name, reports, prefer, { first, most, enoughBytes }, take) {
     return withRoom(exports, (room) => {
         const words = reports.flatMap((report) => [room.filledWith(report), report.length]);
         const preferred = prefer === null ? 0 : room.filledWith(prefer, 1);
         const piece = room.filledWithNumbers(first, most, enoughBytes, 0, 0);
         const places = room.taken(8);
         const outcome = exports[name](...words, preferred, piece, places, places + 4);
-        const bytes = textAt(exports, places);
         const [told, all] = new Uint32Array(exports.memory.buffer.slice(piece + 12, piece + 20));
-        return { outcome, bytes, told, all };
+        return { outcome, taken: takenAt(exports, places, outcome, take), told, all };
     });
 }
 
@@ -103,7 +105,7 @@ function lineOf(exports, words) {
     return withRoom(exports, (room) => {
         const places = room.taken(8);
         const line = exports.erd_command_line(room.filledWith(words), words.length, places, places + 4);
-        return { line, bytes: textAt(exports, places) };
+        return { line, bytes: takenAt(exports, places, line, (bytes) => bytes.slice()) };
     });
 }
 
@@ -122,13 +124,14 @@ function withRoom(exports, called) {
     }
 }
 
-// The text that a call has left: its place and its length stand in four bytes each. It is copied and then freed.
-function textAt(exports, places) {
+// What is taken of the text that a call has left: its place and its length stand in four bytes each. Then it is freed.
+function takenAt(exports, places, outcome, take) {
     const view = new DataView(exports.memory.buffer);
     const start = view.getUint32(places, true);
-    const bytes = new Uint8Array(exports.memory.buffer, start, view.getUint32(places + 4, true)).slice();
+    const text = new Uint8Array(exports.memory.buffer, start, view.getUint32(places + 4, true));
+    const taken = start === 0 ? undefined : take(text, outcome);
     exports.erd_free(start);
-    return bytes;
+    return taken;
 }
 
 /** The module has no memory left for what a call is handed. */

@@ -10,6 +10,7 @@ ghost use Rattle.erd_c.specs.Told.{HasCanonicalText, IsCall, IsWrong, preference
 mod answers;
 mod line;
 mod pieces;
+mod texts;
 mod told;
 
 use answers::{canonical, checked, checked_data, compared, compared_data};
@@ -19,6 +20,9 @@ pub use pieces::{
     erd_tell_differences_data,
 };
 use std::alloc::Global;
+pub use texts::{
+    erd_tell_canonical_piece, erd_tell_check_piece, erd_tell_compare_piece, erd_tell_differences,
+};
 pub use told::{Told, Wanted};
 use told::{given, tell};
 

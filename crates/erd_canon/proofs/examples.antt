@@ -3,3 +3,4 @@ pub mod EngineExamples
 mod ReportExamples
 mod LineExamples
 mod DataExamples
+mod PieceExamples

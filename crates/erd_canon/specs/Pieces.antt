@@ -1,16 +1,18 @@
 -- Which entries of a list an answer has if its caller bounds them.
-use Rattle.std.specs.Prelude.{ℕ, ◌≡◌, ◌≢◌, ◌⊎◌, ◌<◌, ◌≤◌, ◌++◌, List, [], map, take, drop, length, sum, codes, Option}
+use Rattle.std.specs.Prelude.{ℕ, ◌≡◌, ◌≢◌, ◌⊎◌, ◌<◌, ◌≤◌, ◌++◌, List, [], ◌∷◌, map, take, drop, length, sum, codes, Option}
 use Rattle.serde_json.specs.Data.{Data, array, string}
 use Rattle.serde_json.specs.View.{items_of}
 use Rattle.serde_json.specs.Written.{compact_text}
+use Rattle.erd_tables.specs.Faults.{fault_line}
 use Rattle.erd_tables.specs.declared.fault.Fault.{Fault}
 use Rattle.erd_meaning.specs.Keys.{Preference}
 use Rattle.erd_compare.specs.DifferenceData.{difference_data}
+use Rattle.erd_compare.specs.DifferenceLine.{difference_line}
 use Rattle.erd_compare.specs.declared.difference.Difference.{Difference}
 use Rattle.erd_canon.specs.Bytes.{IsCanonicalBytes, IsNotJson}
 use Rattle.erd_canon.specs.DataAnswers.{IsDataText, listing_outcome}
 use Rattle.erd_canon.specs.DataValues.{comparison_data, fault_data, faults_data, refused_data}
-use Rattle.erd_canon.specs.EngineTexts.{AreCompared, IsComparison, IsRefusedReport}
+use Rattle.erd_canon.specs.EngineTexts.{AreCompared, IsComparison, IsRefusedReport, comparison_line, lines_of_side, text_of_lines}
 use Rattle.erd_canon.specs.Refused.{IsSomeReport}
 use Rattle.erd_canon.specs.Run.{comparison_outcome}
 use Rattle.erd_canon.specs.declared.engines.outcome.Outcome.{Outcome}
@@ -44,6 +46,16 @@ pub record IsPieceData {A : Type 0} (value_of : A → Data) (piece : Piece) (ent
   pub shown : List A
   pub is_piece : IsPiece (λ entry. length (compact_text (value_of entry))) piece entries shown told
   pub is_array : value ≡ array (items_of (map value_of shown))
+
+-- A line with these words in front, ended by one line feed.
+abbrev pub whole_line : List ℕ → List ℕ → List ℕ
+whole_line side line = (side ++ line) ++ 10 ∷ []
+
+-- The text has a line for each entry of the piece, with these words in front. The size of an entry is that of its whole line.
+pub record IsPieceLines {A : Type 0} (line_of : A → List ℕ) (side : List ℕ) (piece : Piece) (entries : List A) (told : Told) (text : List ℕ) : Type 0 where
+  pub shown : List A
+  pub is_piece : IsPiece (λ entry. length (whole_line side (line_of entry))) piece entries shown told
+  pub is_text : text ≡ text_of_lines (lines_of_side side (map line_of shown))
 
 -- The bytes are refused with this outcome, and the value says why: the array of a piece of the faults of the report, or the
 -- string `not JSON`.
@@ -90,3 +102,46 @@ abbrev pub IsFormPiece : Preference → List ℕ → Piece → Outcome → Told 
 IsFormPiece π bytes piece Good told text = IsCanonicalBytes π bytes text × TellsNone told
 IsFormPiece π bytes piece Bad told text = IsPieceText (IsRefusalPiece π bytes piece Bad) told text
 IsFormPiece π bytes piece NotJson told text = IsPieceText (IsRefusalPiece π bytes piece NotJson) told text
+
+-- The bytes are refused with this outcome, and the text says why: a line for each fault of a piece, or the line `not JSON`. Each
+-- line has these words in front.
+abbrev pub IsRefusalLines : Preference → List ℕ → List ℕ → Piece → Outcome → Told → List ℕ → Type 0
+IsRefusalLines π side bytes piece Good told text = ⊥
+IsRefusalLines π side bytes piece Bad told text = (faults : List Fault) × IsRefusedReport π bytes faults × IsPieceLines fault_line side piece faults told text
+IsRefusalLines π side bytes piece NotJson told text = IsNotJson bytes × (text ≡ text_of_lines (lines_of_side side (codes "not JSON" ∷ []))) × TellsNone told
+
+-- Checking the bytes ends with this outcome and this text: the line `accepted`, or why the bytes are refused, with a piece of the
+-- faults.
+abbrev pub IsCheckLines : Preference → List ℕ → Piece → Outcome → Told → List ℕ → Type 0
+IsCheckLines π bytes piece Good told text = IsSomeReport π bytes × (text ≡ text_of_lines (codes "accepted" ∷ [])) × TellsNone told
+IsCheckLines π bytes piece Bad told text = IsRefusalLines π [] bytes piece Bad told text
+IsCheckLines π bytes piece NotJson told text = IsRefusalLines π [] bytes piece NotJson told text
+
+-- The text is the canonical bytes of an accepted report, or the lines that say why the bytes are refused, with a piece of the
+-- faults.
+abbrev pub IsFormLines : Preference → List ℕ → Piece → Outcome → Told → List ℕ → Type 0
+IsFormLines π bytes piece Good told text = IsCanonicalBytes π bytes text × TellsNone told
+IsFormLines π bytes piece Bad told text = IsRefusalLines π [] bytes piece Bad told text
+IsFormLines π bytes piece NotJson told text = IsRefusalLines π [] bytes piece NotJson told text
+
+-- Comparing the two inputs ends with this outcome and this text: why the left input is refused, else why the right one is
+-- refused, each with a piece of the faults and the name of the side in front of each line, else `same` or the line of the first
+-- difference.
+abbrev pub IsCompareLines : Preference → List ℕ → List ℕ → Piece → Outcome → Told → List ℕ → Type 0
+IsCompareLines π left right piece outcome told text =
+    IsRefusalLines π (codes "left: ") left piece outcome told text
+    ⊎ ((IsSomeReport π left × IsRefusalLines π (codes "right: ") right piece outcome told text)
+    ⊎ ((found : Option Difference) × IsComparison π left right found × (outcome ≡ comparison_outcome found) × (text ≡ text_of_lines (comparison_line found ∷ [])) × TellsNone told))
+
+-- The text has a line for each difference of a piece, or the line `same` if there are none.
+abbrev pub IsFoundLines : Piece → List Difference → Told → List ℕ → Type 0
+IsFoundLines piece [] told text = (text ≡ text_of_lines (codes "same" ∷ [])) × TellsNone told
+IsFoundLines piece (d ∷ ds) told text = IsPieceLines difference_line [] piece (d ∷ ds) told text
+
+-- Listing the differences of the two inputs ends with this outcome and this text: why the left input is refused, else why the
+-- right one is refused, as a comparison has it, else a line for each difference of a piece.
+abbrev pub IsListLines : Preference → List ℕ → List ℕ → Piece → Outcome → Told → List ℕ → Type 0
+IsListLines π left right piece outcome told text =
+    IsRefusalLines π (codes "left: ") left piece outcome told text
+    ⊎ ((IsSomeReport π left × IsRefusalLines π (codes "right: ") right piece outcome told text)
+    ⊎ ((found : List Difference) × AreCompared π left right found × (outcome ≡ listing_outcome found) × IsFoundLines piece found told text))

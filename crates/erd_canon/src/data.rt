@@ -7,6 +7,8 @@ mod fault_texts;
 mod fault_values;
 pub(crate) mod line;
 mod listed;
+mod notation;
 pub(crate) mod piece;
 pub(crate) mod pieces;
 mod refusals;
+pub(crate) mod texts;

@@ -26,6 +26,9 @@ pub use data::piece::{Piece, PieceAnswer, Told};
 pub use data::pieces::{
     canonical_data_piece, check_data_piece, compare_data_piece, differences_data_piece,
 };
+pub use data::texts::{
+    canonical_text_piece, check_text_piece, compare_text_piece, differences_text_piece,
+};
 pub use devices::log::Log;
 pub use devices::read_from::ReadFrom;
 pub use devices::sink::{Sink, write_out};

@@ -7,4 +7,5 @@ mod pieces;
 mod reports;
 mod shapes;
 mod tables;
+mod text_pieces;
 mod texts;

@@ -14,12 +14,10 @@ import sys
 from typing import BinaryIO, List, Optional, Tuple
 
 from . import TooLong
-from .library import LINE_REQUEST, LINE_WRONG, Request, command_line
-from .listing import each_piece
-from .results import check_of, comparison_of, differences_of
+from .library import ALL, GOOD, LINE_REQUEST, LINE_WRONG, NO_MEMORY, WRONG, Request, command_line, pieces
+from .listing import bytes_of_type
 
 MOST_BYTES = 67108864
-WRONG, NO_MEMORY = 3, 4
 
 
 class Stop(Exception):
@@ -64,7 +62,7 @@ def read(handle: int) -> bytes:
     return b''.join(parts)
 
 
-def write(file: BinaryIO, data: bytes) -> None:
+def write(file: BinaryIO, data: memoryview) -> None:
     """Writes the bytes."""
     try:
         file.write(data)
@@ -73,26 +71,23 @@ def write(file: BinaryIO, data: bytes) -> None:
         raise Stop('write failed') from None
 
 
-# The call of each command, and what makes the result of an answer of it.
+# The call of each command.
 CALLS = {
-    'check': ('erd_check_data_piece', check_of),
-    'canon': ('erd_canonical_data_piece', check_of),
-    'compare': ('erd_compare_data_piece', comparison_of),
-    'differences': ('erd_differences_data', differences_of),
+    'check': 'erd_check_piece',
+    'canon': 'erd_canonical_piece',
+    'compare': 'erd_compare_piece',
+    'differences': 'erd_differences',
 }
 
 
 def write_each(command: str, reports: Tuple[bytes, ...], prefer: Optional[str]) -> int:
     """Writes what the command writes, piece by piece, so that no list is in memory as a whole, and returns the exit status."""
-    call, result_of = CALLS[command]
-    status = 0
-    for data, count in each_piece(call, reports, prefer, None):
-        if isinstance(data, bytes):
-            write(sys.stdout.buffer, data)
-        else:
-            result = result_of(data, count)
-            write(sys.stderr.buffer if command == 'canon' else sys.stdout.buffer, result.text.encode('utf-8'))
-            status = result.status
+    def written(text: memoryview, outcome: int) -> None:
+        write(sys.stderr.buffer if command == 'canon' and outcome != GOOD else sys.stdout.buffer, text)
+
+    status = GOOD
+    for piece in pieces(CALLS[command], reports, bytes_of_type(prefer), ALL, written):
+        status = piece.outcome
     return status
 
 

@@ -9,7 +9,7 @@ import sys
 from dataclasses import dataclass
 from functools import lru_cache
 from pathlib import Path
-from typing import Iterator, Optional, Sequence, Tuple
+from typing import Callable, Generic, Iterator, Optional, Sequence, Tuple, TypeVar
 
 GOOD, BAD, NOT_JSON, WRONG, NO_MEMORY = range(5)
 
@@ -55,7 +55,8 @@ def load(path: str) -> ctypes.CDLL:
     loaded = ctypes.CDLL(path)
     text = [ctypes.POINTER(ctypes.c_void_p), ctypes.POINTER(ctypes.c_size_t)]
     report = [ctypes.c_char_p, ctypes.c_size_t]
-    for call, reports in (('erd_check_data_piece', 1), ('erd_canonical_data_piece', 1), ('erd_compare_data_piece', 2),
+    for call, reports in (('erd_check_piece', 1), ('erd_canonical_piece', 1), ('erd_compare_piece', 2), ('erd_differences', 2),
+                          ('erd_check_data_piece', 1), ('erd_canonical_data_piece', 1), ('erd_compare_data_piece', 2),
                           ('erd_differences_data', 2)):
         function = getattr(loaded, call)
         function.argtypes = report * reports + [ctypes.c_char_p, ctypes.POINTER(Piece)] + text
@@ -108,12 +109,20 @@ def command_line(words: Sequence[str]) -> Tuple[int, Request]:
     return line, request
 
 
+Taken = TypeVar('Taken')
+
+# What is made of the text of an answer, which stands in the memory of the library, and of its outcome.
+Take = Callable[[memoryview, int], Taken]
+
+
 @dataclass(frozen=True)
-class Answer:
+class Answer(Generic[Taken]):
     """What the library answers to a call."""
 
     outcome: int
-    text: bytes
+    taken: Taken
+    """What was made of the text."""
+
     told: int
     """How many entries of a list the text has."""
 
@@ -121,19 +130,20 @@ class Answer:
     """How many entries the list has."""
 
 
-def pieces(name: str, reports: Tuple[bytes, ...], prefer: Optional[bytes], most: int) -> Iterator[Answer]:
+def pieces(name: str, reports: Tuple[bytes, ...], prefer: Optional[bytes], most: int,
+           take: Take[Taken]) -> Iterator[Answer[Taken]]:
     """Gives the answers with one piece of a list after another. An answer without a list is the only one."""
     first = 0
     while True:
-        answer = call(name, reports, prefer, Piece(first, most, BYTES_OF_PIECE))
+        answer = call(name, reports, prefer, Piece(first, most, BYTES_OF_PIECE), take)
         yield answer
         first += answer.told
         if answer.told == 0 or first >= answer.all:
             return
 
 
-def call(name: str, reports: Tuple[bytes, ...], prefer: Optional[bytes], piece: Piece) -> Answer:
-    """Calls the library, and returns its answer."""
+def call(name: str, reports: Tuple[bytes, ...], prefer: Optional[bytes], piece: Piece, take: Take[Taken]) -> Answer[Taken]:
+    """Calls the library, and returns its answer. The text that is taken is gone when `take` has returned."""
     text, length = ctypes.c_void_p(), ctypes.c_size_t()
     arguments = [value for report in reports for value in (report, len(report))]
     outcome = getattr(library(), name)(*arguments, prefer, ctypes.byref(piece), ctypes.byref(text), ctypes.byref(length))
@@ -142,6 +152,7 @@ def call(name: str, reports: Tuple[bytes, ...], prefer: Optional[bytes], piece: 
             raise MemoryError('out of memory')
         if outcome == WRONG:
             raise TooLong()
-        return Answer(outcome, bytes((ctypes.c_char * length.value).from_address(text.value)), piece.told, piece.all)
+        with memoryview((ctypes.c_char * length.value).from_address(text.value)).cast('B') as view:
+            return Answer(outcome, take(view, outcome), piece.told, piece.all)
     finally:
         library().erd_free(text)

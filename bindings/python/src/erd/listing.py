@@ -3,9 +3,9 @@
 from __future__ import annotations
 
 import json
-from typing import Iterator, Optional, Tuple
+from typing import Optional, Tuple
 
-from .library import ALL, GOOD, Answer, pieces
+from .library import ALL, GOOD, pieces
 
 # How many faults, or differences, are listed if the caller names no other number.
 MOST_LISTED = 1000
@@ -14,22 +14,15 @@ MOST_LISTED = 1000
 def listed(name: str, reports: Tuple[bytes, ...], prefer: Optional[str], most: Optional[int]) -> Tuple[object, int]:
     """Returns the value that the library answers, with so many entries of its list, and how many the list has. Entries whose
     texts are long are fewer than that; but all of them are there if none is the most."""
-    answers = each_piece(name, reports, prefer, most)
-    data, count = next(answers)
-    for more, _ in answers if most is None else ():
-        entries_of(data).extend(entries_of(more))
-    return data, count
+    def value_of(text: memoryview, outcome: int) -> object:
+        is_form = name == 'erd_canonical_data_piece' and outcome == GOOD
+        return bytes(text) if is_form else json.loads(bytes(text))
 
-
-def each_piece(name: str, reports: Tuple[bytes, ...], prefer: Optional[str], most: Optional[int]) -> Iterator[Tuple[object, int]]:
-    """Gives the values with one piece of the list after another, each with how many entries the list has."""
-    for answer in pieces(name, reports, bytes_of_type(prefer), most_of(most)):
-        yield value_of(name, answer), answer.all
-
-
-def value_of(name: str, answer: Answer) -> object:
-    """Returns the value of an answer: the bytes of a canonical form, or what its JSON reads as."""
-    return answer.text if name == 'erd_canonical_data_piece' and answer.outcome == GOOD else json.loads(answer.text)
+    answers = pieces(name, reports, bytes_of_type(prefer), most_of(most), value_of)
+    first = next(answers)
+    for more in answers if most is None else ():
+        entries_of(first.taken).extend(entries_of(more.taken))
+    return first.taken, first.all
 
 
 def entries_of(data: object) -> list:

@@ -1,8 +1,8 @@
 -- The front of a list that a piece shows: what it is, and how a walk along the list reaches it entry by entry.
-use Rattle.erd_canon.proofs.Common.{◌≡◌, ℕ, zero, suc, ◌+◌, ◌-◌, ◌<◌, ◌≤◌, Bool, true, false, ◌⊎◌, ◌↔◌, List, [], ◌∷◌, ◌++◌, map, length, take, drop, nat_lt, sym, refl, ap, ◌∙◌, subst, inl, inr, append_assoc, append-nil, arith, lit<, lt-ltb, fold, Data, array, items_of, comma_if, compact_text, items_text, HasFittingNumbers, ItemsHaveFittingNumbers}
+use Rattle.erd_canon.proofs.Common.{◌≡◌, ℕ, zero, suc, ◌+◌, ◌-◌, ◌<◌, ◌≤◌, Bool, true, false, ◌⊎◌, List, [], ◌∷◌, ◌++◌, map, length, take, drop, nat_lt, sym, refl, ap, ◌∙◌, subst, inl, inr, append_assoc, append-nil, arith, lt-ltb, fold, Data, array, items_of, comma_if, compact_text, items_text, HasFittingNumbers, ItemsHaveFittingNumbers}
 use Rattle.std.proofs.Common.{sum, le-ltb}
-use Rattle.erd_canon.specs.Pieces.{IsFront, IsPiece, IsPieceData}
-use Rattle.erd_canon.specs.code.Fronts.{AppendsPiece, IsReached, ahead, front}
+use Rattle.erd_canon.specs.Pieces.{IsFront}
+use Rattle.erd_canon.specs.code.Fronts.{AllHave, AppendsEntries, AppendsPiece, IsReached, ahead, front, joined_text}
 use Rattle.erd_canon.specs.declared.data.piece.Piece.{Piece}
 use Rattle.erd_canon.specs.declared.data.piece.Told.{Told}
 
@@ -60,61 +60,51 @@ no_room size (suc most) (x ∷ xs) = refl
 -- ---- how a walk reaches it
 
 -- before the first entry
-pub begun : {A : Type 0} (value_of : A → Data) (piece : Piece) (entries : List A) (before text : List ℕ) → text ≡ before ++ 91 ∷ []
-    → IsReached value_of piece entries before text piece entries
-begun value_of piece entries before text is = record {
+pub begun : {A : Type 0} (size : A → ℕ) (text_of : Bool → A → List ℕ) (Has : A → Type 0) (piece : Piece) (entries : List A) (before : List ℕ)
+    → IsReached size text_of Has piece entries before before piece entries
+begun size text_of Has piece entries before = record {
   low = omega arith;
-  written = ap (λ later. text ++ items_text later (items_of (map value_of (ahead value_of piece entries)))) (nat_lt-same piece.most)
-      ∙ ap (λ t. t ++ items_text false (items_of (map value_of (ahead value_of piece entries)))) is
-      ∙ append_assoc before (91 ∷ []) (items_text false (items_of (map value_of (ahead value_of piece entries))));
+  written = ap (λ later. before ++ joined_text text_of later (ahead size piece entries)) (nat_lt-same piece.most);
   count = omega arith;
   fits = λ fit. fit;
 }
 
 -- an entry behind those that the piece shows
-pub stopped : {A : Type 0} (value_of : A → Data) (piece : Piece) (entries : List A) (before text : List ℕ) (left : Piece) (x : A) (rest : List A) → left.first ≡ 0
-    → (left.most ≡ 0) ⊎ (left.enough_bytes ≡ 0) → IsReached value_of piece entries before text left (x ∷ rest) → IsReached value_of piece entries before text left rest
-stopped {A} value_of piece entries before text left x rest none why is = record {
+pub stopped : {A : Type 0} (size : A → ℕ) (text_of : Bool → A → List ℕ) (Has : A → Type 0) (piece : Piece) (entries : List A) (before text : List ℕ) (left : Piece) (x : A) (rest : List A)
+    → left.first ≡ 0 → (left.most ≡ 0) ⊎ (left.enough_bytes ≡ 0) → IsReached size text_of Has piece entries before text left (x ∷ rest)
+    → IsReached size text_of Has piece entries before text left rest
+stopped {A} size text_of Has piece entries before text left x rest none why is = record {
   low = is.low;
-  written = ap (λ ys. text ++ items_text (nat_lt left.most piece.most) (items_of (map value_of ys))) same ∙ is.written;
+  written = ap (λ ys. text ++ joined_text text_of (nat_lt left.most piece.most) ys) same ∙ is.written;
   count = ap (λ ys. (piece.most - left.most) + length ys) same ∙ is.count;
-  fits = λ fit. is.fits (subst (λ ys. ItemsHaveFittingNumbers (items_of (map value_of ys))) same fit);
+  fits = λ fit. is.fits (subst (AllHave Has) same fit);
 }
   where
-    size : A → ℕ
-    size entry = length (compact_text (value_of entry))
-
     nothing : (xs : List A) → (left.most ≡ 0) ⊎ (left.enough_bytes ≡ 0) → front size left.most left.enough_bytes xs ≡ []
     nothing xs (inl ended) = ap (λ n. front size n left.enough_bytes xs) ended ∙ no_more size left.enough_bytes xs
     nothing xs (inr ended) = ap (λ n. front size left.most n xs) ended ∙ no_room size left.most xs
 
-    same : ahead value_of left rest ≡ ahead value_of left (x ∷ rest)
+    same : ahead size left rest ≡ ahead size left (x ∷ rest)
     same = nothing (drop left.first rest) why ∙ sym (nothing (drop left.first (x ∷ rest)) why)
 
 -- an entry that the piece shows
-pub taken : {A : Type 0} (value_of : A → Data) (piece : Piece) (entries : List A) (before text : List ℕ) (left : Piece) (x : A) (rest : List A) (later : List ℕ) (enough : ℕ) → left.first ≡ 0
-    → 0 < left.most → 0 < left.enough_bytes → enough ≡ left.enough_bytes - length (compact_text (value_of x))
-    → later ≡ text ++ (comma_if (nat_lt left.most piece.most) ++ compact_text (value_of x)) → HasFittingNumbers (value_of x)
-    → IsReached value_of piece entries before text left (x ∷ rest)
-    → IsReached value_of piece entries before later (record { first = left.first; most = left.most - 1; enough_bytes = enough }) rest
-taken {A} value_of piece entries before text left x rest later enough none some room less wrote fit is =
-    let tail = items_of (map value_of shown) in
+pub taken : {A : Type 0} (size : A → ℕ) (text_of : Bool → A → List ℕ) (Has : A → Type 0) (piece : Piece) (entries : List A) (before text : List ℕ) (left : Piece) (x : A) (rest : List A) (later : List ℕ)
+    (enough : ℕ) → left.first ≡ 0 → 0 < left.most → 0 < left.enough_bytes → enough ≡ left.enough_bytes - size x → later ≡ text ++ text_of (nat_lt left.most piece.most) x → Has x
+    → IsReached size text_of Has piece entries before text left (x ∷ rest)
+    → IsReached size text_of Has piece entries before later (record { first = left.first; most = left.most - 1; enough_bytes = enough }) rest
+taken {A} size text_of Has piece entries before text left x rest later enough none some room less wrote has is =
     let low = is.low in
     let count = is.count in
     let longer = ap length key in
     record {
       low = omega (arith, low);
-      written = ap (λ b. later ++ items_text b tail) (lt-ltb (left.most - 1) piece.most (omega (arith, low, some))) ∙ ap (λ t. t ++ items_text true tail) wrote
-          ∙ append_assoc text (comma_if (nat_lt left.most piece.most) ++ compact_text (value_of x)) (items_text true tail)
-          ∙ ap (λ ys. text ++ ys) (append_assoc (comma_if (nat_lt left.most piece.most)) (compact_text (value_of x)) (items_text true tail))
-          ∙ ap (λ ys. text ++ items_text (nat_lt left.most piece.most) (items_of (map value_of ys))) (sym key) ∙ is.written;
+      written = ap (λ b. later ++ joined_text text_of b shown) (lt-ltb (left.most - 1) piece.most (omega (arith, low, some))) ∙ ap (λ t. t ++ joined_text text_of true shown) wrote
+          ∙ append_assoc text (text_of (nat_lt left.most piece.most) x) (joined_text text_of true shown)
+          ∙ ap (λ ys. text ++ joined_text text_of (nat_lt left.most piece.most) ys) (sym key) ∙ is.written;
       count = omega (arith, low, some, count, longer);
-      fits = λ fits. is.fits (subst (λ ys. ItemsHaveFittingNumbers (items_of (map value_of ys))) (sym key) (fit, fits));
+      fits = λ fits. is.fits (subst (AllHave Has) (sym key) (has, fits));
     }
   where
-    size : A → ℕ
-    size entry = length (compact_text (value_of entry))
-
     shown : List A
     shown = front size (left.most - 1) enough (drop left.first rest)
 
@@ -126,7 +116,7 @@ taken {A} value_of piece entries before text left x rest later enough none some 
     first : drop left.first (x ∷ rest) ≡ x ∷ drop left.first rest
     first = ap (λ n. drop n (x ∷ rest)) none ∙ ap (λ ys. x ∷ ys) (sym (ap (λ n. drop n rest) none))
 
-    key : ahead value_of left (x ∷ rest) ≡ x ∷ shown
+    key : ahead size left (x ∷ rest) ≡ x ∷ shown
     key = ap (front size left.most left.enough_bytes) first ∙ step left.most left.enough_bytes (drop left.first rest) some room
         ∙ ap (λ n. x ∷ front size (left.most - 1) n (drop left.first rest)) (sym less)
 
@@ -140,21 +130,47 @@ drop_nil zero xs none = none_of xs none
 drop_nil (suc n) [] none = refl
 drop_nil (suc n) (x ∷ xs) none = absurd (omega (arith, none))
 
-pub ended : {A : Type 0} (value_of : A → Data) (piece : Piece) (entries : List A) (before text later : List ℕ) (left : Piece) → later ≡ text ++ 93 ∷ []
-    → IsReached value_of piece entries before text left [] → AppendsPiece value_of piece entries (record { count = piece.most - left.most; all = length entries }) before later
-ended value_of piece entries before text later left wrote is = record {
-  value = array (items_of (map value_of (ahead value_of piece entries)));
-  is_piece = record {
-    shown = ahead value_of piece entries;
-    is_piece = record { front = front_is _ piece.most piece.enough_bytes (drop piece.first entries); count = counted; all = refl };
-    is_array = refl;
-  };
-  fits = is.fits (subst (λ ys. ItemsHaveFittingNumbers (items_of (map value_of ys))) (sym none) tt);
-  wrote = wrote ∙ subst (λ ys. text ++ items_text (nat_lt left.most piece.most) (items_of (map value_of ys)) ≡ before ++ compact_text (array (items_of (map value_of (ahead value_of piece entries))))) none is.written;
+pub ended : {A : Type 0} (size : A → ℕ) (text_of : Bool → A → List ℕ) (Has : A → Type 0) (piece : Piece) (entries : List A) (before text : List ℕ) (left : Piece)
+    → IsReached size text_of Has piece entries before text left []
+    → AppendsEntries size text_of Has piece entries (record { count = piece.most - left.most; all = length entries }) before text
+ended size text_of Has piece entries before text left is = record {
+  shown = ahead size piece entries;
+  is_piece = record { front = front_is size piece.most piece.enough_bytes (drop piece.first entries); count = counted; all = refl };
+  fits = is.fits (subst (AllHave Has) (sym none) tt);
+  wrote = sym (append-nil text) ∙ subst (λ ys. text ++ joined_text text_of (nat_lt left.most piece.most) ys ≡ before ++ joined_text text_of false (ahead size piece entries)) none is.written;
 }
   where
-    none : ahead value_of left [] ≡ []
-    none = ap (front (λ entry. length (compact_text (value_of entry))) left.most left.enough_bytes) (drop_nil left.first [] refl)
+    none : ahead size left [] ≡ []
+    none = ap (front size left.most left.enough_bytes) (drop_nil left.first [] refl)
 
-    counted : piece.most - left.most ≡ length (ahead value_of piece entries)
-    counted = let count = subst (λ ys. (piece.most - left.most) + length ys ≡ length (ahead value_of piece entries)) none is.count in omega (arith, count)
+    counted : piece.most - left.most ≡ length (ahead size piece entries)
+    counted = let count = subst (λ ys. (piece.most - left.most) + length ys ≡ length (ahead size piece entries)) none is.count in omega (arith, count)
+
+-- ---- the entries as an array
+
+joined_items : {A : Type 0} (value_of : A → Data) (later : Bool) (xs : List A)
+    → joined_text (λ later x. comma_if later ++ compact_text (value_of x)) later xs ++ 93 ∷ [] ≡ items_text later (items_of (map value_of xs))
+joined_items value_of later [] = refl
+joined_items value_of later (x ∷ xs) =
+    let rest = joined_text (λ later x. comma_if later ++ compact_text (value_of x)) true xs in
+    append_assoc (comma_if later ++ compact_text (value_of x)) rest (93 ∷ []) ∙ append_assoc (comma_if later) (compact_text (value_of x)) (rest ++ 93 ∷ [])
+    ∙ ap (λ t. comma_if later ++ (compact_text (value_of x) ++ t)) (joined_items value_of true xs)
+
+items_fit : {A : Type 0} (value_of : A → Data) (xs : List A) → AllHave (λ x. HasFittingNumbers (value_of x)) xs → ItemsHaveFittingNumbers (items_of (map value_of xs))
+items_fit value_of [] fit = tt
+items_fit value_of (x ∷ xs) fit = (fit.0, items_fit value_of xs fit.1)
+
+-- the entries of a piece between brackets
+pub in_brackets : {A : Type 0} (value_of : A → Data) (piece : Piece) (entries : List A) (told : Told) (before first second after : List ℕ) → first ≡ before ++ 91 ∷ []
+    → AppendsEntries (λ x. length (compact_text (value_of x))) (λ later x. comma_if later ++ compact_text (value_of x)) (λ x. HasFittingNumbers (value_of x)) piece entries told first second
+    → after ≡ second ++ 93 ∷ [] → AppendsPiece value_of piece entries told before after
+in_brackets value_of piece entries told before first second after opened a closed = record {
+  value = array (items_of (map value_of a.shown));
+  is_piece = record { shown = a.shown; is_piece = a.is_piece; is_array = refl };
+  fits = items_fit value_of a.shown a.fits;
+  wrote = closed ∙ ap (λ t. t ++ 93 ∷ []) (a.wrote ∙ ap (λ t. t ++ entries_text) opened) ∙ append_assoc (before ++ 91 ∷ []) entries_text (93 ∷ []) ∙ append_assoc before (91 ∷ []) (entries_text ++ 93 ∷ [])
+      ∙ ap (λ t. before ++ 91 ∷ t) (joined_items value_of false a.shown);
+}
+  where
+    entries_text : List ℕ
+    entries_text = joined_text (λ later x. comma_if later ++ compact_text (value_of x)) false a.shown
