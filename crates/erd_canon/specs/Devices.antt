@@ -22,14 +22,6 @@ pub record BeforeAfter (A : Type 0) : Type 0 where
   pub before : A
   pub after : A
 
--- What is known of a reader, by its parts.
-abbrev pub reader_of : {S : Type 0} → (S → Option (List ℕ)) → (S → Bool) → (S → ℕ) → (S → ℕ) → Reader S
-reader_of remaining has_failed reads given = record { remaining = remaining; has_failed = has_failed; reads = reads; given = given }
-
--- What is known of a writer, by its parts.
-abbrev pub writer_of : {W : Type 0} → (W → Option (List ℕ)) → (W → Bool) → (W → Bool) → (W → ℕ) → Writer W
-writer_of contents has_failed is_flushed flushes = record { contents = contents; has_failed = has_failed; is_flushed = is_flushed; flushes = flushes }
-
 -- A value before and after, by its parts.
 abbrev pub between : {A : Type 0} → A → A → BeforeAfter A
 between before after = record { before = before; after = after }

@@ -1,6 +1,6 @@
 ghost use Rattle.std.specs.Prelude.{◌≡◌, ◌++◌, ◌∷◌, [], Result, IfOk, false};
 ghost use Rattle.std.specs.Option.{option_copied};
-ghost use Rattle.erd_canon.specs.Devices.{between, reader_of, writer_of};
+ghost use Rattle.erd_canon.specs.Devices.{between};
 ghost use Rattle.erd_program.specs.declared.files.WorldFault.{WorldFault};
 ghost use Rattle.erd_program.specs.Files.{AreFilesCompared, IsCanonAnswer, IsCheckAnswer, IsCompareAnswer, IsFileCanonicalised, IsFileChecked, IsInputCanonicalised};
 ghost use Rattle.erd_program.specs.World.{outside};
@@ -23,13 +23,11 @@ pub(crate) fn filter<F: Files, I: Source, O: Sink, E: Sink, D: Disposal>(
     world: &mut World<F, I, O, E>,
     disposal: &D,
 ) -> u8
-    requires input_works { I.has_failed world.old.input ≡ false }
-    requires out_works { O.has_failed world.old.out ≡ false }
-    requires err_works { E.has_failed world.old.err ≡ false }
+    requires input_works { I.reader.has_failed world.old.input ≡ false }
+    requires out_works { O.writer.has_failed world.old.out ≡ false }
+    requires err_works { E.writer.has_failed world.old.err ≡ false }
     ensures files { world.new.files ≡ world.old.files }
-    ensures done { IsInputCanonicalised (outside F.opened F.beside F.closed (reader_of F.File.remaining F.File.has_failed F.File.reads F.File.given)
-        (reader_of I.remaining I.has_failed I.reads I.given) (writer_of O.contents O.has_failed O.is_flushed O.flushes)
-        (writer_of E.contents E.has_failed E.is_flushed E.flushes))
+    ensures done { IsInputCanonicalised (outside F.opened F.beside F.closed F.File.reader I.reader O.writer E.writer)
         result (between world.old.input world.new.input) (between world.old.out world.new.out)
         (between world.old.err world.new.err) }
 {
@@ -52,14 +50,12 @@ pub(crate) fn check<F: Files, I: Source, O: Sink, E: Sink, D: Disposal>(
     prefer: Option<&str>,
     disposal: &D,
 ) -> u8
-    requires out_works { O.has_failed world.old.out ≡ false }
-    requires err_works { E.has_failed world.old.err ≡ false }
+    requires out_works { O.writer.has_failed world.old.out ≡ false }
+    requires err_works { E.writer.has_failed world.old.err ≡ false }
     ensures input { world.new.input ≡ world.old.input }
     ensures done { (given : Result F.File WorldFault)
         × (F.opened world.new.files ≡ F.opened world.old.files ++ (name.now, given) ∷ [])
-        × IsCheckAnswer (outside F.opened F.beside F.closed (reader_of F.File.remaining F.File.has_failed F.File.reads F.File.given)
-        (reader_of I.remaining I.has_failed I.reads I.given) (writer_of O.contents O.has_failed O.is_flushed O.flushes)
-        (writer_of E.contents E.has_failed E.is_flushed E.flushes))
+        × IsCheckAnswer (outside F.opened F.beside F.closed F.File.reader I.reader O.writer E.writer)
         (option_copied prefer.entry) name.now given result (between (F.closed world.old.files) (F.closed world.new.files))
         (between world.old.out world.new.out) (between world.old.err world.new.err) }
 {
@@ -78,14 +74,12 @@ fn check_file<F: Files, I: Source, O: Sink, E: Sink, D: Disposal>(
     prefer: Option<&str>,
     disposal: &D,
 ) -> u8
-    requires file_works { F.File.has_failed file ≡ false }
-    requires out_works { O.has_failed world.old.out ≡ false }
-    requires err_works { E.has_failed world.old.err ≡ false }
+    requires file_works { F.File.reader.has_failed file ≡ false }
+    requires out_works { O.writer.has_failed world.old.out ≡ false }
+    requires err_works { E.writer.has_failed world.old.err ≡ false }
     ensures input { world.new.input ≡ world.old.input }
     ensures opened { F.opened world.new.files ≡ F.opened world.old.files }
-    ensures done { IsFileChecked (outside F.opened F.beside F.closed (reader_of F.File.remaining F.File.has_failed F.File.reads F.File.given)
-        (reader_of I.remaining I.has_failed I.reads I.given) (writer_of O.contents O.has_failed O.is_flushed O.flushes)
-        (writer_of E.contents E.has_failed E.is_flushed E.flushes))
+    ensures done { IsFileChecked (outside F.opened F.beside F.closed F.File.reader I.reader O.writer E.writer)
         (option_copied prefer.entry) name.now file result (between (F.closed world.old.files) (F.closed world.new.files))
         (between world.old.out world.new.out) (between world.old.err world.new.err) }
 {
@@ -102,14 +96,12 @@ pub(crate) fn canon<F: Files, I: Source, O: Sink, E: Sink, D: Disposal>(
     prefer: Option<&str>,
     disposal: &D,
 ) -> u8
-    requires out_works { O.has_failed world.old.out ≡ false }
-    requires err_works { E.has_failed world.old.err ≡ false }
+    requires out_works { O.writer.has_failed world.old.out ≡ false }
+    requires err_works { E.writer.has_failed world.old.err ≡ false }
     ensures input { world.new.input ≡ world.old.input }
     ensures done { (given : Result F.File WorldFault)
         × (F.opened world.new.files ≡ F.opened world.old.files ++ (name.now, given) ∷ [])
-        × IsCanonAnswer (outside F.opened F.beside F.closed (reader_of F.File.remaining F.File.has_failed F.File.reads F.File.given)
-        (reader_of I.remaining I.has_failed I.reads I.given) (writer_of O.contents O.has_failed O.is_flushed O.flushes)
-        (writer_of E.contents E.has_failed E.is_flushed E.flushes))
+        × IsCanonAnswer (outside F.opened F.beside F.closed F.File.reader I.reader O.writer E.writer)
         (option_copied prefer.entry) name.now given result (between (F.closed world.old.files) (F.closed world.new.files))
         (between world.old.out world.new.out) (between world.old.err world.new.err) }
 {
@@ -128,14 +120,12 @@ fn canon_file<F: Files, I: Source, O: Sink, E: Sink, D: Disposal>(
     prefer: Option<&str>,
     disposal: &D,
 ) -> u8
-    requires file_works { F.File.has_failed file ≡ false }
-    requires out_works { O.has_failed world.old.out ≡ false }
-    requires err_works { E.has_failed world.old.err ≡ false }
+    requires file_works { F.File.reader.has_failed file ≡ false }
+    requires out_works { O.writer.has_failed world.old.out ≡ false }
+    requires err_works { E.writer.has_failed world.old.err ≡ false }
     ensures input { world.new.input ≡ world.old.input }
     ensures opened { F.opened world.new.files ≡ F.opened world.old.files }
-    ensures done { IsFileCanonicalised (outside F.opened F.beside F.closed (reader_of F.File.remaining F.File.has_failed F.File.reads F.File.given)
-        (reader_of I.remaining I.has_failed I.reads I.given) (writer_of O.contents O.has_failed O.is_flushed O.flushes)
-        (writer_of E.contents E.has_failed E.is_flushed E.flushes))
+    ensures done { IsFileCanonicalised (outside F.opened F.beside F.closed F.File.reader I.reader O.writer E.writer)
         (option_copied prefer.entry) name.now file result (between (F.closed world.old.files) (F.closed world.new.files))
         (between world.old.out world.new.out) (between world.old.err world.new.err) }
 {
@@ -160,15 +150,13 @@ pub(crate) fn compare<F: Files, I: Source, O: Sink, E: Sink, D: Disposal>(
     prefer: Option<&str>,
     disposal: &D,
 ) -> u8
-    requires out_works { O.has_failed world.old.out ≡ false }
-    requires err_works { E.has_failed world.old.err ≡ false }
+    requires out_works { O.writer.has_failed world.old.out ≡ false }
+    requires err_works { E.writer.has_failed world.old.err ≡ false }
     ensures input { world.new.input ≡ world.old.input }
     ensures done { (a b : Result F.File WorldFault)
         × (F.opened world.new.files ≡ F.opened world.old.files ++ (left.now, a) ∷ (right.now, b) ∷ [])
         × (F.beside world.new.files ≡ F.beside world.old.files ++ (right.now, a) ∷ [])
-        × IsCompareAnswer (outside F.opened F.beside F.closed (reader_of F.File.remaining F.File.has_failed F.File.reads F.File.given)
-        (reader_of I.remaining I.has_failed I.reads I.given) (writer_of O.contents O.has_failed O.is_flushed O.flushes)
-        (writer_of E.contents E.has_failed E.is_flushed E.flushes))
+        × IsCompareAnswer (outside F.opened F.beside F.closed F.File.reader I.reader O.writer E.writer)
         (option_copied prefer.entry) left.now right.now a b result (between (F.closed world.old.files)
         (F.closed world.new.files)) (between world.old.out world.new.out) (between world.old.err world.new.err) }
 {
@@ -205,8 +193,8 @@ fn open_both<F: Files>(
     ensures opened { F.opened files.new ≡ F.opened files.old ++ (left.now, result.0) ∷ (right.now, result.1) ∷ [] }
     ensures beside { F.beside files.new ≡ F.beside files.old ++ (right.now, result.0) ∷ [] }
     ensures closed { F.closed files.new ≡ F.closed files.old }
-    ensures left_works { IfOk result.0 (λ file. F.File.has_failed file ≡ false) }
-    ensures right_works { IfOk result.1 (λ file. F.File.has_failed file ≡ false) }
+    ensures left_works { IfOk result.0 (λ file. F.File.reader.has_failed file ≡ false) }
+    ensures right_works { IfOk result.1 (λ file. F.File.reader.has_failed file ≡ false) }
 {
     let left_file = files.open(left);
     let right_file = files.open_beside(right, &left_file);
@@ -222,16 +210,14 @@ fn compare_files<F: Files, I: Source, O: Sink, E: Sink, D: Disposal>(
     prefer: Option<&str>,
     disposal: &D,
 ) -> u8
-    requires left_works { F.File.has_failed left.1 ≡ false }
-    requires right_works { F.File.has_failed right.1 ≡ false }
-    requires out_works { O.has_failed world.old.out ≡ false }
-    requires err_works { E.has_failed world.old.err ≡ false }
+    requires left_works { F.File.reader.has_failed left.1 ≡ false }
+    requires right_works { F.File.reader.has_failed right.1 ≡ false }
+    requires out_works { O.writer.has_failed world.old.out ≡ false }
+    requires err_works { E.writer.has_failed world.old.err ≡ false }
     ensures input { world.new.input ≡ world.old.input }
     ensures opened { F.opened world.new.files ≡ F.opened world.old.files }
     ensures beside { F.beside world.new.files ≡ F.beside world.old.files }
-    ensures done { AreFilesCompared (outside F.opened F.beside F.closed (reader_of F.File.remaining F.File.has_failed F.File.reads F.File.given)
-        (reader_of I.remaining I.has_failed I.reads I.given) (writer_of O.contents O.has_failed O.is_flushed O.flushes)
-        (writer_of E.contents E.has_failed E.is_flushed E.flushes))
+    ensures done { AreFilesCompared (outside F.opened F.beside F.closed F.File.reader I.reader O.writer E.writer)
         (option_copied prefer.entry) left.entry.0.now right.entry.0.now left.entry.1 right.entry.1
         result (between (F.closed world.old.files) (F.closed world.new.files)) (between world.old.out world.new.out)
         (between world.old.err world.new.err) }

@@ -1,5 +1,5 @@
 ghost use Rattle.std.specs.Prelude.{◌≡◌, ◌++◌, ◌∷◌, [], ℕ, List};
-ghost use Rattle.erd_canon.specs.Devices.{between, writer_of};
+ghost use Rattle.erd_canon.specs.Devices.{between};
 ghost use Rattle.erd_program.specs.Messages.{IsSaid, IsTold, fault_text, run_status, world_status, world_text};
 
 use crate::files::WorldFault;
@@ -7,7 +7,7 @@ use erd_canon::{Outcome, RunFault, Sink, write_out};
 
 /// Writes the text, unless the stream has failed before. It is one write if the stream takes all of the text at once.
 pub(crate) fn say<E: Sink>(err: &mut E, text: &str)
-    ensures { IsSaid (writer_of E.contents E.has_failed E.is_flushed E.flushes) text.now (between err.old err.new) }
+    ensures { IsSaid E.writer text.now (between err.old err.new) }
 {
     if err.failed() {
         return;
@@ -18,7 +18,7 @@ pub(crate) fn say<E: Sink>(err: &mut E, text: &str)
 /// Ends a run: if it ended early, says why, and returns the exit status.
 pub(crate) fn ended<E: Sink>(answer: Result<Outcome, RunFault>, err: &mut E) -> u8
     ensures status { result ≡ run_status answer }
-    ensures told { IsTold (writer_of E.contents E.has_failed E.is_flushed E.flushes) answer (between err.old err.new) }
+    ensures told { IsTold E.writer answer (between err.old err.new) }
 {
     match answer {
         Ok(outcome) => outcome.status(),
@@ -33,7 +33,7 @@ pub(crate) fn ended<E: Sink>(answer: Result<Outcome, RunFault>, err: &mut E) -> 
 pub(crate) fn refused<E: Sink>(fault: WorldFault, line: &str, err: &mut E) -> u8
     ensures status { result ≡ world_status fault }
     ensures said { (words : List ℕ) → line.now ≡ words ++ 10 ∷ []
-        → IsSaid (writer_of E.contents E.has_failed E.is_flushed E.flushes) (world_text words fault)
+        → IsSaid E.writer (world_text words fault)
         (between err.old err.new) }
 {
     match fault {

@@ -1,6 +1,6 @@
 ghost use Rattle.std.specs.Prelude.{◌≡◌, ◌∷◌, [], map, string_bytes, OnOk, OnErr, false, true};
 ghost use Rattle.std.specs.Io.KnownBytes.{Appends};
-ghost use Rattle.erd_canon.specs.Devices.{between, reader_of, writer_of};
+ghost use Rattle.erd_canon.specs.Devices.{between};
 ghost use Rattle.erd_canon.specs.Writing.{IsPartWritten};
 ghost use Rattle.erd_program.specs.Messages.{IsSaid};
 ghost use Rattle.erd_program.specs.Program.{AreWordsAnswered, IsDone, IsHelped, IsLineRefused, IsProgramRun, words_given};
@@ -29,12 +29,10 @@ pub fn run_program<F: Files, I: Source, O: Sink, E: Sink, D: Disposal>(
     world: &mut World<F, I, O, E>,
     disposal: &D,
 ) -> u8
-    requires input_works { I.has_failed world.old.input ≡ false }
-    requires out_works { O.has_failed world.old.out ≡ false }
-    requires err_works { E.has_failed world.old.err ≡ false }
-    ensures { IsProgramRun (outside F.opened F.beside F.closed (reader_of F.File.remaining F.File.has_failed F.File.reads F.File.given)
-        (reader_of I.remaining I.has_failed I.reads I.given) (writer_of O.contents O.has_failed O.is_flushed O.flushes)
-        (writer_of E.contents E.has_failed E.is_flushed E.flushes))
+    requires input_works { I.reader.has_failed world.old.input ≡ false }
+    requires out_works { O.writer.has_failed world.old.out ≡ false }
+    requires err_works { E.writer.has_failed world.old.err ≡ false }
+    ensures { IsProgramRun (outside F.opened F.beside F.closed F.File.reader I.reader O.writer E.writer)
         (words_given (λ all. map string_bytes all.items) words) result (between world.old world.new) }
 {
     match words {
@@ -50,12 +48,10 @@ fn answered<F: Files, I: Source, O: Sink, E: Sink, D: Disposal>(
     world: &mut World<F, I, O, E>,
     disposal: &D,
 ) -> u8
-    requires input_works { I.has_failed world.old.input ≡ false }
-    requires out_works { O.has_failed world.old.out ≡ false }
-    requires err_works { E.has_failed world.old.err ≡ false }
-    ensures { AreWordsAnswered (outside F.opened F.beside F.closed (reader_of F.File.remaining F.File.has_failed F.File.reads F.File.given)
-        (reader_of I.remaining I.has_failed I.reads I.given) (writer_of O.contents O.has_failed O.is_flushed O.flushes)
-        (writer_of E.contents E.has_failed E.is_flushed E.flushes))
+    requires input_works { I.reader.has_failed world.old.input ≡ false }
+    requires out_works { O.writer.has_failed world.old.out ≡ false }
+    requires err_works { E.writer.has_failed world.old.err ≡ false }
+    ensures { AreWordsAnswered (outside F.opened F.beside F.closed F.File.reader I.reader O.writer E.writer)
         (map string_bytes words.now) result (between world.old world.new) }
 {
     match command_line(alloc, words) {
@@ -71,12 +67,10 @@ fn done<F: Files, I: Source, O: Sink, E: Sink, D: Disposal>(
     request: &Request,
     disposal: &D,
 ) -> u8
-    requires input_works { I.has_failed world.old.input ≡ false }
-    requires out_works { O.has_failed world.old.out ≡ false }
-    requires err_works { E.has_failed world.old.err ≡ false }
-    ensures { IsDone (outside F.opened F.beside F.closed (reader_of F.File.remaining F.File.has_failed F.File.reads F.File.given)
-        (reader_of I.remaining I.has_failed I.reads I.given) (writer_of O.contents O.has_failed O.is_flushed O.flushes)
-        (writer_of E.contents E.has_failed E.is_flushed E.flushes))
+    requires input_works { I.reader.has_failed world.old.input ≡ false }
+    requires out_works { O.writer.has_failed world.old.out ≡ false }
+    requires err_works { E.writer.has_failed world.old.err ≡ false }
+    ensures { IsDone (outside F.opened F.beside F.closed F.File.reader I.reader O.writer E.writer)
         request.now result (between world.old world.new) }
 {
     match request {
@@ -91,9 +85,8 @@ fn done<F: Files, I: Source, O: Sink, E: Sink, D: Disposal>(
 
 // Says why the command line has no request, and returns the exit status.
 fn line_refused<O: Sink, E: Sink>(fault: LineFault, out: &mut O, err: &mut E) -> u8
-    requires out_works { O.has_failed out.old ≡ false }
-    ensures { IsLineRefused (writer_of O.contents O.has_failed O.is_flushed O.flushes)
-        (writer_of E.contents E.has_failed E.is_flushed E.flushes)
+    requires out_works { O.writer.has_failed out.old ≡ false }
+    ensures { IsLineRefused O.writer E.writer
         fault result (between out.old out.new) (between err.old err.new) }
 {
     match fault {
@@ -108,9 +101,8 @@ fn line_refused<O: Sink, E: Sink>(fault: LineFault, out: &mut O, err: &mut E) ->
 
 // Writes the help text to standard output, and returns the exit status.
 fn help<O: Sink, E: Sink>(text: &str, out: &mut O, err: &mut E) -> u8
-    requires out_works { O.has_failed out.old ≡ false }
-    ensures { IsHelped (writer_of O.contents O.has_failed O.is_flushed O.flushes)
-        (writer_of E.contents E.has_failed E.is_flushed E.flushes)
+    requires out_works { O.writer.has_failed out.old ≡ false }
+    ensures { IsHelped O.writer E.writer
         text.now result (between out.old out.new) (between err.old err.new) }
 {
     match write_and_flush(out, text.as_bytes()) {
@@ -121,12 +113,12 @@ fn help<O: Sink, E: Sink>(text: &str, out: &mut O, err: &mut E) -> u8
 
 // Writes the text and flushes.
 fn write_and_flush<O: Sink>(out: &mut O, text: &[u8]) -> Result<(), Failed>
-    requires { O.has_failed out.old ≡ false }
-    ensures works { OnOk result (O.has_failed out.new ≡ false) }
-    ensures flushed { OnOk result (O.is_flushed out.new ≡ true) }
-    ensures written { OnOk result (Appends (O.contents out.old) (O.contents out.new) text.now) }
-    ensures failed { OnErr result (O.has_failed out.new ≡ true) }
-    ensures part { IsPartWritten (O.contents out.old) (O.contents out.new) text.now }
+    requires { O.writer.has_failed out.old ≡ false }
+    ensures works { OnOk result (O.writer.has_failed out.new ≡ false) }
+    ensures flushed { OnOk result (O.writer.is_flushed out.new ≡ true) }
+    ensures written { OnOk result (Appends (O.writer.contents out.old) (O.writer.contents out.new) text.now) }
+    ensures failed { OnErr result (O.writer.has_failed out.new ≡ true) }
+    ensures part { IsPartWritten (O.writer.contents out.old) (O.writer.contents out.new) text.now }
 {
     write_out(out, text)?;
     out.flush()

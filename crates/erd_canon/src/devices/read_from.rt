@@ -34,13 +34,12 @@ impl<R: Read> ReadFrom<R> {
 }
 
 impl<R: Read> Source for ReadFrom<R> {
-    ghost remaining = { λ s. R.remaining s.reader };
-
-    ghost has_failed = { λ s. s.has_failed };
-
-    ghost reads = { λ s. length s.reads.items };
-
-    ghost given = { λ s. sum_by (λ read. read.1) s.reads.items };
+    ghost reader = { record {
+      remaining = λ s. R.remaining s.reader;
+      has_failed = λ s. s.has_failed;
+      reads = λ s. length s.reads.items;
+      given = λ s. sum_by (λ read. read.1) s.reads.items;
+    } };
 
     fn read(&mut self, buffer: &mut [u8]) -> Result<usize, Failed> {
         match self.reader.read(buffer) {

@@ -1,23 +1,15 @@
-ghost use Rattle.std.specs.Prelude.{◌≡◌, ◌↔◌, ℕ, ◌+◌, ◌<◌, List, length, Bool, true, false, Option, None, IfOk, OnOk, OnErr, IsErr};
+ghost use Rattle.std.specs.Prelude.{◌≡◌, ◌↔◌, ◌+◌, ◌<◌, length, true, false, IfOk, OnOk, OnErr, IsErr};
 ghost use Rattle.std.specs.Io.{WritesAtMost};
 ghost use Rattle.std.specs.Io.KnownBytes.{WriteAppends, Appends, Keeps};
+ghost use Rattle.erd_canon.specs.Devices.{Writer};
 ghost use Rattle.erd_canon.specs.Writing.{IsPartWritten};
 
 use crate::devices::source::Failed;
 
 /// A writer that remembers whether it has failed. After a failure it must not be written to or flushed again.
 pub trait Sink {
-    // The bytes that it holds, if they are known.
-    ghost contents: { Self → Option (List ℕ) } = { λ _. None };
-
-    // A write or a flush has returned `Failed`.
-    ghost has_failed: { Self → Bool };
-
-    // It was flushed, and nothing has been written since.
-    ghost is_flushed: { Self → Bool };
-
-    // The number of calls of `flush`.
-    ghost flushes: { Self → ℕ };
+    // What contracts know of it.
+    ghost writer: { Writer Self };
 
     /// Writes bytes from the front of the slice and returns how many it took. It takes at least one byte of a slice that is
     /// not empty.
@@ -31,14 +23,14 @@ pub trait Sink {
     /// assert_eq!(rt; sink.write("abc".as_bytes()).ok(), Some(3));
     /// ```
     fn write(&mut self, bytes: &[u8]) -> Result<usize, Failed>
-        requires { has_failed self.old ≡ false }
+        requires { writer.has_failed self.old ≡ false }
         ensures bound { WritesAtMost result bytes.now }
-        ensures bytes { WriteAppends (contents self.old) (contents self.new) result bytes.now }
+        ensures bytes { WriteAppends (writer.contents self.old) (writer.contents self.new) result bytes.now }
         ensures taken { IfOk result (λ count. 0 < length bytes.now → 0 < count) }
-        ensures written { is_flushed self.new ≡ false }
-        ensures counted { flushes self.new ≡ flushes self.old }
-        ensures ok { OnOk result (has_failed self.new ≡ has_failed self.old) }
-        ensures err { OnErr result (has_failed self.new ≡ true) };
+        ensures written { writer.is_flushed self.new ≡ false }
+        ensures counted { writer.flushes self.new ≡ writer.flushes self.old }
+        ensures ok { OnOk result (writer.has_failed self.new ≡ writer.has_failed self.old) }
+        ensures err { OnErr result (writer.has_failed self.new ≡ true) };
 
     /// Passes on the buffered bytes.
     ///
@@ -50,12 +42,12 @@ pub trait Sink {
     /// assert!(rt; sink.flush().is_ok());
     /// ```
     fn flush(&mut self) -> Result<(), Failed>
-        requires { has_failed self.old ≡ false }
-        ensures flushed { OnOk result (is_flushed self.new ≡ true) }
-        ensures counted { flushes self.new ≡ flushes self.old + 1 }
-        ensures bytes { Keeps (contents self.old) (contents self.new) }
-        ensures ok { OnOk result (has_failed self.new ≡ has_failed self.old) }
-        ensures err { OnErr result (has_failed self.new ≡ true) };
+        requires { writer.has_failed self.old ≡ false }
+        ensures flushed { OnOk result (writer.is_flushed self.new ≡ true) }
+        ensures counted { writer.flushes self.new ≡ writer.flushes self.old + 1 }
+        ensures bytes { Keeps (writer.contents self.old) (writer.contents self.new) }
+        ensures ok { OnOk result (writer.has_failed self.new ≡ writer.has_failed self.old) }
+        ensures err { OnErr result (writer.has_failed self.new ≡ true) };
 
     /// Returns whether a write or a flush has failed.
     ///
@@ -63,7 +55,7 @@ pub trait Sink {
     /// assert!(rt; !reader.failed() && !out.failed());
     /// ```
     fn failed(&self) -> bool
-        ensures { result ≡ has_failed self.now };
+        ensures { result ≡ writer.has_failed self.now };
 }
 
 /// Writes all the bytes. For an empty slice it calls nothing.
@@ -76,12 +68,12 @@ pub trait Sink {
 /// assert!(rt; write_out(&mut sink, "def".as_bytes()).is_ok());
 /// ```
 pub fn write_out<W: Sink>(sink: &mut W, bytes: &[u8]) -> Result<(), Failed>
-    requires { W.has_failed sink.old ≡ false }
-    ensures written { OnOk result (Appends (W.contents sink.old) (W.contents sink.new) bytes.now) }
-    ensures part { IsPartWritten (W.contents sink.old) (W.contents sink.new) bytes.now }
-    ensures failed { IsErr result ↔ (W.has_failed sink.new ≡ true) }
-    ensures works { OnOk result (W.has_failed sink.new ≡ false) }
-    ensures counted { W.flushes sink.new ≡ W.flushes sink.old }
+    requires { W.writer.has_failed sink.old ≡ false }
+    ensures written { OnOk result (Appends (W.writer.contents sink.old) (W.writer.contents sink.new) bytes.now) }
+    ensures part { IsPartWritten (W.writer.contents sink.old) (W.writer.contents sink.new) bytes.now }
+    ensures failed { IsErr result ↔ (W.writer.has_failed sink.new ≡ true) }
+    ensures works { OnOk result (W.writer.has_failed sink.new ≡ false) }
+    ensures counted { W.writer.flushes sink.new ≡ W.writer.flushes sink.old }
     ensures empty { length bytes.now ≡ 0 → sink.new ≡ sink.old }
 {
     let mut at = 0;

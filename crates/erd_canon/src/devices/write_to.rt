@@ -37,13 +37,12 @@ impl<W: Write> WriteTo<W> {
 }
 
 impl<W: Write> Sink for WriteTo<W> {
-    ghost contents = { λ s. W.contents s.writer };
-
-    ghost has_failed = { λ s. s.has_failed };
-
-    ghost is_flushed = { λ s. s.is_flushed };
-
-    ghost flushes = { λ s. length s.flushes.items };
+    ghost writer = { record {
+      contents = λ s. W.contents s.writer;
+      has_failed = λ s. s.has_failed;
+      is_flushed = λ s. s.is_flushed;
+      flushes = λ s. length s.flushes.items;
+    } };
 
     fn write(&mut self, bytes: &[u8]) -> Result<usize, Failed> {
         self.is_flushed = false;

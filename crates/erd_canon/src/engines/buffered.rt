@@ -14,12 +14,12 @@ pub(crate) fn write_buffered<O: Sink>(
     buffer: &mut Vec<u8>,
     bytes: &[u8],
 ) -> Result<(), Failed>
-    requires { O.has_failed out.old ≡ false }
-    ensures moved { OnOk result (IsMoved (O.contents out.old) (O.contents out.new) (buffer.old.items ++ bytes.now) buffer.new.items) }
-    ensures part { OnErr result (IsFrontMoved (O.contents out.old) (O.contents out.new) (buffer.old.items ++ bytes.now)) }
-    ensures works { OnOk result (O.has_failed out.new ≡ false) }
-    ensures failed { OnErr result (O.has_failed out.new ≡ true) }
-    ensures counted { O.flushes out.new ≡ O.flushes out.old }
+    requires { O.writer.has_failed out.old ≡ false }
+    ensures moved { OnOk result (IsMoved (O.writer.contents out.old) (O.writer.contents out.new) (buffer.old.items ++ bytes.now) buffer.new.items) }
+    ensures part { OnErr result (IsFrontMoved (O.writer.contents out.old) (O.writer.contents out.new) (buffer.old.items ++ bytes.now)) }
+    ensures works { OnOk result (O.writer.has_failed out.new ≡ false) }
+    ensures failed { OnErr result (O.writer.has_failed out.new ≡ true) }
+    ensures counted { O.writer.flushes out.new ≡ O.writer.flushes out.old }
 {
     if bytes.len() > MOST_BUFFERED {
         return write_through(out, buffer, bytes);
@@ -33,12 +33,12 @@ pub(crate) fn write_buffered<O: Sink>(
 
 /// Writes the bytes of the buffer if there is no room for so many more behind them.
 fn make_room<O: Sink>(out: &mut O, buffer: &mut Vec<u8>, more: usize) -> Result<(), Failed>
-    requires { O.has_failed out.old ≡ false }
-    ensures moved { OnOk result (IsMoved (O.contents out.old) (O.contents out.new) buffer.old.items buffer.new.items) }
-    ensures part { OnErr result (IsFrontMoved (O.contents out.old) (O.contents out.new) buffer.old.items) }
-    ensures works { OnOk result (O.has_failed out.new ≡ false) }
-    ensures failed { OnErr result (O.has_failed out.new ≡ true) }
-    ensures counted { O.flushes out.new ≡ O.flushes out.old }
+    requires { O.writer.has_failed out.old ≡ false }
+    ensures moved { OnOk result (IsMoved (O.writer.contents out.old) (O.writer.contents out.new) buffer.old.items buffer.new.items) }
+    ensures part { OnErr result (IsFrontMoved (O.writer.contents out.old) (O.writer.contents out.new) buffer.old.items) }
+    ensures works { OnOk result (O.writer.has_failed out.new ≡ false) }
+    ensures failed { OnErr result (O.writer.has_failed out.new ≡ true) }
+    ensures counted { O.writer.flushes out.new ≡ O.writer.flushes out.old }
 {
     if buffer.len() > MOST_BUFFERED.saturating_sub(more) {
         write_buffer(out, buffer)
@@ -49,12 +49,12 @@ fn make_room<O: Sink>(out: &mut O, buffer: &mut Vec<u8>, more: usize) -> Result<
 
 /// Writes the bytes of the buffer, and then these bytes.
 fn write_through<O: Sink>(out: &mut O, buffer: &mut Vec<u8>, bytes: &[u8]) -> Result<(), Failed>
-    requires { O.has_failed out.old ≡ false }
-    ensures moved { OnOk result (IsMoved (O.contents out.old) (O.contents out.new) (buffer.old.items ++ bytes.now) buffer.new.items) }
-    ensures part { OnErr result (IsFrontMoved (O.contents out.old) (O.contents out.new) (buffer.old.items ++ bytes.now)) }
-    ensures works { OnOk result (O.has_failed out.new ≡ false) }
-    ensures failed { OnErr result (O.has_failed out.new ≡ true) }
-    ensures counted { O.flushes out.new ≡ O.flushes out.old }
+    requires { O.writer.has_failed out.old ≡ false }
+    ensures moved { OnOk result (IsMoved (O.writer.contents out.old) (O.writer.contents out.new) (buffer.old.items ++ bytes.now) buffer.new.items) }
+    ensures part { OnErr result (IsFrontMoved (O.writer.contents out.old) (O.writer.contents out.new) (buffer.old.items ++ bytes.now)) }
+    ensures works { OnOk result (O.writer.has_failed out.new ≡ false) }
+    ensures failed { OnErr result (O.writer.has_failed out.new ≡ true) }
+    ensures counted { O.writer.flushes out.new ≡ O.writer.flushes out.old }
 {
     write_buffer(out, buffer)?;
     write_out(out, bytes)?;
@@ -63,13 +63,13 @@ fn write_through<O: Sink>(out: &mut O, buffer: &mut Vec<u8>, bytes: &[u8]) -> Re
 
 /// Writes the bytes of the buffer and empties it.
 pub(crate) fn write_buffer<O: Sink>(out: &mut O, buffer: &mut Vec<u8>) -> Result<(), Failed>
-    requires { O.has_failed out.old ≡ false }
-    ensures moved { OnOk result (IsMoved (O.contents out.old) (O.contents out.new) buffer.old.items buffer.new.items) }
+    requires { O.writer.has_failed out.old ≡ false }
+    ensures moved { OnOk result (IsMoved (O.writer.contents out.old) (O.writer.contents out.new) buffer.old.items buffer.new.items) }
     ensures emptied { OnOk result (buffer.new.items ≡ []) }
-    ensures part { OnErr result (IsFrontMoved (O.contents out.old) (O.contents out.new) buffer.old.items) }
-    ensures works { OnOk result (O.has_failed out.new ≡ false) }
-    ensures failed { OnErr result (O.has_failed out.new ≡ true) }
-    ensures counted { O.flushes out.new ≡ O.flushes out.old }
+    ensures part { OnErr result (IsFrontMoved (O.writer.contents out.old) (O.writer.contents out.new) buffer.old.items) }
+    ensures works { OnOk result (O.writer.has_failed out.new ≡ false) }
+    ensures failed { OnErr result (O.writer.has_failed out.new ≡ true) }
+    ensures counted { O.writer.flushes out.new ≡ O.writer.flushes out.old }
 {
     write_out(out, buffer.as_slice())?;
     buffer.clear();

@@ -1,6 +1,6 @@
 ghost use Rattle.std.specs.Prelude.{ℕ, List, ◌≡◌, ◌⊎◌, false, true, Err, IfErr, IfOk, OnOk, None};
 ghost use Rattle.std.specs.Option.{option_copied};
-ghost use Rattle.erd_canon.specs.Devices.{between, reader_of, writer_of};
+ghost use Rattle.erd_canon.specs.Devices.{between};
 ghost use Rattle.erd_canon.specs.EngineTexts.{IsRefusal};
 ghost use Rattle.erd_canon.specs.Engines.{IsCanonRun};
 ghost use Rattle.erd_canon.specs.Refused.{IsSomeReport};
@@ -39,12 +39,10 @@ pub fn run_canon<S: Source, O: Sink, E: Sink>(
     out: &mut O,
     err: &mut E,
 ) -> Result<Outcome, RunFault>
-    requires reader_works { S.has_failed reader.old ≡ false }
-    requires out_works { O.has_failed out.old ≡ false }
-    requires err_works { E.has_failed err.old ≡ false }
-    ensures { IsCanonRun (reader_of S.remaining S.has_failed S.reads S.given) (writer_of O.contents O.has_failed O.is_flushed O.flushes)
-        (writer_of E.contents E.has_failed E.is_flushed E.flushes)
-        None result (between reader.old reader.new) (between out.old out.new) (between err.old err.new) }
+    requires reader_works { S.reader.has_failed reader.old ≡ false }
+    requires out_works { O.writer.has_failed out.old ≡ false }
+    requires err_works { E.writer.has_failed err.old ≡ false }
+    ensures { IsCanonRun S.reader O.writer E.writer None result (between reader.old reader.new) (between out.old out.new) (between err.old err.new) }
 {
     run_canon_with(alloc, reader, out, err, None)
 }
@@ -75,12 +73,11 @@ pub fn run_canon_with<S: Source, O: Sink, E: Sink>(
     err: &mut E,
     prefer: Option<&str>,
 ) -> Result<Outcome, RunFault>
-    requires reader_works { S.has_failed reader.old ≡ false }
-    requires out_works { O.has_failed out.old ≡ false }
-    requires err_works { E.has_failed err.old ≡ false }
-    ensures { IsCanonRun (reader_of S.remaining S.has_failed S.reads S.given) (writer_of O.contents O.has_failed O.is_flushed O.flushes)
-        (writer_of E.contents E.has_failed E.is_flushed E.flushes)
-        (option_copied prefer.entry) result (between reader.old reader.new) (between out.old out.new) (between err.old err.new) }
+    requires reader_works { S.reader.has_failed reader.old ≡ false }
+    requires out_works { O.writer.has_failed out.old ≡ false }
+    requires err_works { E.writer.has_failed err.old ≡ false }
+    ensures { IsCanonRun S.reader O.writer E.writer (option_copied prefer.entry) result
+        (between reader.old reader.new) (between out.old out.new) (between err.old err.new) }
 {
     run_canon_disposing(alloc, reader, out, err, prefer, &Free)
 }
@@ -110,12 +107,11 @@ pub fn run_canon_disposing<S: Source, O: Sink, E: Sink, D: Disposal>(
     prefer: Option<&str>,
     disposal: &D,
 ) -> Result<Outcome, RunFault>
-    requires reader_works { S.has_failed reader.old ≡ false }
-    requires out_works { O.has_failed out.old ≡ false }
-    requires err_works { E.has_failed err.old ≡ false }
-    ensures { IsCanonRun (reader_of S.remaining S.has_failed S.reads S.given) (writer_of O.contents O.has_failed O.is_flushed O.flushes)
-        (writer_of E.contents E.has_failed E.is_flushed E.flushes)
-        (option_copied prefer.entry) result (between reader.old reader.new) (between out.old out.new) (between err.old err.new) }
+    requires reader_works { S.reader.has_failed reader.old ≡ false }
+    requires out_works { O.writer.has_failed out.old ≡ false }
+    requires err_works { E.writer.has_failed err.old ≡ false }
+    ensures { IsCanonRun S.reader O.writer E.writer (option_copied prefer.entry) result
+        (between reader.old reader.new) (between out.old out.new) (between err.old err.new) }
 {
     let bytes = read_all(alloc, reader)?;
     write_answer(alloc, bytes, out, err, prefer, disposal)
@@ -130,25 +126,25 @@ fn write_answer<O: Sink, E: Sink, D: Disposal>(
     prefer: Option<&str>,
     disposal: &D,
 ) -> Result<Outcome, RunFault>
-    requires out_works { O.has_failed out.old ≡ false }
-    requires err_works { E.has_failed err.old ≡ false }
-    ensures written { IfOk result (λ outcome. IsAnswerWritten (option_copied prefer.entry) bytes.items outcome (O.contents out.old) (O.contents out.new)
-        (E.contents err.old) (E.contents err.new)) }
-    ensures flushed { OnOk result ((O.is_flushed out.new ≡ true) × (E.is_flushed err.new ≡ true)) }
-    ensures works { OnOk result ((O.has_failed out.new ≡ false) × (E.has_failed err.new ≡ false)) }
+    requires out_works { O.writer.has_failed out.old ≡ false }
+    requires err_works { E.writer.has_failed err.old ≡ false }
+    ensures written { IfOk result (λ outcome. IsAnswerWritten (option_copied prefer.entry) bytes.items outcome (O.writer.contents out.old) (O.writer.contents out.new)
+        (E.writer.contents err.old) (E.writer.contents err.new)) }
+    ensures flushed { OnOk result ((O.writer.is_flushed out.new ≡ true) × (E.writer.is_flushed err.new ≡ true)) }
+    ensures works { OnOk result ((O.writer.has_failed out.new ≡ false) × (E.writer.has_failed err.new ≡ false)) }
     ensures memory { result ≡ Err RunFault.Memory → (out.new ≡ out.old) × (err.new ≡ err.old) }
-    ensures broken { result ≡ Err RunFault.Write → IsAnswerPartWritten (option_copied prefer.entry) bytes.items (O.contents out.old) (O.contents out.new)
-        (E.contents err.old) (E.contents err.new) }
+    ensures broken { result ≡ Err RunFault.Write → IsAnswerPartWritten (option_copied prefer.entry) bytes.items (O.writer.contents out.old) (O.writer.contents out.new)
+        (E.writer.contents err.old) (E.writer.contents err.new) }
     ensures write { result ≡ Err RunFault.Write
-        → (O.has_failed out.new ≡ true) ⊎ (E.has_failed err.new ≡ true) }
+        → (O.writer.has_failed out.new ≡ true) ⊎ (E.writer.has_failed err.new ≡ true) }
     ensures faults { IfErr result (λ fault. (fault ≡ RunFault.Memory) ⊎ (fault ≡ RunFault.Write)) }
-    ensures out_first { O.has_failed out.new ≡ true → O.flushes out.new ≡ O.flushes out.old → err.new ≡ err.old }
-    ensures writes_first { E.has_failed err.new ≡ true → E.flushes err.new ≡ E.flushes err.old
-        → O.flushes out.new ≡ O.flushes out.old }
-    ensures flush_order { (E.flushes err.new ≡ E.flushes err.old) ⊎ (O.is_flushed out.new ≡ true) }
-    ensures out_needed { O.has_failed out.new ≡ true → O.flushes out.new ≡ O.flushes out.old
+    ensures out_first { O.writer.has_failed out.new ≡ true → O.writer.flushes out.new ≡ O.writer.flushes out.old → err.new ≡ err.old }
+    ensures writes_first { E.writer.has_failed err.new ≡ true → E.writer.flushes err.new ≡ E.writer.flushes err.old
+        → O.writer.flushes out.new ≡ O.writer.flushes out.old }
+    ensures flush_order { (E.writer.flushes err.new ≡ E.writer.flushes err.old) ⊎ (O.writer.is_flushed out.new ≡ true) }
+    ensures out_needed { O.writer.has_failed out.new ≡ true → O.writer.flushes out.new ≡ O.writer.flushes out.old
         → IsSomeReport (option_copied prefer.entry) bytes.items }
-    ensures err_needed { E.has_failed err.new ≡ true → E.flushes err.new ≡ E.flushes err.old
+    ensures err_needed { E.writer.has_failed err.new ≡ true → E.writer.flushes err.new ≡ E.writer.flushes err.old
         → (lines : List (List ℕ)) × IsRefusal (option_copied prefer.entry) bytes.items lines }
 {
     match canonical_of_input(alloc, bytes, prefer, disposal) {

@@ -1,6 +1,6 @@
 ghost use Rattle.std.specs.Prelude.{◌≡◌, ◌⊎◌, false, true, Err, IfErr, IfOk, OnOk, None};
 ghost use Rattle.std.specs.Option.{option_copied};
-ghost use Rattle.erd_canon.specs.Devices.{between, reader_of, writer_of};
+ghost use Rattle.erd_canon.specs.Devices.{between};
 ghost use Rattle.erd_canon.specs.Engines.{IsCheckRun};
 ghost use Rattle.erd_canon.specs.Run.{IsCheckWritten};
 ghost use Rattle.erd_canon.specs.Writing.{IsCheckPartWritten};
@@ -35,10 +35,9 @@ pub fn run_check<S: Source, O: Sink>(
     reader: &mut S,
     out: &mut O,
 ) -> Result<Outcome, RunFault>
-    requires reader_works { S.has_failed reader.old ≡ false }
-    requires out_works { O.has_failed out.old ≡ false }
-    ensures { IsCheckRun (reader_of S.remaining S.has_failed S.reads S.given) (writer_of O.contents O.has_failed O.is_flushed O.flushes)
-        None result (between reader.old reader.new) (between out.old out.new) }
+    requires reader_works { S.reader.has_failed reader.old ≡ false }
+    requires out_works { O.writer.has_failed out.old ≡ false }
+    ensures { IsCheckRun S.reader O.writer None result (between reader.old reader.new) (between out.old out.new) }
 {
     run_check_with(alloc, reader, out, None)
 }
@@ -66,10 +65,9 @@ pub fn run_check_with<S: Source, O: Sink>(
     out: &mut O,
     prefer: Option<&str>,
 ) -> Result<Outcome, RunFault>
-    requires reader_works { S.has_failed reader.old ≡ false }
-    requires out_works { O.has_failed out.old ≡ false }
-    ensures { IsCheckRun (reader_of S.remaining S.has_failed S.reads S.given) (writer_of O.contents O.has_failed O.is_flushed O.flushes)
-        (option_copied prefer.entry) result (between reader.old reader.new) (between out.old out.new) }
+    requires reader_works { S.reader.has_failed reader.old ≡ false }
+    requires out_works { O.writer.has_failed out.old ≡ false }
+    ensures { IsCheckRun S.reader O.writer (option_copied prefer.entry) result (between reader.old reader.new) (between out.old out.new) }
 {
     run_check_disposing(alloc, reader, out, prefer, &Free)
 }
@@ -98,10 +96,9 @@ pub fn run_check_disposing<S: Source, O: Sink, D: Disposal>(
     prefer: Option<&str>,
     disposal: &D,
 ) -> Result<Outcome, RunFault>
-    requires reader_works { S.has_failed reader.old ≡ false }
-    requires out_works { O.has_failed out.old ≡ false }
-    ensures { IsCheckRun (reader_of S.remaining S.has_failed S.reads S.given) (writer_of O.contents O.has_failed O.is_flushed O.flushes)
-        (option_copied prefer.entry) result (between reader.old reader.new) (between out.old out.new) }
+    requires reader_works { S.reader.has_failed reader.old ≡ false }
+    requires out_works { O.writer.has_failed out.old ≡ false }
+    ensures { IsCheckRun S.reader O.writer (option_copied prefer.entry) result (between reader.old reader.new) (between out.old out.new) }
 {
     let bytes = read_all(alloc, reader)?;
     write_checked(alloc, bytes, out, prefer, disposal)
@@ -115,13 +112,13 @@ fn write_checked<O: Sink, D: Disposal>(
     prefer: Option<&str>,
     disposal: &D,
 ) -> Result<Outcome, RunFault>
-    requires { O.has_failed out.old ≡ false }
-    ensures written { IfOk result (λ outcome. IsCheckWritten (option_copied prefer.entry) bytes.items outcome (O.contents out.old) (O.contents out.new)) }
-    ensures flushed { OnOk result (O.is_flushed out.new ≡ true) }
-    ensures works { OnOk result (O.has_failed out.new ≡ false) }
+    requires { O.writer.has_failed out.old ≡ false }
+    ensures written { IfOk result (λ outcome. IsCheckWritten (option_copied prefer.entry) bytes.items outcome (O.writer.contents out.old) (O.writer.contents out.new)) }
+    ensures flushed { OnOk result (O.writer.is_flushed out.new ≡ true) }
+    ensures works { OnOk result (O.writer.has_failed out.new ≡ false) }
     ensures memory { result ≡ Err RunFault.Memory → out.new ≡ out.old }
-    ensures broken { result ≡ Err RunFault.Write → IsCheckPartWritten (option_copied prefer.entry) bytes.items (O.contents out.old) (O.contents out.new) }
-    ensures write { result ≡ Err RunFault.Write → O.has_failed out.new ≡ true }
+    ensures broken { result ≡ Err RunFault.Write → IsCheckPartWritten (option_copied prefer.entry) bytes.items (O.writer.contents out.old) (O.writer.contents out.new) }
+    ensures write { result ≡ Err RunFault.Write → O.writer.has_failed out.new ≡ true }
     ensures faults { IfErr result (λ fault. (fault ≡ RunFault.Memory) ⊎ (fault ≡ RunFault.Write)) }
 {
     match check_input(alloc, bytes, prefer, disposal) {

@@ -1,7 +1,7 @@
 ghost use Rattle.std.specs.Prelude.{◌≡◌, ◌⊎◌, [], ◌∷◌, false, true, Err, IfErr, IfOk, OnOk, None};
 ghost use Rattle.std.specs.Option.{option_copied};
 ghost use Rattle.erd_compare.specs.DifferenceLine.{difference_line};
-ghost use Rattle.erd_canon.specs.Devices.{between, reader_of, writer_of};
+ghost use Rattle.erd_canon.specs.Devices.{between};
 ghost use Rattle.erd_canon.specs.EngineTexts.{text_of_lines};
 ghost use Rattle.erd_canon.specs.Engines.{IsCompareRun};
 ghost use Rattle.erd_canon.specs.Run.{IsCompareWritten};
@@ -41,12 +41,10 @@ pub fn run_compare<S: Source, T: Source, O: Sink>(
     right: &mut T,
     out: &mut O,
 ) -> Result<Outcome, RunFault>
-    requires left_works { S.has_failed left.old ≡ false }
-    requires right_works { T.has_failed right.old ≡ false }
-    requires out_works { O.has_failed out.old ≡ false }
-    ensures { IsCompareRun (reader_of S.remaining S.has_failed S.reads S.given) (reader_of T.remaining T.has_failed T.reads T.given)
-        (writer_of O.contents O.has_failed O.is_flushed O.flushes)
-        None result (between left.old left.new) (between right.old right.new) (between out.old out.new) }
+    requires left_works { S.reader.has_failed left.old ≡ false }
+    requires right_works { T.reader.has_failed right.old ≡ false }
+    requires out_works { O.writer.has_failed out.old ≡ false }
+    ensures { IsCompareRun S.reader T.reader O.writer None result (between left.old left.new) (between right.old right.new) (between out.old out.new) }
 {
     run_compare_with(alloc, left, right, out, None)
 }
@@ -77,12 +75,11 @@ pub fn run_compare_with<S: Source, T: Source, O: Sink>(
     out: &mut O,
     prefer: Option<&str>,
 ) -> Result<Outcome, RunFault>
-    requires left_works { S.has_failed left.old ≡ false }
-    requires right_works { T.has_failed right.old ≡ false }
-    requires out_works { O.has_failed out.old ≡ false }
-    ensures { IsCompareRun (reader_of S.remaining S.has_failed S.reads S.given) (reader_of T.remaining T.has_failed T.reads T.given)
-        (writer_of O.contents O.has_failed O.is_flushed O.flushes)
-        (option_copied prefer.entry) result (between left.old left.new) (between right.old right.new) (between out.old out.new) }
+    requires left_works { S.reader.has_failed left.old ≡ false }
+    requires right_works { T.reader.has_failed right.old ≡ false }
+    requires out_works { O.writer.has_failed out.old ≡ false }
+    ensures { IsCompareRun S.reader T.reader O.writer (option_copied prefer.entry) result
+        (between left.old left.new) (between right.old right.new) (between out.old out.new) }
 {
     run_compare_disposing(alloc, left, right, out, prefer, &Free)
 }
@@ -112,12 +109,11 @@ pub fn run_compare_disposing<S: Source, T: Source, O: Sink, D: Disposal>(
     prefer: Option<&str>,
     disposal: &D,
 ) -> Result<Outcome, RunFault>
-    requires left_works { S.has_failed left.old ≡ false }
-    requires right_works { T.has_failed right.old ≡ false }
-    requires out_works { O.has_failed out.old ≡ false }
-    ensures { IsCompareRun (reader_of S.remaining S.has_failed S.reads S.given) (reader_of T.remaining T.has_failed T.reads T.given)
-        (writer_of O.contents O.has_failed O.is_flushed O.flushes)
-        (option_copied prefer.entry) result (between left.old left.new) (between right.old right.new) (between out.old out.new) }
+    requires left_works { S.reader.has_failed left.old ≡ false }
+    requires right_works { T.reader.has_failed right.old ≡ false }
+    requires out_works { O.writer.has_failed out.old ≡ false }
+    ensures { IsCompareRun S.reader T.reader O.writer (option_copied prefer.entry) result
+        (between left.old left.new) (between right.old right.new) (between out.old out.new) }
 {
     let left_bytes = read_all(alloc, left)?;
     let right_bytes = read_all(alloc, right)?;
@@ -133,14 +129,14 @@ fn write_compared<O: Sink, D: Disposal>(
     prefer: Option<&str>,
     disposal: &D,
 ) -> Result<Outcome, RunFault>
-    requires { O.has_failed out.old ≡ false }
-    ensures written { IfOk result (λ outcome. IsCompareWritten (option_copied prefer.entry) left.items right.items outcome (O.contents out.old) (O.contents out.new)) }
-    ensures flushed { OnOk result (O.is_flushed out.new ≡ true) }
-    ensures works { OnOk result (O.has_failed out.new ≡ false) }
+    requires { O.writer.has_failed out.old ≡ false }
+    ensures written { IfOk result (λ outcome. IsCompareWritten (option_copied prefer.entry) left.items right.items outcome (O.writer.contents out.old) (O.writer.contents out.new)) }
+    ensures flushed { OnOk result (O.writer.is_flushed out.new ≡ true) }
+    ensures works { OnOk result (O.writer.has_failed out.new ≡ false) }
     ensures memory { result ≡ Err RunFault.Memory → out.new ≡ out.old }
     ensures broken { result ≡ Err RunFault.Write
-        → IsComparePartWritten (option_copied prefer.entry) left.items right.items (O.contents out.old) (O.contents out.new) }
-    ensures write { result ≡ Err RunFault.Write → O.has_failed out.new ≡ true }
+        → IsComparePartWritten (option_copied prefer.entry) left.items right.items (O.writer.contents out.old) (O.writer.contents out.new) }
+    ensures write { result ≡ Err RunFault.Write → O.writer.has_failed out.new ≡ true }
     ensures faults { IfErr result (λ fault. (fault ≡ RunFault.Memory) ⊎ (fault ≡ RunFault.Write)) }
 {
     match compare_inputs(alloc, left, right, prefer, disposal) {
@@ -162,13 +158,13 @@ fn write_refusal<O: Sink>(
     refusal: &Refusal,
     out: &mut O,
 ) -> Result<Outcome, RunFault>
-    requires { O.has_failed out.old ≡ false }
-    ensures written { IfOk result (λ outcome. IsRefusalWritten side.now refusal.now outcome (O.contents out.old) (O.contents out.new)) }
-    ensures flushed { OnOk result (O.is_flushed out.new ≡ true) }
-    ensures works { OnOk result (O.has_failed out.new ≡ false) }
+    requires { O.writer.has_failed out.old ≡ false }
+    ensures written { IfOk result (λ outcome. IsRefusalWritten side.now refusal.now outcome (O.writer.contents out.old) (O.writer.contents out.new)) }
+    ensures flushed { OnOk result (O.writer.is_flushed out.new ≡ true) }
+    ensures works { OnOk result (O.writer.has_failed out.new ≡ false) }
     ensures memory { result ≡ Err RunFault.Memory → out.new ≡ out.old }
-    ensures broken { result ≡ Err RunFault.Write → IsRefusalPartWritten side.now refusal.now (O.contents out.old) (O.contents out.new) }
-    ensures write { result ≡ Err RunFault.Write → O.has_failed out.new ≡ true }
+    ensures broken { result ≡ Err RunFault.Write → IsRefusalPartWritten side.now refusal.now (O.writer.contents out.old) (O.writer.contents out.new) }
+    ensures write { result ≡ Err RunFault.Write → O.writer.has_failed out.new ≡ true }
     ensures faults { IfErr result (λ fault. (fault ≡ RunFault.Memory) ⊎ (fault ≡ RunFault.Write)) }
 {
     match refusal {

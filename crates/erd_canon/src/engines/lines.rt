@@ -18,12 +18,12 @@ pub(crate) fn write_fault_lines<O: Sink>(
     out: &mut O,
     faults: &FaultList,
 ) -> Result<(), Failed>
-    requires { O.has_failed out.old ≡ false }
-    ensures written { OnOk result (Appends (O.contents out.old) (O.contents out.new) (text_of_lines (map fault_line faults.now))) }
-    ensures part { IsPartWritten (O.contents out.old) (O.contents out.new) (text_of_lines (map fault_line faults.now)) }
-    ensures failed { IsErr result ↔ (O.has_failed out.new ≡ true) }
-    ensures works { OnOk result (O.has_failed out.new ≡ false) }
-    ensures counted { O.flushes out.new ≡ O.flushes out.old }
+    requires { O.writer.has_failed out.old ≡ false }
+    ensures written { OnOk result (Appends (O.writer.contents out.old) (O.writer.contents out.new) (text_of_lines (map fault_line faults.now))) }
+    ensures part { IsPartWritten (O.writer.contents out.old) (O.writer.contents out.new) (text_of_lines (map fault_line faults.now)) }
+    ensures failed { IsErr result ↔ (O.writer.has_failed out.new ≡ true) }
+    ensures works { OnOk result (O.writer.has_failed out.new ≡ false) }
+    ensures counted { O.writer.flushes out.new ≡ O.writer.flushes out.old }
 {
     write_lines(alloc, out, &[], faults)
 }
@@ -36,12 +36,12 @@ pub(crate) fn write_lines<O: Sink>(
     side: &[u8],
     faults: &FaultList,
 ) -> Result<(), Failed>
-    requires { O.has_failed out.old ≡ false }
-    ensures written { OnOk result (Appends (O.contents out.old) (O.contents out.new) (text_of_lines (lines_of_side side.now (map fault_line faults.now)))) }
-    ensures part { IsPartWritten (O.contents out.old) (O.contents out.new) (text_of_lines (lines_of_side side.now (map fault_line faults.now))) }
-    ensures failed { IsErr result ↔ (O.has_failed out.new ≡ true) }
-    ensures works { OnOk result (O.has_failed out.new ≡ false) }
-    ensures counted { O.flushes out.new ≡ O.flushes out.old }
+    requires { O.writer.has_failed out.old ≡ false }
+    ensures written { OnOk result (Appends (O.writer.contents out.old) (O.writer.contents out.new) (text_of_lines (lines_of_side side.now (map fault_line faults.now)))) }
+    ensures part { IsPartWritten (O.writer.contents out.old) (O.writer.contents out.new) (text_of_lines (lines_of_side side.now (map fault_line faults.now))) }
+    ensures failed { IsErr result ↔ (O.writer.has_failed out.new ≡ true) }
+    ensures works { OnOk result (O.writer.has_failed out.new ≡ false) }
+    ensures counted { O.writer.flushes out.new ≡ O.writer.flushes out.old }
 {
     let mut buffer = Vec::new(alloc);
     write_each(out, &mut buffer, side, faults)?;
@@ -55,14 +55,14 @@ fn write_each<O: Sink>(
     side: &[u8],
     faults: &FaultList,
 ) -> Result<(), Failed>
-    requires { O.has_failed out.old ≡ false }
-    ensures moved { OnOk result (IsMoved (O.contents out.old) (O.contents out.new)
+    requires { O.writer.has_failed out.old ≡ false }
+    ensures moved { OnOk result (IsMoved (O.writer.contents out.old) (O.writer.contents out.new)
         (buffer.old.items ++ text_of_lines (lines_of_side side.now (map fault_line faults.now))) buffer.new.items) }
-    ensures part { OnErr result (IsFrontMoved (O.contents out.old) (O.contents out.new)
+    ensures part { OnErr result (IsFrontMoved (O.writer.contents out.old) (O.writer.contents out.new)
         (buffer.old.items ++ text_of_lines (lines_of_side side.now (map fault_line faults.now)))) }
-    ensures works { OnOk result (O.has_failed out.new ≡ false) }
-    ensures failed { OnErr result (O.has_failed out.new ≡ true) }
-    ensures counted { O.flushes out.new ≡ O.flushes out.old }
+    ensures works { OnOk result (O.writer.has_failed out.new ≡ false) }
+    ensures failed { OnErr result (O.writer.has_failed out.new ≡ true) }
+    ensures counted { O.writer.flushes out.new ≡ O.writer.flushes out.old }
 {
     for fault in faults.iter() {
         write_line(out, buffer, side, fault)?;
@@ -77,12 +77,12 @@ fn write_line<O: Sink>(
     side: &[u8],
     fault: &Fault,
 ) -> Result<(), Failed>
-    requires { O.has_failed out.old ≡ false }
-    ensures moved { OnOk result (IsMoved (O.contents out.old) (O.contents out.new) (buffer.old.items ++ ((side.now ++ fault_line fault.now) ++ 10 ∷ [])) buffer.new.items) }
-    ensures part { OnErr result (IsFrontMoved (O.contents out.old) (O.contents out.new) (buffer.old.items ++ ((side.now ++ fault_line fault.now) ++ 10 ∷ []))) }
-    ensures works { OnOk result (O.has_failed out.new ≡ false) }
-    ensures failed { OnErr result (O.has_failed out.new ≡ true) }
-    ensures counted { O.flushes out.new ≡ O.flushes out.old }
+    requires { O.writer.has_failed out.old ≡ false }
+    ensures moved { OnOk result (IsMoved (O.writer.contents out.old) (O.writer.contents out.new) (buffer.old.items ++ ((side.now ++ fault_line fault.now) ++ 10 ∷ [])) buffer.new.items) }
+    ensures part { OnErr result (IsFrontMoved (O.writer.contents out.old) (O.writer.contents out.new) (buffer.old.items ++ ((side.now ++ fault_line fault.now) ++ 10 ∷ []))) }
+    ensures works { OnOk result (O.writer.has_failed out.new ≡ false) }
+    ensures failed { OnErr result (O.writer.has_failed out.new ≡ true) }
+    ensures counted { O.writer.flushes out.new ≡ O.writer.flushes out.old }
 {
     write_buffered(out, buffer, side)?;
     write_fault(out, buffer, fault)?;
@@ -91,12 +91,12 @@ fn write_line<O: Sink>(
 
 /// Writes the line of a fault.
 fn write_fault<O: Sink>(out: &mut O, buffer: &mut Vec<u8>, fault: &Fault) -> Result<(), Failed>
-    requires { O.has_failed out.old ≡ false }
-    ensures moved { OnOk result (IsMoved (O.contents out.old) (O.contents out.new) (buffer.old.items ++ fault_line fault.now) buffer.new.items) }
-    ensures part { OnErr result (IsFrontMoved (O.contents out.old) (O.contents out.new) (buffer.old.items ++ fault_line fault.now)) }
-    ensures works { OnOk result (O.has_failed out.new ≡ false) }
-    ensures failed { OnErr result (O.has_failed out.new ≡ true) }
-    ensures counted { O.flushes out.new ≡ O.flushes out.old }
+    requires { O.writer.has_failed out.old ≡ false }
+    ensures moved { OnOk result (IsMoved (O.writer.contents out.old) (O.writer.contents out.new) (buffer.old.items ++ fault_line fault.now) buffer.new.items) }
+    ensures part { OnErr result (IsFrontMoved (O.writer.contents out.old) (O.writer.contents out.new) (buffer.old.items ++ fault_line fault.now)) }
+    ensures works { OnOk result (O.writer.has_failed out.new ≡ false) }
+    ensures failed { OnErr result (O.writer.has_failed out.new ≡ true) }
+    ensures counted { O.writer.flushes out.new ≡ O.writer.flushes out.old }
 {
     write_place(out, buffer, &fault.place)?;
     write_buffered(out, buffer, b": ")?;
@@ -105,12 +105,12 @@ fn write_fault<O: Sink>(out: &mut O, buffer: &mut Vec<u8>, fault: &Fault) -> Res
 
 /// Writes the words of a reason.
 fn write_reason<O: Sink>(out: &mut O, buffer: &mut Vec<u8>, reason: &Reason) -> Result<(), Failed>
-    requires { O.has_failed out.old ≡ false }
-    ensures moved { OnOk result (IsMoved (O.contents out.old) (O.contents out.new) (buffer.old.items ++ reason_text reason.now) buffer.new.items) }
-    ensures part { OnErr result (IsFrontMoved (O.contents out.old) (O.contents out.new) (buffer.old.items ++ reason_text reason.now)) }
-    ensures works { OnOk result (O.has_failed out.new ≡ false) }
-    ensures failed { OnErr result (O.has_failed out.new ≡ true) }
-    ensures counted { O.flushes out.new ≡ O.flushes out.old }
+    requires { O.writer.has_failed out.old ≡ false }
+    ensures moved { OnOk result (IsMoved (O.writer.contents out.old) (O.writer.contents out.new) (buffer.old.items ++ reason_text reason.now) buffer.new.items) }
+    ensures part { OnErr result (IsFrontMoved (O.writer.contents out.old) (O.writer.contents out.new) (buffer.old.items ++ reason_text reason.now)) }
+    ensures works { OnOk result (O.writer.has_failed out.new ≡ false) }
+    ensures failed { OnErr result (O.writer.has_failed out.new ≡ true) }
+    ensures counted { O.writer.flushes out.new ≡ O.writer.flushes out.old }
 {
     write_buffered(out, buffer, reason.words().as_bytes())?;
     write_buffered(out, buffer, reason.missing_member().as_bytes())
@@ -118,12 +118,12 @@ fn write_reason<O: Sink>(out: &mut O, buffer: &mut Vec<u8>, reason: &Reason) -> 
 
 /// Writes the JSON Pointer of a place.
 fn write_place<O: Sink>(out: &mut O, buffer: &mut Vec<u8>, place: &Place) -> Result<(), Failed>
-    requires { O.has_failed out.old ≡ false }
-    ensures moved { OnOk result (IsMoved (O.contents out.old) (O.contents out.new) (buffer.old.items ++ pointer_text place.now) buffer.new.items) }
-    ensures part { OnErr result (IsFrontMoved (O.contents out.old) (O.contents out.new) (buffer.old.items ++ pointer_text place.now)) }
-    ensures works { OnOk result (O.has_failed out.new ≡ false) }
-    ensures failed { OnErr result (O.has_failed out.new ≡ true) }
-    ensures counted { O.flushes out.new ≡ O.flushes out.old }
+    requires { O.writer.has_failed out.old ≡ false }
+    ensures moved { OnOk result (IsMoved (O.writer.contents out.old) (O.writer.contents out.new) (buffer.old.items ++ pointer_text place.now) buffer.new.items) }
+    ensures part { OnErr result (IsFrontMoved (O.writer.contents out.old) (O.writer.contents out.new) (buffer.old.items ++ pointer_text place.now)) }
+    ensures works { OnOk result (O.writer.has_failed out.new ≡ false) }
+    ensures failed { OnErr result (O.writer.has_failed out.new ≡ true) }
+    ensures counted { O.writer.flushes out.new ≡ O.writer.flushes out.old }
 {
     for step in place.iter() {
         write_step(out, buffer, step)?;
@@ -133,12 +133,12 @@ fn write_place<O: Sink>(out: &mut O, buffer: &mut Vec<u8>, place: &Place) -> Res
 
 /// Writes a step as a JSON Pointer has it, after a `/`.
 fn write_step<O: Sink>(out: &mut O, buffer: &mut Vec<u8>, step: &Step) -> Result<(), Failed>
-    requires { O.has_failed out.old ≡ false }
-    ensures moved { OnOk result (IsMoved (O.contents out.old) (O.contents out.new) (buffer.old.items ++ (codes "/" ++ step_text step.now)) buffer.new.items) }
-    ensures part { OnErr result (IsFrontMoved (O.contents out.old) (O.contents out.new) (buffer.old.items ++ (codes "/" ++ step_text step.now))) }
-    ensures works { OnOk result (O.has_failed out.new ≡ false) }
-    ensures failed { OnErr result (O.has_failed out.new ≡ true) }
-    ensures counted { O.flushes out.new ≡ O.flushes out.old }
+    requires { O.writer.has_failed out.old ≡ false }
+    ensures moved { OnOk result (IsMoved (O.writer.contents out.old) (O.writer.contents out.new) (buffer.old.items ++ (codes "/" ++ step_text step.now)) buffer.new.items) }
+    ensures part { OnErr result (IsFrontMoved (O.writer.contents out.old) (O.writer.contents out.new) (buffer.old.items ++ (codes "/" ++ step_text step.now))) }
+    ensures works { OnOk result (O.writer.has_failed out.new ≡ false) }
+    ensures failed { OnErr result (O.writer.has_failed out.new ≡ true) }
+    ensures counted { O.writer.flushes out.new ≡ O.writer.flushes out.old }
 {
     write_buffered(out, buffer, b"/")?;
     match step {
@@ -149,12 +149,12 @@ fn write_step<O: Sink>(out: &mut O, buffer: &mut Vec<u8>, step: &Step) -> Result
 
 /// Writes a name as a JSON Pointer has it.
 fn write_name<O: Sink>(out: &mut O, buffer: &mut Vec<u8>, name: &[u8]) -> Result<(), Failed>
-    requires { O.has_failed out.old ≡ false }
-    ensures moved { OnOk result (IsMoved (O.contents out.old) (O.contents out.new) (buffer.old.items ++ escaped_name name.now) buffer.new.items) }
-    ensures part { OnErr result (IsFrontMoved (O.contents out.old) (O.contents out.new) (buffer.old.items ++ escaped_name name.now)) }
-    ensures works { OnOk result (O.has_failed out.new ≡ false) }
-    ensures failed { OnErr result (O.has_failed out.new ≡ true) }
-    ensures counted { O.flushes out.new ≡ O.flushes out.old }
+    requires { O.writer.has_failed out.old ≡ false }
+    ensures moved { OnOk result (IsMoved (O.writer.contents out.old) (O.writer.contents out.new) (buffer.old.items ++ escaped_name name.now) buffer.new.items) }
+    ensures part { OnErr result (IsFrontMoved (O.writer.contents out.old) (O.writer.contents out.new) (buffer.old.items ++ escaped_name name.now)) }
+    ensures works { OnOk result (O.writer.has_failed out.new ≡ false) }
+    ensures failed { OnErr result (O.writer.has_failed out.new ≡ true) }
+    ensures counted { O.writer.flushes out.new ≡ O.writer.flushes out.old }
 {
     if is_plain(name) {
         return write_buffered(out, buffer, name);
@@ -179,12 +179,12 @@ fn is_plain(name: &[u8]) -> bool
 
 /// Writes a byte of a name as a JSON Pointer has it.
 fn write_byte<O: Sink>(out: &mut O, buffer: &mut Vec<u8>, byte: u8) -> Result<(), Failed>
-    requires { O.has_failed out.old ≡ false }
-    ensures moved { OnOk result (IsMoved (O.contents out.old) (O.contents out.new) (buffer.old.items ++ escaped_byte byte) buffer.new.items) }
-    ensures part { OnErr result (IsFrontMoved (O.contents out.old) (O.contents out.new) (buffer.old.items ++ escaped_byte byte)) }
-    ensures works { OnOk result (O.has_failed out.new ≡ false) }
-    ensures failed { OnErr result (O.has_failed out.new ≡ true) }
-    ensures counted { O.flushes out.new ≡ O.flushes out.old }
+    requires { O.writer.has_failed out.old ≡ false }
+    ensures moved { OnOk result (IsMoved (O.writer.contents out.old) (O.writer.contents out.new) (buffer.old.items ++ escaped_byte byte) buffer.new.items) }
+    ensures part { OnErr result (IsFrontMoved (O.writer.contents out.old) (O.writer.contents out.new) (buffer.old.items ++ escaped_byte byte)) }
+    ensures works { OnOk result (O.writer.has_failed out.new ≡ false) }
+    ensures failed { OnErr result (O.writer.has_failed out.new ≡ true) }
+    ensures counted { O.writer.flushes out.new ≡ O.writer.flushes out.old }
 {
     match byte {
         b'~' => write_buffered(out, buffer, b"~0"),
@@ -195,12 +195,12 @@ fn write_byte<O: Sink>(out: &mut O, buffer: &mut Vec<u8>, byte: u8) -> Result<()
 
 /// Writes a number in decimal.
 fn write_decimal<O: Sink>(out: &mut O, buffer: &mut Vec<u8>, number: usize) -> Result<(), Failed>
-    requires { O.has_failed out.old ≡ false }
-    ensures moved { OnOk result (IsMoved (O.contents out.old) (O.contents out.new) (buffer.old.items ++ decimal number) buffer.new.items) }
-    ensures part { OnErr result (IsFrontMoved (O.contents out.old) (O.contents out.new) (buffer.old.items ++ decimal number)) }
-    ensures works { OnOk result (O.has_failed out.new ≡ false) }
-    ensures failed { OnErr result (O.has_failed out.new ≡ true) }
-    ensures counted { O.flushes out.new ≡ O.flushes out.old }
+    requires { O.writer.has_failed out.old ≡ false }
+    ensures moved { OnOk result (IsMoved (O.writer.contents out.old) (O.writer.contents out.new) (buffer.old.items ++ decimal number) buffer.new.items) }
+    ensures part { OnErr result (IsFrontMoved (O.writer.contents out.old) (O.writer.contents out.new) (buffer.old.items ++ decimal number)) }
+    ensures works { OnOk result (O.writer.has_failed out.new ≡ false) }
+    ensures failed { OnErr result (O.writer.has_failed out.new ≡ true) }
+    ensures counted { O.writer.flushes out.new ≡ O.writer.flushes out.old }
 {
     if number < 10 {
         return write_digit(out, buffer, number);
@@ -211,13 +211,13 @@ fn write_decimal<O: Sink>(out: &mut O, buffer: &mut Vec<u8>, number: usize) -> R
 
 /// Writes a digit.
 fn write_digit<O: Sink>(out: &mut O, buffer: &mut Vec<u8>, digit: usize) -> Result<(), Failed>
-    requires works { O.has_failed out.old ≡ false }
+    requires works { O.writer.has_failed out.old ≡ false }
     requires small { digit < 10 }
-    ensures moved { OnOk result (IsMoved (O.contents out.old) (O.contents out.new) (buffer.old.items ++ decimal digit) buffer.new.items) }
-    ensures part { OnErr result (IsFrontMoved (O.contents out.old) (O.contents out.new) (buffer.old.items ++ decimal digit)) }
-    ensures works { OnOk result (O.has_failed out.new ≡ false) }
-    ensures failed { OnErr result (O.has_failed out.new ≡ true) }
-    ensures counted { O.flushes out.new ≡ O.flushes out.old }
+    ensures moved { OnOk result (IsMoved (O.writer.contents out.old) (O.writer.contents out.new) (buffer.old.items ++ decimal digit) buffer.new.items) }
+    ensures part { OnErr result (IsFrontMoved (O.writer.contents out.old) (O.writer.contents out.new) (buffer.old.items ++ decimal digit)) }
+    ensures works { OnOk result (O.writer.has_failed out.new ≡ false) }
+    ensures failed { OnErr result (O.writer.has_failed out.new ≡ true) }
+    ensures counted { O.writer.flushes out.new ≡ O.writer.flushes out.old }
 {
     let digit = b'0' + digit as u8;
     write_buffered(out, buffer, &[digit])

@@ -16,14 +16,14 @@ pub(crate) fn write_one<O: Sink>(
     outcome: Outcome,
     text: &[u8],
 ) -> Result<Outcome, RunFault>
-    requires { O.has_failed out.old ≡ false }
+    requires { O.writer.has_failed out.old ≡ false }
     ensures outcome { IfOk result (λ answer. answer ≡ outcome) }
     ensures fault { IfErr result (λ fault. fault ≡ RunFault.Write) }
-    ensures wrote { OnOk result (Appends (O.contents out.old) (O.contents out.new) text.now) }
-    ensures part { IsPartWritten (O.contents out.old) (O.contents out.new) text.now }
-    ensures flushed { OnOk result (O.is_flushed out.new ≡ true) }
-    ensures works { OnOk result (O.has_failed out.new ≡ false) }
-    ensures failed { OnErr result (O.has_failed out.new ≡ true) }
+    ensures wrote { OnOk result (Appends (O.writer.contents out.old) (O.writer.contents out.new) text.now) }
+    ensures part { IsPartWritten (O.writer.contents out.old) (O.writer.contents out.new) text.now }
+    ensures flushed { OnOk result (O.writer.is_flushed out.new ≡ true) }
+    ensures works { OnOk result (O.writer.has_failed out.new ≡ false) }
+    ensures failed { OnErr result (O.writer.has_failed out.new ≡ true) }
 {
     write_out(out, text).map_err(|_| RunFault::Write)?;
     out.flush().map_err(|_| RunFault::Write)?;
@@ -37,14 +37,14 @@ pub(crate) fn write_side_faults<O: Sink>(
     side: &[u8],
     faults: &FaultList,
 ) -> Result<Outcome, RunFault>
-    requires { O.has_failed out.old ≡ false }
+    requires { O.writer.has_failed out.old ≡ false }
     ensures outcome { IfOk result (λ answer. answer ≡ Outcome.Bad) }
     ensures fault { IfErr result (λ fault. fault ≡ RunFault.Write) }
-    ensures wrote { OnOk result (Appends (O.contents out.old) (O.contents out.new) (text_of_lines (lines_of_side side.now (map fault_line faults.now)))) }
-    ensures part { IsPartWritten (O.contents out.old) (O.contents out.new) (text_of_lines (lines_of_side side.now (map fault_line faults.now))) }
-    ensures flushed { OnOk result (O.is_flushed out.new ≡ true) }
-    ensures works { OnOk result (O.has_failed out.new ≡ false) }
-    ensures failed { OnErr result (O.has_failed out.new ≡ true) }
+    ensures wrote { OnOk result (Appends (O.writer.contents out.old) (O.writer.contents out.new) (text_of_lines (lines_of_side side.now (map fault_line faults.now)))) }
+    ensures part { IsPartWritten (O.writer.contents out.old) (O.writer.contents out.new) (text_of_lines (lines_of_side side.now (map fault_line faults.now))) }
+    ensures flushed { OnOk result (O.writer.is_flushed out.new ≡ true) }
+    ensures works { OnOk result (O.writer.has_failed out.new ≡ false) }
+    ensures failed { OnErr result (O.writer.has_failed out.new ≡ true) }
 {
     write_lines(alloc, out, side, faults).map_err(|_| RunFault::Write)?;
     out.flush().map_err(|_| RunFault::Write)?;
@@ -57,14 +57,14 @@ pub(crate) fn write_faults<O: Sink>(
     out: &mut O,
     faults: &FaultList,
 ) -> Result<Outcome, RunFault>
-    requires { O.has_failed out.old ≡ false }
+    requires { O.writer.has_failed out.old ≡ false }
     ensures outcome { IfOk result (λ answer. answer ≡ Outcome.Bad) }
     ensures fault { IfErr result (λ fault. fault ≡ RunFault.Write) }
-    ensures wrote { OnOk result (Appends (O.contents out.old) (O.contents out.new) (text_of_lines (map fault_line faults.now))) }
-    ensures part { IsPartWritten (O.contents out.old) (O.contents out.new) (text_of_lines (map fault_line faults.now)) }
-    ensures flushed { OnOk result (O.is_flushed out.new ≡ true) }
-    ensures works { OnOk result (O.has_failed out.new ≡ false) }
-    ensures failed { OnErr result (O.has_failed out.new ≡ true) }
+    ensures wrote { OnOk result (Appends (O.writer.contents out.old) (O.writer.contents out.new) (text_of_lines (map fault_line faults.now))) }
+    ensures part { IsPartWritten (O.writer.contents out.old) (O.writer.contents out.new) (text_of_lines (map fault_line faults.now)) }
+    ensures flushed { OnOk result (O.writer.is_flushed out.new ≡ true) }
+    ensures works { OnOk result (O.writer.has_failed out.new ≡ false) }
+    ensures failed { OnErr result (O.writer.has_failed out.new ≡ true) }
 {
     write_fault_lines(alloc, out, faults).map_err(|_| RunFault::Write)?;
     out.flush().map_err(|_| RunFault::Write)?;
@@ -78,22 +78,22 @@ pub(crate) fn write_faults_to_err<O: Sink, E: Sink>(
     err: &mut E,
     faults: &FaultList,
 ) -> Result<Outcome, RunFault>
-    requires out_works { O.has_failed out.old ≡ false }
-    requires err_works { E.has_failed err.old ≡ false }
+    requires out_works { O.writer.has_failed out.old ≡ false }
+    requires err_works { E.writer.has_failed err.old ≡ false }
     ensures outcome { IfOk result (λ answer. answer ≡ Outcome.Bad) }
     ensures fault { IfErr result (λ fault. fault ≡ RunFault.Write) }
-    ensures wrote_out { OnOk result (Appends (O.contents out.old) (O.contents out.new) []) }
-    ensures wrote_err { OnOk result (Appends (E.contents err.old) (E.contents err.new) (text_of_lines (map fault_line faults.now))) }
-    ensures part_out { IsPartWritten (O.contents out.old) (O.contents out.new) [] }
-    ensures part_err { IsPartWritten (E.contents err.old) (E.contents err.new) (text_of_lines (map fault_line faults.now)) }
-    ensures flushed { OnOk result ((O.is_flushed out.new ≡ true) × (E.is_flushed err.new ≡ true)) }
-    ensures works { OnOk result ((O.has_failed out.new ≡ false) × (E.has_failed err.new ≡ false)) }
-    ensures failed { OnErr result ((O.has_failed out.new ≡ true) ⊎ (E.has_failed err.new ≡ true)) }
-    ensures out_first { O.has_failed out.new ≡ true → O.flushes out.new ≡ O.flushes out.old → err.new ≡ err.old }
-    ensures writes_first { E.has_failed err.new ≡ true → E.flushes err.new ≡ E.flushes err.old
-        → O.flushes out.new ≡ O.flushes out.old }
-    ensures flush_order { (E.flushes err.new ≡ E.flushes err.old) ⊎ (O.is_flushed out.new ≡ true) }
-    ensures out_needed { O.has_failed out.new ≡ true → O.flushes out.new ≡ O.flushes out.old → ⊥ }
+    ensures wrote_out { OnOk result (Appends (O.writer.contents out.old) (O.writer.contents out.new) []) }
+    ensures wrote_err { OnOk result (Appends (E.writer.contents err.old) (E.writer.contents err.new) (text_of_lines (map fault_line faults.now))) }
+    ensures part_out { IsPartWritten (O.writer.contents out.old) (O.writer.contents out.new) [] }
+    ensures part_err { IsPartWritten (E.writer.contents err.old) (E.writer.contents err.new) (text_of_lines (map fault_line faults.now)) }
+    ensures flushed { OnOk result ((O.writer.is_flushed out.new ≡ true) × (E.writer.is_flushed err.new ≡ true)) }
+    ensures works { OnOk result ((O.writer.has_failed out.new ≡ false) × (E.writer.has_failed err.new ≡ false)) }
+    ensures failed { OnErr result ((O.writer.has_failed out.new ≡ true) ⊎ (E.writer.has_failed err.new ≡ true)) }
+    ensures out_first { O.writer.has_failed out.new ≡ true → O.writer.flushes out.new ≡ O.writer.flushes out.old → err.new ≡ err.old }
+    ensures writes_first { E.writer.has_failed err.new ≡ true → E.writer.flushes err.new ≡ E.writer.flushes err.old
+        → O.writer.flushes out.new ≡ O.writer.flushes out.old }
+    ensures flush_order { (E.writer.flushes err.new ≡ E.writer.flushes err.old) ⊎ (O.writer.is_flushed out.new ≡ true) }
+    ensures out_needed { O.writer.has_failed out.new ≡ true → O.writer.flushes out.new ≡ O.writer.flushes out.old → ⊥ }
 {
     write_fault_lines(alloc, err, faults).map_err(|_| RunFault::Write)?;
     out.flush().map_err(|_| RunFault::Write)?;
@@ -109,23 +109,23 @@ pub(crate) fn write_both<O: Sink, E: Sink>(
     out_text: &[u8],
     err_text: &[u8],
 ) -> Result<Outcome, RunFault>
-    requires out_works { O.has_failed out.old ≡ false }
-    requires err_works { E.has_failed err.old ≡ false }
+    requires out_works { O.writer.has_failed out.old ≡ false }
+    requires err_works { E.writer.has_failed err.old ≡ false }
     ensures outcome { IfOk result (λ answer. answer ≡ outcome) }
     ensures fault { IfErr result (λ fault. fault ≡ RunFault.Write) }
-    ensures wrote_out { OnOk result (Appends (O.contents out.old) (O.contents out.new) out_text.now) }
-    ensures wrote_err { OnOk result (Appends (E.contents err.old) (E.contents err.new) err_text.now) }
-    ensures part_out { IsPartWritten (O.contents out.old) (O.contents out.new) out_text.now }
-    ensures part_err { IsPartWritten (E.contents err.old) (E.contents err.new) err_text.now }
-    ensures flushed { OnOk result ((O.is_flushed out.new ≡ true) × (E.is_flushed err.new ≡ true)) }
-    ensures works { OnOk result ((O.has_failed out.new ≡ false) × (E.has_failed err.new ≡ false)) }
-    ensures failed { OnErr result ((O.has_failed out.new ≡ true) ⊎ (E.has_failed err.new ≡ true)) }
-    ensures out_first { O.has_failed out.new ≡ true → O.flushes out.new ≡ O.flushes out.old → err.new ≡ err.old }
-    ensures writes_first { E.has_failed err.new ≡ true → E.flushes err.new ≡ E.flushes err.old
-        → O.flushes out.new ≡ O.flushes out.old }
-    ensures flush_order { (E.flushes err.new ≡ E.flushes err.old) ⊎ (O.is_flushed out.new ≡ true) }
-    ensures out_needed { O.has_failed out.new ≡ true → O.flushes out.new ≡ O.flushes out.old → 0 < length out_text.now }
-    ensures err_needed { E.has_failed err.new ≡ true → E.flushes err.new ≡ E.flushes err.old → 0 < length err_text.now }
+    ensures wrote_out { OnOk result (Appends (O.writer.contents out.old) (O.writer.contents out.new) out_text.now) }
+    ensures wrote_err { OnOk result (Appends (E.writer.contents err.old) (E.writer.contents err.new) err_text.now) }
+    ensures part_out { IsPartWritten (O.writer.contents out.old) (O.writer.contents out.new) out_text.now }
+    ensures part_err { IsPartWritten (E.writer.contents err.old) (E.writer.contents err.new) err_text.now }
+    ensures flushed { OnOk result ((O.writer.is_flushed out.new ≡ true) × (E.writer.is_flushed err.new ≡ true)) }
+    ensures works { OnOk result ((O.writer.has_failed out.new ≡ false) × (E.writer.has_failed err.new ≡ false)) }
+    ensures failed { OnErr result ((O.writer.has_failed out.new ≡ true) ⊎ (E.writer.has_failed err.new ≡ true)) }
+    ensures out_first { O.writer.has_failed out.new ≡ true → O.writer.flushes out.new ≡ O.writer.flushes out.old → err.new ≡ err.old }
+    ensures writes_first { E.writer.has_failed err.new ≡ true → E.writer.flushes err.new ≡ E.writer.flushes err.old
+        → O.writer.flushes out.new ≡ O.writer.flushes out.old }
+    ensures flush_order { (E.writer.flushes err.new ≡ E.writer.flushes err.old) ⊎ (O.writer.is_flushed out.new ≡ true) }
+    ensures out_needed { O.writer.has_failed out.new ≡ true → O.writer.flushes out.new ≡ O.writer.flushes out.old → 0 < length out_text.now }
+    ensures err_needed { E.writer.has_failed err.new ≡ true → E.writer.flushes err.new ≡ E.writer.flushes err.old → 0 < length err_text.now }
 {
     write_out(out, out_text).map_err(|_| RunFault::Write)?;
     write_out(err, err_text).map_err(|_| RunFault::Write)?;

@@ -11,4 +11,4 @@ returns-in_err-write_out-clause-part g c =
 
 pub returns-clause-moved : goal.returns-clause-moved
 returns-clause-moved g c =
-    IsMoved-through (g.O.Sink.contents c.write_out.new.sink) c.args.bytes.now c.in_ok-write_buffer.ensures.moved c.in_ok-write_buffer.ensures.emptied c.in_ok-write_out.ensures.written
+    IsMoved-through (g.O.Sink.writer.contents c.write_out.new.sink) c.args.bytes.now c.in_ok-write_buffer.ensures.moved c.in_ok-write_buffer.ensures.emptied c.in_ok-write_out.ensures.written

@@ -9,7 +9,7 @@ returns g c =
     record {
       whole = search rules;
       told =
-          told_of_run (option_copied c.args.prefer) most_bytes c.write_answer.result c.in_ok-bytes.bytes.items (g.S.Source.remaining c.args.reader.now) (g.S.Source.remaining c.read_all.new.source) _ _ _ _ whole
+          told_of_run (option_copied c.args.prefer) most_bytes c.write_answer.result c.in_ok-bytes.bytes.items (g.S.Source.reader.remaining c.args.reader.now) (g.S.Source.reader.remaining c.read_all.new.source) _ _ _ _ whole
           c.write_answer.ensures.written;
       flushed = search rules;
       quiet = search rules;

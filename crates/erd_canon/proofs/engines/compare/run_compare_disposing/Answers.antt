@@ -14,7 +14,7 @@ returns g c =
       whole = search rules;
       told =
           told_of_compare (option_copied c.args.prefer) most_bytes c.write_compared.result c.in_ok-left_bytes.left_bytes.items c.in_ok-right_bytes.right_bytes.items
-          (g.S.Source.remaining c.args.left.now) (g.S.Source.remaining c.read_all.new.source) (g.T.Source.remaining c.args.right.now) (g.T.Source.remaining c.read_all-2.new.source) _ _ left_whole right_whole
+          (g.S.Source.reader.remaining c.args.left.now) (g.S.Source.reader.remaining c.read_all.new.source) (g.T.Source.reader.remaining c.args.right.now) (g.T.Source.reader.remaining c.read_all-2.new.source) _ _ left_whole right_whole
           c.write_compared.ensures.written;
       flushed = search rules;
       quiet = search rules;

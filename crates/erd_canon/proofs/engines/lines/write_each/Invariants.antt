@@ -3,7 +3,7 @@ use Rattle.erd_canon.proofs.engines.lines.write_each.Given as goal
 
 abbrev pub invariant-loop-fault : goal.invariant-loop-fault
 invariant-loop-fault g l = record {
-  works : g.O.Sink.has_failed l.out ≡ false;
-  counted : g.O.Sink.flushes l.out ≡ g.O.Sink.flushes l.fn.out;
-  moved : IsMoved (g.O.Sink.contents l.fn.out) (g.O.Sink.contents l.out) (l.fn.buffer.items ++ text_of_lines (lines_of_side l.side (map fault_line l.faults))) (l.buffer.items ++ text_of_lines (lines_of_side l.side (map fault_line (iter_rest l.fault-iterator))));
+  works : g.O.Sink.writer.has_failed l.out ≡ false;
+  counted : g.O.Sink.writer.flushes l.out ≡ g.O.Sink.writer.flushes l.fn.out;
+  moved : IsMoved (g.O.Sink.writer.contents l.fn.out) (g.O.Sink.writer.contents l.out) (l.fn.buffer.items ++ text_of_lines (lines_of_side l.side (map fault_line l.faults))) (l.buffer.items ++ text_of_lines (lines_of_side l.side (map fault_line (iter_rest l.fault-iterator))));
 }

@@ -13,10 +13,10 @@ returns-in_err-write_buffered-clause-part g c =
 
 pub returns-clause-moved : goal.returns-clause-moved
 returns-clause-moved g c =
-    last_moved c.write_reason.result (g.O.Sink.contents c.write_reason.new.out) c.write_reason.new.buffer.items (IsMoved-more c.write_place.new.buffer.items (codes ": ") (reason_text c.args.fault.now.reason)
+    last_moved c.write_reason.result (g.O.Sink.writer.contents c.write_reason.new.out) c.write_reason.new.buffer.items (IsMoved-more c.write_place.new.buffer.items (codes ": ") (reason_text c.args.fault.now.reason)
     (IsMoved-first c.args.buffer.now.items (pointer_text c.args.fault.now.place) (codes ": " ++ reason_text c.args.fault.now.reason) (fault_line c.args.fault.now) refl c.in_ok-write_place.ensures.moved) refl c.in_ok-write_buffered.ensures.moved) c.write_reason.ensures.moved
 
 pub returns-clause-part : goal.returns-clause-part
 returns-clause-part g c =
-    last_part c.write_reason.result (g.O.Sink.contents c.write_reason.new.out) (IsMoved-more c.write_place.new.buffer.items (codes ": ") (reason_text c.args.fault.now.reason)
+    last_part c.write_reason.result (g.O.Sink.writer.contents c.write_reason.new.out) (IsMoved-more c.write_place.new.buffer.items (codes ": ") (reason_text c.args.fault.now.reason)
     (IsMoved-first c.args.buffer.now.items (pointer_text c.args.fault.now.place) (codes ": " ++ reason_text c.args.fault.now.reason) (fault_line c.args.fault.now) refl c.in_ok-write_place.ensures.moved) refl c.in_ok-write_buffered.ensures.moved) c.write_reason.ensures.part

@@ -14,10 +14,10 @@ returns-in_err-write_fault-clause-part g c =
 
 pub returns-clause-moved : goal.returns-clause-moved
 returns-clause-moved g c =
-    last_moved c.write_buffered-2.result (g.O.Sink.contents c.write_buffered-2.new.out) c.write_buffered-2.new.buffer.items (IsMoved-more c.write_buffered.new.buffer.items (fault_line c.args.fault.now) (10 ∷ [])
+    last_moved c.write_buffered-2.result (g.O.Sink.writer.contents c.write_buffered-2.new.out) c.write_buffered-2.new.buffer.items (IsMoved-more c.write_buffered.new.buffer.items (fault_line c.args.fault.now) (10 ∷ [])
     (IsMoved-first c.args.buffer.now.items c.args.side.now (fault_line c.args.fault.now ++ 10 ∷ []) ((c.args.side.now ++ fault_line c.args.fault.now) ++ 10 ∷ []) (append_assoc c.args.side.now (fault_line c.args.fault.now) (10 ∷ [])) c.in_ok-write_buffered.ensures.moved) refl c.in_ok-write_fault.ensures.moved) c.write_buffered-2.ensures.moved
 
 pub returns-clause-part : goal.returns-clause-part
 returns-clause-part g c =
-    last_part c.write_buffered-2.result (g.O.Sink.contents c.write_buffered-2.new.out) (IsMoved-more c.write_buffered.new.buffer.items (fault_line c.args.fault.now) (10 ∷ [])
+    last_part c.write_buffered-2.result (g.O.Sink.writer.contents c.write_buffered-2.new.out) (IsMoved-more c.write_buffered.new.buffer.items (fault_line c.args.fault.now) (10 ∷ [])
     (IsMoved-first c.args.buffer.now.items c.args.side.now (fault_line c.args.fault.now ++ 10 ∷ []) ((c.args.side.now ++ fault_line c.args.fault.now) ++ 10 ∷ []) (append_assoc c.args.side.now (fault_line c.args.fault.now) (10 ∷ [])) c.in_ok-write_buffered.ensures.moved) refl c.in_ok-write_fault.ensures.moved) c.write_buffered-2.ensures.part
