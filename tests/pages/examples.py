@@ -127,11 +127,24 @@ def damaged(report, faults):
     return report
 
 
+def with_value(objects, value):
+    """The object whose identifier has the value."""
+    return next(one for one in objects if value in (name['Value'] for name in one['ExternalIdentifier']))
+
+
 def differing(report, difference):
-    """The report with another text or number in the member of the contest that has the key."""
-    changed = [contest for election in report['Election'] for contest in election['Contest']
-               if difference['key'][2] in (name['Value'] for name in contest['ExternalIdentifier'])]
-    changed[0][difference['member']] += 1 if isinstance(changed[0][difference['member']], int) else ' (changed)'
+    """The report with another text or number in the member of the contest that has the key, or with the selections that only the
+    right contest has."""
+    election = report['Election'][0]
+    changed = with_value(election['Contest'], difference['key'][2])
+    if 'selections' not in difference:
+        changed[difference['member']] += 1 if isinstance(changed[difference['member']], int) else ' (changed)'
+    for number, inside in enumerate(difference.get('selections', ())):
+        keys = inside['name'][1]
+        assert inside == {'how': 'only right', 'name': ['ElectionResults.CandidateSelection', keys, False, None, None, None]}
+        changed['ContestSelection'].append({
+            '@id': f'added-{number}', '@type': 'ElectionResults.CandidateSelection',
+            'CandidateIds': [with_value(election['Candidate'], key[2])['@id'] for key in keys]})
     return report
 
 

@@ -40,6 +40,8 @@ def difference_line(difference):
     """The line for a difference. An object has the members of its way to differ and no others."""
     how = difference["how"]
     members = {"part", "key", "how"} | ({"member"} if how == "member" else set())
+    if difference["part"] == "contest" and difference.get("member") == "ContestSelection":
+        members |= set(difference) & {"selections"}
     assert set(difference) == members, f"a difference has the members {sorted(difference)}"
     key = "" if difference["key"] is None else " " + compact(difference["key"])
     words = how + " " + compact(difference["member"]) if how == "member" else how
