@@ -127,7 +127,7 @@ def row(crate, name, definition, comment):
 
 
 def is_source(words):
-    return re.match(r"profile|class|RFC|the standard|this project(?!'s word)|`", words) is not None
+    return re.match(r"profile|class|RFC|docs/|the standard|this project(?!'s word)|`", words) is not None
 
 
 def class_of(comment):

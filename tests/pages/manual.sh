@@ -1,6 +1,6 @@
 #!/usr/bin/env bash
 # Holds the manual page, and the commands and statuses of docs/USING.md, against the built program: its subcommands with what they
-# take, their option, its exit statuses, and by its words each sentence of its help. One line a case.
+# take, their options, its exit statuses, and by its words each sentence of its help. One line a case.
 set -u
 . "$(dirname "$0")/../shared/start.sh" || exit 1
 erd=$PWD/erd
@@ -31,11 +31,14 @@ for name in $names; do
     equal "what $name takes" "$(terms SUBCOMMANDS | grep "^$name ")" "$usage"
 done
 
-option=$(terms OPTIONS | tr -d '\\')
-for name in $names; do
-    [ "$name" = help ] && continue
-    equal "the option of $name" "$option" "$("$erd" help "$name" | sed -n 's/^ *\(--[a-z]* <[A-Z]*>\)$/\1/p' | tr -d '<>')"
-done
+# options NAME: the options of a subcommand, one a line, but for that of the help
+options() {
+    "$erd" help "$1" | sed -n 's/^ *\(--[a-z-]*\( <[A-Z]*>\)\{0,1\}\)$/\1/p' | tr -d '<>'
+}
+
+equal 'the options of the page' "$(terms OPTIONS | tr -d '\\' | sort)" "$(for name in $names; do
+    [ "$name" = help ] || options "$name"
+done | sort -u)"
 
 statuses=$("$erd" --help | under 'Exit status')
 paged=$(section 'EXIT STATUS' | sed -n '/^\.B [0-9]/{ s/^\.B //; N; s/\n/ /; p; }')
@@ -81,8 +84,11 @@ for name in $names; do
     [ "$name" = help ] && continue
     help=$("$erd" help "$name")
     mapfile -t told < <(sentences <<< "$help")
-    holds "$page_words" "${told[@]}" "$("$erd" --help | under Commands | sed -n "s/^$name //p")" \
-        "$(sed -n '/^ *--prefer <TYPE>$/,/^$/{//!p}' <<< "$help" | tr '\n' ' ')"
+    mapfile -t options < <(options "$name" | cut -d ' ' -f 1)
+    for option in "${options[@]}"; do
+        told+=("$(sed -n "/^ *$option\( <[A-Z]*>\)\{0,1\}\$/,/^\$/{//!p}" <<< "$help" | tr '\n' ' ')")
+    done
+    holds "$page_words" "${told[@]}" "$("$erd" --help | under Commands | sed -n "s/^$name //p")"
     holds " $(about "$name" | words)" "$(under 'Exit status' <<< "$help" | head -n 3)"
     equal "the other statuses of $name" "$(under 'Exit status' <<< "$help" | tail -n +4)" "$(tail -n +4 <<< "$statuses")"
 done
