@@ -78,7 +78,7 @@ pub trait Files {
         ensures opened { opened self.new ≡ opened self.old ++ (name.now, result) ∷ [] }
         ensures beside { beside self.new ≡ beside self.old }
         ensures closed { closed self.new ≡ closed self.old }
-        ensures works { IfOk result (λ file. Self.File.has_failed file ≡ false) };
+        ensures works { IfOk result (λ file. Self.File.reader.has_failed file ≡ false) };
 
     /// Opens the file with this name beside another one, of which it keeps in mind how it is now.
     ///
@@ -93,7 +93,7 @@ pub trait Files {
         ensures opened { opened self.new ≡ opened self.old ++ (name.now, result) ∷ [] }
         ensures beside { beside self.new ≡ beside self.old ++ (name.now, other.now) ∷ [] }
         ensures closed { closed self.new ≡ closed self.old }
-        ensures works { IfOk result (λ file. Self.File.has_failed file ≡ false) };
+        ensures works { IfOk result (λ file. Self.File.reader.has_failed file ≡ false) };
 
     /// Closes the file that was opened by this name.
     fn close(&mut self, name: &FileName, file: Self::File)
