@@ -1,6 +1,7 @@
 #!/usr/bin/env bash
 # Makes out/portable/erd.wasm: the library as one WebAssembly module with no imports and a memory of 32 bits, which any engine since
-# March 2023 runs, when the last of them had vectors. Needs Debian's packages binaryen, wabt and libclang-rt-22-dev-wasm64.
+# March 2023 runs, when the last of them had vectors. The proved code is compiled with the profile. Needs Debian's packages binaryen,
+# wabt and libclang-rt-22-dev-wasm64.
 set -eu
 cd "$(dirname "$0")/../.."
 . packaging/portable/common.sh
@@ -29,7 +30,9 @@ for name in "${names[@]}"; do
 done
 from_c bindings/c/erd.c "$parts/wide.ll" "${wide[@]}"
 proved_for wasm "$parts/proved.ll" "$parts/proved_wasm.ll"
-for part in proved_wasm wide heap; do
+take_profile
+compiled proved_wasm "${profile[@]}" -Wno-override-module -x ir "$parts/proved_wasm.ll"
+for part in wide heap; do
     compiled "$part" -Wno-override-module -x ir "$parts/$part.ll"
 done
 compiled calls "${plain[@]}" "${wide[@]}" packaging/portable/wasm/calls.c
