@@ -64,7 +64,7 @@ def test_commands(top, name):
 def test_statuses(words, status, told):
     ran = subprocess.run([sys.executable, '-m', 'erd', *words], capture_output=True, stdin=subprocess.DEVNULL)
     assert (ran.returncode, ran.stdout) == (status, b'')
-    assert ran.stderr == told if told is not None else b'\nUsage: erd ' in ran.stderr
+    assert ran.stderr == told if told is not None else ran.stderr.startswith(b'error: ')
 
 
 def test_refused_form():
