@@ -1,7 +1,8 @@
 """Reads docs/FIXES.md, and fixes.es.md, which is some of it in Spanish: for each reason what it means, where it comes from and how it is mended."""
+import pathlib
 import re
 
-REASONS = ['not JSON'] + [str(number) for number in range(1, 19)]
+PROFILE = pathlib.Path(__file__).resolve().parent.parent / 'docs' / 'PROFILE.md'
 LABELS = {
     'What it means.': 'meaning', 'Where it comes from.': 'origin', 'How to mend it.': 'mending',
     'Qué significa.': 'meaning', 'De dónde viene.': 'origin', 'Cómo se corrige.': 'mending',
@@ -27,9 +28,14 @@ def read(path):
         found = re.fullmatch(r'(not JSON)|(\d+)\. .*', heading)
         if found:
             sections[found[1] or found[2]] = section(heading, body)
-    if sorted(sections) != sorted(REASONS):
+    if sorted(sections) != sorted(['not JSON', *reasons()]):
         raise FixesError('%s has sections for %s' % (path.name, ', '.join(sections)))
     return sections | {'alike': alike(text)}
+
+
+def reasons():
+    """The numbers of the table of reasons."""
+    return re.findall(r'^\| (\d+) \| [A-Z]\w+: ', PROFILE.read_text(encoding='utf-8'), re.M)
 
 
 def alike(text):

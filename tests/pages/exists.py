@@ -1,13 +1,15 @@
 """Holds each file that names a command, an option, a call of the library, a reason for a fault or a class against the table of what
-exists, tests/pages/exists.txt. One line a file that fails, and at the end the counts. The members of a class have a table of their
-own, that of docs/PROFILE.md, against which facts_and_links.py holds the definitions."""
+exists, tests/pages/exists.txt, and the tables that a script writes against docs/PROFILE.md. One line a file that fails, and at the
+end the counts. The members of a class have a table of their own, that of docs/PROFILE.md, against which facts_and_links.py holds
+the definitions."""
 import pathlib
 import re
 import sys
 
 ROOT = pathlib.Path(__file__).resolve().parents[2]
 sys.dont_write_bytecode = True
-sys.path.append(str(ROOT / 'tests' / 'shared'))
+sys.path[:0] = [str(ROOT / 'tests' / folder) for folder in ('pages', 'shared')]
+import tables  # noqa: E402
 from cases import tell_cases  # noqa: E402
 
 
@@ -41,4 +43,4 @@ def cases():
 
 
 if __name__ == '__main__':
-    sys.exit(tell_cases(cases()))
+    sys.exit(tell_cases([*cases(), *tables.cases()]))

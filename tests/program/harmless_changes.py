@@ -1,7 +1,7 @@
 """The changes of an accepted report that count for nothing (docs/PROFILE.md), and small edits of it of which each counts."""
 import json
 
-from member_table import table_of_page
+from member_table import families_of_page, table_of_page
 from rearranged import objects, rename, shuffle
 from meaning_by_search import ENVELOPE, REFERENCES, SETS, TABLE, class_of, is_envelope, kind_of
 from reports import CLASS, identifier, ids_in, texts_in
@@ -9,16 +9,14 @@ from reports import CLASS, identifier, ids_in, texts_in
 REQUIRED = {name: required for name, (required, _) in table_of_page().items()}
 ARRAYS = SETS + ["content", "ordered", "outside"]
 # The classes whose objects have no `@id`.
-UNNAMED = ["ElectionReport", "Election", "OrderedContest", "OrderedHeader", "ExternalIdentifier", "InternationalizedText",
-           "LanguageString"]
+UNNAMED = [name for family, classes in families_of_page() if family == "none" for name in classes]
 WORDS = ["", "x", "canonical", "2026-11-03", "\u00e9", "\U0001f5f3", "@id", "gp1"]
 NUMBERS = [0, 1, -1, 2**64 - 1, -2**63]
 # Names that no class lists, and some that only other classes list.
 CARRIED = ["Foo", "", "contest", "Contest", "ContestSelection", "OfficeGroup", "OtherCounts", "IsWriteIn", "Notes", "Text"]
 VALUES = [None, False, True, 0, -1, "", "x", {}, [[]], [0, 1], [0, None], ["a1", "a2", "a1"], [{"Foo": []}, {}]]
 # The classes of objects that may stand in one place.
-BESIDE = [["Party", "Coalition"], ["CandidateContest", "BallotMeasureContest", "RetentionContest", "PartyContest"],
-          ["CandidateSelection", "BallotMeasureSelection", "PartySelection"], ["OrderedContest", "OrderedHeader"]]
+BESIDE = [classes for _, classes in families_of_page() if len(classes) > 1]
 # What a member of no value is given in an edit.
 ABSENT = object()
 

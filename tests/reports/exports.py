@@ -6,7 +6,7 @@ from rearranged import HOLDS, LISTS, REFERENCES
 from reports import places
 
 # The members that hold objects of the table, and those that hold references.
-HELD, REFERRED = ({name for names in table.values() for name in names.split()} for table in (HOLDS, REFERENCES))
+HELD, REFERRED = ({name for names in table.values() for name in names} for table in (HOLDS, REFERENCES))
 
 
 def rearranged(report, dice):

@@ -1,4 +1,4 @@
-"""The member table of docs/PROFILE.md: what each class requires and may have."""
+"""The member table of docs/PROFILE.md: what each class requires and may have; and its families, with their classes."""
 import pathlib
 import re
 
@@ -29,3 +29,14 @@ def table_of_page():
         pair[0].update(cell(required, table, 0))
         pair[1].update(cell(optional, table, 1))
     return table
+
+
+def members_of_kinds(name, kinds):
+    """The members of a class of the page that have one of these kinds, of whatever family."""
+    return [member for part in table_of_page()[name] for member, kind in part.items() if kind.split(' ')[0] in kinds]
+
+
+def families_of_page():
+    """The rows of the families: the name of each, and its classes. Classes that belong to none have rows named so."""
+    section = PAGE.read_text(encoding='utf-8').split('| Family | Classes |')[1].split('\n\n')[0]
+    return [(family, classes.split(', ')) for family, classes in re.findall(r'^\| (\w+) \| ([\w, ]+) \| .* \|$', section, re.M)]

@@ -10,50 +10,12 @@ import json
 import random
 import sys
 
+from member_table import members_of_kinds, table_of_page
 from reports import CLASS, texts_in
 
 # The members of each class that hold objects of the table, labels too, and those that hold references.
-CONTEST = "ExternalIdentifier Name Abbreviation BallotTitle BallotSubTitle ContestSelection"
-MEASURE = CONTEST + " SummaryText FullText ProStatement ConStatement EffectOfAbstain PassageThreshold"
-HOLDS = {
-    "ElectionReport": "ExternalIdentifier GpUnit Party Person Office Header Election",
-    "Election": "ExternalIdentifier Name Candidate Contest BallotStyle",
-    "ReportingUnit": "ExternalIdentifier Name",
-    "Party": "ExternalIdentifier Name Abbreviation Slogan",
-    "Coalition": "ExternalIdentifier Name Abbreviation Slogan",
-    "Person": "ExternalIdentifier FullName Title Profession",
-    "Office": "ExternalIdentifier Name Description",
-    "Header": "ExternalIdentifier Name",
-    "Candidate": "ExternalIdentifier BallotName CampaignSlogan",
-    "PartyContest": CONTEST,
-    "CandidateContest": CONTEST,
-    "BallotMeasureContest": MEASURE,
-    "RetentionContest": MEASURE,
-    "CandidateSelection": "ExternalIdentifier",
-    "BallotMeasureSelection": "ExternalIdentifier Selection",
-    "PartySelection": "ExternalIdentifier",
-    "BallotStyle": "ExternalIdentifier OrderedContent",
-    "OrderedHeader": "OrderedContent",
-    "InternationalizedText": "Text",
-}
-REFERENCES = {
-    "Election": "ElectionScopeId",
-    "ReportingUnit": "ComposingGpUnitIds AuthorityIds",
-    "Party": "LeaderPersonIds PartyScopeGpUnitIds",
-    "Coalition": "LeaderPersonIds PartyScopeGpUnitIds ContestId ContestIds PartyIds",
-    "Person": "PartyId",
-    "Office": "ElectionDistrictId OfficeHolderPersonIds",
-    "Candidate": "PartyId PersonId",
-    "PartyContest": "ElectionDistrictId",
-    "CandidateContest": "ElectionDistrictId OfficeIds PrimaryPartyIds",
-    "BallotMeasureContest": "ElectionDistrictId",
-    "RetentionContest": "ElectionDistrictId CandidateId OfficeId",
-    "CandidateSelection": "CandidateIds EndorsementPartyIds",
-    "PartySelection": "PartyIds",
-    "BallotStyle": "GpUnitIds PartyIds",
-    "OrderedContest": "ContestId OrderedContestSelectionIds",
-    "OrderedHeader": "HeaderId",
-}
+HOLDS, REFERENCES = ({name: members_of_kinds(name, kinds) for name in table_of_page()}
+                     for kinds in (("label", "identifiers", "languages", "keyed", "elections", "content"), ("one", "many", "ordered")))
 # The arrays of the table that are no sets.
 LISTS = ["OrderedContent", "OrderedContestSelectionIds"]
 
@@ -63,7 +25,7 @@ ODD = [" ", "\t", "\n", "\0", "\x7f", '"', "\\", "/", "~", "%", "@id", "e\u0301"
 
 def members(entry, table):
     """The members of an object that the table has, with their names."""
-    names = table.get(entry["@type"].removeprefix(CLASS), "").split()
+    names = table.get(entry["@type"].removeprefix(CLASS), [])
     return [(name, entry[name]) for name in names if name in entry]
 
 

@@ -1,6 +1,9 @@
 // The words of fault lines and difference lines, as docs/PROFILE.md has them.
 
-/** The text of each reason by its number; that of a missing member is followed by the member's name. */
+/**
+ * The text of each reason by its number, as `tests/pages/tables.py --write` writes them from docs/PROFILE.md; that of a missing
+ * member is followed by the member's name.
+ */
 const WORDS_OF_REASONS = [
     'wrong kind',
     'missing member',

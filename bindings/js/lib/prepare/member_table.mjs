@@ -1,55 +1,110 @@
-// The member table of docs/PROFILE.md. tests/prepare/steps.py holds it against the page.
+// The member table of docs/PROFILE.md, from which `tests/pages/tables.py --write` writes the rows and the families.
 
 /** What the text of each `@type` begins with. */
 export const PREFIX = 'ElectionResults.';
 
-const KEYED_BY = 'ExternalIdentifier Identifiers';
-const ENVELOPE = 'Format Word; GeneratedDate Word; Issuer Word; IssuerAbbreviation Word; VendorApplicationId Word; Notes Word; '
-    + 'SequenceStart Whole; SequenceEnd Whole; ExternalIdentifier Identifiers';
-const PARTY = ['Name Label', `${KEYED_BY}; Abbreviation Label; Slogan Label; LeaderPersonIds Many person; PartyScopeGpUnitIds Many unit`];
-const CONTEST = ['Name Label; ElectionDistrictId One unit', `${KEYED_BY}; Abbreviation Label; BallotTitle Label; BallotSubTitle Label; `
-    + 'HasRotation Flag; VoteVariation Word; OtherVoteVariation Word; ContestSelection Keyed selection; OtherCounts Outside'];
-const MEASURE = [CONTEST[0], `${CONTEST[1]}; SummaryText Label; FullText Label; ProStatement Label; ConStatement Label; `
-    + 'EffectOfAbstain Label; PassageThreshold Label; Type Word; OtherType Word'];
-const SELECTION = `SequenceOrder Whole; ${KEYED_BY}; VoteCounts Outside`;
-
 // The members of each class that it requires, and the others.
 const ROWS = {
-    ElectionReport: ['Status Word; Election Elections', 'IsTest Flag; TestType Word; GpUnit Keyed unit; Party Keyed party; '
-        + `Person Keyed person; Office Keyed office; Header Keyed header; OfficeGroup Outside; ${ENVELOPE}`],
-    Election: ['Name Label; Type Word; StartDate Word; EndDate Word; ElectionScopeId One unit',
-        `OtherType Word; ${KEYED_BY}; Candidate Keyed candidate; Contest Keyed contest; BallotStyle Keyed style`],
-    ReportingUnit: ['Type Word', `${KEYED_BY}; OtherType Word; Name Label; Number Word; ComposingGpUnitIds Many unit; `
-        + 'AuthorityIds Many person; IsDistricted Flag; IsMailOnly Flag; ElectionAdministration Outside; PartyRegistration Outside'],
-    Party: PARTY,
-    Coalition: [PARTY[0], `${PARTY[1]}; ContestId One contest; ContestIds Many contest; PartyIds Many party`],
-    Person: ['', `${KEYED_BY}; FullName Label; FirstName Word; LastName Word; Title Label; Profession Label; PartyId One party`],
-    Office: ['Name Label', `${KEYED_BY}; Description Label; IsPartisan Flag; ElectionDistrictId One unit; `
+    ElectionReport: [
+        'Status Word; Election Elections',
+        'IsTest Flag; TestType Word; GpUnit Keyed unit; Party Keyed party; Person Keyed person; Office Keyed office; '
+        + 'Header Keyed header; OfficeGroup Outside; Format Word; GeneratedDate Word; Issuer Word; '
+        + 'IssuerAbbreviation Word; VendorApplicationId Word; Notes Word; SequenceStart Whole; SequenceEnd Whole; '
+        + 'ExternalIdentifier Identifiers'],
+    Election: [
+        'Name Label; Type Word; StartDate Word; EndDate Word; ElectionScopeId One unit',
+        'OtherType Word; ExternalIdentifier Identifiers; Candidate Keyed candidate; Contest Keyed contest; '
+        + 'BallotStyle Keyed style'],
+    ReportingUnit: [
+        'Type Word',
+        'ExternalIdentifier Identifiers; OtherType Word; Name Label; Number Word; ComposingGpUnitIds Many unit; '
+        + 'AuthorityIds Many person; IsDistricted Flag; IsMailOnly Flag; ElectionAdministration Outside; '
+        + 'PartyRegistration Outside'],
+    Party: [
+        'Name Label',
+        'ExternalIdentifier Identifiers; Abbreviation Label; Slogan Label; LeaderPersonIds Many person; '
+        + 'PartyScopeGpUnitIds Many unit'],
+    Coalition: [
+        'Name Label',
+        'ExternalIdentifier Identifiers; Abbreviation Label; Slogan Label; LeaderPersonIds Many person; '
+        + 'PartyScopeGpUnitIds Many unit; ContestId One contest; ContestIds Many contest; PartyIds Many party'],
+    Person: [
+        '',
+        'ExternalIdentifier Identifiers; FullName Label; FirstName Word; LastName Word; Title Label; Profession Label; '
+        + 'PartyId One party'],
+    Office: [
+        'Name Label',
+        'ExternalIdentifier Identifiers; Description Label; IsPartisan Flag; ElectionDistrictId One unit; '
         + 'OfficeHolderPersonIds Many person'],
-    Header: ['Name Label', KEYED_BY],
-    Candidate: ['BallotName Label', `${KEYED_BY}; CampaignSlogan Label; FileDate Word; IsIncumbent Flag; IsTopTicket Flag; `
+    Header: [
+        'Name Label',
+        'ExternalIdentifier Identifiers'],
+    Candidate: [
+        'BallotName Label',
+        'ExternalIdentifier Identifiers; CampaignSlogan Label; FileDate Word; IsIncumbent Flag; IsTopTicket Flag; '
         + 'PartyId One party; PersonId One person; PreElectionStatus Word'],
-    PartyContest: CONTEST,
-    CandidateContest: [`${CONTEST[0]}; VotesAllowed Whole`, `${CONTEST[1]}; NumberElected Whole; NumberRunoff Whole; `
-        + 'OfficeIds Many office; PrimaryPartyIds Many party'],
-    BallotMeasureContest: MEASURE,
-    RetentionContest: [`${MEASURE[0]}; CandidateId One candidate`, `${MEASURE[1]}; OfficeId One office`],
-    CandidateSelection: ['', `${SELECTION}; CandidateIds Many candidate; EndorsementPartyIds Many party; IsWriteIn Flag`],
-    BallotMeasureSelection: ['Selection Label', SELECTION],
-    PartySelection: ['PartyIds Many party', SELECTION],
-    BallotStyle: ['GpUnitIds Many unit', `${KEYED_BY}; PartyIds Many party; OrderedContent Content`],
-    OrderedContest: ['ContestId One contest', 'OrderedContestSelectionIds Ordered'],
-    OrderedHeader: ['HeaderId One header', 'OrderedContent Content'],
-    ExternalIdentifier: ['Type Word; Value Word', 'OtherType Word'],
-    InternationalizedText: ['Text Languages', ''],
-    LanguageString: ['Language Word; Content Word', ''],
+    PartyContest: [
+        'Name Label; ElectionDistrictId One unit',
+        'ExternalIdentifier Identifiers; Abbreviation Label; BallotTitle Label; BallotSubTitle Label; HasRotation Flag; '
+        + 'VoteVariation Word; OtherVoteVariation Word; ContestSelection Keyed selection; OtherCounts Outside'],
+    CandidateContest: [
+        'Name Label; ElectionDistrictId One unit; VotesAllowed Whole',
+        'ExternalIdentifier Identifiers; Abbreviation Label; BallotTitle Label; BallotSubTitle Label; HasRotation Flag; '
+        + 'VoteVariation Word; OtherVoteVariation Word; ContestSelection Keyed selection; OtherCounts Outside; '
+        + 'NumberElected Whole; NumberRunoff Whole; OfficeIds Many office; PrimaryPartyIds Many party'],
+    BallotMeasureContest: [
+        'Name Label; ElectionDistrictId One unit',
+        'ExternalIdentifier Identifiers; Abbreviation Label; BallotTitle Label; BallotSubTitle Label; HasRotation Flag; '
+        + 'VoteVariation Word; OtherVoteVariation Word; ContestSelection Keyed selection; OtherCounts Outside; '
+        + 'SummaryText Label; FullText Label; ProStatement Label; ConStatement Label; EffectOfAbstain Label; '
+        + 'PassageThreshold Label; Type Word; OtherType Word'],
+    RetentionContest: [
+        'Name Label; ElectionDistrictId One unit; CandidateId One candidate',
+        'ExternalIdentifier Identifiers; Abbreviation Label; BallotTitle Label; BallotSubTitle Label; HasRotation Flag; '
+        + 'VoteVariation Word; OtherVoteVariation Word; ContestSelection Keyed selection; OtherCounts Outside; '
+        + 'SummaryText Label; FullText Label; ProStatement Label; ConStatement Label; EffectOfAbstain Label; '
+        + 'PassageThreshold Label; Type Word; OtherType Word; OfficeId One office'],
+    CandidateSelection: [
+        '',
+        'SequenceOrder Whole; ExternalIdentifier Identifiers; VoteCounts Outside; CandidateIds Many candidate; '
+        + 'EndorsementPartyIds Many party; IsWriteIn Flag'],
+    BallotMeasureSelection: [
+        'Selection Label',
+        'SequenceOrder Whole; ExternalIdentifier Identifiers; VoteCounts Outside'],
+    PartySelection: [
+        'PartyIds Many party',
+        'SequenceOrder Whole; ExternalIdentifier Identifiers; VoteCounts Outside'],
+    BallotStyle: [
+        'GpUnitIds Many unit',
+        'ExternalIdentifier Identifiers; PartyIds Many party; OrderedContent Content'],
+    OrderedContest: [
+        'ContestId One contest',
+        'OrderedContestSelectionIds Ordered'],
+    OrderedHeader: [
+        'HeaderId One header',
+        'OrderedContent Content'],
+    ExternalIdentifier: [
+        'Type Word; Value Word',
+        'OtherType Word'],
+    InternationalizedText: [
+        'Text Languages',
+        ''],
+    LanguageString: [
+        'Language Word; Content Word',
+        ''],
 };
 
 /** The classes of each family. */
 export const FAMILIES = {
-    unit: ['ReportingUnit'], party: ['Party', 'Coalition'], person: ['Person'], office: ['Office'], header: ['Header'],
-    candidate: ['Candidate'], contest: ['CandidateContest', 'BallotMeasureContest', 'RetentionContest', 'PartyContest'],
-    style: ['BallotStyle'], selection: ['CandidateSelection', 'BallotMeasureSelection', 'PartySelection'],
+    unit: ['ReportingUnit'],
+    party: ['Party', 'Coalition'],
+    person: ['Person'],
+    office: ['Office'],
+    header: ['Header'],
+    candidate: ['Candidate'],
+    contest: ['CandidateContest', 'BallotMeasureContest', 'RetentionContest', 'PartyContest'],
+    style: ['BallotStyle'],
+    selection: ['CandidateSelection', 'BallotMeasureSelection', 'PartySelection'],
 };
 const NAMED = new Set(Object.values(FAMILIES).flat());
 

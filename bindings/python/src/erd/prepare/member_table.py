@@ -1,4 +1,4 @@
-"""The member table of docs/PROFILE.md. tests/prepare/steps.py holds it against the page."""
+"""The member table of docs/PROFILE.md, from which `tests/pages/tables.py --write` writes the rows and the families."""
 
 from __future__ import annotations
 
@@ -6,55 +6,108 @@ from typing import Dict, List, NamedTuple, Optional, Tuple
 
 PREFIX = 'ElectionResults.'
 
-KEYED_BY = 'ExternalIdentifier Identifiers'
-ENVELOPE = ('Format Word; GeneratedDate Word; Issuer Word; IssuerAbbreviation Word; VendorApplicationId Word; Notes Word; '
-            'SequenceStart Whole; SequenceEnd Whole; ExternalIdentifier Identifiers')
-PARTY = ('Name Label', f'{KEYED_BY}; Abbreviation Label; Slogan Label; LeaderPersonIds Many person; PartyScopeGpUnitIds Many unit')
-CONTEST = ('Name Label; ElectionDistrictId One unit',
-           f'{KEYED_BY}; Abbreviation Label; BallotTitle Label; BallotSubTitle Label; HasRotation Flag; VoteVariation Word; '
-           'OtherVoteVariation Word; ContestSelection Keyed selection; OtherCounts Outside')
-MEASURE = (CONTEST[0], f'{CONTEST[1]}; SummaryText Label; FullText Label; ProStatement Label; ConStatement Label; '
-           'EffectOfAbstain Label; PassageThreshold Label; Type Word; OtherType Word')
-SELECTION = f'SequenceOrder Whole; {KEYED_BY}; VoteCounts Outside'
-
 # The members of each class that it requires, and the others.
 ROWS = {
-    'ElectionReport': ('Status Word; Election Elections',
-                       'IsTest Flag; TestType Word; GpUnit Keyed unit; Party Keyed party; Person Keyed person; Office Keyed office; '
-                       f'Header Keyed header; OfficeGroup Outside; {ENVELOPE}'),
-    'Election': ('Name Label; Type Word; StartDate Word; EndDate Word; ElectionScopeId One unit',
-                 f'OtherType Word; {KEYED_BY}; Candidate Keyed candidate; Contest Keyed contest; BallotStyle Keyed style'),
-    'ReportingUnit': ('Type Word', f'{KEYED_BY}; OtherType Word; Name Label; Number Word; ComposingGpUnitIds Many unit; '
-                      'AuthorityIds Many person; IsDistricted Flag; IsMailOnly Flag; ElectionAdministration Outside; '
-                      'PartyRegistration Outside'),
-    'Party': PARTY,
-    'Coalition': (PARTY[0], f'{PARTY[1]}; ContestId One contest; ContestIds Many contest; PartyIds Many party'),
-    'Person': ('', f'{KEYED_BY}; FullName Label; FirstName Word; LastName Word; Title Label; Profession Label; PartyId One party'),
-    'Office': ('Name Label', f'{KEYED_BY}; Description Label; IsPartisan Flag; ElectionDistrictId One unit; '
-               'OfficeHolderPersonIds Many person'),
-    'Header': ('Name Label', KEYED_BY),
-    'Candidate': ('BallotName Label', f'{KEYED_BY}; CampaignSlogan Label; FileDate Word; IsIncumbent Flag; IsTopTicket Flag; '
-                  'PartyId One party; PersonId One person; PreElectionStatus Word'),
-    'PartyContest': CONTEST,
-    'CandidateContest': (f'{CONTEST[0]}; VotesAllowed Whole', f'{CONTEST[1]}; NumberElected Whole; NumberRunoff Whole; '
-                         'OfficeIds Many office; PrimaryPartyIds Many party'),
-    'BallotMeasureContest': MEASURE,
-    'RetentionContest': (f'{MEASURE[0]}; CandidateId One candidate', f'{MEASURE[1]}; OfficeId One office'),
-    'CandidateSelection': ('', f'{SELECTION}; CandidateIds Many candidate; EndorsementPartyIds Many party; IsWriteIn Flag'),
-    'BallotMeasureSelection': ('Selection Label', SELECTION),
-    'PartySelection': ('PartyIds Many party', SELECTION),
-    'BallotStyle': ('GpUnitIds Many unit', f'{KEYED_BY}; PartyIds Many party; OrderedContent Content'),
-    'OrderedContest': ('ContestId One contest', 'OrderedContestSelectionIds Ordered'),
-    'OrderedHeader': ('HeaderId One header', 'OrderedContent Content'),
-    'ExternalIdentifier': ('Type Word; Value Word', 'OtherType Word'),
-    'InternationalizedText': ('Text Languages', ''),
-    'LanguageString': ('Language Word; Content Word', ''),
+    'ElectionReport': (
+        'Status Word; Election Elections',
+        'IsTest Flag; TestType Word; GpUnit Keyed unit; Party Keyed party; Person Keyed person; Office Keyed office; '
+        'Header Keyed header; OfficeGroup Outside; Format Word; GeneratedDate Word; Issuer Word; '
+        'IssuerAbbreviation Word; VendorApplicationId Word; Notes Word; SequenceStart Whole; SequenceEnd Whole; '
+        'ExternalIdentifier Identifiers'),
+    'Election': (
+        'Name Label; Type Word; StartDate Word; EndDate Word; ElectionScopeId One unit',
+        'OtherType Word; ExternalIdentifier Identifiers; Candidate Keyed candidate; Contest Keyed contest; '
+        'BallotStyle Keyed style'),
+    'ReportingUnit': (
+        'Type Word',
+        'ExternalIdentifier Identifiers; OtherType Word; Name Label; Number Word; ComposingGpUnitIds Many unit; '
+        'AuthorityIds Many person; IsDistricted Flag; IsMailOnly Flag; ElectionAdministration Outside; '
+        'PartyRegistration Outside'),
+    'Party': (
+        'Name Label',
+        'ExternalIdentifier Identifiers; Abbreviation Label; Slogan Label; LeaderPersonIds Many person; '
+        'PartyScopeGpUnitIds Many unit'),
+    'Coalition': (
+        'Name Label',
+        'ExternalIdentifier Identifiers; Abbreviation Label; Slogan Label; LeaderPersonIds Many person; '
+        'PartyScopeGpUnitIds Many unit; ContestId One contest; ContestIds Many contest; PartyIds Many party'),
+    'Person': (
+        '',
+        'ExternalIdentifier Identifiers; FullName Label; FirstName Word; LastName Word; Title Label; Profession Label; '
+        'PartyId One party'),
+    'Office': (
+        'Name Label',
+        'ExternalIdentifier Identifiers; Description Label; IsPartisan Flag; ElectionDistrictId One unit; '
+        'OfficeHolderPersonIds Many person'),
+    'Header': (
+        'Name Label',
+        'ExternalIdentifier Identifiers'),
+    'Candidate': (
+        'BallotName Label',
+        'ExternalIdentifier Identifiers; CampaignSlogan Label; FileDate Word; IsIncumbent Flag; IsTopTicket Flag; '
+        'PartyId One party; PersonId One person; PreElectionStatus Word'),
+    'PartyContest': (
+        'Name Label; ElectionDistrictId One unit',
+        'ExternalIdentifier Identifiers; Abbreviation Label; BallotTitle Label; BallotSubTitle Label; HasRotation Flag; '
+        'VoteVariation Word; OtherVoteVariation Word; ContestSelection Keyed selection; OtherCounts Outside'),
+    'CandidateContest': (
+        'Name Label; ElectionDistrictId One unit; VotesAllowed Whole',
+        'ExternalIdentifier Identifiers; Abbreviation Label; BallotTitle Label; BallotSubTitle Label; HasRotation Flag; '
+        'VoteVariation Word; OtherVoteVariation Word; ContestSelection Keyed selection; OtherCounts Outside; '
+        'NumberElected Whole; NumberRunoff Whole; OfficeIds Many office; PrimaryPartyIds Many party'),
+    'BallotMeasureContest': (
+        'Name Label; ElectionDistrictId One unit',
+        'ExternalIdentifier Identifiers; Abbreviation Label; BallotTitle Label; BallotSubTitle Label; HasRotation Flag; '
+        'VoteVariation Word; OtherVoteVariation Word; ContestSelection Keyed selection; OtherCounts Outside; '
+        'SummaryText Label; FullText Label; ProStatement Label; ConStatement Label; EffectOfAbstain Label; '
+        'PassageThreshold Label; Type Word; OtherType Word'),
+    'RetentionContest': (
+        'Name Label; ElectionDistrictId One unit; CandidateId One candidate',
+        'ExternalIdentifier Identifiers; Abbreviation Label; BallotTitle Label; BallotSubTitle Label; HasRotation Flag; '
+        'VoteVariation Word; OtherVoteVariation Word; ContestSelection Keyed selection; OtherCounts Outside; '
+        'SummaryText Label; FullText Label; ProStatement Label; ConStatement Label; EffectOfAbstain Label; '
+        'PassageThreshold Label; Type Word; OtherType Word; OfficeId One office'),
+    'CandidateSelection': (
+        '',
+        'SequenceOrder Whole; ExternalIdentifier Identifiers; VoteCounts Outside; CandidateIds Many candidate; '
+        'EndorsementPartyIds Many party; IsWriteIn Flag'),
+    'BallotMeasureSelection': (
+        'Selection Label',
+        'SequenceOrder Whole; ExternalIdentifier Identifiers; VoteCounts Outside'),
+    'PartySelection': (
+        'PartyIds Many party',
+        'SequenceOrder Whole; ExternalIdentifier Identifiers; VoteCounts Outside'),
+    'BallotStyle': (
+        'GpUnitIds Many unit',
+        'ExternalIdentifier Identifiers; PartyIds Many party; OrderedContent Content'),
+    'OrderedContest': (
+        'ContestId One contest',
+        'OrderedContestSelectionIds Ordered'),
+    'OrderedHeader': (
+        'HeaderId One header',
+        'OrderedContent Content'),
+    'ExternalIdentifier': (
+        'Type Word; Value Word',
+        'OtherType Word'),
+    'InternationalizedText': (
+        'Text Languages',
+        ''),
+    'LanguageString': (
+        'Language Word; Content Word',
+        ''),
 }
 
+# The classes of each family.
 FAMILIES = {
-    'unit': ['ReportingUnit'], 'party': ['Party', 'Coalition'], 'person': ['Person'], 'office': ['Office'], 'header': ['Header'],
-    'candidate': ['Candidate'], 'contest': ['CandidateContest', 'BallotMeasureContest', 'RetentionContest', 'PartyContest'],
-    'style': ['BallotStyle'], 'selection': ['CandidateSelection', 'BallotMeasureSelection', 'PartySelection'],
+    'unit': ['ReportingUnit'],
+    'party': ['Party', 'Coalition'],
+    'person': ['Person'],
+    'office': ['Office'],
+    'header': ['Header'],
+    'candidate': ['Candidate'],
+    'contest': ['CandidateContest', 'BallotMeasureContest', 'RetentionContest', 'PartyContest'],
+    'style': ['BallotStyle'],
+    'selection': ['CandidateSelection', 'BallotMeasureSelection', 'PartySelection'],
 }
 NAMED = {name for names in FAMILIES.values() for name in names}
 

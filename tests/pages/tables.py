@@ -1,0 +1,82 @@
+"""Holds the tables of the packages against docs/PROFILE.md: the member table, the families, and the words of the reasons. With
+`--write` they are written anew. Each stands in its file between a line that begins it and one that ends it.
+"""
+import pathlib
+import sys
+
+ROOT = pathlib.Path(__file__).resolve().parents[2]
+sys.dont_write_bytecode = True
+sys.path[:0] = [str(ROOT / 'tests' / folder) for folder in ('pages', 'reports', 'shared')]
+from cases import tell_cases  # noqa: E402
+from facts_and_links import text_of_reasons, told_by_reason_12  # noqa: E402
+from member_table import families_of_page, table_of_page  # noqa: E402
+
+MOST_WORDS = 110
+
+
+def rows_of_page():
+    """For each class the members that it requires, and the others, each a text. Who prepares a file adds no identifier: those of
+    reason 12 are among the others."""
+    for name, (required, optional) in table_of_page().items():
+        later = {member: kind for member, kind in required.items() if told_by_reason_12(member, kind)}
+        needed = {member: kind for member, kind in required.items() if member not in later}
+        yield name, [f'{member} {kind[0].upper()}{kind[1:]}' for member, kind in needed.items()], \
+            [f'{member} {kind[0].upper()}{kind[1:]}' for member, kind in {**later, **optional}.items()]
+
+
+def quoted(members, joint):
+    """The members as one text, in lines of which each begins with the joint, but for the first."""
+    lines = ['']
+    for member in members:
+        if len(lines[-1]) + len(member) > MOST_WORDS:
+            lines.append('')
+        lines[-1] += member + '; '
+    lines[-1] = lines[-1].removesuffix('; ')
+    return [f"        {joint if number else ''}'{line}'" for number, line in enumerate(lines)]
+
+
+def rows(begin, joint, end):
+    for name, needed, others in rows_of_page():
+        first, last = quoted(needed, joint), quoted(others, joint)
+        yield from [begin % name, *first[:-1], first[-1] + ',', *last[:-1], last[-1] + end]
+
+
+def families(line):
+    for family, classes in families_of_page():
+        if family != 'none':
+            yield line % (family, ', '.join(f"'{name}'" for name in classes))
+
+
+# The file, the lines that begin and end its table, and the lines of the table.
+PREPARE = {'python': 'bindings/python/src/erd/prepare/member_table.py', 'javascript': 'bindings/js/lib/prepare/member_table.mjs'}
+TABLES = (
+    (PREPARE['python'], 'ROWS = {', '}', rows("    '%s': (", '', '),')),
+    (PREPARE['python'], 'FAMILIES = {', '}', families("    '%s': [%s],")),
+    (PREPARE['javascript'], 'const ROWS = {', '};', rows('    %s: [', '+ ', '],')),
+    (PREPARE['javascript'], 'export const FAMILIES = {', '};', families('    %s: [%s],')),
+    ('bindings/python/src/erd/results.py', 'WORDS = {', '}', (f"    {number}: '{words}'," for number, words in text_of_reasons().items())),
+    ('bindings/js/lib/words.mjs', 'const WORDS_OF_REASONS = [', '];', (f"    '{words}'," for words in text_of_reasons().values())),
+)
+
+
+def parts(text, first, last):
+    """A file in three parts: to the line that begins the table, the table, and from the line that ends it on."""
+    before, rest = text.split(f'\n{first}\n', 1)
+    table, after = rest.split(f'\n{last}\n', 1)
+    return f'{before}\n{first}\n', table, f'\n{last}\n{after}'
+
+
+def cases():
+    for path, first, last, lines in TABLES:
+        _, table, _ = parts((ROOT / path).read_text(encoding='utf-8'), first, last)
+        yield f'{first} of {path}, which tests/pages/tables.py --write writes', list(lines), table.split('\n')
+
+
+def write():
+    for path, first, last, lines in TABLES:
+        before, _, after = parts((ROOT / path).read_text(encoding='utf-8'), first, last)
+        (ROOT / path).write_text(before + '\n'.join(lines) + after, encoding='utf-8')
+
+
+if __name__ == '__main__':
+    sys.exit(write() if '--write' in sys.argv[1:] else tell_cases(cases()))
