@@ -1,8 +1,23 @@
-# Completion of erd for bash: subcommands, --prefer with the usual types of identifiers, and files.
+# Completion of erd for bash: subcommands, their options with the usual values, and files.
 
+# The options, as tests/pages/tables.py --write writes them:
+_erd_options() {
+    case $1 in
+    check | canon | compare) options='--prefer' ;;
+    esac
+}
+_erd_values() {
+    case $1 in
+    --prefer) values='fips local-level national-level ocd-id other state-level' ;;
+    *) return 1 ;;
+    esac
+}
+
+# _erd_options SUBCOMMAND leaves the options of a subcommand in the caller's variable. _erd_values OPTION leaves the usual values of an
+# option there, and fails for what takes no value.
 _erd() {
     local word=${COMP_WORDS[COMP_CWORD]} before=${COMP_WORDS[COMP_CWORD - 1]}
-    local subcommand=${COMP_WORDS[1]} files=0 offered='' i
+    local subcommand=${COMP_WORDS[1]} files=0 offered='' options='' values='' i
     COMPREPLY=()
     if [ "$COMP_CWORD" -eq 1 ]; then
         offered='check canon compare help --help'
@@ -10,19 +25,20 @@ _erd() {
         [ "$COMP_CWORD" -eq 2 ] && offered='check canon compare help'
     elif [[ $subcommand == @(check|canon|compare) ]]; then
         # bash makes three words of --prefer=TYPE
-        [ "$word" = = ] && word='' before=--prefer
+        [ "$word" = = ] && word=''
         [ "$before" = = ] && before=${COMP_WORDS[COMP_CWORD - 2]}
         for ((i = 2; i < COMP_CWORD; i++)); do
-            case ${COMP_WORDS[i]} in
-            --prefer) [ "${COMP_WORDS[i + 1]}" = = ] && i=$((i + 2)) || i=$((i + 1)) ;;
-            -*) ;;
-            *) files=$((files + 1)) ;;
-            esac
+            if _erd_values "${COMP_WORDS[i]}"; then
+                [ "${COMP_WORDS[i + 1]}" = = ] && i=$((i + 2)) || i=$((i + 1))
+            elif [[ ${COMP_WORDS[i]} != -* ]]; then
+                files=$((files + 1))
+            fi
         done
-        if [ "$before" = --prefer ]; then
-            offered='fips local-level national-level ocd-id other state-level'
+        _erd_options "$subcommand"
+        if _erd_values "$before"; then
+            offered=$values
         elif [[ $word == -* && $files -eq 0 ]]; then
-            offered='--prefer --help'
+            offered="$options --help"
         elif [ "$files" -lt "$([ "$subcommand" = compare ] && echo 2 || echo 1)" ]; then
             compopt -o default
         fi

@@ -1,19 +1,20 @@
-# Completion of erd for fish: subcommands, --prefer with the usual types of identifiers, and files.
+# Completion of erd for fish: subcommands, their options with the usual values, and files.
 
-function __erd_has_subcommand
-    __fish_seen_subcommand_from check canon compare
-end
+# The options, as tests/pages/tables.py --write writes them:
+set -g __erd_with_value --prefer
+complete -c erd -n '__fish_seen_subcommand_from check canon compare' -l prefer -x -a 'fips local-level national-level ocd-id other state-level' \
+    -d 'the type of identifier that the keys of objects follow, such as fips or local-level'
 
 # Whether another file may be named: one by check and canon, and two by compare.
 function __erd_takes_file
     set -l words (commandline -opc)
     set -l files 0
-    set -l is_type 0
+    set -l is_value 0
     for word in $words[3..-1]
-        if test $is_type = 1
-            set is_type 0
-        else if test "$word" = --prefer
-            set is_type 1
+        if test $is_value = 1
+            set is_value 0
+        else if contains -- $word $__erd_with_value
+            set is_value 1
         else if not string match -q -- '-*' $word
             set files (math $files + 1)
         end
@@ -35,6 +36,4 @@ complete -c erd -n __fish_use_subcommand -a compare -d 'tell the first differenc
 complete -c erd -n __fish_use_subcommand -a help -d 'write the help of a subcommand'
 complete -c erd -n '__fish_seen_subcommand_from help' -a 'check canon compare help'
 complete -c erd -l help -d 'write the help'
-complete -c erd -n __erd_has_subcommand -l prefer -x -d 'the type of identifier that keys follow' \
-    -a 'fips local-level national-level ocd-id other state-level'
 complete -c erd -n __erd_takes_file -F

@@ -80,7 +80,11 @@ completed 'the first file of compare' 'erd compare r\t' compare right.json
 completed 'the second file of compare' 'erd compare left.json r\t' compare left.json right.json
 completed 'no third file of compare' 'erd compare left.json right.json r\t' compare left.json right.json r
 completed 'the option' 'erd check --p\t' check --prefer
-completed 'both options' 'erd compare --\t' compare --help --prefer
+# Of each subcommand the options that its help lists.
+for subcommand in check canon compare; do
+    mapfile -t options < <(./erd help "$subcommand" | sed -n 's/^ .*\(--[a-z-]*\)\( <[A-Z]*>\)\{0,1\}$/\1/p' | LC_ALL=C sort)
+    completed "the options of $subcommand" "erd $subcommand --\t" "$subcommand" "${options[@]}"
+done
 completed 'no option after a file' 'erd compare left.json --p\t' compare left.json --p
 completed 'the types of identifiers' 'erd check --prefer \t' check --prefer "${types[@]}"
 completed 'a type' 'erd check --prefer loc\t' check --prefer local-level

@@ -1,6 +1,6 @@
 """Holds each file that names a command, an option, a call of the library, a reason for a fault or a class against the table of what
-exists, tests/pages/exists.txt, and the tables that a script writes against docs/PROFILE.md. One line a file that fails, and at the
-end the counts. The members of a class have a table of their own, that of docs/PROFILE.md, against which facts_and_links.py holds
+exists, tests/pages/exists.txt, and what tables.py writes against where it comes from. One line a file that fails, and at the end the
+counts. The members of a class have a table of their own, that of docs/PROFILE.md, against which facts_and_links.py holds
 the definitions."""
 import pathlib
 import re

@@ -1,5 +1,6 @@
-"""Holds the tables of the packages against docs/PROFILE.md: the member table, the families, and the words of the reasons. With
-`--write` they are written anew. Each stands in its file between a line that begins it and one that ends it.
+"""Holds the tables of the packages against docs/PROFILE.md: the member table, the families, and the words of the reasons; and the options
+of the manual page and of the completions against the help of the program (options.py). With `--write` they are written anew. Each
+stands in its file between a line that begins it and one that ends it.
 """
 import pathlib
 import sys
@@ -7,6 +8,7 @@ import sys
 ROOT = pathlib.Path(__file__).resolve().parents[2]
 sys.dont_write_bytecode = True
 sys.path[:0] = [str(ROOT / 'tests' / folder) for folder in ('pages', 'reports', 'shared')]
+import options  # noqa: E402
 from cases import tell_cases  # noqa: E402
 from facts_and_links import text_of_reasons, told_by_reason_12  # noqa: E402
 from member_table import families_of_page, table_of_page  # noqa: E402
@@ -56,6 +58,7 @@ TABLES = (
     (PREPARE['javascript'], 'export const FAMILIES = {', '};', families('    %s: [%s],')),
     ('bindings/python/src/erd/results.py', 'WORDS = {', '}', (f"    {number}: '{words}'," for number, words in text_of_reasons().items())),
     ('bindings/js/lib/words.mjs', 'const WORDS_OF_REASONS = [', '];', (f"    '{words}'," for words in text_of_reasons().values())),
+    *options.TABLES,
 )
 
 
