@@ -108,7 +108,7 @@ def answer(request: Request) -> int:
     with contextlib.ExitStack() as opened:
         files = [opened.enter_context(Input(name)) for name in request.files]
         reports = tuple(read(file.handle) for file in files)
-    return write_each(request.command, reports, request.prefer)
+    return write_each(request.command, reports, request.options['prefer'])
 
 
 def run(words: List[str]) -> int:

@@ -6,10 +6,10 @@ import ctypes
 import json
 import os
 import sys
-from dataclasses import dataclass
+from dataclasses import dataclass, field
 from functools import lru_cache
 from pathlib import Path
-from typing import Callable, Generic, Iterator, Optional, Sequence, Tuple, TypeVar
+from typing import Any, Callable, Dict, Generic, Iterator, Optional, Sequence, Tuple, TypeVar
 
 GOOD, BAD, NOT_JSON, WRONG, NO_MEMORY = range(5)
 
@@ -87,7 +87,9 @@ class Request:
 
     command: str = ''
     files: Sequence[str] = ()
-    prefer: Optional[str] = None
+    options: Dict[str, Any] = field(default_factory=dict)
+    """Each option of the command by its name, as docs/DATA.md has it."""
+
     text: bytes = b''
 
 
@@ -104,9 +106,9 @@ def command_line(words: Sequence[str]) -> Tuple[int, Request]:
         library().erd_free(text)
     if line != LINE_REQUEST:
         return line, Request(text=told)
-    request = Request(**json.loads(told))
-    request.files = [os.fsdecode(name.encode('utf-8')) for name in request.files]
-    return line, request
+    options = json.loads(told)
+    command, names = options.pop('command'), options.pop('files')
+    return line, Request(command, [os.fsdecode(name.encode('utf-8')) for name in names], options)
 
 
 Taken = TypeVar('Taken')
