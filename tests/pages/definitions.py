@@ -31,6 +31,7 @@ SOURCES = {
     'erd_canon/Devices': 'this project',
     'erd_canon/Engines': 'this project',
     'erd_canon/LineAnswers': 'docs/DATA.md',
+    'erd_canon/Options.options_in': 'the grammar of `clap`',
     'erd_canon/ReadLines': 'the grammar of `clap`',
     'erd_canon/ReadLines.IsReadExactly': 'this project',
     'erd_canon/Subcommands': 'this project',

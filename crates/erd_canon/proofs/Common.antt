@@ -1,5 +1,5 @@
 -- The names that the proofs of this crate cite most, passed on from one place. Declares nothing.
-pub use Rattle.erd_normal.proofs.Common.{◌≡◌, ℕ, zero, suc, ◌+◌, ◌-◌, ◌/◌, ◌%◌, ◌^◌, ◌<◌, ◌≤◌, Bool, true, false, ◌&&◌, ◌⊎◌, ◌↔◌, List, [], ◌∷◌, ◌++◌, map, length, get_or, take, drop, pos, negsuc, is_some, OnOk, nat_lt, ◌==◌, slice_get, Some, None, string_bytes, codes, IsUtf8, decimal, Contains, Option, option_map, option_copied, bytes_eq, unwrap_or, sym, refl, ap, ◌∙◌, subst, ap₂, inl, inr, append_assoc, append-nil, map-id, arith, lit<, length-append, Bor, rules, lt-ltb, ne_eqb, IfOk-weaker, on_ok_weaker, Num, unsigned, negative, float, Data, null, number, string, array, object, Items, no_items, item, Members, no_members, member, depth, items_depth, read, max_depth, items_of, view, number_text, outline, items_outline, members_outline, has_float, items_have_float, comma_if, compact_text, items_text, Reason, reason, IsFittingNumber, HasFittingNumbers, ItemsHaveFittingNumbers, MembersHaveFittingNumbers, IsTree, AreTrees, IsShallow, IsNoDeeper, IsAccepted, Preference, meaning}
+pub use Rattle.erd_normal.proofs.Common.{◌≡◌, ℕ, zero, suc, ◌+◌, ◌-◌, ◌/◌, ◌%◌, ◌^◌, ◌<◌, ◌≤◌, Bool, true, false, ◌&&◌, ◌||◌, ◌⊎◌, ◌↔◌, List, [], ◌∷◌, ◌++◌, map, length, get_or, take, drop, pos, negsuc, is_some, OnOk, nat_lt, ◌==◌, slice_get, Some, None, string_bytes, codes, IsUtf8, decimal, Contains, Option, option_map, option_copied, bytes_eq, unwrap_or, sym, refl, ap, ◌∙◌, subst, ap₂, inl, inr, append_assoc, append-nil, map-id, arith, lit<, length-append, Bor, rules, lt-ltb, ne_eqb, IfOk-weaker, on_ok_weaker, Num, unsigned, negative, float, Data, null, number, string, array, object, Items, no_items, item, Members, no_members, member, depth, items_depth, read, max_depth, items_of, view, number_text, outline, items_outline, members_outline, has_float, items_have_float, comma_if, compact_text, items_text, Reason, reason, IsFittingNumber, HasFittingNumbers, ItemsHaveFittingNumbers, MembersHaveFittingNumbers, IsTree, AreTrees, IsShallow, IsNoDeeper, IsAccepted, Preference, meaning}
 pub use Rattle.erd_compare.proofs.Common.{◌≢◌, IfOk, Ok, Err, Result, iter_rest, record_at, Differ, IsDifference}
 pub use Rattle.erd_meaning.proofs.Common.{OnErr, on_error, fold, take-append-drop, err_from_is_err_and, fault_cmp, Fault, IsFault}
 unfoldable pub use Rattle.erd_normal.proofs.Common.{digits, serde_json_on_literals}
@@ -22,9 +22,10 @@ pub use Rattle.erd_compare.specs.declared.difference.Difference.{Difference}
 pub use Rattle.erd_canon.specs.Bytes.{IsTreeOf, IsNotJson, IsAcceptedReport, IsCanonicalBytes}
 pub use Rattle.erd_canon.specs.DataValues.{step_data, fault_data, faults_data, refused_data, comparison_data}
 pub use Rattle.erd_canon.specs.EngineTexts.{text_of_lines, IsRefusal, IsCheckText, IsCanonicalOutput, IsCanonicalErrors, comparison_line, lines_of_side, IsCompareText, IsComparison, IsRefusedReport}
-pub use Rattle.erd_canon.specs.ExactLines.{preference_words, words_of, IsFileName, IsPreferenceWord, HasPlainWords}
+pub use Rattle.erd_canon.specs.ExactLines.{words_of, IsFileName, IsPreferenceWord, HasPlainWords}
 pub use Rattle.erd_canon.specs.Limits.{most_bytes}
 pub use Rattle.erd_canon.specs.ReadLines.{subcommand_request, request_in, IsLineRead, IsFaultFor}
+pub use Rattle.erd_canon.specs.Options.{preference_words, options_in}
 pub use Rattle.erd_canon.specs.Reading.{Exceeds, IsReadWhole}
 pub use Rattle.erd_canon.specs.Refused.{IsSomeReport, RefusedAs, refusal_for, RefusedSide}
 pub use Rattle.erd_canon.specs.Run.{IsChecked, IsAnswered, IsSideRefused, IsCompared, IsAnswerWritten, IsCheckWritten, IsCompareWritten, IsToldCheck, IsToldCompare, IsToldRun}

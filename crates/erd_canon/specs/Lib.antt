@@ -14,6 +14,7 @@ pub mod Writing  -- what a writer holds after a failed write
 pub mod Devices  -- what contracts know of readers and writers
 pub mod Engines  -- all that a run of each engine does to its devices
 pub mod Statuses  -- exit statuses, and the words of faults
+pub mod Options  -- the options of a command, as words and as data
 pub mod ExactLines  -- the exact command lines
 pub mod Subcommands  -- the command line, as the parser of command lines sees it
 pub mod ReadLines  -- what any words are read as

@@ -8,6 +8,7 @@ use Rattle.erd_canon.specs.declared.commands.request.LineFault.TheVariants.{Help
 use Rattle.erd_canon.specs.declared.commands.request.Request.{Request}
 use Rattle.erd_canon.specs.declared.commands.request.Request.TheVariants.{Filter, Check, Canon, Compare}
 use Rattle.erd_canon.specs.ExactLines.{HasPlainWords, words_of}
+use Rattle.erd_canon.specs.Options.{options_in}
 use Rattle.erd_canon.specs.Subcommands.{program}
 
 -- The word that was given for the required argument with this name.
@@ -17,9 +18,9 @@ word_for id rows = unwrap_or (first_of id rows) []
 -- The request of the subcommand with this name, for what was given for its arguments.
 abbrev pub subcommand_request : List ℕ → List Row → Request
 subcommand_request name rows =
-    if bytes_eq name (codes "check") then Check (word_for (codes "FILE") rows) (first_of (codes "TYPE") rows)
-    else (if bytes_eq name (codes "canon") then Canon (word_for (codes "FILE") rows) (first_of (codes "TYPE") rows)
-    else Compare (word_for (codes "LEFT") rows) (word_for (codes "RIGHT") rows) (first_of (codes "TYPE") rows))
+    if bytes_eq name (codes "check") then Check (word_for (codes "FILE") rows) (options_in rows)
+    else (if bytes_eq name (codes "canon") then Canon (word_for (codes "FILE") rows) (options_in rows)
+    else Compare (word_for (codes "LEFT") rows) (word_for (codes "RIGHT") rows) (options_in rows))
 
 -- The request of the subcommand that was found in the words, if any.
 abbrev pub request_in : Option (List ℕ × List Row) → Request

@@ -16,7 +16,7 @@ pub use bytes::disposal::{Disposal, Free};
 pub use bytes::laws::{is_its_own_form, one_form_for_one_meaning, same_form_when_rearranged};
 pub use bytes::refusal::{Refusal, Side};
 pub use commands::prefer::Prefer;
-pub use commands::request::{FileName, LineFault, Request};
+pub use commands::request::{FileName, LineFault, Options, Request};
 pub use commands::words::command_line;
 pub use data::check::{Answer, check_data, check_data_with};
 pub use data::compare::{compare_data, compare_data_with};

@@ -2,9 +2,9 @@
 use Rattle.std.specs.Prelude.{◌≡◌, ◌++◌, ◌∷◌, [], ℕ, List, None, Result, Ok, Err, codes}
 use Rattle.erd_canon.specs.Devices.{BeforeAfter, Writer, between}
 use Rattle.erd_canon.specs.Engines.{IsCanonRun, IsCheckRun, IsCompareRun}
+use Rattle.erd_canon.specs.declared.commands.request.Options.{Options}
 use Rattle.erd_canon.specs.declared.engines.outcome.Outcome.{Outcome}
 use Rattle.erd_canon.specs.declared.engines.outcome.RunFault.{RunFault}
-use Rattle.erd_meaning.specs.Keys.{Preference}
 use Rattle.erd_program.specs.declared.files.WorldFault.{WorldFault}
 use Rattle.erd_program.specs.Messages.{IsSaid, IsTold, run_status, world_status, world_text}
 use Rattle.erd_program.specs.World.{Outside}
@@ -25,54 +25,54 @@ pub record IsInputCanonicalised {F File I O E : Type 0} (known : Outside F File 
   pub status_is : status ≡ run_status answer
   pub told : IsTold known.err answer (between err_left err.after)
 
--- The file was canonicalised under the preference, and closed as the engine left it. The program ended with the answer.
-pub record IsFileCanonicalised {F File I O E : Type 0} (known : Outside F File I O E) (π : Preference) (name : List ℕ) (file : File) (status : ℕ) (closed : BeforeAfter (List (List ℕ × File))) (out : BeforeAfter O) (err : BeforeAfter E) : Type 0 where
+-- The file was canonicalised as the options say, and closed as the engine left it. The program ended with the answer.
+pub record IsFileCanonicalised {F File I O E : Type 0} (known : Outside F File I O E) (options : Options) (name : List ℕ) (file : File) (status : ℕ) (closed : BeforeAfter (List (List ℕ × File))) (out : BeforeAfter O) (err : BeforeAfter E) : Type 0 where
   pub answer : Result Outcome RunFault
   pub file_left : File
   pub err_left : E
-  pub run : IsCanonRun known.file known.out known.err π answer (between file file_left) out (between err.before err_left)
+  pub run : IsCanonRun known.file known.out known.err options.prefer answer (between file file_left) out (between err.before err_left)
   pub is_closed : closed.after ≡ closed.before ++ (name, file_left) ∷ []
   pub status_is : status ≡ run_status answer
   pub told : IsTold known.err answer (between err_left err.after)
 
--- The file was checked under the preference, and closed as the engine left it. The program ended with the answer.
-pub record IsFileChecked {F File I O E : Type 0} (known : Outside F File I O E) (π : Preference) (name : List ℕ) (file : File) (status : ℕ) (closed : BeforeAfter (List (List ℕ × File))) (out : BeforeAfter O) (err : BeforeAfter E) : Type 0 where
+-- The file was checked as the options say, and closed as the engine left it. The program ended with the answer.
+pub record IsFileChecked {F File I O E : Type 0} (known : Outside F File I O E) (options : Options) (name : List ℕ) (file : File) (status : ℕ) (closed : BeforeAfter (List (List ℕ × File))) (out : BeforeAfter O) (err : BeforeAfter E) : Type 0 where
   pub answer : Result Outcome RunFault
   pub file_left : File
-  pub run : IsCheckRun known.file known.out π answer (between file file_left) out
+  pub run : IsCheckRun known.file known.out options.prefer answer (between file file_left) out
   pub is_closed : closed.after ≡ closed.before ++ (name, file_left) ∷ []
   pub status_is : status ≡ run_status answer
   pub told : IsTold known.err answer err
 
--- The two files were compared under the preference, and closed as the engine left them. The program ended with the answer.
-pub record AreFilesCompared {F File I O E : Type 0} (known : Outside F File I O E) (π : Preference) (left_name right_name : List ℕ) (left right : File) (status : ℕ) (closed : BeforeAfter (List (List ℕ × File))) (out : BeforeAfter O) (err : BeforeAfter E) : Type 0 where
+-- The two files were compared as the options say, and closed as the engine left them. The program ended with the answer.
+pub record AreFilesCompared {F File I O E : Type 0} (known : Outside F File I O E) (options : Options) (left_name right_name : List ℕ) (left right : File) (status : ℕ) (closed : BeforeAfter (List (List ℕ × File))) (out : BeforeAfter O) (err : BeforeAfter E) : Type 0 where
   pub answer : Result Outcome RunFault
   pub left_left : File
   pub right_left : File
-  pub run : IsCompareRun known.file known.file known.out π answer (between left left_left) (between right right_left) out
+  pub run : IsCompareRun known.file known.file known.out options.prefer answer (between left left_left) (between right right_left) out
   pub are_closed : closed.after ≡ closed.before ++ (left_name, left_left) ∷ (right_name, right_left) ∷ []
   pub status_is : status ≡ run_status answer
   pub told : IsTold known.err answer err
 
 -- What is done for `check`, by what opening the file gave.
-abbrev pub IsCheckAnswer : {F File I O E : Type 0} → Outside F File I O E → Preference → List ℕ → Result File WorldFault → ℕ → BeforeAfter (List (List ℕ × File)) → BeforeAfter O → BeforeAfter E → Type 0
-IsCheckAnswer known π name (Ok file) status closed out err = IsFileChecked known π name file status closed out err
-IsCheckAnswer known π name (Err fault) status closed out err =
+abbrev pub IsCheckAnswer : {F File I O E : Type 0} → Outside F File I O E → Options → List ℕ → Result File WorldFault → ℕ → BeforeAfter (List (List ℕ × File)) → BeforeAfter O → BeforeAfter E → Type 0
+IsCheckAnswer known options name (Ok file) status closed out err = IsFileChecked known options name file status closed out err
+IsCheckAnswer known options name (Err fault) status closed out err =
     (closed.after ≡ closed.before) × IsRefused known.err (codes "cannot open") fault status out err
 
 -- What is done for `canon`, by what opening the file gave.
-abbrev pub IsCanonAnswer : {F File I O E : Type 0} → Outside F File I O E → Preference → List ℕ → Result File WorldFault → ℕ → BeforeAfter (List (List ℕ × File)) → BeforeAfter O → BeforeAfter E → Type 0
-IsCanonAnswer known π name (Ok file) status closed out err = IsFileCanonicalised known π name file status closed out err
-IsCanonAnswer known π name (Err fault) status closed out err =
+abbrev pub IsCanonAnswer : {F File I O E : Type 0} → Outside F File I O E → Options → List ℕ → Result File WorldFault → ℕ → BeforeAfter (List (List ℕ × File)) → BeforeAfter O → BeforeAfter E → Type 0
+IsCanonAnswer known options name (Ok file) status closed out err = IsFileCanonicalised known options name file status closed out err
+IsCanonAnswer known options name (Err fault) status closed out err =
     (closed.after ≡ closed.before) × IsRefused known.err (codes "cannot open") fault status out err
 
 -- What is done for `compare`, by what opening the left file and then the right one gave. If one of them could not be
 -- opened, the other one was closed as it was.
-abbrev pub IsCompareAnswer : {F File I O E : Type 0} → Outside F File I O E → Preference → List ℕ → List ℕ → Result File WorldFault → Result File WorldFault → ℕ → BeforeAfter (List (List ℕ × File)) → BeforeAfter O → BeforeAfter E → Type 0
-IsCompareAnswer known π left right (Ok a) (Ok b) status closed out err = AreFilesCompared known π left right a b status closed out err
-IsCompareAnswer known π left right (Ok a) (Err fault) status closed out err =
+abbrev pub IsCompareAnswer : {F File I O E : Type 0} → Outside F File I O E → Options → List ℕ → List ℕ → Result File WorldFault → Result File WorldFault → ℕ → BeforeAfter (List (List ℕ × File)) → BeforeAfter O → BeforeAfter E → Type 0
+IsCompareAnswer known options left right (Ok a) (Ok b) status closed out err = AreFilesCompared known options left right a b status closed out err
+IsCompareAnswer known options left right (Ok a) (Err fault) status closed out err =
     (closed.after ≡ closed.before ++ (left, a) ∷ []) × IsRefused known.err (codes "cannot open") fault status out err
-IsCompareAnswer known π left right (Err fault) (Ok b) status closed out err =
+IsCompareAnswer known options left right (Err fault) (Ok b) status closed out err =
     (closed.after ≡ closed.before ++ (right, b) ∷ []) × IsRefused known.err (codes "cannot open") fault status out err
-IsCompareAnswer known π left right (Err fault) (Err other) status closed out err =
+IsCompareAnswer known options left right (Err fault) (Err other) status closed out err =
     (closed.after ≡ closed.before) × IsRefused known.err (codes "cannot open") fault status out err

@@ -30,24 +30,24 @@ abbrev pub IsDone : {F File I O E : Type 0} → Outside F File I O E → Request
 IsDone known Filter status world =
     LeavesFiles world
     × IsInputCanonicalised known status (between world.before.input world.after.input) (between world.before.out world.after.out) (between world.before.err world.after.err)
-IsDone {File = File} known (Check name prefer) status world =
+IsDone {File = File} known (Check name options) status world =
     LeavesInput world
     × ((given : Result File WorldFault)
     × (known.opened world.after.files ≡ known.opened world.before.files ++ (name, given) ∷ [])
-    × IsCheckAnswer known prefer name given status (between (known.closed world.before.files) (known.closed world.after.files))
+    × IsCheckAnswer known options name given status (between (known.closed world.before.files) (known.closed world.after.files))
     (between world.before.out world.after.out) (between world.before.err world.after.err))
-IsDone {File = File} known (Canon name prefer) status world =
+IsDone {File = File} known (Canon name options) status world =
     LeavesInput world
     × ((given : Result File WorldFault)
     × (known.opened world.after.files ≡ known.opened world.before.files ++ (name, given) ∷ [])
-    × IsCanonAnswer known prefer name given status (between (known.closed world.before.files) (known.closed world.after.files))
+    × IsCanonAnswer known options name given status (between (known.closed world.before.files) (known.closed world.after.files))
     (between world.before.out world.after.out) (between world.before.err world.after.err))
-IsDone {File = File} known (Compare left right prefer) status world =
+IsDone {File = File} known (Compare left right options) status world =
     LeavesInput world
     × ((a : Result File WorldFault) × (b : Result File WorldFault)
     × (known.opened world.after.files ≡ known.opened world.before.files ++ (left, a) ∷ (right, b) ∷ [])
     × (known.beside world.after.files ≡ known.beside world.before.files ++ (right, a) ∷ [])
-    × IsCompareAnswer known prefer left right a b status (between (known.closed world.before.files) (known.closed world.after.files))
+    × IsCompareAnswer known options left right a b status (between (known.closed world.before.files) (known.closed world.after.files))
     (between world.before.out world.after.out) (between world.before.err world.after.err))
 
 -- The text of the help was written and flushed, with status 0. Or else that failed: a first part of it was written, and

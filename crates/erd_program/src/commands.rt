@@ -1,5 +1,4 @@
 ghost use Rattle.std.specs.Prelude.{◌≡◌, ◌++◌, ◌∷◌, [], Result, IfOk, false};
-ghost use Rattle.std.specs.Option.{option_copied};
 ghost use Rattle.erd_canon.specs.Devices.{between};
 ghost use Rattle.erd_program.specs.declared.files.WorldFault.{WorldFault};
 ghost use Rattle.erd_program.specs.Files.{AreFilesCompared, IsCanonAnswer, IsCheckAnswer, IsCompareAnswer, IsFileCanonicalised, IsFileChecked, IsInputCanonicalised};
@@ -9,7 +8,7 @@ use crate::files::{Files, WorldFault};
 use crate::messages::{ended, refused};
 use crate::world::World;
 use erd_canon::{
-    Disposal, FileName, Sink, Source, run_canon_disposing, run_check_disposing,
+    Disposal, FileName, Options, Sink, Source, run_canon_disposing, run_check_disposing,
     run_compare_disposing,
 };
 use std::alloc::Global;
@@ -42,12 +41,12 @@ pub(crate) fn filter<F: Files, I: Source, O: Sink, E: Sink, D: Disposal>(
     ended(answer, &mut world.err)
 }
 
-/// Opens the file and checks it under the preference.
+/// Opens the file and checks it as the options say.
 pub(crate) fn check<F: Files, I: Source, O: Sink, E: Sink, D: Disposal>(
     alloc: Global,
     world: &mut World<F, I, O, E>,
     name: &FileName,
-    prefer: Option<&str>,
+    options: &Options,
     disposal: &D,
 ) -> u8
     requires out_works { O.writer.has_failed world.old.out ≡ false }
@@ -56,11 +55,11 @@ pub(crate) fn check<F: Files, I: Source, O: Sink, E: Sink, D: Disposal>(
     ensures done { (given : Result F.File WorldFault)
         × (F.opened world.new.files ≡ F.opened world.old.files ++ (name.now, given) ∷ [])
         × IsCheckAnswer (outside F.opened F.beside F.closed F.File.reader I.reader O.writer E.writer)
-        (option_copied prefer.entry) name.now given result (between (F.closed world.old.files) (F.closed world.new.files))
+        options.now name.now given result (between (F.closed world.old.files) (F.closed world.new.files))
         (between world.old.out world.new.out) (between world.old.err world.new.err) }
 {
     match world.files.open(name) {
-        Ok(file) => check_file(alloc, world, name, file, prefer, disposal),
+        Ok(file) => check_file(alloc, world, name, file, options, disposal),
         Err(fault) => refused(fault, CANNOT_OPEN, &mut world.err),
     }
 }
@@ -71,7 +70,7 @@ fn check_file<F: Files, I: Source, O: Sink, E: Sink, D: Disposal>(
     world: &mut World<F, I, O, E>,
     name: &FileName,
     mut file: F::File,
-    prefer: Option<&str>,
+    options: &Options,
     disposal: &D,
 ) -> u8
     requires file_works { F.File.reader.has_failed file ≡ false }
@@ -80,20 +79,21 @@ fn check_file<F: Files, I: Source, O: Sink, E: Sink, D: Disposal>(
     ensures input { world.new.input ≡ world.old.input }
     ensures opened { F.opened world.new.files ≡ F.opened world.old.files }
     ensures done { IsFileChecked (outside F.opened F.beside F.closed F.File.reader I.reader O.writer E.writer)
-        (option_copied prefer.entry) name.now file result (between (F.closed world.old.files) (F.closed world.new.files))
+        options.now name.now file result (between (F.closed world.old.files) (F.closed world.new.files))
         (between world.old.out world.new.out) (between world.old.err world.new.err) }
 {
+    let prefer = options.prefer.text();
     let answer = run_check_disposing(alloc, &mut file, &mut world.out, prefer, disposal);
     world.files.close(name, file);
     ended(answer, &mut world.err)
 }
 
-/// Opens the file and writes its canonical form under the preference.
+/// Opens the file and writes its canonical form as the options say.
 pub(crate) fn canon<F: Files, I: Source, O: Sink, E: Sink, D: Disposal>(
     alloc: Global,
     world: &mut World<F, I, O, E>,
     name: &FileName,
-    prefer: Option<&str>,
+    options: &Options,
     disposal: &D,
 ) -> u8
     requires out_works { O.writer.has_failed world.old.out ≡ false }
@@ -102,11 +102,11 @@ pub(crate) fn canon<F: Files, I: Source, O: Sink, E: Sink, D: Disposal>(
     ensures done { (given : Result F.File WorldFault)
         × (F.opened world.new.files ≡ F.opened world.old.files ++ (name.now, given) ∷ [])
         × IsCanonAnswer (outside F.opened F.beside F.closed F.File.reader I.reader O.writer E.writer)
-        (option_copied prefer.entry) name.now given result (between (F.closed world.old.files) (F.closed world.new.files))
+        options.now name.now given result (between (F.closed world.old.files) (F.closed world.new.files))
         (between world.old.out world.new.out) (between world.old.err world.new.err) }
 {
     match world.files.open(name) {
-        Ok(file) => canon_file(alloc, world, name, file, prefer, disposal),
+        Ok(file) => canon_file(alloc, world, name, file, options, disposal),
         Err(fault) => refused(fault, CANNOT_OPEN, &mut world.err),
     }
 }
@@ -117,7 +117,7 @@ fn canon_file<F: Files, I: Source, O: Sink, E: Sink, D: Disposal>(
     world: &mut World<F, I, O, E>,
     name: &FileName,
     mut file: F::File,
-    prefer: Option<&str>,
+    options: &Options,
     disposal: &D,
 ) -> u8
     requires file_works { F.File.reader.has_failed file ≡ false }
@@ -126,9 +126,10 @@ fn canon_file<F: Files, I: Source, O: Sink, E: Sink, D: Disposal>(
     ensures input { world.new.input ≡ world.old.input }
     ensures opened { F.opened world.new.files ≡ F.opened world.old.files }
     ensures done { IsFileCanonicalised (outside F.opened F.beside F.closed F.File.reader I.reader O.writer E.writer)
-        (option_copied prefer.entry) name.now file result (between (F.closed world.old.files) (F.closed world.new.files))
+        options.now name.now file result (between (F.closed world.old.files) (F.closed world.new.files))
         (between world.old.out world.new.out) (between world.old.err world.new.err) }
 {
+    let prefer = options.prefer.text();
     let answer = run_canon_disposing(
         alloc,
         &mut file,
@@ -141,13 +142,13 @@ fn canon_file<F: Files, I: Source, O: Sink, E: Sink, D: Disposal>(
     ended(answer, &mut world.err)
 }
 
-/// Opens both files and then compares them under the preference.
+/// Opens both files and then compares them as the options say.
 pub(crate) fn compare<F: Files, I: Source, O: Sink, E: Sink, D: Disposal>(
     alloc: Global,
     world: &mut World<F, I, O, E>,
     left: &FileName,
     right: &FileName,
-    prefer: Option<&str>,
+    options: &Options,
     disposal: &D,
 ) -> u8
     requires out_works { O.writer.has_failed world.old.out ≡ false }
@@ -157,7 +158,7 @@ pub(crate) fn compare<F: Files, I: Source, O: Sink, E: Sink, D: Disposal>(
         × (F.opened world.new.files ≡ F.opened world.old.files ++ (left.now, a) ∷ (right.now, b) ∷ [])
         × (F.beside world.new.files ≡ F.beside world.old.files ++ (right.now, a) ∷ [])
         × IsCompareAnswer (outside F.opened F.beside F.closed F.File.reader I.reader O.writer E.writer)
-        (option_copied prefer.entry) left.now right.now a b result (between (F.closed world.old.files)
+        options.now left.now right.now a b result (between (F.closed world.old.files)
         (F.closed world.new.files)) (between world.old.out world.new.out) (between world.old.err world.new.err) }
 {
     let (left_file, right_file) = open_both(&mut world.files, left, right);
@@ -168,7 +169,7 @@ pub(crate) fn compare<F: Files, I: Source, O: Sink, E: Sink, D: Disposal>(
                 world,
                 (left, left_file),
                 (right, right_file),
-                prefer,
+                options,
                 disposal,
             )
         }
@@ -207,7 +208,7 @@ fn compare_files<F: Files, I: Source, O: Sink, E: Sink, D: Disposal>(
     world: &mut World<F, I, O, E>,
     left: (&FileName, F::File),
     right: (&FileName, F::File),
-    prefer: Option<&str>,
+    options: &Options,
     disposal: &D,
 ) -> u8
     requires left_works { F.File.reader.has_failed left.1 ≡ false }
@@ -218,12 +219,13 @@ fn compare_files<F: Files, I: Source, O: Sink, E: Sink, D: Disposal>(
     ensures opened { F.opened world.new.files ≡ F.opened world.old.files }
     ensures beside { F.beside world.new.files ≡ F.beside world.old.files }
     ensures done { AreFilesCompared (outside F.opened F.beside F.closed F.File.reader I.reader O.writer E.writer)
-        (option_copied prefer.entry) left.entry.0.now right.entry.0.now left.entry.1 right.entry.1
+        options.now left.entry.0.now right.entry.0.now left.entry.1 right.entry.1
         result (between (F.closed world.old.files) (F.closed world.new.files)) (between world.old.out world.new.out)
         (between world.old.err world.new.err) }
 {
     let (left_name, mut left_file) = left;
     let (right_name, mut right_file) = right;
+    let prefer = options.prefer.text();
     let answer = run_compare_disposing(
         alloc,
         &mut left_file,

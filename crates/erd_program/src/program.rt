@@ -75,10 +75,10 @@ fn done<F: Files, I: Source, O: Sink, E: Sink, D: Disposal>(
 {
     match request {
         Request::Filter => filter(alloc, world, disposal),
-        Request::Check(name, prefer) => check(alloc, world, name, prefer.text(), disposal),
-        Request::Canon(name, prefer) => canon(alloc, world, name, prefer.text(), disposal),
-        Request::Compare(left, right, prefer) => {
-            compare(alloc, world, left, right, prefer.text(), disposal)
+        Request::Check(name, options) => check(alloc, world, name, options, disposal),
+        Request::Canon(name, options) => canon(alloc, world, name, options, disposal),
+        Request::Compare(left, right, options) => {
+            compare(alloc, world, left, right, options, disposal)
         }
     }
 }

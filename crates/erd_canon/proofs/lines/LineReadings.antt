@@ -1,8 +1,9 @@
 -- What `clap` makes of the exact lines.
-use Rattle.erd_canon.proofs.Common.{◌≡◌, ℕ, Bool, true, false, ◌&&◌, ◌⊎◌, List, [], ◌∷◌, ◌++◌, length, nat_lt, Some, None, Ok, Err, codes, Option, Result, MatchResult, unwrap_or, sym, refl, ap, ◌∙◌, subst, ap₂, inl, inr, arith, lt-ltb, clap_on_literals, Shape, step_passes, turn_passes, level_passes, arg_by_index, Held, value, Walk, to_positional, walked, finished, nothing_held, rows_after, Row, Text, first_of, is_simple, subcommand_of, takes, IsAmong, fault_of, is_simple_and_free, OutOfMemory, preference_words, words_of, IsPreferenceWord, HasPlainWords, subcommand_request, request_in, IsLineRead, IsFaultFor, program}
+use Rattle.erd_canon.proofs.Common.{◌≡◌, ℕ, Bool, true, false, ◌&&◌, ◌⊎◌, List, [], ◌∷◌, ◌++◌, length, nat_lt, Some, None, Ok, Err, codes, Option, Result, MatchResult, unwrap_or, sym, refl, ap, ◌∙◌, subst, ap₂, inl, inr, arith, lt-ltb, clap_on_literals, Shape, step_passes, turn_passes, level_passes, arg_by_index, Held, value, Walk, to_positional, walked, finished, nothing_held, rows_after, Row, Text, first_of, is_simple, subcommand_of, takes, IsAmong, fault_of, is_simple_and_free, OutOfMemory, preference_words, words_of, IsPreferenceWord, HasPlainWords, options_in, subcommand_request, request_in, IsLineRead, IsFaultFor, program}
 use Rattle.clap.specs.declared.error.kind.ErrorKind.{ErrorKind}
 use Rattle.erd_canon.proofs.lines.PlainWords.{IsPlainWord, at, walked_plain, turn_plain}
 use Rattle.erd_canon.proofs.lines.PreferenceWords.{Prefers, canon_prefers, check_prefers, compare_prefers, ends, file_plain, held_first, level_preferring, rows_preferring, subcommand}
+use Rattle.erd_canon.specs.declared.commands.request.Options.{Options}
 use Rattle.erd_canon.specs.declared.commands.request.Request.{Request}
 use Rattle.erd_canon.specs.declared.commands.request.Request.TheVariants.{Filter, Check, Canon, Compare}
 use Rattle.erd_canon.specs.declared.commands.request.LineFault.{LineFault}
@@ -11,12 +12,12 @@ use Rattle.erd_canon.specs.declared.commands.request.LineFault.TheVariants.{Help
 -- the result of the parse, a subcommand and its matches or neither, makes this request.
 abbrev pub IsAskedBy : Option (List ℕ × List Row) → Request → Type 0
 IsAskedBy None Filter = Unit {0}
-IsAskedBy (Some met) (Check file prefer) = (met.0 ≡ codes "check")
-    × ((first_of (codes "FILE") met.1 ≡ Some file) × (first_of (codes "TYPE") met.1 ≡ prefer))
-IsAskedBy (Some met) (Canon file prefer) = (met.0 ≡ codes "canon")
-    × ((first_of (codes "FILE") met.1 ≡ Some file) × (first_of (codes "TYPE") met.1 ≡ prefer))
-IsAskedBy (Some met) (Compare left right prefer) = (met.0 ≡ codes "compare")
-    × ((first_of (codes "LEFT") met.1 ≡ Some left) × ((first_of (codes "RIGHT") met.1 ≡ Some right) × (first_of (codes "TYPE") met.1 ≡ prefer)))
+IsAskedBy (Some met) (Check file options) = (met.0 ≡ codes "check")
+    × ((first_of (codes "FILE") met.1 ≡ Some file) × (first_of (codes "TYPE") met.1 ≡ options.prefer))
+IsAskedBy (Some met) (Canon file options) = (met.0 ≡ codes "canon")
+    × ((first_of (codes "FILE") met.1 ≡ Some file) × (first_of (codes "TYPE") met.1 ≡ options.prefer))
+IsAskedBy (Some met) (Compare left right options) = (met.0 ≡ codes "compare")
+    × ((first_of (codes "LEFT") met.1 ≡ Some left) × ((first_of (codes "RIGHT") met.1 ≡ Some right) × (first_of (codes "TYPE") met.1 ≡ options.prefer)))
 IsAskedBy _ _ = ⊥
 
 -- the walk after one word
@@ -179,21 +180,26 @@ compare_words (Some type) left right = (refl, (refl, refl))
 
 pub takes-line : (request : Request) (name : Text) → HasPlainWords request → takes program (name ∷ words_of request) ≡ true
 takes-line Filter name h = takes-none name
-takes-line (Check file prefer) name h = takes-file 0 (codes "check") check_prefers prefer (check_takes prefer) name file (file_plain file h.0) h.1
-takes-line (Canon file prefer) name h = takes-file 1 (codes "canon") canon_prefers prefer (canon_takes prefer) name file (file_plain file h.0) h.1
-takes-line (Compare left right prefer) name h = takes-compare name left right prefer (file_plain left h.0) (file_plain right h.1) h.2
+takes-line (Check file options) name h =
+    takes-file 0 (codes "check") check_prefers options.prefer (check_takes options.prefer) name file (file_plain file h.0) h.1
+takes-line (Canon file options) name h =
+    takes-file 1 (codes "canon") canon_prefers options.prefer (canon_takes options.prefer) name file (file_plain file h.0) h.1
+takes-line (Compare left right options) name h =
+    takes-compare name left right options.prefer (file_plain left h.0) (file_plain right h.1) h.2
 
 pub line_found : (request : Request) (name : Text) → HasPlainWords request → IsAskedBy (subcommand_of program (name ∷ words_of request)) request
 line_found Filter name h = subst (λ (o : Option (Text × List Row)). IsAskedBy o Filter) (sym (none_found name)) tt
-line_found (Check file prefer) name h =
-    subst (λ (o : Option (Text × List Row)). IsAskedBy o (Check file prefer)) (sym (file_found 0 (codes "check") check_prefers prefer (check_takes prefer) name file (file_plain file h.0) h.1))
-    (refl, (check_takes prefer).words file)
-line_found (Canon file prefer) name h =
-    subst (λ (o : Option (Text × List Row)). IsAskedBy o (Canon file prefer)) (sym (file_found 1 (codes "canon") canon_prefers prefer (canon_takes prefer) name file (file_plain file h.0) h.1))
-    (refl, (canon_takes prefer).words file)
-line_found (Compare left right prefer) name h =
-    subst (λ (o : Option (Text × List Row)). IsAskedBy o (Compare left right prefer))
-    (sym (compare_found name left right prefer (file_plain left h.0) (file_plain right h.1) h.2)) (refl, compare_words prefer left right)
+line_found (Check file options) name h =
+    let takes = check_takes options.prefer in
+    subst (λ (o : Option (Text × List Row)). IsAskedBy o (Check file options))
+    (sym (file_found 0 (codes "check") check_prefers options.prefer takes name file (file_plain file h.0) h.1)) (refl, takes.words file)
+line_found (Canon file options) name h =
+    let takes = canon_takes options.prefer in
+    subst (λ (o : Option (Text × List Row)). IsAskedBy o (Canon file options))
+    (sym (file_found 1 (codes "canon") canon_prefers options.prefer takes name file (file_plain file h.0) h.1)) (refl, takes.words file)
+line_found (Compare left right options) name h =
+    subst (λ (o : Option (Text × List Row)). IsAskedBy o (Compare left right options))
+    (sym (compare_found name left right options.prefer (file_plain left h.0) (file_plain right h.1) h.2)) (refl, compare_words options.prefer left right)
 
 pub program_simple : is_simple program ≡ true
 unfolding clap_on_literals
@@ -208,18 +214,26 @@ program_free = refl
 abbrev word : Option (List ℕ) → List ℕ
 word found = unwrap_or found []
 
+-- the options with this preference
+abbrev preferring : Option Text → Options
+preferring prefer = record { prefer = prefer }
+
+-- the options are those that were given
+options_are : (rows : List Row) (options : Options) → first_of (codes "TYPE") rows ≡ options.prefer → options_in rows ≡ options
+options_are rows options is = ap preferring is
+
 -- the request that is asked for is the one that the parse makes
 pub asked_is : (found : Option (List ℕ × List Row)) (request : Request) → IsAskedBy found request → request_in found ≡ request
 asked_is None Filter h = refl
-asked_is (Some found) (Check file prefer) (is, (file_is, type_is)) =
-    ap (λ (name : List ℕ). subcommand_request name found.1) is ∙ ap₂ Check (ap word file_is) type_is
-asked_is (Some found) (Canon file prefer) (is, (file_is, type_is)) =
-    ap (λ (name : List ℕ). subcommand_request name found.1) is ∙ ap₂ Canon (ap word file_is) type_is
-asked_is (Some found) (Compare left right prefer) (is, (left_is, (right_is, type_is))) =
+asked_is (Some found) (Check file options) (is, (file_is, type_is)) =
+    ap (λ (name : List ℕ). subcommand_request name found.1) is ∙ ap₂ Check (ap word file_is) (options_are found.1 options type_is)
+asked_is (Some found) (Canon file options) (is, (file_is, type_is)) =
+    ap (λ (name : List ℕ). subcommand_request name found.1) is ∙ ap₂ Canon (ap word file_is) (options_are found.1 options type_is)
+asked_is (Some found) (Compare left right options) (is, (left_is, (right_is, type_is))) =
     let named : request_in (Some found) ≡ subcommand_request (codes "compare") found.1 = ap (λ (name : List ℕ). subcommand_request name found.1) is in
-    let both : Compare (word (first_of (codes "LEFT") found.1)) (word (first_of (codes "RIGHT") found.1)) (first_of (codes "TYPE") found.1) ≡ Compare left right (first_of (codes "TYPE") found.1) =
-    ap₂ (λ (a : List ℕ) (b : List ℕ). Compare a b (first_of (codes "TYPE") found.1)) (ap word left_is) (ap word right_is) in
-    named ∙ (both ∙ ap (Compare left right) type_is)
+    let both : Compare (word (first_of (codes "LEFT") found.1)) (word (first_of (codes "RIGHT") found.1)) (options_in found.1) ≡ Compare left right (options_in found.1) =
+    ap₂ (λ (a : List ℕ) (b : List ℕ). Compare a b (options_in found.1)) (ap word left_is) (ap word right_is) in
+    named ∙ (both ∙ ap (Compare left right) (options_are found.1 options type_is))
 asked_is _ _ h = absurd h
 
 -- where the answer is a request, or else out of memory

@@ -6,17 +6,24 @@ use thiserror::Error;
 /// The name of a file, as written on the command line.
 pub type FileName = Text;
 
+/// The options of a command.
+#[derive(Debug, Drop)]
+pub struct Options {
+    /// The type of identifier that keys follow, if the words name one (`--prefer`).
+    pub prefer: Prefer,
+}
+
 /// What a command line asks for.
 #[derive(Debug, Drop)]
 pub enum Request {
     /// Write the canonical form of the report on standard input.
     Filter,
-    /// Check whether the report in this file is accepted under this preference.
-    Check(FileName, Prefer),
-    /// Write the canonical form of the report in this file under this preference.
-    Canon(FileName, Prefer),
-    /// Write the first difference between the reports in the left file and the right file under this preference.
-    Compare(FileName, FileName, Prefer),
+    /// Check whether the report in this file is accepted, as the options say.
+    Check(FileName, Options),
+    /// Write the canonical form of the report in this file, as the options say.
+    Canon(FileName, Options),
+    /// Write the first difference between the reports in the left file and the right file, as the options say.
+    Compare(FileName, FileName, Options),
 }
 
 /// Why a command line gives no request.

@@ -1,11 +1,12 @@
 ghost use Rattle.std.specs.Prelude.{◌≡◌, ℕ, List, ◌∷◌, map, MatchResult, codes, string_bytes};
 ghost use Rattle.erd_canon.specs.ExactLines.{HasPlainWords, words_of};
+ghost use Rattle.erd_canon.specs.Options.{options_in};
 ghost use Rattle.erd_canon.specs.ReadLines.{IsFaultFor, IsLineRead, request_in, subcommand_request, word_for};
 ghost use Rattle.clap.specs.Words.{first_of, found_of, kind_of, rows_of, subcommand_rows_of};
 
 use crate::commands::builder::program_command;
 use crate::commands::prefer::Prefer;
-use crate::commands::request::{FileName, LineFault, Request};
+use crate::commands::request::{FileName, LineFault, Options, Request};
 use clap::error::ErrorKind;
 use clap::{ArgMatches, Error};
 use erd_tables::Text;
@@ -26,11 +27,11 @@ use std::alloc::Global;
 /// - `LineFault::Memory` if out of memory.
 ///
 /// ```
-/// let Request::Check(file, prefer) = command_line(alloc, &words)? else {
+/// let Request::Check(file, options) = command_line(alloc, &words)? else {
 ///     return Err(Fail::from("another request"));
 /// };
 /// assert_eq!(rt; file.as_str(), "county.json");
-/// assert_eq!(rt; prefer.text(), Some("fips"));
+/// assert_eq!(rt; options.prefer.text(), Some("fips"));
 /// ```
 pub fn command_line(alloc: Global, words: &[String]) -> Result<Request, LineFault>
     ensures exact { (request : Request) (name : List ℕ) → HasPlainWords request
@@ -65,14 +66,14 @@ fn subcommand_request(
     ensures { MatchResult result (λ answer. answer ≡ subcommand_request name.now (rows_of (found_of matches.now)))
         (λ fault. fault ≡ LineFault.Memory) }
 {
-    let prefer = preference(alloc, matches)?;
+    let options = options(alloc, matches)?;
     match name {
-        "check" => Ok(Request::Check(file_name(alloc, matches, "FILE")?, prefer)),
-        "canon" => Ok(Request::Canon(file_name(alloc, matches, "FILE")?, prefer)),
+        "check" => Ok(Request::Check(file_name(alloc, matches, "FILE")?, options)),
+        "canon" => Ok(Request::Canon(file_name(alloc, matches, "FILE")?, options)),
         _ => {
             let left = file_name(alloc, matches, "LEFT")?;
             let right = file_name(alloc, matches, "RIGHT")?;
-            Ok(Request::Compare(left, right, prefer))
+            Ok(Request::Compare(left, right, options))
         }
     }
 }
@@ -86,7 +87,16 @@ fn file_name(alloc: Global, matches: &ArgMatches<'_>, id: &str) -> Result<FileNa
     Ok(Text::of(name))
 }
 
-// The type that was given for the option, if any.
+// The options that were given.
+fn options(alloc: Global, matches: &ArgMatches<'_>) -> Result<Options, LineFault>
+    ensures { MatchResult result (λ answer. answer ≡ options_in (rows_of (found_of matches.now)))
+        (λ fault. fault ≡ LineFault.Memory) }
+{
+    let prefer = preference(alloc, matches)?;
+    Ok(Options { prefer })
+}
+
+// The type that was given for the option `--prefer`, if any.
 fn preference(alloc: Global, matches: &ArgMatches<'_>) -> Result<Prefer, LineFault>
     ensures { MatchResult result (λ answer. answer ≡ first_of (codes "TYPE") (rows_of (found_of matches.now)))
         (λ fault. fault ≡ LineFault.Memory) }

@@ -1,9 +1,10 @@
 ghost use Rattle.std.specs.Prelude.{◌≡◌, ◌∷◌, [], map, string_bytes, codes, Some, Ok, Err, IfOk};
 ghost use Rattle.serde_json.specs.View.{view};
-ghost use Rattle.erd_canon.specs.LineAnswers.{IsAnswerTo, IsLineData, command_data, preference_data, request_data};
+ghost use Rattle.erd_canon.specs.LineAnswers.{IsAnswerTo, IsLineData, command_data, request_data};
+ghost use Rattle.erd_canon.specs.Options.{preference_data};
 
 use crate::commands::prefer::Prefer;
-use crate::commands::request::{FileName, LineFault, Request};
+use crate::commands::request::{FileName, LineFault, Options, Request};
 use crate::commands::words::command_line;
 use erd_tables::Text;
 use serde_json::{Value, json};
@@ -85,9 +86,9 @@ fn request_value(alloc: Global, request: &Request) -> Result<Value, AllocError>
 {
     match request {
         Request::Filter => json!(in alloc; {"command": "filter", "files": [], "prefer": null}),
-        Request::Check(file, prefer) => on_one_file(alloc, "check", file, prefer),
-        Request::Canon(file, prefer) => on_one_file(alloc, "canon", file, prefer),
-        Request::Compare(left, right, prefer) => on_two_files(alloc, left, right, prefer),
+        Request::Check(file, options) => on_one_file(alloc, "check", file, options),
+        Request::Canon(file, options) => on_one_file(alloc, "canon", file, options),
+        Request::Compare(left, right, options) => on_two_files(alloc, left, right, options),
     }
 }
 
@@ -96,12 +97,12 @@ fn on_one_file(
     alloc: Global,
     command: &str,
     file: &FileName,
-    prefer: &Prefer,
+    options: &Options,
 ) -> Result<Value, AllocError>
-    ensures { IfOk result (λ value. view value ≡ command_data command.now (file.now ∷ []) prefer.now) }
+    ensures { IfOk result (λ value. view value ≡ command_data command.now (file.now ∷ []) options.now) }
 {
     let file = file.as_str();
-    let prefer = preference_value(alloc, prefer)?;
+    let prefer = preference_value(alloc, &options.prefer)?;
     json!(in alloc; {"command": command, "files": [file], "prefer": prefer})
 }
 
@@ -110,13 +111,13 @@ fn on_two_files(
     alloc: Global,
     left: &FileName,
     right: &FileName,
-    prefer: &Prefer,
+    options: &Options,
 ) -> Result<Value, AllocError>
-    ensures { IfOk result (λ value. view value ≡ command_data (codes "compare") (left.now ∷ right.now ∷ []) prefer.now) }
+    ensures { IfOk result (λ value. view value ≡ command_data (codes "compare") (left.now ∷ right.now ∷ []) options.now) }
 {
     let left = left.as_str();
     let right = right.as_str();
-    let prefer = preference_value(alloc, prefer)?;
+    let prefer = preference_value(alloc, &options.prefer)?;
     json!(in alloc; {"command": "compare", "files": [left, right], "prefer": prefer})
 }
 

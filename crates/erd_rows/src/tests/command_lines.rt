@@ -1,7 +1,7 @@
 //! The requests that command lines give, with each request for memory refused in turn.
 use crate::tests::answers::{Answer, right_if};
 use crate::tests::refusing::each_refused;
-use erd_canon::{LineFault, Prefer, Request, command_line};
+use erd_canon::{LineFault, Options, Request, command_line};
 use std::alloc::{AllocError, Global};
 use std::test::Fail;
 
@@ -170,8 +170,8 @@ fn line_of(alloc: Global, words: &[&str]) -> Result<Vec<String>, AllocError> {
 }
 
 // The preference in brackets, or the empty text if there is none.
-fn under(alloc: Global, prefer: &Prefer) -> Result<String, AllocError> {
-    match prefer.text() {
+fn under(alloc: Global, options: &Options) -> Result<String, AllocError> {
+    match options.prefer.text() {
         Some(kind) => format!(in alloc; " under [{kind}]"),
         None => String::from_str(alloc, ""),
     }
@@ -181,17 +181,17 @@ fn under(alloc: Global, prefer: &Prefer) -> Result<String, AllocError> {
 fn told(alloc: Global, request: &Request) -> Result<String, AllocError> {
     match request {
         Request::Filter => String::from_str(alloc, "filter"),
-        Request::Check(file, prefer) => {
-            let (file, prefer) = (file.as_str(), under(alloc, prefer)?);
+        Request::Check(file, options) => {
+            let (file, prefer) = (file.as_str(), under(alloc, options)?);
             format!(in alloc; "check [{file}]{prefer}")
         }
-        Request::Canon(file, prefer) => {
-            let (file, prefer) = (file.as_str(), under(alloc, prefer)?);
+        Request::Canon(file, options) => {
+            let (file, prefer) = (file.as_str(), under(alloc, options)?);
             format!(in alloc; "canon [{file}]{prefer}")
         }
-        Request::Compare(left, right, prefer) => {
+        Request::Compare(left, right, options) => {
             let (left, right) = (left.as_str(), right.as_str());
-            let prefer = under(alloc, prefer)?;
+            let prefer = under(alloc, options)?;
             format!(in alloc; "compare [{left}] [{right}]{prefer}")
         }
     }

@@ -181,11 +181,11 @@ fn line_of(alloc: Global) -> Result<Vec<String>, AllocError> {
 fn lines(rt: HostRuntime) -> Result<(), Fail> {
     let alloc = rt.alloc();
     let words = line_of(alloc)?;
-    let Request::Check(file, prefer) = command_line(alloc, &words)? else {
+    let Request::Check(file, options) = command_line(alloc, &words)? else {
         return Err(Fail::from("another request"));
     };
     assert_eq!(rt; file.as_str(), "county.json");
-    assert_eq!(rt; prefer.text(), Some("fips"));
+    assert_eq!(rt; options.prefer.text(), Some("fips"));
     Ok(())
 }
 

@@ -1,3 +1,4 @@
+use Rattle.std.proofs.Common.{sym}
 use Rattle.erd_program.proofs.Closing.{twice}
 use Rattle.erd_program.proofs.commands.compare_files.Goals as goal
 
@@ -6,7 +7,7 @@ returns-clause-done g c = record {
   answer = c.run_compare_disposing-answer.result;
   left_left = c.run_compare_disposing-answer.new.left;
   right_left = c.run_compare_disposing-answer.new.right;
-  run = c.run_compare_disposing-answer.ensures;
+  run = rw (sym c.text-prefer.ensures) c.run_compare_disposing-answer.ensures;
   are_closed = twice _ _ _ _ _ c.close.ensures.closed c.close-2.ensures.closed;
   status_is = c.ended.ensures.status;
   told = c.ended.ensures.told;
