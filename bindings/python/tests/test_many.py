@@ -98,9 +98,14 @@ def test_names_of_files_do_not_paint_the_terminal(run, ballots):
     assert '\x1b' not in run(ballots).stdout
 
 
-@pytest.mark.parametrize('words', [[], ['--json', '--csv', '.'], ['--jobs', 'x', '.'], ['--prefer', '', '.']])
-def test_usage(run, words):
-    assert run(*words).returncode == 3
+@pytest.mark.parametrize(('words', 'wrong'), [
+    ([], 'FOLDER'), (['--json', '--csv', '.'], '--csv'), (['--jobs', 'x', '.'], '--jobs'),
+    (['--prefer', '', '.'], '--prefer: a value is required')], ids=['nothing', 'two-forms', 'no-number', 'empty-type'])
+def test_usage(run, words, wrong):
+    ran = run(*words)
+    assert (ran.returncode, ran.stdout) == (3, '')
+    told = ran.stderr.splitlines()[-1]
+    assert told.startswith('python -m erd.many: ') and wrong in told
 
 
 def test_what_cannot_be_read_is_a_row(run, ballots):
