@@ -181,6 +181,17 @@ for (const [value, other] of [['K-12', 'K-99'], ['P-1', 'P-1x'], ['C-SHERIFF', '
     equal(`${value}: how many objects differ`, talliesOf(entries).filter((tally) => tally['only left'] === 1 && tally['only right'] === 1).length, 1);
 }
 
+// An object with two identifiers is found by the one that the proved code takes for its key: the least, by code points.
+const identifiersOf = (values) => values.map((Value) => ({ '@type': 'ElectionResults.ExternalIdentifier', Type: 'local-level', Value }));
+const withHeader = (Name, values) => JSON.stringify({ ...JSON.parse(county),
+    Header: [...JSON.parse(county).Header, { '@type': 'ElectionResults.Header', ExternalIdentifier: identifiersOf(values), Name }] });
+for (const [why, least, other] of [['past 16 bits', '\ufffd', '\u{10000}'], ['a beginning', 'H', 'H-2']]) {
+    const texts = ['one', 'two'].map((name) => withHeader(name, [other, least]));
+    const [{ part, key }] = erd.differences(...texts.map((text) => encoder.encode(text)), { mostDifferences: null }).differences;
+    equal(`the least of two identifiers: ${why}`, [key[2], ...texts.map((text) => meaningOf(text).thing(part, key)?.object.Name)],
+        [least, 'one', 'two']);
+}
+
 // A ballot of two files, in which a name is changed and two selections have changed places.
 const moved = county.replace('Ingrith', 'Ingrid').replace('"cs1-2","cs1-3","cs1-4"', '"cs1-3","cs1-2","cs1-4"');
 const ballots = new BallotAnswers([meaningOf(county), meaningOf(moved)]);
@@ -191,6 +202,9 @@ const selections = ballots.ballot({ key: ballots.keys[0] }).items.flatMap((item)
 equal('moved selections', selections.filter(({ mark }) => mark === 'moved').map(({ from, to }) => [from, to]), [[1, 2]]);
 equal('reworded selections', selections.flatMap(({ lines: some }) => some.flatMap(({ texts }) => texts.flatMap(({ pieces }) => pieces)))
     .filter(({ mark }) => mark !== '').map(({ text, mark }) => [text, mark]), [['Ingrith', 'removed'], ['Ingrid', 'added']]);
+const sole = JSON.parse(county);
+delete sole.Election[0].BallotStyle[2].ExternalIdentifier;
+equal('the ballot without an identifier comes first', new BallotAnswers([meaningOf(JSON.stringify(sole))]).keys[0], 'null');
 equal('a ballot of one file has no marks', new BallotAnswers([meaningOf(county)]).ballot({ key: ballots.keys[0] }).items
     .flatMap((item) => [item, ...item.selections ?? []]).filter(({ mark, lines: some }) => mark !== '' || !some.every(isUnchangedLine)), []);
 
