@@ -5,10 +5,8 @@ import pathlib
 import re
 import zlib
 
-from session import EXAMPLES, ROOT, SUITE, sha256
+from session import COUNTY, EXAMPLES, ROOT, SMALL, SUITE, sha256
 
-SMALL = EXAMPLES / 'small-ballot.json'
-COUNTY = [EXAMPLES / ('county.vendor-%s.json' % vendor) for vendor in 'ab']
 MOST_BYTES = 67108864
 
 

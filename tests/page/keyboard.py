@@ -1,9 +1,7 @@
 """What a user does with the keyboard alone: each flow by Tab, Enter, Space and the arrow keys."""
-from session import EXAMPLES, SUITE
+from session import COUNTY, EXAMPLES, SMALL, SUITE
 
 TAB, ENTER, SPACE, SHIFT, DOWN = '\ue004', '\ue007', ' ', '\ue008', '\ue015'
-SMALL = EXAMPLES / 'small-ballot.json'
-COUNTY = [EXAMPLES / ('county.vendor-%s.json' % vendor) for vendor in 'ab']
 MOST_STEPS = 60
 
 

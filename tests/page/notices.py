@@ -2,9 +2,8 @@
 import json
 
 import answers
-from session import EXAMPLES
+from session import EXAMPLES, SMALL
 
-SMALL = EXAMPLES / 'small-ballot.json'
 COUNTY = EXAMPLES / 'county.vendor-a.json'
 ENVELOPE = ['Format', 'GeneratedDate', 'Issuer', 'IssuerAbbreviation', 'VendorApplicationId', 'Notes', 'SequenceStart', 'SequenceEnd',
             'ExternalIdentifier']

@@ -1,10 +1,8 @@
 """The record: sums that are copied whole, their codes for the phone, and what is filed of differences and faults."""
 import json
 
-from session import EXAMPLES, ROOT, SUITE, sha256
+from session import COUNTY, EXAMPLES, ROOT, SMALL, SUITE, sha256
 
-SMALL = EXAMPLES / 'small-ballot.json'
-COUNTY = [EXAMPLES / ('county.vendor-%s.json' % vendor) for vendor in 'ab']
 LETTERS = '0123456789ABCDEFGHJKMNPQRSTVWXYZ'
 
 # What a copy of a selected sum puts on the clipboard.

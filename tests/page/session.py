@@ -9,6 +9,9 @@ from browsers import DriverError
 ROOT = pathlib.Path(__file__).resolve().parent.parent.parent
 EXAMPLES = ROOT / 'examples'
 SUITE = ROOT / 'out' / 'conformance'
+# What most tests open: a small report, and the reports of one county by two vendors.
+SMALL = EXAMPLES / 'small-ballot.json'
+COUNTY = [EXAMPLES / ('county.vendor-%s.json' % vendor) for vendor in 'ab']
 
 
 class Session:

@@ -1,10 +1,9 @@
 """The page in Spanish: its language is switched, and all of it follows."""
 import json
 
-from session import EXAMPLES, ROOT
+from session import COUNTY, ROOT
 
 TEXTS = {lang: json.loads((ROOT / 'web' / ('texts.%s.json' % lang)).read_text(encoding='utf-8')) for lang in ('en', 'es')}
-COUNTY = [EXAMPLES / ('county.vendor-%s.json' % vendor) for vendor in 'ab']
 
 
 def run(session):

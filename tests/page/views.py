@@ -3,8 +3,7 @@
 import base64
 import json
 
-from flows import COUNTY, SMALL
-from session import EXAMPLES, SUITE
+from session import COUNTY, EXAMPLES, SMALL, SUITE
 
 WIDTHS = (1280, 375)
 FAULTY = EXAMPLES / 'state-primary.raw.json'
