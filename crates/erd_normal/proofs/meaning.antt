@@ -1,3 +1,2 @@
 -- What makes two reports mean the same: records, sets and matched objects.
 pub mod MatchedMeanings
-pub mod AlikeRecords

@@ -1,15 +1,8 @@
 -- The reports that say the same: what `SaysTheSame` holds of.
-pub mod FamilyValues
-pub mod Back
-pub mod FromAlike
 pub mod Lookups
-pub mod Steady
 pub mod Related
-pub mod Families
 pub mod Owners
 pub mod Examples
-pub mod Lists
-pub mod CameFrom
 pub mod InTurn
 pub mod Labels
 pub mod IdsOfObjects

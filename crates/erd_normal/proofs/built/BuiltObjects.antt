@@ -1,8 +1,156 @@
--- The objects that are built, each by the members of the one that it is built of.
-use Rattle.erd_normal.proofs.Common.{◌≡◌, ℕ, Bool, true, false, List, Some, None, codes, Option, option_map, option_and_then, bytes_eq, sym, refl, ap, ◌∙◌, subst, same_Some, Data, string, object, Members, get, as_str, class_in_role, kind_of_member, Class, class, Family, Role, role, ObjectAt, ObjectIn, ShapeFault, NoneOf, IsTree, class_of_object, asked, Preference, key_of, selection_role, is_envelope_name, text_exact, within-tree, Object, Skeleton, id_of_key, id_of_selection, normal_value, normal_node_value, normal_content, normal_node, normal_selection, normal_object_value, normal_object, normal_election_value, normal_election, normal_report_value, normal_tree}
-use Rattle.erd_normal.proofs.built.BuiltFrom.{Builder, BuiltObject}
-use Rattle.erd_normal.proofs.built.NormalGets.{class_of_built, class_of_built_node, class_of_built_selection, get_election, get_election-type, get_node, get_object, get_object-id, get_selection, get_selection-id}
-use Rattle.erd_normal.proofs.built.NormalReports.{class_of_built_report, get_report}
+-- The objects that are built, with the report and the entries of arrays: what stands in them, and of what they are built.
+use Rattle.erd_normal.proofs.Common.{◌≡◌, ℕ, true, false, List, [], ◌∷◌, if◌then◌else◌, Some, None, codes, Option, option_and_then, bytes_eq, sym, refl, ap, ◌∙◌, subst, true≢false, and_parts, list_all, Data, object, Members, put, get_member, get, as_str, class_in_role, kind_of_member, class, role, ShapeFault, NoneOf, IsTree, class_of_object, Preference, get_member-put, is_envelope_name, text_exact, skeleton_of_shape, Skeleton, HasCanonicalEnvelope, put_all, normal_members, normal_object_with, normal_report_value, envelope_values, with_envelope, in_envelope, normal_tree, map, length, Decides-eqb, array, Class, Family, family, kind, entries_in, list_of_items, entries_of, entries_at, rising_list, compact_cmp, is_empty_array, nil_from_length, list_of_items-items_of, unless_no_entry, array_of, normal_selection, by_key, by_name, normal_object, normal_election, Bool, option_map, same_Some, string, Role, ObjectAt, ObjectIn, asked, key_of, selection_role, within-tree, Object, id_of_key, id_of_selection, normal_value, normal_node_value, normal_content, normal_node, normal_object_value, normal_election_value, flat_map, Within, has_keys, placed_entries, report_of, elections, objects, values-placed_entries, values-placed_flat, election_entries, values_in_elections, election_within, election_object, contest_selections, class_role, reordered_rising, IsPermutation-map, In}
+use Rattle.erd_normal.proofs.built.NormalTrees.{put_elsewhere, no_value, same_value, get_election, get_object, class_of_built, class_of_built_node, class_of_built_selection, get_election-type, get_node, get_object-id, get_selection, get_selection-id}
+use Rattle.erd_normal.proofs.built.BuiltFrom.{get_normal, Builder, BuiltObject, family_name}
+use Rattle.erd_normal.proofs.lists.Matched.{Matched, matched_flat, matched_map, matched_then}
+
+-- ---- several values put at their names
+
+abbrev Named : Type 0
+Named = List ℕ × Data
+
+-- what stands at a name then, where o stood before
+abbrev pub put_value : List Named → List ℕ → Option Data → Option Data
+put_value [] name o = o
+put_value (p ∷ ps) name o = if bytes_eq name p.0 then Some p.1 else put_value ps name o
+
+get_put_all : (ps : List Named) (name : List ℕ) (ms : Members) → get_member name (put_all ps ms) ≡ put_value ps name (get_member name ms)
+get_put_all [] name ms = refl
+get_put_all (p ∷ ps) name ms =
+    (elim (bytes_eq name p.0) as (λ b. bytes_eq name p.0 ≡ b → get_member name (put_all (p ∷ ps) ms) ≡ (if b then Some p.1 else put_value ps name (get_member name ms))) [
+      | true ↦ λ is. ap (λ x. get_member x (put p.0 p.1 (put_all ps ms))) (text_exact name p.0 is) ∙ get_member-put p.0 p.1 (put_all ps ms)
+      | false ↦ λ is. put_elsewhere name p.0 p.1 (put_all ps ms) is ∙ get_put_all ps name ms
+    ]) refl
+
+put_value-other : (ps : List Named) (name : List ℕ) (o : Option Data) → list_all (λ p. is_envelope_name p.0) ps ≡ true → is_envelope_name name ≡ false → put_value ps name o ≡ o
+put_value-other [] name o names other = refl
+put_value-other (p ∷ ps) name o names other =
+    let both = and_parts (is_envelope_name p.0) (list_all (λ p. is_envelope_name p.0) ps) names in
+    (elim (bytes_eq name p.0) as (λ b. bytes_eq name p.0 ≡ b → (if b then Some p.1 else put_value ps name o) ≡ o) [
+      | true ↦ λ is. absurd (true≢false (sym both.0 ∙ ap is_envelope_name (sym (text_exact name p.0 is)) ∙ other))
+      | false ↦ λ is. put_value-other ps name o both.1 other
+    ]) refl
+
+-- ---- the envelope
+
+-- what stands at a name; it computes at a literal
+pub get_with_envelope : (name : List ℕ) (ms : Members) → get_member name (with_envelope ms) ≡ put_value envelope_values name (get_member name ms)
+get_with_envelope name ms = get_put_all envelope_values name ms
+
+pub get_with_envelope-other : (name : List ℕ) (ms : Members) → is_envelope_name name ≡ false → get_member name (with_envelope ms) ≡ get_member name ms
+get_with_envelope-other name ms other = get_with_envelope name ms ∙ put_value-other envelope_values name (get_member name ms) refl other
+
+-- ---- the report that is built: what stands under each name, and its envelope
+
+-- the class of a report
+class_of_report : (t : Data) → NoneOf (ShapeFault t) → class_of_object role.Report t ≡ Some class.ElectionReport
+class_of_report t clean = let s : Skeleton t = skeleton_of_shape t clean in ap (class_of_object role.Report) s.is_object ∙ s.report.among
+
+-- the members of the report that is built, by those of the report
+pub normal_tree_is : (π : Preference) (t : Data) → NoneOf (ShapeFault t) → (ms : Members) → t ≡ object ms → normal_tree π t ≡ object (with_envelope (normal_members (normal_report_value π t) class.ElectionReport ms))
+normal_tree_is π t clean ms is =
+    ap (λ c. in_envelope (normal_object_with (normal_report_value π t) c t)) (class_of_report t clean)
+    ∙ ap (λ x. in_envelope (normal_object_with (normal_report_value π t) (Some class.ElectionReport) x)) is
+
+module _ (π : Preference) (t : Data) (clean : NoneOf (ShapeFault t)) (tree : IsTree t) where
+  -- the members of the report
+  abbrev members : Members
+  members = (skeleton_of_shape t clean).ms
+
+  is_report : t ≡ object members
+  is_report = (skeleton_of_shape t clean).is_object
+
+  built : normal_tree π t ≡ object (with_envelope (normal_members (normal_report_value π t) class.ElectionReport members))
+  built = normal_tree_is π t clean members is_report
+
+  plain : (name : List ℕ) → get_member name (normal_members (normal_report_value π t) class.ElectionReport members) ≡ option_and_then (normal_report_value π t name (kind_of_member class.ElectionReport name)) (get name t)
+  plain name =
+      get_normal (normal_report_value π t) class.ElectionReport name members (subst IsTree is_report tree)
+      ∙ ap (λ x. option_and_then (normal_report_value π t name (kind_of_member class.ElectionReport name)) (get name x)) (sym is_report)
+
+  pub get_report : (name : List ℕ) → is_envelope_name name ≡ false → get name (normal_tree π t) ≡ option_and_then (normal_report_value π t name (kind_of_member class.ElectionReport name)) (get name t)
+  get_report name other = ap (get name) built ∙ get_with_envelope-other name (normal_members (normal_report_value π t) class.ElectionReport members) other ∙ plain name
+
+  pub get_report-type : get (codes "@type") (normal_tree π t) ≡ get (codes "@type") t
+  get_report-type = get_report (codes "@type") refl ∙ same_value (get (codes "@type") t)
+
+  pub class_of_built_report : class_of_object role.Report (normal_tree π t) ≡ Some class.ElectionReport
+  class_of_built_report = ap (λ o. option_and_then (class_in_role role.Report) (option_and_then as_str o)) get_report-type ∙ class_of_report t clean
+
+  envelope_at : (name : List ℕ) → get name (normal_tree π t) ≡ put_value envelope_values name (get_member name (normal_members (normal_report_value π t) class.ElectionReport members))
+  envelope_at name = ap (get name) built ∙ get_with_envelope name (normal_members (normal_report_value π t) class.ElectionReport members)
+
+  -- the report that is built has the canonical envelope
+  pub has_canonical_envelope : HasCanonicalEnvelope (normal_tree π t)
+  has_canonical_envelope = record {
+    format = envelope_at (codes "Format");
+    date = envelope_at (codes "GeneratedDate");
+    issuer = envelope_at (codes "Issuer");
+    abbreviation = envelope_at (codes "IssuerAbbreviation");
+    application = envelope_at (codes "VendorApplicationId");
+    start = envelope_at (codes "SequenceStart");
+    end = envelope_at (codes "SequenceEnd");
+    notes = envelope_at (codes "Notes") ∙ plain (codes "Notes") ∙ no_value (λ d. None) (get (codes "Notes") t) (λ d. refl);
+    identifiers = envelope_at (codes "ExternalIdentifier") ∙ plain (codes "ExternalIdentifier") ∙ no_value (λ d. None) (get (codes "ExternalIdentifier") t) (λ d. refl);
+  }
+
+-- ---- arrays that are built
+
+pub no_entry : (d : Data) → is_empty_array d ≡ true → entries_of d ≡ []
+no_entry (array ds) is = nil_from_length (list_of_items ds) ((Decides-eqb (length (list_of_items ds)) 0).0 is)
+no_entry d is = cc
+
+-- the entries of an array that is built from those of another, unless it has none
+entries_of_built : (g : List Data → List Data) → g [] ≡ [] → (o : Option Data) → entries_in (option_and_then (λ d. unless_no_entry d (array_of (g (entries_of d)))) o) ≡ g (entries_in o)
+entries_of_built g none None = sym none
+entries_of_built g none (Some d) =
+    (elim (is_empty_array d) as (λ b. is_empty_array d ≡ b → entries_in (if b then None else Some (array_of (g (entries_of d)))) ≡ g (entries_of d)) [
+      | true ↦ λ is. sym (ap g (no_entry d is) ∙ none)
+      | false ↦ λ is. list_of_items-items_of (g (entries_of d))
+    ]) refl
+
+-- the entries at a name of what is built, where those of the array there are arranged in one way
+entries_built : (g : List Data → List Data) → g [] ≡ [] → (name : List ℕ) (d e : Data) → get name e ≡ option_and_then (λ v. unless_no_entry v (array_of (g (entries_of v)))) (get name d)
+    → entries_at name e ≡ g (entries_at name d)
+entries_built g none name d e is = ap entries_in is ∙ entries_of_built g none (get name d)
+
+-- ---- of an object of a family
+
+module _ (π : Preference) (t : Data) (f : Family) (c : Class) (d : Data) (tree : IsTree d) (among : class_of_object (role.OfFamily f) d ≡ Some c) (name : List ℕ) (other : bytes_eq name (codes "@id") ≡ false) where
+  pub entries_of_identifiers : kind_of_member c name ≡ kind.Identifiers → entries_at name (normal_object π t f d) ≡ rising_list compact_cmp (entries_at name d)
+  entries_of_identifiers is = entries_built (rising_list compact_cmp) refl name d (normal_object π t f d) (get_object π t f c d tree among name other ∙ rw is refl)
+
+  pub entries_of_selections : kind_of_member c name ≡ kind.Keyed family.Selection → entries_at name (normal_object π t f d) ≡ map (normal_selection π t d) (rising_list (by_name π t) (entries_at name d))
+  entries_of_selections is =
+      entries_built (λ ds. map (normal_selection π t d) (rising_list (by_name π t) ds)) refl name d (normal_object π t f d) (get_object π t f c d tree among name other ∙ rw is refl)
+
+-- ---- of the report and the election
+
+module _ (π : Preference) (t : Data) (clean : NoneOf (ShapeFault t)) (tree : IsTree t) where
+  pub entries_of_report : (f : Family) (name : List ℕ) → is_envelope_name name ≡ false → kind_of_member class.ElectionReport name ≡ kind.Keyed f
+      → entries_at name (normal_tree π t) ≡ map (normal_object π t f) (rising_list (by_key π) (entries_at name t))
+  entries_of_report f name other is =
+      entries_built (λ ds. map (normal_object π t f) (rising_list (by_key π) ds)) refl name t (normal_tree π t)
+      (get_report π t clean tree name other ∙ ap (λ k. option_and_then (normal_report_value π t name k) (get name t)) is)
+
+  pub entries_of_election : (d : Data) → IsTree d → class_of_object role.Election d ≡ Some class.Election → (f : Family) (name : List ℕ) → kind_of_member class.Election name ≡ kind.Keyed f
+      → entries_at name (normal_election π t d) ≡ map (normal_object π t f) (rising_list (by_key π) (entries_at name d))
+  entries_of_election d inside among f name is =
+      entries_built (λ ds. map (normal_object π t f) (rising_list (by_key π) ds)) refl name d (normal_election π t d)
+      (get_election π t d inside among name ∙ rw is refl)
+
+  pub identifiers_of_election : (d : Data) → IsTree d → class_of_object role.Election d ≡ Some class.Election
+      → entries_at (codes "ExternalIdentifier") (normal_election π t d) ≡ rising_list compact_cmp (entries_at (codes "ExternalIdentifier") d)
+  identifiers_of_election d inside among =
+      entries_built (rising_list compact_cmp) refl (codes "ExternalIdentifier") d (normal_election π t d) (get_election π t d inside among (codes "ExternalIdentifier"))
+
+  elections_listed : (o : Option Data) → entries_in (option_and_then (λ v. Some (array_of (map (normal_election π t) (rising_list (by_key π) (entries_of v))))) o)
+      ≡ map (normal_election π t) (rising_list (by_key π) (entries_in o))
+  elections_listed None = refl
+  elections_listed (Some d) = list_of_items-items_of (map (normal_election π t) (rising_list (by_key π) (entries_of d)))
+
+  pub entries_of_elections : entries_at (codes "Election") (normal_tree π t) ≡ map (normal_election π t) (rising_list (by_key π) (entries_at (codes "Election") t))
+  entries_of_elections = ap entries_in (get_report π t clean tree (codes "Election") refl) ∙ elections_listed (get (codes "Election") t)
 
 -- ---- what gives the values of members
 
@@ -93,3 +241,76 @@ module _ (π : Preference) (t : Data) (clean : NoneOf (ShapeFault t)) (tree : Is
     among = class_of_built_report π t clean tree;
     gets = λ name other. get_report π t clean tree name other ∙ ap (λ x. option_and_then (normal_report_value π t name (kind_of_member class.ElectionReport name)) (get name x)) s.is_object;
   }
+
+-- ---- the objects of each family in the report that is built: those of the report, each built
+
+-- the objects of a family, without their places
+abbrev pub values_of : Family → Data → List Data
+values_of f t = map (λ o. o.value) (objects f t)
+
+-- objects of a family, built, in the order of their keys
+abbrev pub built_objects : Preference → Data → Family → List Data → List Data
+built_objects π t f ds = map (normal_object π t f) (rising_list (by_key π) ds)
+
+-- the selections of a contest that is built
+pub selections_built : (π : Preference) (t : Data) (c : Class) (d : Data) → IsTree d → class_of_object (role.OfFamily family.Contest) d ≡ Some c
+    → entries_at (codes "ContestSelection") (normal_object π t family.Contest d) ≡ map (normal_selection π t d) (rising_list (by_name π t) (entries_at (codes "ContestSelection") d))
+selections_built π t c d tree among =
+    entries_of_selections π t family.Contest c d tree among (codes "ContestSelection") refl (contest_selections c (class_role (role.OfFamily family.Contest) d c among))
+
+-- the one value is what is built of the other
+abbrev pub IsBuilt : Preference → Data → Family → Data → Data → Type 0
+IsBuilt π t f d e = normal_object π t f d ≡ e
+
+-- what is built of objects, in the order of their keys
+matched_built : (π : Preference) (t : Data) (f : Family) (ds : List Data) → Matched (IsBuilt π t f) ds (built_objects π t f ds)
+matched_built π t f ds = matched_then (matched_map (normal_object π t f) ds) (IsPermutation-map (normal_object π t f) _ _ (reordered_rising (by_key π) ds))
+
+module _ (π : Preference) (t : Data) (clean : NoneOf (ShapeFault t)) (tree : IsTree t) where
+  in_report : (f : Family) (name : List ℕ) → is_envelope_name name ≡ false → kind_of_member class.ElectionReport name ≡ kind.Keyed f
+      → Matched (IsBuilt π t f) (map (λ o. o.value) (placed_entries name (report_of t))) (map (λ o. o.value) (placed_entries name (report_of (normal_tree π t))))
+  in_report f name other is =
+      subst (Matched (IsBuilt π t f) (map (λ o. o.value) (placed_entries name (report_of t))))
+      (sym (values-placed_entries name (report_of (normal_tree π t)) ∙ entries_of_report π t clean tree f name other is ∙ ap (built_objects π t f) (sym (values-placed_entries name (report_of t)))))
+      (matched_built π t f (map (λ o. o.value) (placed_entries name (report_of t))))
+
+  -- each election is built of one
+  elections_matched : Matched (λ d e. normal_election π t d ≡ e) (map (λ o. o.value) (elections t)) (map (λ o. o.value) (elections (normal_tree π t)))
+  elections_matched =
+      let name = codes "Election" in
+      let built : List Data = map (λ o. o.value) (elections (normal_tree π t)) in
+      subst (λ (ds : List Data). Matched (λ d e. normal_election π t d ≡ e) ds built) (sym (values-placed_entries name (report_of t)))
+      (subst (Matched (λ d e. normal_election π t d ≡ e) (entries_at name t)) (sym (values-placed_entries name (report_of (normal_tree π t)) ∙ entries_of_elections π t clean tree))
+      (matched_then (matched_map (normal_election π t) (entries_at name t)) (IsPermutation-map (normal_election π t) _ _ (reordered_rising (by_key π) (entries_at name t)))))
+
+  module _ (s : Skeleton t) where
+    -- an election has its class, and is a tree
+    pub election_classed : (d : Data) → In d (list_of_items s.es) → (class_of_object role.Election d ≡ Some class.Election) × IsTree d
+    election_classed d h =
+        let w : Within t (asked (Object role.Election) d) = election_within t s d h in
+        let o = election_object t clean d w in
+        (ap (class_of_object role.Election) o.1 ∙ o.2.among, within-tree t (asked (Object role.Election) d) tree w)
+
+    -- what stands in an election that is built
+    in_one_election : (f : Family) (name : List ℕ) → kind_of_member class.Election name ≡ kind.Keyed f → (d : Data) → In d (list_of_items s.es)
+        → entries_at name (normal_election π t d) ≡ built_objects π t f (entries_at name d)
+    in_one_election f name is d h = let c = election_classed d h in entries_of_election π t clean tree d c.1 c.0 f name is
+
+    -- an election that is built holds what is built of the objects of the election
+    in_elections : (f : Family) (name : List ℕ) → kind_of_member class.Election name ≡ kind.Keyed f
+        → Matched (IsBuilt π t f) (map (λ o. o.value) (flat_map (placed_entries name) (elections t))) (map (λ o. o.value) (flat_map (placed_entries name) (elections (normal_tree π t))))
+    in_elections f name is =
+        let ds : List Data = list_of_items s.es in
+        subst (λ xs. Matched (IsBuilt π t f) xs (map (λ o. o.value) (flat_map (placed_entries name) (elections (normal_tree π t))))) (sym (values_in_elections t s name))
+        (subst (Matched (IsBuilt π t f) (flat_map (entries_at name) ds)) (sym (values-placed_flat name (elections (normal_tree π t))))
+        (matched_flat (entries_at name) (entries_at name)
+        (λ d e h r. subst (Matched (IsBuilt π t f) (entries_at name d)) (sym (ap (entries_at name) (sym r) ∙ in_one_election f name is d h)) (matched_built π t f (entries_at name d)))
+        (subst (λ (xs : List Data). Matched (λ d e. normal_election π t d ≡ e) xs (map (λ o. o.value) (elections (normal_tree π t)))) (values-placed_entries (codes "Election") (report_of t) ∙ election_entries t s) elections_matched)))
+
+  -- the objects of one of the first eight families are built, each of one
+  pub objects_matched : (f : Family) → has_keys f ≡ true → Matched (IsBuilt π t f) (values_of f t) (values_of f (normal_tree π t))
+  objects_matched family.Candidate k = in_elections (skeleton_of_shape t clean) family.Candidate (codes "Candidate") refl
+  objects_matched family.Contest k = in_elections (skeleton_of_shape t clean) family.Contest (codes "Contest") refl
+  objects_matched family.Style k = in_elections (skeleton_of_shape t clean) family.Style (codes "BallotStyle") refl
+  objects_matched family.Selection k = cc
+  objects_matched f k = in_report f (family_name f) refl refl

@@ -2,7 +2,7 @@
 use Rattle.erd_normal.proofs.Common.{◌≡◌, Bool, true, false, List, [], ◌∷◌, map, if◌then◌else◌, Some, None, codes, Option, is_lt, Ordering, Less, Equal, Greater, sym, refl, ap, ◌∙◌, true≢false, CmpEqualImpliesEq, IsTotalOrder, ordering_reverse, Data, role_of_class, kind_of_member, Class, class, Family, role, kind, less, ShapeFault, NoneOf, IsTree, entries_at, class_of_object, triple_of, Preference, key_of_identifiers, key_of, rising_list, compact_cmp, class_role, reordered_rising, whole-reordered, Key, normal_object, normal_election, fun_ext, IsPermutation}
 use Rattle.erd_meaning.specs.code.ChosenKeys.{choice_cmp, choice_of, choice_of_two}
 use Rattle.erd_meaning.proofs.orders.ChoiceOrder.{choice_cmp_exact, choice_cmp_total, key_is_choice}
-use Rattle.erd_normal.proofs.built.NormalEntries.{entries_of_identifiers, identifiers_of_election}
+use Rattle.erd_normal.proofs.built.BuiltObjects.{entries_of_identifiers, identifiers_of_election}
 
 -- ---- the lesser of two
 

@@ -2,8 +2,7 @@
 use Rattle.erd_normal.proofs.Common.{◌≡◌, ℕ, ◌+◌, List, [], ◌∷◌, ◌++◌, codes, Less, Equal, sym, refl, ap, ◌∙◌, ap₂, tied_itself, Data, family, At, Name, position_of, IsAccepted, Preference, IsBefore, Placed, selections_of_contest, objects, one_placed, In}
 use Rattle.erd_tables.specs.Places.{place_cmp}
 use Rattle.erd_tables.proofs.PlaceOrder.{place_cmp_total}
-use Rattle.erd_normal.proofs.canonical.RisingReports.{placed_at}
-use Rattle.erd_normal.proofs.canonical.SelectionIds.{selection_values}
+use Rattle.erd_normal.proofs.canonical.NormalKeys.{placed_at, selection_values}
 
 -- ---- places
 

@@ -3,8 +3,8 @@ use Rattle.erd_normal.proofs.Common.{◌≡◌, ℕ, Bool, true, false, List, []
 use Rattle.erd_normal.proofs.lists.Matched.{Both, both, neither, Matched, Paired, none, more, matched_none, matched_within}
 use Rattle.erd_normal.proofs.rearranged.AlikeChanges.{Alike, AlikeMembers, AreAlike, IsArranged}
 use Rattle.erd_normal.proofs.same.Lookups.{get_both, asked_of_name}
-use Rattle.erd_normal.proofs.built.NormalGets.{kind_of_family_id}
-use Rattle.erd_normal.proofs.same.FamilyValues.{family_values, families_matched}
+use Rattle.erd_normal.proofs.built.NormalTrees.{kind_of_family_id}
+use Rattle.erd_normal.proofs.same.IdsOfObjects.{family_values, families_matched}
 
 -- ---- values of which nothing is asked
 

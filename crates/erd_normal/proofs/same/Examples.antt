@@ -6,8 +6,8 @@ use Rattle.erd_check.proofs.WholeExamples.{small_ballot_is_faultless, small_ball
 use Rattle.erd_meaning.proofs.refused.Refused.{accepted_by_lists}
 use Rattle.erd_meaning.proofs.examples.RefusedExamples.{small_ballot_is_accepted}
 use Rattle.erd_normal.proofs.examples.RearrangedExamples.{edited}
-use Rattle.erd_normal.proofs.meaning.AlikeRecords.{members_in}
-use Rattle.erd_normal.proofs.same.Back.{says_back}
+use Rattle.erd_normal.proofs.meaning.MatchedMeanings.{members_in}
+use Rattle.erd_normal.proofs.same.Related.{says_back}
 use Rattle.erd_normal.proofs.same.InTurn.{says_in_turn}
 use Rattle.erd_normal.proofs.same.means.Meanings.{saying_the_same_means_the_same}
 use Rattle.erd_normal.proofs.same.normal.SaidReports.{normal_tree_says}

@@ -1,7 +1,5 @@
 -- A report that says the same as an accepted one means the same.
 pub mod Members
 pub mod References
-pub mod Names
-pub mod Contents
 pub mod Records
 pub mod Meanings

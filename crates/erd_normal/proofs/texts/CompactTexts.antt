@@ -1,8 +1,109 @@
--- Compact texts tell values apart that hold whole numbers alone, of the size that `serde_json` reads.
-use Rattle.erd_normal.proofs.Common.{◌≡◌, ℕ, suc, ◌^◌, ◌<◌, ◌≤◌, Bool, true, false, cond, not, ◌&&◌, List, [], ◌∷◌, ◌++◌, length, get_or, drop, pos, negsuc, nat_lt, ◌==◌, Some, sym, refl, ap, ◌∙◌, ap₂, true≢false, append_assoc, arith, eqb-false, and_from, AllByRecursion, Data, null, boolean, string, array, object, Items, no_items, item, Members, no_members, member, comma_if, compact_text, items_text, members_text, Num, unsigned, negative, float, number, number_of, decimal, lt-ltb, decimal_is_IsNumeral, decimal_nonempty, number_text, IsFittingNumber, HasFittingNumbers, ItemsHaveFittingNumbers, MembersHaveFittingNumbers}
+-- Texts that are written for strings, and compact texts of values whose numbers fit: they tell the values.
+use Rattle.erd_normal.proofs.Common.{◌≡◌, ℕ, zero, suc, ◌+◌, ◌-◌, ◌<◌, ◌≤◌, cond, ◌||◌, List, [], ◌∷◌, ◌++◌, nat_lt, ◌==◌, Some, None, Option, option_map, flat_map, unwrap_or, sym, refl, ap, ◌∙◌, subst, ap₂, inl, inr, append_assoc, arith, ne_eqb, string, compact_text, serde_json_on_literals, ◌*◌, ◌/◌, ◌%◌, le-ltb, cases_lt, cases_eq, ◌^◌, Bool, true, false, not, ◌&&◌, length, get_or, drop, pos, negsuc, true≢false, eqb-false, and_from, AllByRecursion, Data, null, boolean, array, object, Items, no_items, item, Members, no_members, member, comma_if, items_text, members_text, Num, unsigned, negative, float, number, number_of, decimal, lt-ltb, decimal_is_IsNumeral, decimal_nonempty, number_text, IsFittingNumber, HasFittingNumbers, ItemsHaveFittingNumbers, MembersHaveFittingNumbers, Less, Equal, Greater, option_map_or, match_ordering, put, get_member, get_item, text_cmp, In, In-all, all_weakened, Within, IsTree, list_of_items, Asked, Preference, AreMembers, get_member-first, found_cases, get_member-tree, put-trees, within-holds, get_member-later, array_of, normal_tree}
+use Rattle.std.specs.Char.{digit_char}
 use Rattle.std.proofs.lemmas.Str.Parse.{digit_at}
 use Rattle.serde_json.proofs.Numbers.{number_of-decimal, number_of-negative}
-use Rattle.erd_normal.proofs.texts.WrittenStrings.{string_exact}
+use Rattle.erd_normal.proofs.lists.Lists.{entry_holds, items_again, array_of-tree, trees_listed, all_both}
+use Rattle.erd_normal.proofs.built.BuiltFrom.{each_member, trees_of_each}
+use Rattle.erd_normal.proofs.built.NormalTrees.{IsPartwise, normal_tree-holds}
+
+-- ---- what is written for a byte
+
+abbrev escape_letter : ℕ → ℕ
+escape_letter x = cond ((x == 34) || (x == 92)) x (cond (x == 8) 98 (cond (x == 12) 102 (cond (x == 10) 110 (cond (x == 13) 114 (cond (x == 9) 116 0)))))
+
+abbrev written_byte : ℕ → List ℕ
+written_byte x =
+    cond (nat_lt 0 (escape_letter x)) (92 ∷ escape_letter x ∷ [])
+    (cond (nat_lt x 32) (92 ∷ 117 ∷ 48 ∷ 48 ∷ digit_char (x / 16) ∷ digit_char (x % 16) ∷ []) (x ∷ []))
+
+-- a string's text, by what is written for its bytes
+abbrev written_string : List ℕ → List ℕ
+written_string s = 34 ∷ (flat_map written_byte s ++ 34 ∷ [])
+
+string_is_written : (s : List ℕ) → compact_text (string s) ≡ written_string s
+unfolding serde_json_on_literals
+string_is_written s = refl
+
+-- ---- a byte is read from what was written for it
+
+abbrev letter_value : ℕ → ℕ
+letter_value c = cond (c == 98) 8 (cond (c == 102) 12 (cond (c == 110) 10 (cond (c == 114) 13 (cond (c == 116) 9 c))))
+
+abbrev hex_value : ℕ → ℕ
+hex_value c = cond (nat_lt c 58) (c - 48) (c - 87)
+
+abbrev after_hex : List ℕ → Option (ℕ × List ℕ)
+after_hex (a ∷ b ∷ c ∷ d ∷ u) = Some (16 * hex_value c + hex_value d, u)
+after_hex u = None
+
+abbrev after_backslash : List ℕ → Option (ℕ × List ℕ)
+after_backslash [] = None
+after_backslash (c ∷ u) = cond (c == 117) (after_hex u) (Some (letter_value c, u))
+
+-- the first byte of a string and the rest, but for the end of the string
+abbrev byte_read : List ℕ → Option (ℕ × List ℕ)
+byte_read [] = None
+byte_read (b ∷ u) = cond (b == 34) None (cond (b == 92) (after_backslash u) (Some (b, u)))
+
+abbrev Reads : ℕ → Type 0
+Reads x = (u : List ℕ) → byte_read (written_byte x ++ u) ≡ Some (x, u)
+
+-- P holds below n, counted down from the top
+abbrev Each : (ℕ → Type 0) → ℕ → Type 0
+Each P zero = Unit {0}
+Each P (suc n) = P n × Each P n
+
+each_sound : (P : ℕ → Type 0) (n : ℕ) → Each P n → (x : ℕ) → x < n → P x
+each_sound P zero h x lt = absurd (omega arith)
+each_sound P (suc n) h x lt = elim (cases_eq x n) [ inl e ↦ subst P (sym e) h.0 | inr ne ↦ each_sound P n h.1 x (omega arith) ]
+
+controls : Each Reads 32
+controls = (λ u. refl, (λ u. refl, (λ u. refl, (λ u. refl, (λ u. refl, (λ u. refl, (λ u. refl, (λ u. refl, (λ u. refl, (λ u. refl, (λ u. refl, (λ u. refl, (λ u. refl, (λ u. refl, (λ u. refl, (λ u. refl, (λ u. refl, (λ u. refl, (λ u. refl, (λ u. refl, (λ u. refl, (λ u. refl, (λ u. refl, (λ u. refl, (λ u. refl, (λ u. refl, (λ u. refl, (λ u. refl, (λ u. refl, (λ u. refl, (λ u. refl, (λ u. refl, tt))))))))))))))))))))))))))))))))
+
+plain_byte : (x : ℕ) → (x ≡ 34 → ⊥) → (x ≡ 92 → ⊥) → 32 ≤ x → written_byte x ≡ x ∷ []
+plain_byte x q b l =
+    rw (ne_eqb x 34 q, ne_eqb x 92 b, ne_eqb x 8 (λ e. omega arith), ne_eqb x 12 (λ e. omega arith), ne_eqb x 10 (λ e. omega arith), ne_eqb x 13 (λ e. omega arith), ne_eqb x 9 (λ e. omega arith), le-ltb x 32 l)
+
+plain_reads : (x : ℕ) → (x ≡ 34 → ⊥) → (x ≡ 92 → ⊥) → 32 ≤ x → Reads x
+plain_reads x q b l u = ap (λ w. byte_read (w ++ u)) (plain_byte x q b l) ∙ rw (ne_eqb x 34 q, ne_eqb x 92 b)
+
+reads : (x : ℕ) → Reads x
+reads x = elim (cases_eq x 34) [
+  | inl e ↦ subst Reads (sym e) (λ u. refl)
+  | inr q ↦ elim (cases_eq x 92) [
+    | inl e ↦ subst Reads (sym e) (λ u. refl)
+    | inr b ↦ elim (cases_lt x 32) [ inl c ↦ each_sound Reads 32 controls x c | inr l ↦ plain_reads x q b l ]
+  ]
+]
+
+-- ---- strings
+
+first_read : (x : ℕ) (s r : List ℕ) → byte_read ((written_byte x ++ flat_map written_byte s) ++ r) ≡ Some (x, flat_map written_byte s ++ r)
+first_read x s r = ap byte_read (append_assoc (written_byte x) (flat_map written_byte s) r) ∙ reads x (flat_map written_byte s ++ r)
+
+clash : {A : Type 0} (x : A) → None ≡ Some x → ⊥
+clash x e = cc
+
+bytes_exact : (s t r q : List ℕ) → flat_map written_byte s ++ 34 ∷ r ≡ flat_map written_byte t ++ 34 ∷ q → (s ≡ t) × (r ≡ q)
+bytes_exact [] [] r q e = let h : r ≡ q = cc in (refl, h)
+bytes_exact [] (y ∷ t) r q e = absurd (clash (y, flat_map written_byte t ++ 34 ∷ q) (ap byte_read e ∙ first_read y t (34 ∷ q)))
+bytes_exact (x ∷ s) [] r q e = absurd (clash (x, flat_map written_byte s ++ 34 ∷ r) (sym (ap byte_read e) ∙ first_read x s (34 ∷ r)))
+bytes_exact (x ∷ s) (y ∷ t) r q e =
+    let h : Some (x, flat_map written_byte s ++ 34 ∷ r) ≡ Some (y, flat_map written_byte t ++ 34 ∷ q) = sym (first_read x s (34 ∷ r)) ∙ ap byte_read e ∙ first_read y t (34 ∷ q) in
+    let first : x ≡ y = ap (λ o. unwrap_or (option_map (λ p. p.0) o) x) h in
+    let rest : flat_map written_byte s ++ 34 ∷ r ≡ flat_map written_byte t ++ 34 ∷ q = ap (λ o. unwrap_or (option_map (λ p. p.1) o) []) h in
+    let more = bytes_exact s t r q rest in
+    (ap₂ ◌∷◌ first more.0, more.1)
+
+inside : (s r : List ℕ) → compact_text (string s) ++ r ≡ 34 ∷ (flat_map written_byte s ++ 34 ∷ r)
+inside s r = ap (λ w. w ++ r) (string_is_written s) ∙ ap (λ w. 34 ∷ w) (append_assoc (flat_map written_byte s) (34 ∷ []) r)
+
+pub string_exact : (s t r q : List ℕ) → compact_text (string s) ++ r ≡ compact_text (string t) ++ q → (s ≡ t) × (r ≡ q)
+string_exact s t r q e =
+    let h : 34 ∷ (flat_map written_byte s ++ 34 ∷ r) ≡ 34 ∷ (flat_map written_byte t ++ 34 ∷ q) = sym (inside s r) ∙ e ∙ inside t q in
+    let rest : flat_map written_byte s ++ 34 ∷ r ≡ flat_map written_byte t ++ 34 ∷ q = cc in
+    bytes_exact s t r q rest
 
 -- ---- the texts of numbers
 
@@ -169,3 +270,71 @@ mutual
 -- values with one compact text are one
 pub compact_exact : (a b : Data) → HasFittingNumbers a → HasFittingNumbers b → compact_text a ≡ compact_text b → a ≡ b
 compact_exact a b h k e = (value_exact a b [] [] h k refl refl (ap (λ s. s ++ []) e)).0
+
+-- ---- what stands in a value whose numbers fit has numbers that fit
+
+pub get_member-fitting : (k : List ℕ) (v : Data) (ms : Members) → MembersHaveFittingNumbers ms → get_member k ms ≡ Some v → HasFittingNumbers v
+get_member-fitting k v no_members h e = cc
+get_member-fitting k v (member l d ms) h e = found_cases k l v d ms e (λ name same. subst HasFittingNumbers same h.0) (λ found. get_member-fitting k v ms h.1 found)
+
+listed-fit : (ds : Items) → ItemsHaveFittingNumbers ds → AllByRecursion HasFittingNumbers (list_of_items ds)
+listed-fit no_items fit = tt
+listed-fit (item d ds) fit = (fit.0, listed-fit ds fit.1)
+
+get_item-fitting : (i : ℕ) (v : Data) (ds : Items) → ItemsHaveFittingNumbers ds → get_item i ds ≡ Some v → HasFittingNumbers v
+get_item-fitting i v ds h e = entry_holds HasFittingNumbers (list_of_items ds) i v (listed-fit ds h) (ap (get_item i) (items_again ds) ∙ e)
+
+-- an entry of an array
+pub entry-fitting : (ds : Items) (d : Data) → ItemsHaveFittingNumbers ds → In d (list_of_items ds) → HasFittingNumbers d
+entry-fitting ds d h i = In-all HasFittingNumbers d (list_of_items ds) (listed-fit ds h) i
+
+-- what is asked of in a report
+pub within-fitting : (t : Data) (a : Asked) → HasFittingNumbers t → Within t a → HasFittingNumbers a.value
+within-fitting = within-holds HasFittingNumbers (record { of_object = get_member-fitting; of_array = get_item-fitting })
+
+-- ---- where the numbers in a report fit, so do those in what is built of it
+
+array_of-fits : (ds : List Data) → AllByRecursion HasFittingNumbers ds → HasFittingNumbers (array_of ds)
+array_of-fits [] all = tt
+array_of-fits (d ∷ ds) all = (all.0, array_of-fits ds all.1)
+
+put-fit : (k : List ℕ) (v : Data) (ms : Members) → MembersHaveFittingNumbers ms → HasFittingNumbers v → MembersHaveFittingNumbers (put k v ms)
+put-fit k v no_members fit new = (new, tt)
+put-fit k v (member l d ms) fit new =
+    elim (text_cmp k l) as (λ o. MembersHaveFittingNumbers (match_ordering o (member k v (member l d ms)) (member l v ms) (member l d (put k v ms)))) [
+      | Less ↦ (new, fit)
+      | Equal ↦ (new, fit.1)
+      | Greater ↦ (fit.0, put-fit k v ms fit.1 new)
+    ]
+
+fit_of_each : (value : List ℕ → Data → Option Data) (ms : Members) → AreMembers ms → MembersHaveFittingNumbers ms
+    → ((name : List ℕ) (d v : Data) → get_member name ms ≡ Some d → HasFittingNumbers d → value name d ≡ Some v → HasFittingNumbers v) → MembersHaveFittingNumbers (each_member value ms)
+fit_of_each value no_members rise fits each = tt
+fit_of_each value (member l d ms) rise fits each =
+    let h = fit_of_each value ms rise.2 fits.1 (λ name e v found. each name e v (get_member-later l name d e ms rise found)) in
+    (elim (value l d) as (λ r. value l d ≡ r → MembersHaveFittingNumbers (option_map_or (λ v. member l v (each_member value ms)) r (each_member value ms))) [
+      | None ↦ λ given. h
+      | Some v ↦ λ given. (each l d v (get_member-first l d ms) fits.0 given, h)
+    ]) refl
+
+-- a tree whose numbers fit
+abbrev IsFitting : Data → Type 0
+IsFitting d = IsTree d × HasFittingNumbers d
+
+fitting_partwise : IsPartwise IsFitting
+fitting_partwise = record {
+  entries = λ ds h. all_both IsTree HasFittingNumbers (list_of_items ds) (trees_listed ds h.0) (listed-fit ds h.1);
+  listed = λ ds all. (array_of-tree ds (all_weakened IsFitting IsTree ds (λ d h. h.0) all), array_of-fits ds (all_weakened IsFitting HasFittingNumbers ds (λ d h. h.1) all));
+  found = λ name v ms h is. (get_member-tree name v ms h.0 is, get_member-fitting name v ms h.1 is);
+  with_put = λ name v ms h new. (put-trees name v ms h.0 new.0, put-fit name v ms h.1 new.1);
+  with_each = λ value ms h each. (
+    trees_of_each value ms h.0 (λ name d v found tree given. (each name d v found (tree, get_member-fitting name d ms h.1 found) given).0),
+    fit_of_each value ms h.0 h.1 (λ name d v found fits given. (each name d v found (get_member-tree name d ms h.0 found, fits) given).1),
+  );
+  text = λ s. (tt, tt);
+  one = let small : 1 < 2 ^ 64 = omega arith in (tt, small);
+}
+
+-- the numbers in what is built of a report fit
+pub normal_tree-fits : (π : Preference) (t : Data) → IsTree t → HasFittingNumbers t → HasFittingNumbers (normal_tree π t)
+normal_tree-fits π t tree fits = (normal_tree-holds IsFitting fitting_partwise π t (tree, fits)).1

@@ -1,8 +1,86 @@
--- Members that are put into an object, written in the order of their names.
-use Rattle.erd_normal.proofs.Common.{◌≡◌, ℕ, zero, suc, ◌+◌, ◌<◌, ◌≤◌, Bool, true, false, List, [], ◌∷◌, ◌++◌, map, length, get_or, drop, is_some, slice_get, Some, None, Option, Less, Equal, Greater, sym, refl, ap, ◌∙◌, subst, append_assoc, append-nil, arith, nat_list_cmp_total, length-map, drop_more, exact_bytes, option_map_or, ordering_reverse, Data, item, Members, no_members, member, put, items_of, view, items_view, Value, text_cmp, IsBeforeFirst, drop_all, Token, begin_array, end_array, key, before_put, put_all, due_value, due_list, IsBeforeAll, NamesRise, WritesThrough, array_of, value_tokens, items_tokens, members_tokens, member_tokens}
+-- Members that are put into an object, and the tokens that are written of them.
+use Rattle.erd_normal.proofs.Common.{◌≡◌, ℕ, true, false, not, List, [], ◌∷◌, is_some, if◌then◌else◌, Some, None, codes, refl, ap, Data, null, string, Members, no_members, member, Class, Family, family, MemberKind, kind, Preference, is_empty_array, is_envelope_name, put_in, unless_no_entry, normal_value, normal_members, normal_node_value, with_id, envelope_values, in_envelope, holds_parts, written_object_value, written_election_value, written_report_value, slice_get, option_map, sym, ◌∙◌, object, get_item, has_float, items_have_float, role, Within, list_of_items, entries_at, Asked, asked, IsAccepted, Placed, elections, objects, all_at, within-holds, Object, option_map-Some, skeleton, election_stands, stands, in_at, zero, suc, ◌+◌, ◌<◌, ◌≤◌, Bool, ◌++◌, map, length, get_or, drop, Option, Less, Equal, Greater, subst, append_assoc, append-nil, arith, nat_list_cmp_total, length-map, drop_more, exact_bytes, option_map_or, ordering_reverse, item, put, items_of, view, items_view, Value, text_cmp, IsBeforeFirst, drop_all, Token, begin_array, end_array, key, before_put, put_all, due_value, due_list, IsBeforeAll, NamesRise, WritesThrough, array_of, value_tokens, items_tokens, members_tokens, member_tokens}
+use Rattle.erd_normal.proofs.lists.Lists.{entry_holds, items_again}
+use Rattle.erd_text.proofs.WholeValues.{whole_entries, whole_get, all_whole}
 use Rattle.erd_check.proofs.Positions.{left_there}
 use Rattle.erd_normal.specs.declared.objects.due_members.DueMember.{DueMember}
 use Rattle.erd_text.proofs.WrittenTokens.{then_rest}
+
+-- ---- objects with members put in
+
+-- members that are kept as they are
+pub copied : (c : Class) (ms : Members) → normal_members (λ name k d. Some d) c ms ≡ ms
+copied c no_members = refl
+copied c (member k d ms) = ap (member k d) (copied c ms)
+
+-- nothing is put in
+pub put_none : (d : Data) → put_in [] d ≡ d
+put_none null = refl
+put_none e = refl
+
+-- an `@id` is put in
+pub put_id : (id : List ℕ) (d : Data) → put_in ((codes "@id", string id) ∷ []) d ≡ with_id (Some id) d
+put_id id null = refl
+put_id id e = refl
+
+-- the envelope is put in
+pub put_envelope : (d : Data) → put_in envelope_values d ≡ in_envelope d
+put_envelope null = refl
+put_envelope e = refl
+
+-- a member of an election that holds no objects
+pub other_election_value : (π : Preference) (t : Data) (part : ℕ) (k : MemberKind) (d : Data) → ((f : Family) → k ≡ kind.Keyed f → ⊥) → written_election_value π t part k d ≡ normal_value π t k d
+other_election_value π t part (kind.Keyed f) d other = absurd (other f refl)
+other_election_value π t part k d other = refl
+
+-- a member of a report that holds no objects and is not in its envelope
+pub other_report_value : (π : Preference) (t : Data) (name : List ℕ) (k : MemberKind) (d : Data) → ((f : Family) → k ≡ kind.Keyed f → ⊥) → (k ≡ kind.Elections → ⊥) → is_envelope_name name ≡ false
+    → written_report_value π t name k d ≡ normal_value π t k d
+other_report_value π t name (kind.Keyed f) d keyed elections other = absurd (keyed f refl)
+other_report_value π t name kind.Elections d keyed elections other = absurd (elections refl)
+other_report_value π t name k d keyed elections other = rw other refl
+
+-- a member that is no list of contests and headers
+pub other_node_value : (π : Preference) (t : Data) (k : MemberKind) (d inside : Data) → (k ≡ kind.Content → ⊥) → normal_node_value π t (Some k) d inside ≡ normal_value π t k d
+other_node_value π t kind.Content d inside other = absurd (other refl)
+other_node_value π t k d inside other = refl
+
+-- a value is kept unless it is an empty array
+pub kept_unless_empty : (d v : Data) → is_some (unless_no_entry d v) ≡ not (is_empty_array d)
+kept_unless_empty d v = elim (is_empty_array d) as (λ b. is_some (if b then None else Some v) ≡ not b) [ true ↦ refl | false ↦ refl ]
+
+-- a member of an object is kept: its content or its selections unless empty, and others by their kind
+pub kept_in_object : (π : Preference) (t : Data) (i : ℕ) (k : MemberKind) (d : Data) → is_some (written_object_value π t i k d) ≡ (if holds_parts k then not (is_empty_array d) else is_some (normal_value π t k d))
+kept_in_object π t i kind.Content d = kept_unless_empty d _
+kept_in_object π t i (kind.Keyed family.Selection) d = kept_unless_empty d _
+kept_in_object π t i (kind.Keyed f) d = cc
+kept_in_object π t i k d = refl
+
+-- ---- what stands in a report that has no fraction has none
+
+-- an entry of an array that is a member
+pub entry_whole : (name : List ℕ) (d : Data) → has_float d ≡ false → (i : ℕ) (e : Data) → slice_get (entries_at name d) i ≡ Some e → has_float e ≡ false
+entry_whole name d whole i e at = all_at (λ d. has_float d ≡ false) (entries_at name d) i e (whole_entries name d whole) at
+
+-- ---- the objects of a report that has no fraction have none
+
+module _ (π : Preference) (t : Data) (accepted : IsAccepted π t) (whole : has_float t ≡ false) where
+  whole_within : (a : Asked) → Within t a → has_float a.value ≡ false
+  whole_within a w =
+      within-holds (λ d. has_float d ≡ false)
+      (record { of_object = λ k v ms h e. whole_get k (object ms) v h e; of_array = λ i v ds h e. entry_holds (λ d. has_float d ≡ false) (list_of_items ds) i v (all_whole (list_of_items ds) (ap items_have_float (items_again ds) ∙ h)) (ap (get_item i) (items_again ds) ∙ e) })
+      t a whole w
+
+  -- what is found at a position
+  pub object_found : (f : Family) (i : ℕ) (d : Data) → Some d ≡ option_map (λ (o : Placed). o.value) (slice_get (objects f t) i) → has_float d ≡ false
+  object_found f i d e =
+      let o = option_map-Some (λ (o : Placed). o.value) (slice_get (objects f t) i) d (sym e) in
+      ap has_float (sym o.2) ∙ whole_within (asked (Object (role.OfFamily f)) o.0.value) (record { place = o.0.place; is = stands π t accepted f o.0 (in_at (objects f t) i o.0 o.1) })
+
+  pub election_found : (i : ℕ) (d : Data) → Some d ≡ option_map (λ (o : Placed). o.value) (slice_get (elections t) i) → has_float d ≡ false
+  election_found i d e =
+      let o = option_map-Some (λ (o : Placed). o.value) (slice_get (elections t) i) d (sym e) in
+      ap has_float (sym o.2) ∙ whole_within (asked (Object role.Election) o.0.value) (record { place = o.0.place; is = election_stands t (skeleton π t accepted) o.0 (in_at (elections t) i o.0 o.1) })
 
 -- ---- tokens that are written one value after another
 

@@ -4,13 +4,12 @@ use Rattle.serde_json.proofs.Texts.{print-outline}
 use Rattle.json.specs.Lex.{tokens}
 use Rattle.json.proofs.Printed.Trees.{value-json_tokens}
 use Rattle.json.specs.Print.{print}
-use Rattle.erd_normal.proofs.texts.CompactTexts.{number_read}
+use Rattle.erd_normal.proofs.texts.CompactTexts.{number_read, normal_tree-fits}
 use Rattle.erd_normal.specs.CanonicalText.{IsCanonicalText}
 use Rattle.erd_normal.proofs.built.NormalTrees.{normal_tree-tree}
 use Rattle.erd_normal.proofs.canonical.NormalForms.{form_built, only_form_built, whole_built}
 use Rattle.erd_normal.proofs.same.normal.SameDepths.{no_deeper_form}
 use Rattle.erd_normal.proofs.same.normal.SaidReports.{normal_tree_says}
-use Rattle.erd_normal.proofs.texts.FittingNumbers.{normal_tree-fits}
 use Rattle.json.specs.Json as json
 use Rattle.json.specs.Tree as tree
 

@@ -1,11 +1,171 @@
--- What is asked of each value that is built, by the value of the report that it is built of; the members without objects, and
--- one step inside them.
-use Rattle.erd_normal.proofs.Common.{◌≡◌, ℕ, Bool, true, false, List, [], ◌∷◌, map, is_some, Some, codes, option_and_then, bytes_eq, sym, refl, ap, ◌∙◌, subst, inl, inr, AllByRecursion, Data, string, array, object, Items, Members, get_item, get, as_str, items_of, class_in_role, kind_of_member, Class, class, Family, family, Role, role, reason, MemberKind, kind, text_exact, of_label, faultless, wanted_within, classed, member_within, Classed, Within, kind_of_unlisted_has, is_empty_array, ShapeFault, NoneOf, IsTree, list_of_items, entries_of, class_of_object, want_of_kind, member_want, Asked, asked, is_repeated, ClassText, Member, Object, Reference, Preference, rising_list, compact_cmp, with_rising_text, id_prefix, normal_reference, reference_cmp, normal_selection_reference, array_of, normal_value, is_text, is_array, Want, entry_want, is_compared_set, is_reference, get_member, Placed, objects, has_keys, In, entries_at, number, unsigned, selection_role, by_name, by_key, normal_selection, normal_object, normal_objects, normal_election, normal_tree, normal_content, normal_node, Step, asked_inside}
-use Rattle.erd_normal.proofs.built.AskedMembers.{asked_in_object, label_class, label_texts}
-use Rattle.erd_normal.proofs.lists.Lists.{IsPart}
+-- What is asked inside a value, and of each value that is built: of arrays and of members without objects.
+use Rattle.erd_normal.proofs.Common.{◌≡◌, ℕ, Bool, true, false, ◌&&◌, ◌||◌, List, [], ◌∷◌, if◌then◌else◌, Some, None, codes, Option, option_map, option_and_then, bytes_eq, refl, ap, ◌∙◌, subst, list_all, option_map_or, Data, array, object, Items, Members, get_member, get_item, role_of_class, rows_of_class, is_reference_name, kind_of_member, Class, class, Role, role, MemberKind, kind, Step, At, Name, kind_of_class, class_of_object, scope_inside, want_of_kind, member_want, carried_want, want_of_name, entry_want, is_compared_set, Asked, asked, is_repeated, asked_inside, asked_from, scope, Want, Carried, ClassText, Member, Object, class_role, same_Some, sym, AllByRecursion, items_of, Within, Reference, Status, is_array, map, entries_of, list_of_items, array_of, is_empty_array, unless_no_entry, In, In-all, all_from_In, is_some, inl, inr, string, get, as_str, class_in_role, Family, family, reason, text_exact, of_label, faultless, wanted_within, classed, member_within, Classed, kind_of_unlisted_has, ShapeFault, NoneOf, IsTree, Preference, rising_list, compact_cmp, with_rising_text, id_prefix, normal_reference, reference_cmp, normal_selection_reference, normal_value, is_text, is_reference, Placed, objects, has_keys, entries_at, number, unsigned, selection_role, by_name, by_key, normal_selection, normal_object, normal_objects, normal_election, normal_tree, normal_content, normal_node}
+use Rattle.erd_normal.proofs.lists.Lists.{entry_holds, all_map, given_unless, IsPart}
+use Rattle.erd_normal.proofs.built.BuiltFrom.{entries_asked, asked_in_object, label_class, label_texts}
 use Rattle.erd_normal.proofs.throughout.UnrepeatedEntries.{rising_entry}
-use Rattle.erd_normal.proofs.built.NormalGets.{get_label-other, get_label-text}
-use Rattle.erd_normal.proofs.throughout.ThroughoutValues.{apart_by_kind, built_step, entry_step, given_as, is_apart, is_apart_kind}
+use Rattle.erd_normal.proofs.built.NormalTrees.{get_label-other, get_label-text}
+
+-- ---- along a place
+
+pub along : (P : Asked → Type 0) → ((a b : Asked) (s : Step) → P a → asked_inside a.want a.value s ≡ Some b → P b) → (a : Asked) (p : List Step) (b : Asked) → P a → asked_from a p ≡ Some b → P b
+along P step a [] b here e = let same : a ≡ b = cc in subst P same here
+along P step a (s ∷ p) b here e = at (asked_inside a.want a.value s) refl e (λ x. along P step x p b)
+  where
+    at : (o : Option Asked) → asked_inside a.want a.value s ≡ o → option_and_then (λ x. asked_from x p) o ≡ Some b → ((x : Asked) → P x → asked_from x p ≡ Some b → P b) → P b
+    at None is e rest = cc
+    at (Some x) is e rest = rest x (step a x s here is) e
+
+some_asked : (Q : Want → Data → Type 0) (make : Want → Data → Asked) → ((v : Want) (d : Data) → Q v d → Q (make v d).want (make v d).value) → (o : Option Want) (p : Option Data) (c : Asked)
+    → ((v : Want) (d : Data) → o ≡ Some v → p ≡ Some d → Q v d) → option_and_then (λ v. option_map (make v) p) o ≡ Some c → Q c.want c.value
+some_asked Q make keeps (Some v) (Some d) c each e = let one : make v d ≡ c = cc in subst (λ (x : Asked). Q x.want x.value) one (keeps v d (each v d refl refl))
+some_asked Q make keeps o p c each e = cc
+
+-- what passes on to members and to entries
+module _ (Q : Want → Data → Type 0)
+    (members : (w : Want) (ms : Members) (n : List ℕ) (v : Want) (x : Data) → Q w (object ms) → want_of_name (scope_inside w (object ms)) n ≡ Some v → get_member n ms ≡ Some x → Q v x)
+    (entries : (w : Want) (ds : Items) (i : ℕ) (v : Want) (x : Data) → Q w (array ds) → entry_want w ≡ Some v → get_item i ds ≡ Some x → Q v x) where
+  pub one_inside : (w : Want) (d : Data) (s : Step) (c : Asked) → Q w d → asked_inside w d s ≡ Some c → Q c.want c.value
+  one_inside w (object ms) (Name n) c h e = some_asked Q asked (λ v d q. q) (want_of_name (scope_inside w (object ms)) n) (get_member n ms) c (λ v x asks found. members w ms n v x h asks found) e
+  one_inside w (array ds) (At i) c h e =
+      some_asked Q (λ v d. record { want = v; value = d; repeated = is_compared_set w && is_repeated ds i d }) (λ v d q. q) (entry_want w) (get_item i ds) c (λ v x asks found. entries w ds i v x h asks found) e
+  one_inside w d s c h e = cc
+
+  pub all_inside : (a : Asked) (p : List Step) (b : Asked) → Q a.want a.value → asked_from a p ≡ Some b → Q b.want b.value
+  all_inside = along (λ x. Q x.want x.value) (λ x y s. one_inside x.want x.value s y)
+
+-- ---- what is asked of names
+
+-- in an object of this class, or of an unknown one
+pub name_passes : (P : Want → Bool) (r : Role) (o : Option Class) (name : List ℕ) → P (ClassText r) ≡ true → ((c : Class) → o ≡ Some c → bytes_eq name (codes "@type") ≡ false → P (member_want c name) ≡ true)
+    → option_map_or P (want_of_name (scope.Members r o) name) true ≡ true
+name_passes P r o name text other = at (bytes_eq name (codes "@type")) refl o other
+  where
+    at : (b : Bool) → bytes_eq name (codes "@type") ≡ b → (o : Option Class) → ((c : Class) → o ≡ Some c → bytes_eq name (codes "@type") ≡ false → P (member_want c name) ≡ true)
+        → option_map_or P (if b then Some (ClassText r) else option_map (λ c. member_want c name) o) true ≡ true
+    at true is o other = text
+    at false is None other = refl
+    at false is (Some c) other = other c refl is
+
+-- in one of a known class
+pub known_passes : (P : Want → Bool) (r : Role) (c : Class) (name : List ℕ) → P (ClassText r) ≡ true → (bytes_eq name (codes "@type") ≡ false → P (member_want c name) ≡ true)
+    → option_map_or P (want_of_name (scope.Members r (Some c)) name) true ≡ true
+known_passes P r c name text other = name_passes P r (Some c) name text (λ d is no. subst (λ x. P (member_want x name) ≡ true) (same_Some c d is) (other no))
+
+-- in what is carried
+pub carried_passes : (P : Want → Bool) → P (Member kind.StrangeIdentity false) ≡ true → P Carried ≡ true → (name : List ℕ) → P (carried_want name) ≡ true
+carried_passes P strange carried name = at (bytes_eq name (codes "@id") || is_reference_name name)
+  where
+    at : (b : Bool) → P (if b then Member kind.StrangeIdentity false else Carried) ≡ true
+    at true = strange
+    at false = carried
+
+-- ---- values that hold no objects but external identifiers, translations and what is carried
+
+abbrev pub is_apart_role : Role → Bool
+is_apart_role role.Identifier = true
+is_apart_role role.Language = true
+is_apart_role r = false
+
+abbrev pub is_closed : Want → Bool
+is_closed (Object r) = is_apart_role r
+is_closed (Member kind.Label required) = false
+is_closed w = true
+
+-- what holds of the kinds of their members holds of all that is asked of these
+module _ (P : Want → Bool) (K : MemberKind → Bool) (of_kind : (k : MemberKind) (required : Bool) → K k ≡ true → P (want_of_kind k required) ≡ true) (text : (r : Role) → P (ClassText r) ≡ true)
+    (rows : list_all (λ m. K m.kind) (rows_of_class class.ExternalIdentifier) ≡ true) (other_rows : list_all (λ m. K m.kind) (rows_of_class class.LanguageString) ≡ true)
+    (identity : K kind.StrangeIdentity ≡ true) (reference : K kind.StrangeReference ≡ true) (carried : K kind.Carried ≡ true) where
+  closed_member : (r : Role) (c : Class) (name : List ℕ) → is_apart_role r ≡ true → role_of_class c ≡ r → bytes_eq name (codes "@type") ≡ false → P (member_want c name) ≡ true
+  closed_member r class.ExternalIdentifier name h e other = of_kind (kind_of_member class.ExternalIdentifier name) _ (kind_of_class K class.ExternalIdentifier name other rows identity reference carried)
+  closed_member r class.LanguageString name h e other = of_kind (kind_of_member class.LanguageString name) _ (kind_of_class K class.LanguageString name other other_rows identity reference carried)
+  closed_member r c name h e other = let x : is_apart_role (role_of_class c) ≡ true = ap is_apart_role e ∙ h in cc
+
+  pub closed_names : (w : Want) (ms : Members) → is_closed w ≡ true → (name : List ℕ) → option_map_or P (want_of_name (scope_inside w (object ms)) name) true ≡ true
+  closed_names (Object r) ms closed name = name_passes P r (class_of_object r (object ms)) name (text r) (λ c is other. closed_member r c name closed (class_role r (object ms) c is) other)
+  closed_names Carried ms closed name = carried_passes P (of_kind kind.StrangeIdentity false identity) (of_kind kind.Carried false carried) name
+  closed_names (Member kind.Label required) ms closed name = cc
+  closed_names w ms closed name = refl
+
+-- ---- what is asked one step inside an array that is built, and what stays as it is
+
+-- what is asked of an entry of an array
+pub entry_step : (P : Asked → Type 0) (w v : Want) (ds : Items) → entry_want w ≡ Some v → ((i : ℕ) (d : Data) → get_item i ds ≡ Some d → P (record { want = v; value = d; repeated = is_compared_set w && is_repeated ds i d }))
+    → (s : Step) (b : Asked) → asked_inside w (array ds) s ≡ Some b → P b
+entry_step P w v ds want each (At i) b e = at (get_item i ds) refl
+  where
+    at : (o : Option Data) → get_item i ds ≡ o → P b
+    at None found = let x : None ≡ Some b = rw (want, found) at e in cc
+    at (Some d) found =
+        let x : Some (record { want = v; value = d; repeated = is_compared_set w && is_repeated ds i d }) ≡ Some b = rw (want, found) at e in
+        let same : record { want = v; value = d; repeated = is_compared_set w && is_repeated ds i d } ≡ b = cc in
+        subst P same (each i d found)
+entry_step P w v ds want each (Name n) b e = cc
+
+-- of an array whose entries are not compared with one another
+pub list_step : (P : Asked → Type 0) (w v : Want) (es : List Data) → entry_want w ≡ Some v → is_compared_set w ≡ false → AllByRecursion (λ e. P (asked v e)) es
+    → (s : Step) (b : Asked) → asked_inside w (array (items_of es)) s ≡ Some b → P b
+list_step P w v es want apart all =
+    entry_step P w v (items_of es) want
+    (λ i d found. subst (λ b. P (record { want = v; value = d; repeated = b })) (sym (ap (λ b. b && is_repeated (items_of es) i d) apart)) (entry_holds (λ e. P (asked v e)) es i d all found))
+
+-- of what is built of the entries of an array, after they are put in order
+pub built_step : (t : Data) (P : Asked → Type 0) (w v : Want) (d : Data) → is_array d ≡ true → entry_want w ≡ Some v → is_compared_set w ≡ false → Within t (asked w d)
+    → (arrange : List Data → List Data) → ((Q : Data → Type 0) (xs : List Data) → AllByRecursion Q xs → AllByRecursion Q (arrange xs))
+    → (f : Data → Data) → ((e : Data) → Within t (asked v e) → In e (entries_of d) → P (asked v (f e)))
+    → (s : Step) (b : Asked) → asked_inside w (array_of (map f (arrange (entries_of d)))) s ≡ Some b → P b
+built_step t P w v (array ds) is want apart inside arrange keeps f each =
+    list_step P w v (map f (arrange (list_of_items ds))) want apart
+    (all_map (λ e. P (asked v (f e))) (λ e. P (asked v e)) f (arrange (list_of_items ds)) (λ e h. h)
+    (keeps (λ e. P (asked v (f e))) (list_of_items ds)
+    (all_from_In (λ e. P (asked v (f e))) (list_of_items ds) (λ e h. each e (In-all (λ x. Within t (asked v x)) e (list_of_items ds) (entries_asked t w v ds want apart inside) h) h))))
+built_step t P w v d is want apart inside arrange keeps f each = cc
+
+-- what is built of an array with entries
+pub given_as : (P : Asked → Type 0) (w : Want) (d x v : Data) → unless_no_entry d x ≡ Some v → (is_empty_array d ≡ false → P (asked w x)) → P (asked w v)
+given_as P w d x v given each = let parts = given_unless d x v given in subst (λ y. P (asked w y)) parts.1 (each parts.0)
+
+-- ---- what stays as it is
+
+-- a member of this kind stays as it is, with all that is inside it
+abbrev pub is_apart_kind : MemberKind → Bool
+is_apart_kind kind.Identity = true
+is_apart_kind kind.Word = true
+is_apart_kind kind.Flag = true
+is_apart_kind kind.Whole = true
+is_apart_kind kind.StrangeReference = true
+is_apart_kind kind.StrangeIdentity = true
+is_apart_kind kind.Carried = true
+is_apart_kind k = false
+
+-- what is asked of values that stay as they are
+abbrev pub is_apart : Want → Bool
+is_apart (Object r) = is_apart_role r
+is_apart (ClassText r) = true
+is_apart (Reference f) = false
+is_apart Status = true
+is_apart (Member kind.Carried required) = false
+is_apart (Member k required) = is_apart_kind k
+is_apart Carried = true
+
+pub apart_by_kind : (k : MemberKind) (required : Bool) → is_apart_kind k ≡ true → is_apart (want_of_kind k required) ≡ true
+apart_by_kind kind.Carried required h = h
+apart_by_kind k required h = h
+
+apart_closed : (w : Want) → is_apart w ≡ true → is_closed w ≡ true
+apart_closed (Object r) h = h
+apart_closed (Member kind.Label required) h = h
+apart_closed w h = refl
+
+apart_entry : (w : Want) → is_apart w ≡ true → option_map_or is_apart (entry_want w) true ≡ true
+apart_entry (Member kind.Content required) h = cc
+apart_entry w h = cc
+
+-- all that is inside stays as it is too
+pub apart_inside : (w : Want) (d : Data) (s : Step) (b : Asked) → is_apart w ≡ true → asked_inside w d s ≡ Some b → is_apart b.want ≡ true
+apart_inside =
+    one_inside (λ w d. is_apart w ≡ true)
+    (λ w ms n v x h asks found. subst (λ o. option_map_or is_apart o true ≡ true) asks (closed_names is_apart is_apart_kind apart_by_kind (λ r. refl) refl refl refl refl refl w ms (apart_closed w h) n))
+    (λ w ds i v x h asks found. subst (λ o. option_map_or is_apart o true ≡ true) asks (apart_entry w h))
 
 -- ---- what is built
 

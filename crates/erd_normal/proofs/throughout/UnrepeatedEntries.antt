@@ -1,7 +1,7 @@
 -- A set that is put in order repeats no entry, where the set itself repeats none.
 use Rattle.erd_normal.proofs.Common.{◌≡◌, ℕ, zero, suc, Bool, true, false, cond, not, ◌&&◌, List, [], ◌∷◌, take, Some, is_lt, Ordering, sym, refl, ap, ◌∙◌, subst, inl, inr, true≢false, false_from_ne_true, AllByRecursion, IsDistinct, list_any, Data, array, Items, get_item, items_of, reason, At, is_same_exact, list_of_items-items_of, In, all_from_In, In-all, Within-step, faultless, within-tree, Within, is_reference, ShapeFault, NoneOf, IsTree, is_same_json, list_of_items, entry_want, is_compared_set, Asked, asked, is_repeated, Want, unrepeated_distinct, all_rising, In-inserted, In-rising, with_inserted, rising_list}
-use Rattle.erd_normal.proofs.built.AskedMembers.{all_items}
-use Rattle.erd_normal.proofs.lists.BuiltLists.{entry_holds, trees_listed}
+use Rattle.erd_normal.proofs.built.BuiltFrom.{all_items}
+use Rattle.erd_normal.proofs.lists.Lists.{entry_holds, trees_listed}
 
 -- ---- lists no two entries of which pass a test
 

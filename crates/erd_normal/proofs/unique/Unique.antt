@@ -1,16 +1,13 @@
 -- Canonical reports that mean the same are equal, since they say the same.
 use Rattle.erd_normal.proofs.Common.{◌≡◌, ℕ, Bool, true, false, List, [], Some, None, sym, refl, ap, ◌∙◌, subst, Data, array, Family, family, Role, role, MemberKind, kind, Step, list_of_items_exact, position_of, Within-root, wanted_within, unrepeated, within-tree, Within, ShapeFault, NoneOf, entries_of, Asked, asked, asked_at, Want, Member, Object, Reference, no_shape_fault, one_object, has_keys, Preference, Placed, contests, selections_of_contest, objects, IsObject, id_of, key_set, content_of, object_record, keys_named, kind_wanted, IsCanonical, ReferencesAgree, ObjectsAgree, CanonicalIsUnique, MeanAlike, Sides, NamesAgree, HaveSameNames, In-flat_map, In-flat_map_from, In-from_contains, contains_from_In}
-use Rattle.erd_normal.proofs.same.FromAlike.{Stands}
-use Rattle.erd_normal.proofs.same.complete.Objects.{all_says, classes_same, members_value, none_aligned, two_say, within_t, within_u}
+use Rattle.erd_normal.proofs.same.complete.Complete.{all_says, classes_same, members_value, none_aligned, two_say, within_t, within_u}
 use Rattle.erd_normal.proofs.same.complete.Sets.{MeanOne, references_matched, TextsTied}
-use Rattle.erd_normal.proofs.unique.SameTrees.{same_equal, entries_equal, sets_equal}
-use Rattle.erd_normal.proofs.same.complete.Members.{leaves}
+use Rattle.erd_normal.proofs.unique.SameTrees.{same_equal, entries_equal, sets_equal, ids_alike, none_alone, referring_to_all, closed_sides, one_text}
+use Rattle.erd_normal.proofs.same.complete.Values.{leaves}
 use Rattle.erd_normal.proofs.lists.Matched.{paired_equal}
-use Rattle.erd_normal.proofs.same.Back.{entries_paired}
-use Rattle.erd_normal.proofs.same.Related.{matched_within_both, paired_within_both}
+use Rattle.erd_normal.proofs.same.Related.{entries_paired, Stands, matched_within_both, paired_within_both}
 use Rattle.erd_normal.proofs.same.complete.Contents.{content_says}
 use Rattle.erd_normal.proofs.same.complete.Texts.{by_name, texts_tied}
-use Rattle.erd_normal.proofs.unique.Ids.{ids_alike, none_alone, referring_to_all, closed_sides, one_text}
 
 pub mean_one : (π : Preference) (t u : Data) → MeanAlike π t u → MeanOne π t u
 mean_one π t u alike = record { left_tree = alike.left_tree; right_tree = alike.right_tree; left = alike.left.accepted; right = alike.right.accepted; same = alike.same }

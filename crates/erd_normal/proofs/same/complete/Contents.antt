@@ -1,14 +1,113 @@
--- Contents of ballots that mean the same say the same, headers inside headers included.
-use Rattle.erd_normal.proofs.Common.{◌≡◌, ℕ, zero, suc, ◌≤◌, max, Bool, true, false, cond, List, [], ◌∷◌, map, Some, None, codes, Option, option_and_then, bytes_eq, sym, refl, ap, ◌∙◌, subst, arith, Data, string, array, object, Items, no_items, item, Members, depth, items_depth, members_depth, get_member, get_item, as_str, kind_of_member, is_required, Class, class, Family, family, role, MemberKind, kind, At, entries_in, text_exact, get_member-tree, get_member-depth, is_absent, is_filled_array, MayBeArray, Within-step, of_role, member_within, Within, kind_of_unlisted_has, no_strange, no_unknown, IsTree, AreTrees, AreMembers, want_of_kind, member_want, want_of_name, entry_want, is_table_set, asked, Scope, scope, ClassText, Member, Object, Reference, no_shape_fault, resolves, IsAccepted, has_keys, Preference, key_of, JsonMap, Content, no_content, Node, a_contest, a_header, NameParts, if_carried, carried_members, contest_node, header_node, nodes_of, node_of, content_inside, key_named, name_named, Key, Sides, NameOneThing, is_array_kind, an_empty_array, a_text, an_id, an_object, no_entry, one_entry, Same, SameEntries, SameMembers, In, inl, inr}
+-- The order of ballots: what it refers to, and that it says the same where it means the same.
+use Rattle.erd_normal.proofs.Common.{◌≡◌, ℕ, true, false, ◌⊎◌, List, Some, None, codes, Option, bytes_eq, sym, refl, ap, ◌∙◌, subst, inl, inr, Data, string, array, object, Items, Members, get_member, role_of_class, Class, class, family, role, kind, string_from_text, array_from, object_in, is_absent, is_filled_array, MayBeArray, ObjectAt, ObjectIn, of_role, wanted_within, lacks_none, member_within, Within, has_wanted_kind, entries_at, text_of, member_want, asked, Want, Member, Object, Reference, no_shape_fault, IsAccepted, Preference, is_selection_in, owner, In, In-all, zero, suc, ◌≤◌, max, Bool, cond, [], ◌∷◌, map, option_and_then, arith, no_items, item, depth, items_depth, members_depth, get_item, as_str, kind_of_member, is_required, Family, MemberKind, At, entries_in, text_exact, get_member-tree, get_member-depth, Within-step, kind_of_unlisted_has, no_strange, no_unknown, IsTree, AreTrees, AreMembers, want_of_kind, want_of_name, entry_want, is_table_set, Scope, scope, ClassText, resolves, has_keys, key_of, JsonMap, Content, no_content, Node, a_contest, a_header, NameParts, if_carried, carried_members, contest_node, header_node, nodes_of, node_of, content_inside, key_named, name_named, Key, Sides, NameOneThing, is_array_kind, an_empty_array, a_text, an_id, an_object, no_entry, one_entry, Same, SameEntries, SameMembers}
+use Rattle.erd_normal.proofs.canonical.CanonicalIds.{IsChosen, contest_named, entries_chosen, list_name}
 use Rattle.erd_meaning.proofs.meanings.InnerContent.{content_at, content_inside-get}
 use Rattle.erd_normal.proofs.lists.Matched.{Matched, matched_back, matched_on, Paired, none, more}
-use Rattle.erd_normal.proofs.same.Back.{entries_paired, set_says, list_says}
-use Rattle.erd_normal.proofs.same.Lookups.{Aligned, both_there, not_both, lacks_none, lacks_one, merged}
-use Rattle.erd_normal.proofs.canonical.ChosenEntries.{list_name}
+use Rattle.erd_normal.proofs.same.Related.{entries_paired, set_says, list_says}
+use Rattle.erd_normal.proofs.same.Lookups.{Aligned, both_there, not_both, lacks_none as lacks_nothing, lacks_one, merged, AllPlain, is_plain_kind, plain_of_kind}
 use Rattle.erd_normal.proofs.same.Labels.{equal_aligned}
-use Rattle.erd_normal.proofs.same.Steady.{AllPlain, is_plain_kind, plain_of_kind}
-use Rattle.erd_normal.proofs.same.complete.ContentNodes.{ContestNode, HeaderNode, IsSelected, NodeAt, NodeView, contest_view, header_view, inner_name, node_view}
 use Rattle.erd_normal.proofs.same.complete.Sets.{TextsTied}
+
+-- ---- the contests and headers of the ballots of an accepted report: what they refer to, and the arrays inside them
+
+abbrev pub inner_name : List ℕ
+inner_name = codes "OrderedContent"
+
+pub content_class : (c : Class) → role_of_class c ≡ role.Content → (c ≡ class.OrderedContest) ⊎ (c ≡ class.OrderedHeader)
+content_class class.OrderedContest e = inl refl
+content_class class.OrderedHeader e = inr refl
+content_class c e = cc
+
+-- an object of a ballot's content, of this class
+abbrev pub NodeAt : Data → Class → Members → Type 0
+NodeAt t c ms = ObjectAt t (Object role.Content) role.Content c ms
+
+-- a text that is the `@id` of a selection of the contest
+abbrev pub IsSelected : Data → Data → Type 0
+IsSelected a d = (r : List ℕ) × (d ≡ string r) × (is_selection_in a r ≡ true)
+
+-- a contest on a ballot
+pub record ContestNode (t : Data) (ms : Members) : Type 0 where
+  pub at : NodeAt t class.OrderedContest ms
+  pub id : List ℕ
+  pub named : get_member (codes "ContestId") ms ≡ Some (string id)
+  pub refers : Within t (asked (Reference family.Contest) (string id))
+  pub meant : Data
+  pub is : owner t family.Contest id ≡ Some meant
+  pub list : MayBeArray (λ ds. Unit {0}) (get_member list_name ms)
+  pub chosen : (d : Data) → In d (entries_at list_name (object ms)) → IsSelected meant d
+
+-- a header on a ballot
+pub record HeaderNode (t : Data) (ms : Members) : Type 0 where
+  pub at : NodeAt t class.OrderedHeader ms
+  pub id : List ℕ
+  pub named : get_member (codes "HeaderId") ms ≡ Some (string id)
+  pub refers : Within t (asked (Reference family.Header) (string id))
+  pub list : MayBeArray (λ ds. Within t (asked (Member kind.Content false) (array ds))) (get_member inner_name ms)
+
+-- what an entry of a ballot's content is
+pub data NodeView (t : Data) : Data → Type 0 where
+  contest_view : {ms : Members} → ContestNode t ms → NodeView t (object ms)
+  header_view : {ms : Members} → HeaderNode t ms → NodeView t (object ms)
+
+module _ (π : Preference) (t : Data) (accepted : IsAccepted π t) where
+  -- a member that may be absent and of which an array is asked
+  array_within : (w : Want) → ((v : Data) → has_wanted_kind w v ≡ true → (ds : Items) × (v ≡ array ds)) → (P : Items → Type 0) (o : Option Data) → ((v : Data) → o ≡ Some v → Within t (asked w v))
+      → ((ds : Items) → o ≡ Some (array ds) → P ds) → MayBeArray P o
+  array_within w is P None inside each = is_absent
+  array_within w is P (Some v) inside each =
+      let ds = is v (wanted_within t (no_shape_fault π t accepted) (asked w v) (inside v refl)) in
+      subst (λ x. MayBeArray P (Some x)) (sym ds.1) (is_filled_array (each ds.0 (ap Some ds.1)))
+
+  member_at : (c : Class) (ms : Members) → NodeAt t c ms → (name : List ℕ) → bytes_eq name (codes "@type") ≡ false → (v : Data) → get_member name ms ≡ Some v → Within t (asked (member_want c name) v)
+  member_at c ms a name other v e = member_within t (no_shape_fault π t accepted) (Object role.Content) role.Content ms c name v of_role a.among other a.inside e
+
+  contest_node_of : (ms : Members) → NodeAt t class.OrderedContest ms → ContestNode t ms
+  contest_node_of ms a =
+      let c = contest_named π t accepted ms a.inside a.among in
+      let named : get_member (codes "ContestId") ms ≡ Some (string c.2.0) = c.1 ∙ ap Some c.2.1 in
+      record {
+        at = a;
+        id = c.2.0;
+        named = named;
+        refers = member_at class.OrderedContest ms a (codes "ContestId") refl (string c.2.0) named;
+        meant = c.2.2.0;
+        is = c.2.2.1;
+        list = array_within (Member kind.Ordered false) array_from (λ ds. Unit {0}) (get_member list_name ms) (λ v e. member_at class.OrderedContest ms a list_name refl v e) (λ ds e. tt);
+        chosen = λ d h.
+            let k = In-all (IsChosen π t accepted ms a.inside a.among) d (entries_at list_name (object ms)) (entries_chosen π t accepted ms a.inside a.among) h in
+            (k.0.0, k.0.1, ap (λ x. is_selection_in c.2.2.0 (text_of x)) (sym k.0.1) ∙ k.1);
+      }
+
+  header_node_of : (ms : Members) → NodeAt t class.OrderedHeader ms → HeaderNode t ms
+  header_node_of ms a =
+      let r = named_header (get_member (codes "HeaderId") ms) refl in
+      let inside = λ (v : Data) (e : get_member inner_name ms ≡ Some v). member_at class.OrderedHeader ms a inner_name refl v e in
+      record {
+        at = a;
+        id = r.0;
+        named = r.1;
+        refers = r.2;
+        list = array_within (Member kind.Content false) array_from (λ ds. Within t (asked (Member kind.Content false) (array ds))) (get_member inner_name ms) inside (λ ds e. inside (array ds) e);
+      }
+    where
+      named_header : (o : Option Data) → get_member (codes "HeaderId") ms ≡ o → (r : List ℕ) × (get_member (codes "HeaderId") ms ≡ Some (string r)) × Within t (asked (Reference family.Header) (string r))
+      named_header None e = absurd (lacks_none t (no_shape_fault π t accepted) (asked (Object role.Content) (object ms)) (codes "HeaderId") a.inside (rw a.among refl) e)
+      named_header (Some v) e =
+          let w : Within t (asked (Reference family.Header) v) = member_at class.OrderedHeader ms a (codes "HeaderId") refl v e in
+          let s = string_from_text v (wanted_within t (no_shape_fault π t accepted) (asked (Reference family.Header) v) w) in
+          (s.0, e ∙ ap Some s.1, subst (λ x. Within t (asked (Reference family.Header) x)) s.1 w)
+
+  -- each entry of a ballot's content is a contest or a header
+  pub node_view : (d : Data) → Within t (asked (Object role.Content) d) → NodeView t d
+  node_view d w = at (object_in t (no_shape_fault π t accepted) role.Content d w)
+    where
+      by_class : (c : Class) (ms : Members) → (c ≡ class.OrderedContest) ⊎ (c ≡ class.OrderedHeader) → NodeAt t c ms → NodeView t (object ms)
+      by_class c ms (inl e) a = contest_view (contest_node_of ms (subst (λ x. NodeAt t x ms) e a))
+      by_class c ms (inr e) a = header_view (header_node_of ms (subst (λ x. NodeAt t x ms) e a))
+
+      at : ObjectIn t role.Content d → NodeView t d
+      at o = subst (NodeView t) (sym o.is_object) (by_class o.class o.ms (content_class o.class o.role) o.at)
 
 -- ---- arrays whose entries say the same say the same, and so do an absent one and an empty one
 
@@ -16,10 +115,10 @@ module _ (m : Sides) where
   module _ (s : Scope) (n : List ℕ) (k : MemberKind) (r : Bool) (asks : want_of_name s n ≡ Some (Member k r)) (kind : is_array_kind k ≡ true) where
     -- an empty array may be absent
     pub left_empty : (o : Option Data) → o ≡ Some (array no_items) → Aligned m s n o None
-    left_empty o e = subst (λ x. Aligned m s n x None) (sym e) (not_both (lacks_one m.left s n (array no_items) (an_empty_array k r asks kind refl)) (lacks_none m.right s n))
+    left_empty o e = subst (λ x. Aligned m s n x None) (sym e) (not_both (lacks_one m.left s n (array no_items) (an_empty_array k r asks kind refl)) (lacks_nothing m.right s n))
 
     pub right_empty : (o : Option Data) → o ≡ Some (array no_items) → Aligned m s n None o
-    right_empty o e = subst (Aligned m s n None) (sym e) (not_both (lacks_none m.left s n) (lacks_one m.right s n (array no_items) (an_empty_array k r asks kind refl)))
+    right_empty o e = subst (Aligned m s n None) (sym e) (not_both (lacks_nothing m.left s n) (lacks_one m.right s n (array no_items) (an_empty_array k r asks kind refl)))
 
     there_both : (ds es : Items) → Same m (Some (Member k r)) (array ds) (array es) → Aligned m s n (Some (array ds)) (Some (array es))
     there_both ds es h = both_there (subst (λ w. Same m w (array ds) (array es)) (sym asks) h)
@@ -27,7 +126,7 @@ module _ (m : Sides) where
     -- members that are absent or sets, with matched entries
     pub sets_aligned : (P Q : Items → Type 0) (o p : Option Data) → is_table_set (Member k r) ≡ true
         → MayBeArray P o → MayBeArray Q p → Matched (Same m (entry_want (Member k r))) (entries_in o) (entries_in p) → Aligned m s n o p
-    sets_aligned P Q o p set is_absent is_absent h = not_both (lacks_none m.left s n) (lacks_none m.right s n)
+    sets_aligned P Q o p set is_absent is_absent h = not_both (lacks_nothing m.left s n) (lacks_nothing m.right s n)
     sets_aligned P Q o p set is_absent (is_filled_array {ds = no_items} q) h = right_empty _ refl
     sets_aligned P Q o p set is_absent (is_filled_array {ds = item e es} q) h = elim (matched_back e h (inl refl)).1 [ ]
     sets_aligned P Q o p set (is_filled_array {ds = no_items} q) is_absent h = left_empty _ refl
@@ -37,7 +136,7 @@ module _ (m : Sides) where
     -- and lists, with paired ones
     pub lists_aligned : (P Q : Items → Type 0) (o p : Option Data) → is_table_set (Member k r) ≡ false
         → MayBeArray P o → MayBeArray Q p → Paired (Same m (entry_want (Member k r))) (entries_in o) (entries_in p) → Aligned m s n o p
-    lists_aligned P Q o p list is_absent is_absent h = not_both (lacks_none m.left s n) (lacks_none m.right s n)
+    lists_aligned P Q o p list is_absent is_absent h = not_both (lacks_nothing m.left s n) (lacks_nothing m.right s n)
     lists_aligned P Q o p list is_absent (is_filled_array {ds = no_items} q) h = right_empty _ refl
     lists_aligned P Q o p list is_absent (is_filled_array {ds = item e es} q) h = elim h [ ]
     lists_aligned P Q o p list (is_filled_array {ds = no_items} q) is_absent h = left_empty _ refl

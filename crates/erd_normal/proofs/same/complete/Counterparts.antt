@@ -1,15 +1,13 @@
 -- The objects of two accepted reports that mean the same are matched: elections by their keys, the objects of each family in each
 use Rattle.erd_normal.proofs.Common.{◌≡◌, ℕ, Bool, true, ◌⊎◌, List, [], ◌∷◌, map, Some, None, codes, Option, option_map, find, option_and_then, is_eq, sym, refl, ap, ◌∙◌, subst, inl, inr, tied_itself, same_Some, options_total, option_cmp, Data, array, no_items, get, Family, family, role, entries_in, object_in, ObjectIn, and_then-Some, Within, entries_at, class_of_object, asked, Object, objects_distinct, elections_distinct, held_key_in, no_shape_fault, no_identity_fault, find-Some, find-any, has_identifier, skeleton, values-placed_entries, election_stands, stands, contest_selections, options_exact, equal_keys, equal_names, IsAccepted, has_keys, key_cmp, Preference, key_of, election_key_of, SelectionRecord, ObjectRecord, NameParts, Placed, placed_entries, report_of, elections, contests, selections_of_contest, objects, plain_member, selection_record, selection_map, member_value, member_of_class, object_record, record_in_election, placed_record, placed_with_key, records_of, name_of, name_cmp, key_cmp_total, name_cmp_total, Key, Ordering, IsTotalOrder, In, In-flat_map, In-flat_map_from, In-map, any_at}
 use Rattle.erd_meaning.proofs.meanings.WholeRecords.{apart_from_election, no_election_id}
-use Rattle.erd_normal.proofs.lists.Matched.{Matched, matched_back, matched_on, matched_within}
-use Rattle.erd_normal.proofs.same.Lists.{ApartBy, matched_by_keys}
-use Rattle.erd_normal.proofs.same.Related.{matched_within_both}
-use Rattle.erd_normal.proofs.meaning.AlikeRecords.{class_within, record_with-Some, has_name, has_selection_record, map_in, members_in, selections_value}
-use Rattle.erd_normal.proofs.canonical.RisingReports.{selections_distinct}
-use Rattle.erd_normal.proofs.lists.FoundInParts.{find_values}
+use Rattle.erd_normal.proofs.lists.Matched.{Matched, matched_back, matched_on, matched_within, find_values}
+use Rattle.erd_normal.proofs.same.Related.{ApartBy, matched_by_keys, matched_within_both}
+use Rattle.erd_normal.proofs.meaning.MatchedMeanings.{class_within, record_with-Some, has_name, has_selection_record, map_in, members_in, selections_value}
+use Rattle.erd_normal.proofs.canonical.NormalKeys.{selections_distinct}
 use Rattle.erd_normal.proofs.lists.Lists.{IsPart, part_distinct, part_flat}
 use Rattle.erd_normal.proofs.same.complete.Sets.{apart_by, MeanOne}
-use Rattle.erd_normal.proofs.same.FamilyValues.{InElections}
+use Rattle.erd_normal.proofs.same.IdsOfObjects.{InElections}
 
 -- ---- lists that have the same record at each key are matched by their keys
 

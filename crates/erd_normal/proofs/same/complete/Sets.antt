@@ -1,10 +1,9 @@
 -- Sets that mean the same say the same: references that name one set of keys, and JSON values.
 use Rattle.erd_normal.proofs.Common.{◌≡◌, ℕ, Bool, true, false, ◌&&◌, List, [], ◌∷◌, Some, None, Option, filter_map, option_and_then, is_eq, sym, refl, ap, ◌∙◌, subst, ap₂, true≢false, tied_itself, Equal-is, IsDistinct, cons_option, list_any, Data, string, array, Items, as_str, role_of_class, Class, Family, family, Role, MemberKind, kind, string_from_text, list_of_items-place, list_of_items-tree, text_itself, wanted_within, unrepeated, Within, is_simple_class, entry_itself, IsTree, AreTrees, is_same_json, list_of_items, entry_want, is_compared_set, asked, is_repeated, Member, Object, Reference, no_shape_fault, unrepeated_reference, resolves, unrepeated_distinct, IsAccepted, has_keys, key_cmp, Preference, key_of, is_selection_in, owner, key_set, meaning, key_named, keys_named, name_named, key_cmp_total, key_cmp_exact, Key, Sides, NameOneThing, an_id, Same, ⊎_elim, In, In-all, In-any, any_at, inl, inr}
 use Rattle.erd_check.proofs.Order.{In-filter_map}
-use Rattle.erd_normal.proofs.canonical.DistinctSets.{first_reference, first_value, names_accepted, reference_entry, value_entry}
+use Rattle.erd_normal.proofs.canonical.NormalKeys.{first_reference, first_value, names_accepted, reference_entry, value_entry}
 use Rattle.erd_normal.proofs.lists.Matched.{Matched, Paired, none, more}
-use Rattle.erd_normal.proofs.same.Lists.{ApartBy, matched_by_keys, AreSound, itself}
-use Rattle.erd_normal.proofs.same.Related.{matched_within_both}
+use Rattle.erd_normal.proofs.same.Related.{ApartBy, matched_by_keys, AreSound, itself, matched_within_both}
 
 -- ---- two accepted reports that mean the same, and texts that stand for one another in them
 

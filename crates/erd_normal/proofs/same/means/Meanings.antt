@@ -3,15 +3,14 @@ use Rattle.erd_normal.proofs.Common.{◌≡◌, ℕ, Bool, true, false, List, So
 use Rattle.erd_meaning.proofs.meanings.HeldValues.{Held, held_of, held_values}
 use Rattle.erd_normal.specs.MeansTheSame.{SayingTheSameMeansTheSame}
 use Rattle.erd_normal.proofs.lists.Matched.{AtMostOne, Matched, apart_distinct, matched_find, matched_within, one_if_apart, said_same, distinct_matched, even_order, matched_back}
-use Rattle.erd_normal.proofs.meaning.MatchedMeanings.{HeldAlike, MeanOne, held_matched, matched_meaning}
-use Rattle.erd_normal.proofs.meaning.AlikeRecords.{is_named, named_tied, plain_members, record_alike, flat_no_selections, is_flat_class, kind_is_flat}
-use Rattle.erd_normal.proofs.same.FamilyValues.{family_values, placed_value, outside, in_report, in_election, not_before_itself, value_placed}
+use Rattle.erd_normal.proofs.meaning.MatchedMeanings.{HeldAlike, MeanOne, held_matched, matched_meaning, is_named, named_tied, plain_members, record_alike, flat_no_selections, is_flat_class, kind_is_flat}
+use Rattle.erd_normal.proofs.same.IdsOfObjects.{family_values, placed_value, outside, in_report, in_election, not_before_itself, value_placed}
 use Rattle.erd_normal.proofs.same.Related.{Related}
-use Rattle.erd_normal.proofs.same.Families.{elections_matched, related_election_key, related_key, keyed_array, family_matched, selections_matched}
+use Rattle.erd_normal.proofs.same.Owners.{elections_matched, related_election_key, related_key, keyed_array, family_matched, selections_matched}
 use Rattle.erd_normal.proofs.same.means.Members.{BothObjects, MeansNothing, TwoReports, Told, both_told, both_objects, unless_empty_same, nothing_cases, none_told}
-use Rattle.erd_normal.proofs.same.means.Names.{name_alike}
+use Rattle.erd_normal.proofs.same.means.References.{name_alike}
 use Rattle.erd_normal.proofs.same.means.Records.{plain_alike, selection_alike}
-use Rattle.erd_normal.proofs.canonical.RisingReports.{selection_values_distinct}
+use Rattle.erd_normal.proofs.canonical.NormalKeys.{selection_values_distinct}
 
 module _ (m : Sides) (π : Preference) (g : TwoReports m π) where
   -- an object of the family, and one that is related to it

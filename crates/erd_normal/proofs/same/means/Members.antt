@@ -1,10 +1,8 @@
 -- What stands under a name in two related objects: values that are related, or nothing that means anything.
 use Rattle.erd_normal.proofs.Common.{◌≡◌, ℕ, true, false, List, [], length, Some, None, codes, Option, bytes_eq, sym, refl, ap, ◌∙◌, subst, arith, option_map_or, Data, array, object, Items, no_items, item, Members, get_member, get, role_of_class, kind_of_member, Class, class, Role, role, kind, Name, object_in, ObjectIn, Within-step, AsksObject, of_role, of_label, asked_inside_object, unrepeated, ShapeFault, NoneOf, IsTree, list_of_items, entries_of, class_of_object, scope_inside, member_want, entry_want, asked, scope, Want, Object, IsAccepted, Preference, unless_empty, is_in_envelope, Sides, is_array_kind, is_envelope, an_empty_array, of_the_envelope, an_unused_id, a_list, a_set, MayBeAbsent, Same, SameMembers, true≢false}
 use Rattle.erd_normal.proofs.lists.Matched.{Matched, matched_length, matched_none}
-use Rattle.erd_normal.proofs.same.FromAlike.{Stands, entry_stands, stands_tree}
-use Rattle.erd_normal.proofs.same.Lookups.{Aligned, both_there, not_both, MayLack, lookups, of_object, class_same, asked_of_name}
-use Rattle.erd_normal.proofs.same.Related.{Related, entries_matched, matched_within_both}
-use Rattle.erd_normal.proofs.same.Steady.{is_steady_kind, steady_same, is_plain, steady_no_array}
+use Rattle.erd_normal.proofs.same.Lookups.{Aligned, both_there, not_both, MayLack, lookups, of_object, class_same, asked_of_name, is_steady_kind, steady_same, is_plain, steady_no_array}
+use Rattle.erd_normal.proofs.same.Related.{Stands, entry_stands, stands_tree, Related, entries_matched, matched_within_both}
 use Rattle.erd_normal.proofs.same.accepted.RequiredMembers.{member_of}
 
 -- two trees that say the same, the left one an accepted report

@@ -3,17 +3,13 @@
 use Rattle.erd_normal.proofs.Common.{◌≡◌, ℕ, ◌+◌, ◌^◌, ◌<◌, true, List, [], ◌∷◌, ◌++◌, map, length, is_some, Some, None, decimal, Option, option_map, find, flat_map, bytes_eq, is_eq, Equal, unwrap_or, sym, refl, ap, ◌∙◌, subst, ⊎_elim, arith, tied_back, length-map, same_Some, options_total, IsDistinct, option_map_or, eq_by_cmp, Data, Family, family, text_exact, text_itself, values_distinct, no_identity_fault, find-any, one_object, has_id-Some, has_id-from, distinct_one, IsAccepted, has_keys, Preference, key_of, rank_of, Placed, contests, selections_of_contest, objects, id_of, has_id, IsBounded, name_of, key_cmp_total, name_cmp_total, id_prefix, canonical_id, Sides, NameOneThing, id_of_key, rank_of_name, id_of_selection, by_key, by_name, normal_tree, Bool, false, ◌&&◌, codes, option_and_then, AllByRecursion, list_all, string, array, object, rows_of_class, kind_of_identity, kind_of_member, is_required, Class, class, role, MemberKind, kind, Step, array_from, wanted_within, Within, kind_of_class, want_unless_status, is_reference, IsTree, list_of_items, text_of, scope_inside, want_of_kind, is_report_class, member_want, want_of_name, entry_want, Asked, asked, asked_from, Scope, scope, Want, Member, Object, Reference, no_shape_fault, owned, unrepeated_reference, owned_by, all_rising, owner, rising_list, key_named, IsUnused, normal_id, normal_reference, reference_cmp, normal_selection_reference, In, In-all, In-append, In-append_left, In-append_right, In-flat_map, In-flat_map_from, In-map, In-map_from, any_at, inl, inr}
 use Rattle.erd_normal.proofs.canonical.CanonicalIds.{canonical_id_exact, selection_id_apart, few_selections, canonical_selection_id_exact}
 use Rattle.erd_normal.proofs.canonical.ContestSelections.{one_contest}
-use Rattle.erd_normal.proofs.canonical.RisingReports.{selection_values_distinct, by_key_total, by_name_total}
-use Rattle.erd_normal.proofs.canonical.SelectionIds.{listed, selection_values, text_built}
-use Rattle.erd_normal.proofs.lists.KeyedRanks.{rank_exact, rank_low}
-use Rattle.erd_normal.proofs.throughout.ThroughoutMembers.{is_prefixed, BuiltAs, from_kept, from_one, from_many_entry, from_ordered_entry, built_references}
+use Rattle.erd_normal.proofs.canonical.NormalKeys.{selection_values_distinct, by_key_total, by_name_total, listed, selection_values, text_built}
+use Rattle.erd_normal.proofs.lists.Lists.{rank_exact, rank_low, all_map, entry_holds}
+use Rattle.erd_normal.proofs.throughout.ThroughoutMembers.{is_prefixed, BuiltAs, from_kept, from_one, from_many_entry, from_ordered_entry, built_references, is_apart, all_inside, carried_passes, name_passes}
 use Rattle.erd_normal.proofs.same.complete.Texts.{no_keys, one_family, some_again}
 use Rattle.erd_normal.proofs.same.IdsOfObjects.{Refers, reference_refers, references_refer}
-use Rattle.erd_normal.proofs.lists.BuiltLists.{all_map, entry_holds}
-use Rattle.erd_normal.proofs.lists.FoundInParts.{FoundSelection, owner_found}
+use Rattle.erd_normal.proofs.lists.Matched.{FoundSelection, owner_found}
 use Rattle.erd_normal.proofs.throughout.ThroughoutReports.{built_as}
-use Rattle.erd_normal.proofs.throughout.ThroughoutValues.{is_apart}
-use Rattle.erd_normal.proofs.throughout.InsideValues.{all_inside, carried_passes, name_passes}
 
 -- ---- the canonical `@id` of an object
 

@@ -1,10 +1,9 @@
 -- A canonical report that says what another one says is nested no deeper: what stands in it alone is flat.
 use Rattle.erd_normal.proofs.Common.{◌≡◌, ℕ, ◌≤◌, true, false, List, Some, None, Option, codes, sym, refl, ap, ◌∙◌, subst, arith, same_Some, Data, array, object, Items, Members, get_member, get, is_envelope_name, role, depth, items_depth, members_depth, AreMembers, get_member-first, get_member-later, IsTree, IsNoDeeper, list_of_items, scope_inside, want_of_name, Scope, Want, Member, Object, Within-root, is_empty_array, Preference, Sides, SaysTheSame, MayBeAbsent, an_empty_array, of_the_envelope, an_unused_id, a_list, a_set, an_object, no_entry, one_entry, no_member, in_both, left_only, right_only, Same, SameEntries, SameMembers, IsCanonical, In, In-all, all_from_In, inl, inr, IsPermutation, IsPermutation-sym, reordered-In}
-use Rattle.erd_normal.proofs.lists.BuiltLists.{items_again, items_of-depth, listed_depth}
-use Rattle.erd_normal.proofs.same.FromAlike.{Stands, entry_stands, member_stands, stands_tree}
+use Rattle.erd_normal.proofs.lists.Lists.{items_again, items_of-depth, listed_depth}
+use Rattle.erd_normal.proofs.same.Related.{Stands, entry_stands, member_stands, stands_tree}
 use Rattle.erd_normal.proofs.same.IdsOfObjects.{IsPart, part_at}
-use Rattle.erd_normal.proofs.same.Lookups.{scope_same}
-use Rattle.erd_normal.proofs.same.Steady.{of_report}
+use Rattle.erd_normal.proofs.same.Lookups.{scope_same, of_report}
 use Rattle.erd_normal.proofs.throughout.ThroughoutReports.{of_envelope}
 
 reordered_depth : (ds fs : Items) → IsPermutation (list_of_items ds) (list_of_items fs) → items_depth fs ≤ items_depth ds

@@ -1,4 +1,4 @@
-use Rattle.erd_normal.proofs.same.Back.{says_back}
+use Rattle.erd_normal.proofs.same.Related.{says_back}
 use Rattle.erd_normal.proofs.same_laws.says_back.Goals as goal
 
 pub returns : goal.returns

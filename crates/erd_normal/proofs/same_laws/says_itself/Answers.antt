@@ -1,4 +1,4 @@
-use Rattle.erd_normal.proofs.same.Back.{says_itself}
+use Rattle.erd_normal.proofs.same.Related.{says_itself}
 use Rattle.erd_normal.proofs.same_laws.says_itself.Goals as goal
 
 pub returns : goal.returns

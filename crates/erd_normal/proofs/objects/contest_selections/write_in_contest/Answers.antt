@@ -1,7 +1,7 @@
 use Rattle.erd_normal.proofs.Common.{◌≡◌, ℕ, ◌+◌, ◌<◌, [], ◌++◌, length, get_or, drop, slice_get, Some, codes, option_map, sym, ap, ◌∙◌, subst, ap₂, length-map, same_Some, slice_get-map, slice_get_within, on_ok_weaker, Data, items_of, view, family, entries_at, class_of_object, rank_of, contests, selection_role, canonical_selection_id, normal_value, normal_object_with, with_id, rising_selections, value_tokens, items_tokens, map_from, written_selection}
-use Rattle.erd_normal.proofs.ranks.PartObjects.{seen_key, seen_value}
+use Rattle.erd_normal.proofs.ranks.WrittenTrees.{seen_key, seen_value}
 use Rattle.erd_normal.proofs.ranks.SelectionRanks.{next_selection, none_left, selections_left}
-use Rattle.erd_normal.proofs.texts.WholeObjects.{entry_whole}
+use Rattle.erd_normal.proofs.texts.DueTokens.{entry_whole}
 use Rattle.erd_text.proofs.WrittenTokens.{then_rest}
 use Rattle.erd_normal.proofs.objects.contest_selections.write_in_contest.Goals as goal
 

@@ -1,5 +1,5 @@
 use Rattle.erd_normal.proofs.Common.{List, [], ◌∷◌, ◌++◌, slice_get, option_map, sym, refl, ap, ◌∙◌, append_assoc, on_ok_weaker, begin_array, Data, items_of, view, contests, array_of, value_tokens, items_tokens, written_in_contest}
-use Rattle.erd_normal.proofs.ranks.PartObjects.{seen_value, unseen_value}
+use Rattle.erd_normal.proofs.ranks.WrittenTrees.{seen_value, unseen_value}
 use Rattle.erd_normal.proofs.texts.DueTokens.{array_written}
 use Rattle.erd_normal.proofs.objects.contest_selections.write_selections.Goals as goal
 

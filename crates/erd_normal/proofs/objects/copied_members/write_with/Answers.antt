@@ -1,6 +1,6 @@
 use Rattle.erd_normal.proofs.Common.{◌≡◌, ◌++◌, sym, ap, ◌∙◌, on_ok_weaker, view-Object, object, view, members_view, has_float, put_all, put_in, due_list, value_tokens}
 use Rattle.erd_tables.specs.declared.class.Class.TheVariants.{InternationalizedText}
-use Rattle.erd_normal.proofs.texts.PutObjects.{copied}
+use Rattle.erd_normal.proofs.texts.DueTokens.{copied}
 use Rattle.erd_normal.proofs.objects.copied_members.write_with.Goals as goal
 
 pub returns-in-Object : goal.returns-in-Object

@@ -1,6 +1,6 @@
 use Rattle.erd_normal.proofs.Common.{slice_get_within, view, objects, on_ok_weaker, objects_in_part, written_object}
-use Rattle.erd_normal.proofs.ranks.InOrder.{next}
-use Rattle.erd_normal.proofs.ranks.PartObjects.{in_part_there}
+use Rattle.erd_normal.proofs.ranks.SelectionRanks.{next}
+use Rattle.erd_normal.proofs.ranks.WrittenTrees.{in_part_there}
 use Rattle.erd_normal.proofs.texts.DueTokens.{entries_written, entry_written}
 use Rattle.erd_normal.proofs.objects.family_objects.write_family.Goals as goal
 

@@ -1,5 +1,5 @@
 use Rattle.erd_normal.proofs.Common.{◌++◌, Some, option_map, sym, ap, ◌∙◌, on_ok_weaker, view, class_of_object, normal_object_with, with_id, value_tokens}
-use Rattle.erd_normal.proofs.texts.PutObjects.{put_id}
+use Rattle.erd_normal.proofs.texts.DueTokens.{put_id}
 use Rattle.erd_normal.proofs.objects.family_objects.write_identified.Goals as goal
 
 pub returns-in-Some : goal.returns-in-Some

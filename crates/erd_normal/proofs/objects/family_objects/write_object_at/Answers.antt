@@ -1,5 +1,5 @@
 use Rattle.erd_normal.proofs.Common.{◌≡◌, ◌++◌, slice_get, option_map, sym, ap, ◌∙◌, ap₂, on_ok_weaker, Data, view, role, class_of_object, key_of, rank_of, objects, canonical_id, normal_object_with, with_id, value_tokens, written_object_value}
-use Rattle.erd_normal.proofs.ranks.PartObjects.{found_below, found_key, found_value}
+use Rattle.erd_normal.proofs.ranks.WrittenTrees.{found_below, found_key, found_value}
 use Rattle.erd_normal.proofs.objects.family_objects.write_object_at.Goals as goal
 
 pub write_identified-requires : goal.write_identified-requires

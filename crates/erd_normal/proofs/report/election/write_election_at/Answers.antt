@@ -1,6 +1,6 @@
 use Rattle.erd_normal.proofs.Common.{◌≡◌, ◌++◌, slice_get, option_map, sym, ap, ◌∙◌, on_ok_weaker, Data, view, elections, value_tokens, written_election}
-use Rattle.erd_normal.proofs.ranks.PartObjects.{found_below, found_value}
-use Rattle.erd_normal.proofs.texts.PutObjects.{put_none}
+use Rattle.erd_normal.proofs.ranks.WrittenTrees.{found_below, found_value}
+use Rattle.erd_normal.proofs.texts.DueTokens.{put_none}
 use Rattle.erd_normal.proofs.report.election.write_election_at.Goals as goal
 
 pub write_object-requires-clause-whole : goal.write_object-requires-clause-whole

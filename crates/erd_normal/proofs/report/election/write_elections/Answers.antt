@@ -1,6 +1,6 @@
 use Rattle.erd_normal.proofs.Common.{ℕ, map, ap, ◌∙◌, slice_get_within, option_cmp, view, Judged, key_cmp, key_of, Placed, elections, on_ok_weaker, in_at, rising_elections, written_election}
-use Rattle.erd_normal.proofs.ranks.InOrder.{next, stands}
-use Rattle.erd_normal.proofs.ranks.PartObjects.{lent_elections}
+use Rattle.erd_normal.proofs.ranks.SelectionRanks.{next, stands}
+use Rattle.erd_normal.proofs.ranks.WrittenTrees.{lent_elections}
 use Rattle.erd_normal.proofs.texts.DueTokens.{entries_written, entry_written}
 use Rattle.erd_normal.proofs.report.election.write_elections.Goals as goal
 

@@ -1,6 +1,6 @@
 use Rattle.erd_normal.proofs.Common.{◌++◌, ap, ◌∙◌, subst, on_ok_weaker, view, role, IsTree, class_of_object, IsAccepted, Judged, put_in, normal_object_with, envelope_values, value_tokens, written_report_value}
 use Rattle.erd_normal.proofs.ranks.WrittenTrees.{written_is_normal}
-use Rattle.erd_normal.proofs.texts.PutObjects.{put_envelope}
+use Rattle.erd_normal.proofs.texts.DueTokens.{put_envelope}
 use Rattle.erd_normal.proofs.report.report_text.write_report.Goals as goal
 
 pub returns : goal.returns

@@ -1,6 +1,6 @@
 use Rattle.erd_normal.proofs.Common.{◌≡◌, ℕ, List, ◌++◌, map, OnOk, IsPermutation, sym, ap, ◌∙◌, subst, Data, string, view, text_of, rising_list, id_of_rank, reference_cmp, array_of, rank_named, value_tokens}
-use Rattle.erd_normal.proofs.canonical.RisingReports.{reference_cmp_total}
-use Rattle.erd_normal.proofs.lists.NumbersInOrder.{numbers_in_order}
+use Rattle.erd_normal.proofs.canonical.NormalKeys.{reference_cmp_total}
+use Rattle.erd_normal.proofs.lists.Lists.{numbers_in_order}
 use Rattle.erd_text.proofs.StableRising.{map_after}
 use Rattle.erd_normal.proofs.ranks.RankedReferences.{ranks_rise, text_named}
 use Rattle.erd_normal.proofs.values.reference_set.write_rising_references.Goals as goal

@@ -1,7 +1,7 @@
 use Rattle.erd_normal.proofs.Common.{◌≡◌, List, ◌++◌, map, sym, ap, ◌∙◌, inl, inr, Data, view, entries_of, rising_list, compact_cmp, on_ok_weaker, normal_selection_reference, unless_no_entry, array_of, normal_value, value_tokens}
 use Rattle.erd_text.proofs.StableRising.{map_after}
 use Rattle.erd_text.proofs.WholeValues.{whole_list}
-use Rattle.erd_normal.proofs.lists.BuiltLists.{given_unless}
+use Rattle.erd_normal.proofs.lists.Lists.{given_unless}
 use Rattle.erd_normal.proofs.values.value_of_kind.write_of_kind.Goals as goal
 
 pub returns-in-Identifiers : goal.returns-in-Identifiers

@@ -1,5 +1,5 @@
 use Rattle.erd_normal.proofs.Common.{option_map, sym, ap, ◌∙◌, view}
-use Rattle.erd_normal.proofs.texts.WholeObjects.{election_found}
+use Rattle.erd_normal.proofs.texts.DueTokens.{election_found}
 use Rattle.erd_normal.proofs.writer.Writer.election.Goals as goal
 
 pub returns-clause-whole : goal.returns-clause-whole

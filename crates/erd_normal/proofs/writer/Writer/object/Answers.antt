@@ -1,5 +1,5 @@
 use Rattle.erd_normal.proofs.Common.{option_map, sym, ap, ◌∙◌, view}
-use Rattle.erd_normal.proofs.texts.WholeObjects.{object_found}
+use Rattle.erd_normal.proofs.texts.DueTokens.{object_found}
 use Rattle.erd_normal.proofs.writer.Writer.object.Goals as goal
 
 pub returns-clause-whole : goal.returns-clause-whole

@@ -1,5 +1,5 @@
 use Rattle.erd_normal.proofs.Common.{◌≡◌, ℕ, [], slice_get, Some, None, option_map, sym, ap, ◌∙◌, subst, ap₂, same_Some, option_map_or, string, view, family, Judged, key_in, rank_of, id_in, NameParts, canonical_selection_id, normal_selection_reference}
-use Rattle.erd_normal.proofs.ranks.SelectionReferences.{rank_there, reference_there, selection_at, selection_there}
+use Rattle.erd_normal.proofs.ranks.RankedReferences.{rank_there, reference_there, selection_at, selection_there}
 use Rattle.erd_normal.proofs.writer.Writer.ranks_at.Goals as goal
 
 pub returns : goal.returns

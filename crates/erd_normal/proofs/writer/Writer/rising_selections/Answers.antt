@@ -1,5 +1,5 @@
 use Rattle.erd_normal.proofs.Common.{[], slice_get, ap, ◌∙◌, option_map_or, view, Judged, Placed, contests, part_seen, rising_selections}
-use Rattle.erd_normal.proofs.ranks.PartsFilled.{part_listed}
+use Rattle.erd_normal.proofs.ranks.RankedReferences.{part_listed}
 use Rattle.erd_normal.proofs.writer.Writer.rising_selections.Goals as goal
 
 pub returns : goal.returns

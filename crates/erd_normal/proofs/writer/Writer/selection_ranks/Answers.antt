@@ -1,6 +1,5 @@
 use Rattle.erd_normal.proofs.Common.{◌≡◌, [], Some, sym, ◌∙◌, subst, string, view, family, Judged, id_in, normal_selection_reference}
-use Rattle.erd_normal.proofs.ranks.SelectionReferences.{selection_found, unselected}
-use Rattle.erd_normal.proofs.ranks.RankedReferences.{elsewhere, nowhere}
+use Rattle.erd_normal.proofs.ranks.RankedReferences.{selection_found, unselected, elsewhere, nowhere}
 use Rattle.erd_normal.proofs.writer.Writer.selection_ranks.Goals as goal
 
 pub returns-then-is_same : goal.returns-then-is_same

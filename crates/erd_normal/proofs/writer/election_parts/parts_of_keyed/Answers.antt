@@ -1,8 +1,8 @@
 use Rattle.erd_normal.proofs.Common.{◌≡◌, ℕ, ◌<◌, ◌≤◌, [], ◌∷◌, ◌++◌, map, length, get_or, take, ◌==◌, filter, sym, ap, ◌∙◌, subst, inl, inr, arith, view, Placed, elections, objects, take-length, cases_lt, in_order_of_keys, part_at, part_seen}
 use Rattle.std.proofs.lemmas.List.{get_or_default}
-use Rattle.erd_normal.proofs.lists.NumberedKept.{kept_map}
-use Rattle.erd_normal.proofs.ranks.PartObjects.{in_order, lent_positions, no_part}
-use Rattle.erd_normal.proofs.ranks.PartsFilled.{one_put, part_missing}
+use Rattle.erd_normal.proofs.lists.Lists.{kept_map}
+use Rattle.erd_normal.proofs.ranks.WrittenTrees.{in_order, lent_positions, no_part}
+use Rattle.erd_normal.proofs.ranks.RankedReferences.{one_put, part_missing}
 use Rattle.erd_normal.proofs.writer.election_parts.parts_of_keyed.Goals as goal
 
 pub loop-position-init : goal.loop-position-init

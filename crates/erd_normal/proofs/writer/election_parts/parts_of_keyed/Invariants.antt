@@ -1,5 +1,5 @@
 use Rattle.erd_normal.proofs.Common.{◌≡◌, ℕ, ◌<◌, length, view, elections, part_at, part_seen}
-use Rattle.erd_normal.proofs.ranks.PartsFilled.{put_in}
+use Rattle.erd_normal.proofs.ranks.RankedReferences.{put_in}
 use Rattle.erd_normal.proofs.writer.election_parts.parts_of_keyed.Given as goal
 
 abbrev pub invariant-loop-position : goal.invariant-loop-position

@@ -1,5 +1,5 @@
 use Rattle.erd_normal.proofs.Common.{[], ◌∷◌, ◌++◌, ap, ◌∙◌}
-use Rattle.erd_normal.proofs.ranks.PartsFilled.{part_is, part_kept, part_set}
+use Rattle.erd_normal.proofs.ranks.RankedReferences.{part_is, part_kept, part_set}
 use Rattle.erd_normal.proofs.writer.election_parts.put_in_part.Goals as goal
 
 pub returns-in_ok-push-clause-here : goal.returns-in_ok-push-clause-here

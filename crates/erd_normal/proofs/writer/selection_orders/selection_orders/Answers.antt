@@ -2,8 +2,7 @@ use Rattle.erd_normal.proofs.Common.{◌≡◌, ℕ, ◌+◌, ◌<◌, List, [],
 use Rattle.erd_meaning.specs.Places.{places_put}
 use Rattle.erd_text.proofs.OneByOne.{one_more}
 use Rattle.erd_text.proofs.StableRising.{map_after}
-use Rattle.erd_normal.proofs.ranks.SelectionsInTurn.{flat_more, starts_after, contest_values, few_in_turn, named_in_turn, selections_of, value_there}
-use Rattle.erd_normal.proofs.ranks.SelectionRanks.{low_in_contest, places_are_ranks, ranks_in, selections_ranked}
+use Rattle.erd_normal.proofs.ranks.SelectionRanks.{flat_more, starts_after, contest_values, few_in_turn, named_in_turn, selections_of, value_there, low_in_contest, places_are_ranks, ranks_in, selections_ranked}
 use Rattle.erd_normal.proofs.writer.selection_orders.selection_orders.Goals as goal
 
 -- the contest at a position, and its selections

@@ -1,6 +1,5 @@
 use Rattle.erd_normal.proofs.Common.{◌≡◌, map, length, take, flat_map, view, rising_selections}
-use Rattle.erd_normal.proofs.ranks.SelectionRanks.{ranks_in}
-use Rattle.erd_normal.proofs.ranks.SelectionsInTurn.{contest_values, selections_of}
+use Rattle.erd_normal.proofs.ranks.SelectionRanks.{ranks_in, contest_values, selections_of}
 use Rattle.erd_normal.proofs.writer.selection_orders.selection_orders.Given as goal
 
 abbrev pub invariant-loop-index : goal.invariant-loop-index

@@ -1,6 +1,6 @@
 use Rattle.erd_normal.proofs.Common.{[], slice_get, option_map, sym, ap, ◌∙◌, view, contests}
-use Rattle.erd_normal.proofs.ranks.PartObjects.{seen_value, unseen_value}
-use Rattle.erd_normal.proofs.ranks.SelectionsInTurn.{selections_of}
+use Rattle.erd_normal.proofs.ranks.WrittenTrees.{seen_value, unseen_value}
+use Rattle.erd_normal.proofs.ranks.SelectionRanks.{selections_of}
 use Rattle.erd_normal.proofs.writer.selection_orders.selections_at.Goals as goal
 
 pub returns-in-Some : goal.returns-in-Some

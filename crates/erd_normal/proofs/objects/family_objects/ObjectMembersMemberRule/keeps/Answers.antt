@@ -1,5 +1,5 @@
 use Rattle.erd_normal.proofs.Common.{◌≡◌, false, not, is_some, if◌then◌else◌, sym, ap, ◌∙◌, view, is_empty_array, normal_value, holds_parts}
-use Rattle.erd_normal.proofs.texts.PutObjects.{kept_in_object}
+use Rattle.erd_normal.proofs.texts.DueTokens.{kept_in_object}
 use Rattle.erd_normal.proofs.objects.family_objects.ObjectMembersMemberRule.keeps.Goals as goal
 
 pub returns-else-holds_parts : goal.returns-else-holds_parts

@@ -1,5 +1,5 @@
 use Rattle.erd_normal.proofs.Common.{is_some, sym, ap, ◌∙◌, view}
-use Rattle.erd_normal.proofs.texts.PutObjects.{other_election_value}
+use Rattle.erd_normal.proofs.texts.DueTokens.{other_election_value}
 use Rattle.erd_normal.proofs.report.election.ElectionMembersMemberRule.keeps.Goals as goal
 
 pub returns-in_default : goal.returns-in_default

@@ -1,5 +1,5 @@
 use Rattle.erd_normal.proofs.Common.{is_some, sym, ap, ◌∙◌, view}
-use Rattle.erd_normal.proofs.texts.PutObjects.{other_report_value}
+use Rattle.erd_normal.proofs.texts.DueTokens.{other_report_value}
 use Rattle.erd_normal.proofs.report.report_text.ReportMembersMemberRule.keeps.Goals as goal
 
 pub returns-then-not-is_envelope : goal.returns-then-not-is_envelope

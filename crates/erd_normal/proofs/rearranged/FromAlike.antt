@@ -3,35 +3,12 @@ use Rattle.erd_normal.proofs.Common.{◌≡◌, ℕ, Bool, true, false, cond, �
 use Rattle.erd_normal.proofs.lists.Matched.{Paired, none, more}
 use Rattle.erd_normal.proofs.rearranged.AlikeChanges.{Alike, AlikeMembers, AreAlike, IsArranged, as_it_is, exchanged_alike, renamed_alike}
 use Rattle.erd_normal.proofs.rearranged.AlikeParts.{alike_unasked}
-use Rattle.erd_normal.proofs.same.Back.{set_says, list_says}
-use Rattle.erd_normal.proofs.same.FamilyValues.{value_placed}
-use Rattle.erd_normal.proofs.same.IdsOfObjects.{reference_refers, asked_id, owned_id, IsId}
+use Rattle.erd_normal.proofs.same.Related.{set_says, list_says, Stands, entry_stands, member_stands}
+use Rattle.erd_normal.proofs.same.IdsOfObjects.{value_placed, reference_refers, asked_id, owned_id, IsId}
 
 -- each text of an `@id` or a reference of the report comes back
 pub record ComesBack (ρ σ : List ℕ → List ℕ) (t : Data) : Type 0 where
   pub text : (a : Asked) (s : List ℕ) → Within t a → is_id_text a.want ≡ true → a.value ≡ string s → σ (ρ s) ≡ s
-
--- this is asked of the value, somewhere in the report
-pub record Stands (t : Data) (w : Want) (d : Data) : Type 0 where
-  pub repeated : Bool
-  pub inside : Within t (record { want = w; value = d; repeated = repeated })
-
--- what stands in arrays and objects
-pub entry_stands : (t : Data) (w v : Want) (d : Data) → entry_want w ≡ Some v → Stands t w d → (x : Data) → In x (entries_of d) → Stands t v x
-entry_stands t w v (array ds) asks st x h =
-    let j = list_of_items-place ds x h in
-    let a : Asked = record { want = w; value = array ds; repeated = st.repeated } in
-    let b : Asked = record { want = v; value = x; repeated = is_compared_set w && is_repeated ds j.0 x } in
-    record { repeated = is_compared_set w && is_repeated ds j.0 x; inside = Within-step t a b (At j.0) st.inside (rw (asks, j.1) refl) }
-entry_stands t w v e asks st x h = elim h [ ]
-
-pub member_stands : (t : Data) (w : Want) (ms : Members) → Stands t w (object ms) → (k : List ℕ) (v : Want) (d : Data) → want_of_name (scope_inside w (object ms)) k ≡ Some v → get_member k ms ≡ Some d → Stands t v d
-member_stands t w ms st k v d asks found =
-    let a : Asked = record { want = w; value = object ms; repeated = st.repeated } in
-    record { repeated = false; inside = Within-step t a (asked v d) (Name k) st.inside (rw (asks, found) refl) }
-
-pub stands_tree : (t : Data) (w : Want) (d : Data) → IsTree t → Stands t w d → IsTree d
-stands_tree t w d tree st = within-tree t (record { want = w; value = d; repeated = st.repeated }) tree st.inside
 
 module _ (ρ σ : List ℕ → List ℕ) (t u : Data) (back : ComesBack ρ σ t) where
   abbrev m : Sides
