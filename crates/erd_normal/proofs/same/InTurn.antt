@@ -1,13 +1,11 @@
 -- Reports that say the same in turn: what each reference came from, and what three reports say.
-use Rattle.erd_normal.proofs.Common.{◌≡◌, ℕ, Bool, true, ◌&&◌, ◌⊎◌, List, [], ◌∷◌, Some, None, Option, option_map, option_and_then, sym, refl, ap, ◌∙◌, subst, inl, inr, Data, array, object, Items, Members, get_member, get_item, role, Step, At, Name, list_of_items-place, Within-step, Within-root, within-tree, Within, is_reference, IsTree, list_of_items, scope_inside, want_of_name, entry_want, is_compared_set, Asked, asked, is_repeated, asked_of_member, asked_inside, asked_from, asked_at, Want, Object, Sides, a_list, a_set, an_object, Same, SameMembers, MayBeAbsent, false, no_items, class, MemberKind, kind, member_want, asked_of_entry, Scope, scope, Member, Reference, is_envelope, an_empty_array, of_the_envelope, an_unused_id, option_map_or, ⊎_elim, IsPermutation, IsPermutation-sym, IsPermutation-trans, Num, null, boolean, number, string, item, no_members, member, is_table_set, is_id_text, SaysInTurn, NameOneThing, IsUnused, not_asked, a_null, a_flag, a_number, a_text, an_id, no_entry, one_entry, no_member, in_both, left_only, right_only, SameEntries, true≢false}
+use Rattle.erd_normal.proofs.Common.{◌≡◌, ℕ, Bool, true, ◌&&◌, ◌⊎◌, List, [], ◌∷◌, Some, None, Option, option_map, option_and_then, sym, refl, ap, ◌∙◌, subst, inl, inr, Data, array, object, Items, Members, get_member, get_item, role, Step, At, Name, list_of_items-place, Within-step, Within-root, within-tree, Within, is_reference, IsTree, list_of_items, scope_inside, want_of_name, entry_want, is_compared_set, Asked, asked, is_repeated, asked_of_member, asked_inside, asked_from, asked_at, Want, Object, Sides, a_list, a_set, an_object, Same, SameMembers, MayBeAbsent, false, no_items, class, MemberKind, kind, member_want, asked_of_entry, Scope, scope, Member, Reference, is_envelope, an_empty_array, of_the_envelope, an_unused_id, option_map_or, ⊎_elim, IsPermutation, IsPermutation-sym, IsPermutation-trans, string, item, no_members, member, is_id_text, SaysInTurn, NameOneThing, IsUnused, not_asked, a_null, a_flag, a_number, a_text, an_id, no_entry, one_entry, no_member, in_both, left_only, right_only, SameEntries, true≢false}
 use Rattle.erd_normal.proofs.lists.Matched.{Matched, matched_back}
 use Rattle.erd_normal.proofs.same.Related.{entry_has, entries_matched, same_back, set_swapped, turned}
 use Rattle.erd_normal.proofs.same.Lookups.{Aligned, both_there, not_both, lookups, MayLack, scope_same, plain_scope, is_plain, AllPlain}
 use Rattle.erd_normal.proofs.throughout.ThroughoutMembers.{along, known_passes, one_inside}
 use Rattle.erd_normal.proofs.throughout.ThroughoutReports.{of_envelope}
 use Rattle.std.proofs.lemmas.List.Sorted.{length_permutation}
-
--- ---- each reference of the right report comes from one of the left report that it stands for
 
 -- ---- no reference is asked for in what is plain, nor in identifiers
 
@@ -187,8 +185,6 @@ reference_came_from m t u left_tree right_tree same p c e is =
     (λ b inside h from ms ns n v f value here scopes lacks there asks may. no_reference_absent m.right (scope_inside from.of.want (object ms)) n v f may asks) (λ b x s inside from found. tt)
     (asked (Object role.Report) u) p c (Within-root u) tt (record { of = asked (Object role.Report) t; inside = Within-root t; want = refl; same = same }) tt e)
 
--- ---- if v says what t says, and u what v says, then u says what t says
-
 -- ---- what may be absent, along the relation
 
 pub record OtherText (m : Sides) (id : List ℕ) (c : Data) : Type 0 where
@@ -255,109 +251,54 @@ module _ (t v u : Data) (there back there' back' : List ℕ → List ℕ) where
   Backward = (s : Scope) (k : List ℕ) (d e : Data) → MayBeAbsent v s k e → Same one (want_of_name s k) d e → MayBeAbsent t s k d
 
   module _ (forth : Forth) (backward : Backward) where
-    stand_in_turn : (a b c : List ℕ) → NameOneThing one a b → NameOneThing two b c → NameOneThing whole a c
-    stand_in_turn a b c h g = (g.0 ∙ ap there' h.0, h.1 ∙ ap back g.1)
-
     -- members of the middle that may be absent
-    only_left : {s : Scope} {ms ns : Members} → SameMembers one s ms ns → ns ≡ no_members → SameMembers whole s ms no_members
-    only_left no_member e = no_member
-    only_left (left_only h rest) e = left_only h (only_left rest e)
-    only_left h e = cc
+    only_left : {s : Scope} {ms : Members} → SameMembers one s ms no_members → SameMembers whole s ms no_members
+    only_left no_member = no_member
+    only_left (left_only h rest) = left_only h (only_left rest)
 
     -- the first member of the middle, which stands in the last too
-    through_both : {s : Scope} {ms ns : Members} (k : List ℕ) (e c : Data) (ns' ps : Members) → SameMembers one s ms ns → ns ≡ member k e ns' → Same two (want_of_name s k) e c
-        → ((d : Data) → Same one (want_of_name s k) d e → Same whole (want_of_name s k) d c) → ((ms' : Members) → SameMembers one s ms' ns' → SameMembers whole s ms' ps) → SameMembers whole s ms (member k c ps)
-    through_both k e c ns' ps no_member is g value rest = cc
-    through_both {s} k e c ns' ps (in_both {k = l} {d = d} {e = f} {ms = ms} {ns = qs} h more) is g value rest =
-        let name : l ≡ k = cc in let value_is : f ≡ e = cc in let members : qs ≡ ns' = cc in
-        subst (λ x. SameMembers whole s (member x d ms) (member k c ps)) (sym name)
-        (in_both (value d (subst (λ x. Same one (want_of_name s x) d e) name (subst (Same one (want_of_name s l) d) value_is h))) (rest ms (subst (SameMembers one s ms) members more)))
-    through_both k e c ns' ps (left_only h more) is g value rest = left_only h (through_both k e c ns' ps more is g value rest)
-    through_both {s} k e c ns' ps (right_only {k = l} {e = f} {ms = ms} {ns = qs} h more) is g value rest =
-        let name : l ≡ k = cc in let value_is : f ≡ e = cc in let members : qs ≡ ns' = cc in
-        right_only (forth s k e c (subst (λ x. MayBeAbsent v s x e) name (subst (MayBeAbsent v s l) value_is h)) g) (rest ms (subst (SameMembers one s ms) members more))
+    through_both : {s : Scope} {ms ns ps : Members} {k : List ℕ} {e c : Data} → SameMembers one s ms (member k e ns) → Same two (want_of_name s k) e c
+        → ((d : Data) → Same one (want_of_name s k) d e → Same whole (want_of_name s k) d c) → ((qs : Members) → SameMembers one s qs ns → SameMembers whole s qs ps) → SameMembers whole s ms (member k c ps)
+    through_both (in_both h more) g value rest = in_both (value _ h) (rest _ more)
+    through_both (left_only h more) g value rest = left_only h (through_both more g value rest)
+    through_both {s} {k = k} {e = e} {c = c} (right_only h more) g value rest = right_only (forth s k e c h g) (rest _ more)
 
     -- and one that does not
-    through_left : {s : Scope} {ms ns : Members} (k : List ℕ) (e : Data) (ns' ps : Members) → SameMembers one s ms ns → ns ≡ member k e ns' → MayBeAbsent v s k e
-        → ((ms' : Members) → SameMembers one s ms' ns' → SameMembers whole s ms' ps) → SameMembers whole s ms ps
-    through_left k e ns' ps no_member is g rest = cc
-    through_left {s} k e ns' ps (in_both {k = l} {d = d} {e = f} {ms = ms} {ns = qs} h more) is g rest =
-        let name : l ≡ k = cc in let value_is : f ≡ e = cc in let members : qs ≡ ns' = cc in
-        left_only (backward s l d f (subst (λ x. MayBeAbsent v s x f) (sym name) (subst (MayBeAbsent v s k) (sym value_is) g)) h) (rest ms (subst (SameMembers one s ms) members more))
-    through_left k e ns' ps (left_only h more) is g rest = left_only h (through_left k e ns' ps more is g rest)
-    through_left {s} k e ns' ps (right_only {ms = ms} {ns = qs} h more) is g rest =
-        let members : qs ≡ ns' = cc in rest ms (subst (SameMembers one s ms) members more)
-
-    -- the parts of the first, where the second is known
-    first_null : {w : Want} {d : Data} → Same one (Some w) d null → Same whole (Some w) d null
-    first_null a_null = a_null
-
-    first_flag : {w : Want} {d : Data} {b : Bool} → Same one (Some w) d (boolean b) → Same whole (Some w) d (boolean b)
-    first_flag a_flag = a_flag
-
-    first_none : {d e : Data} → Same one None d e → Same whole None d e
-    first_none not_asked = not_asked
-
-    first_number : {w : Want} {d : Data} {n : Num} → Same one (Some w) d (number n) → Same whole (Some w) d (number n)
-    first_number a_number = a_number
-
-    text_kept : (w : Want) (s : List ℕ) (d e : Data) → is_id_text w ≡ false → Same one (Some w) d e → e ≡ string s → Same whole (Some w) d e
-    text_kept w s d e plain (a_text is) h = a_text is
-    text_kept w s d e plain (an_id is pair) h = absurd (true≢false (sym is ∙ plain))
-    text_kept w s d e plain same h = cc
-
-    id_kept : (w : Want) (b c : List ℕ) (d e : Data) → is_id_text w ≡ true → NameOneThing two b c → Same one (Some w) d e → e ≡ string b → Same whole (Some w) d (string c)
-    id_kept w b c d e is pair (an_id {s = a} {s' = b'} i h) text = let same : b' ≡ b = cc in an_id is (stand_in_turn a b c (subst (NameOneThing one a) same h) pair)
-    id_kept w b c d e is pair (a_text plain) text = absurd (true≢false (sym is ∙ plain))
-    id_kept w b c d e is pair same text = cc
-
-    list_kept : (w : Want) (d : Data) (es gs : Items) → is_table_set w ≡ false → Same one (Some w) d (array es)
-        → ((ds : Items) → SameEntries one (entry_want w) ds es → SameEntries whole (entry_want w) ds gs) → Same whole (Some w) d (array gs)
-    list_kept w d es gs list (a_list is h) entries = a_list list (entries _ h)
-    list_kept w d es gs list (a_set fs is p h) entries = let x : true ≡ false = sym is ∙ list in cc
-
-    set_kept : (w : Want) (d : Data) (es gs hs : Items) → is_table_set w ≡ true → IsPermutation (list_of_items es) (list_of_items hs) → Same one (Some w) d (array es)
-        → ((ds : Items) → SameEntries one (entry_want w) ds hs → SameEntries whole (entry_want w) ds gs) → Same whole (Some w) d (array gs)
-    set_kept w d es gs hs set q (a_list is h) entries = let x : true ≡ false = sym set ∙ is in cc
-    set_kept w d es gs hs set q (a_set {ds = ds} fs is p h) entries =
-        let b = set_swapped one (entry_want w) hs es fs (IsPermutation-sym (list_of_items es) (list_of_items hs) q) h in
-        a_set b.moved set (IsPermutation-trans (list_of_items ds) (list_of_items fs) (list_of_items b.moved) p b.permuted) (entries b.moved b.entries)
-
-    object_kept : (w : Want) (d : Data) (ns ps : Members) → Same one (Some w) d (object ns)
-        → ((s : Scope) → s ≡ scope_inside w (object ns) → (ms : Members) → SameMembers one s ms ns → SameMembers whole s ms ps) → Same whole (Some w) d (object ps)
-    object_kept w d ns ps (an_object {ms = ms} h) members = an_object (members (scope_inside w (object ms)) (scope_same one w ms ns h) ms h)
-
-    entries_kept_none : (o : Option Want) (ds : Items) → SameEntries one o ds no_items → SameEntries whole o ds no_items
-    entries_kept_none o ds no_entry = no_entry
-
-    entries_kept : (o : Option Want) (ds : Items) (e c : Data) (es gs : Items) → SameEntries one o ds (item e es) → ((d : Data) → Same one o d e → Same whole o d c)
-        → ((fs : Items) → SameEntries one o fs es → SameEntries whole o fs gs) → SameEntries whole o ds (item c gs)
-    entries_kept o ds e c es gs (one_entry h rest) first after = one_entry (first _ h) (after _ rest)
+    through_left : {s : Scope} {ms ns ps : Members} {k : List ℕ} {e : Data} → SameMembers one s ms (member k e ns) → MayBeAbsent v s k e
+        → ((qs : Members) → SameMembers one s qs ns → SameMembers whole s qs ps) → SameMembers whole s ms ps
+    through_left {s} {k = k} {e = e} (in_both {d = d} h more) g rest = left_only (backward s k d e g h) (rest _ more)
+    through_left (left_only h more) g rest = left_only h (through_left more g rest)
+    through_left (right_only h more) g rest = rest _ more
 
     mutual
-      pub in_turn : (d : Data) {o : Option Want} {e c : Data} → Same two o e c → Same one o d e → Same whole o d c
-      in_turn d not_asked h = first_none h
-      in_turn d a_null h = first_null h
-      in_turn d a_flag h = first_flag h
-      in_turn d a_number h = first_number h
-      in_turn d (a_text {w = w} {s = s} is) h = text_kept w s d (string s) is h refl
-      in_turn d (an_id {w = w} {s = b} {s' = c} is pair) h = id_kept w b c d (string b) is pair h refl
-      in_turn d (a_list {w = w} {ds = es} {es = gs} is g) h = list_kept w d es gs is h (λ ds k. entries_in_turn ds g k)
-      in_turn d (a_set {w = w} {ds = es} {es = gs} hs is q g) h = set_kept w d es gs hs is q h (λ ds k. entries_in_turn ds g k)
-      in_turn d (an_object {w = w} {ms = ns} {ns = ps} g) h = object_kept w d ns ps h (λ s same ms k. members_in_turn ms s g same k)
+      pub in_turn : {o : Option Want} {d e c : Data} → Same two o e c → Same one o d e → Same whole o d c
+      in_turn not_asked not_asked = not_asked
+      in_turn a_null a_null = a_null
+      in_turn a_flag a_flag = a_flag
+      in_turn a_number a_number = a_number
+      in_turn (a_text is) (a_text other) = a_text is
+      in_turn (a_text is) (an_id other first) = absurd (true≢false (sym other ∙ is))
+      in_turn (an_id is pair) (a_text other) = absurd (true≢false (sym is ∙ other))
+      in_turn (an_id is pair) (an_id other first) = an_id is (pair.0 ∙ ap there' first.0, first.1 ∙ ap back pair.1)
+      in_turn (a_list is g) (a_list other h) = a_list is (entries_in_turn g h)
+      in_turn (a_list is g) (a_set fs other p h) = absurd (true≢false (sym other ∙ is))
+      in_turn (a_set hs is q g) (a_list other h) = absurd (true≢false (sym is ∙ other))
+      in_turn (a_set {w = w} {ds = es} hs is q g) (a_set {ds = ds} fs other p h) =
+          let b = set_swapped one (entry_want w) hs es fs (IsPermutation-sym (list_of_items es) (list_of_items hs) q) h in
+          a_set b.moved is (IsPermutation-trans (list_of_items ds) (list_of_items fs) (list_of_items b.moved) p b.permuted) (entries_in_turn g b.entries)
+      in_turn (an_object {w = w} {ms = ns} g) (an_object {ms = ms} h) = an_object (members_in_turn g (scope_same one w ms ns h) h)
 
-      entries_in_turn : (ds : Items) {o : Option Want} {es gs : Items} → SameEntries two o es gs → SameEntries one o ds es → SameEntries whole o ds gs
-      entries_in_turn ds {o} no_entry h = entries_kept_none o ds h
-      entries_in_turn ds (one_entry {w = o} {d = e} {e = c} {ds = es} {es = gs} g more) h = entries_kept o ds e c es gs h (λ d k. in_turn d g k) (λ fs k. entries_in_turn fs more k)
+      entries_in_turn : {o : Option Want} {ds es gs : Items} → SameEntries two o es gs → SameEntries one o ds es → SameEntries whole o ds gs
+      entries_in_turn no_entry no_entry = no_entry
+      entries_in_turn (one_entry g more) (one_entry h rest) = one_entry (in_turn g h) (entries_in_turn more rest)
 
-      members_in_turn : (ms : Members) (s : Scope) {s' : Scope} {ns ps : Members} → SameMembers two s' ns ps → s ≡ s' → SameMembers one s ms ns → SameMembers whole s ms ps
-      members_in_turn ms s no_member same h = only_left h refl
-      members_in_turn ms s (in_both {s = s'} {k = k} {d = e} {e = c} {ms = ns} {ns = ps} g more) same h =
-          through_both k e c ns ps h refl (subst (λ x. Same two (want_of_name x k) e c) (sym same) g)
-          (λ d i. subst (λ x. Same whole (want_of_name x k) d c) (sym same) (in_turn d g (subst (λ x. Same one (want_of_name x k) d e) same i))) (λ ms' i. members_in_turn ms' s more same i)
-      members_in_turn ms s (left_only {k = k} {d = e} {ms = ns} {ns = ps} g more) same h =
-          through_left k e ns ps h refl (subst (λ x. MayBeAbsent v x k e) (sym same) g) (λ ms' i. members_in_turn ms' s more same i)
-      members_in_turn ms s (right_only {k = k} {e = c} g more) same h = right_only (subst (λ x. MayBeAbsent u x k c) (sym same) g) (members_in_turn ms s more same h)
+      members_in_turn : {s s' : Scope} {ms ns ps : Members} → SameMembers two s' ns ps → s ≡ s' → SameMembers one s ms ns → SameMembers whole s ms ps
+      members_in_turn no_member same h = only_left h
+      members_in_turn (in_both {k = k} {d = e} {e = c} g more) same h =
+          through_both h (subst (λ x. Same two (want_of_name x k) e c) (sym same) g)
+          (λ d i. subst (λ x. Same whole (want_of_name x k) d c) (sym same) (in_turn g (subst (λ x. Same one (want_of_name x k) d e) same i))) (λ qs i. members_in_turn more same i)
+      members_in_turn (left_only {k = k} {d = e} g more) same h = through_left h (subst (λ x. MayBeAbsent v x k e) (sym same) g) (λ qs i. members_in_turn more same i)
+      members_in_turn (right_only {k = k} {e = c} g more) same h = right_only (subst (λ x. MayBeAbsent u x k c) (sym same) g) (members_in_turn more same h)
 
 pub says_in_turn : SaysInTurn
 says_in_turn t v u tree tree' tree'' h g =
@@ -369,5 +310,5 @@ says_in_turn t v u tree tree' tree'' h g =
       same = in_turn t v u h.there h.back g.there g.back
           (λ s k e c i j. absent_along n tree' tree'' g.same s k e c i j)
           (λ s k d e i j. absent_along (turned m) tree' tree (same_back m h.same) s k e d i (same_back m j))
-          t g.same h.same;
+          g.same h.same;
     }
