@@ -1,5 +1,3 @@
 -- A rearranged report is accepted as it was, says the same and so means the same.
-pub mod AlikeParts
-pub mod AlikeChanges
+pub mod Alike
 pub mod RearrangedReports
-pub mod FromAlike

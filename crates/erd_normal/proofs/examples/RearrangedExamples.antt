@@ -5,7 +5,7 @@ use Rattle.erd_normal.proofs.lists.Lists.{passed, is_family}
 use Rattle.erd_meaning.proofs.identity.IdentityFaults.{identity_told}
 use Rattle.erd_meaning.proofs.references.ReferenceWalks.{reference_faults}
 use Rattle.erd_meaning.proofs.refused.Refused.{accepted_by_lists}
-use Rattle.erd_normal.proofs.rearranged.FromAlike.{renamed_says_the_same}
+use Rattle.erd_normal.proofs.rearranged.RearrangedReports.{renamed_says_the_same}
 use Rattle.erd_meaning.proofs.selections.NamesTold.{selections_told}
 use Rattle.erd_normal.proofs.same.complete.Complete.{preferences_agree}
 use Rattle.erd_normal.proofs.same.means.Meanings.{saying_the_same_means_the_same}
@@ -21,8 +21,6 @@ equal_trees d e h =
     let first = and_parts (is_tree d) _ h in
     let both = and_parts (is_tree e) _ first.1 in
     is_same_exact d e (tree_sound d first.0) (tree_sound e both.0) both.1
-
--- ---- whole reports that are rearrangements of one another, and changes that are refused
 
 -- ---- texts with a part replaced
 
@@ -178,8 +176,6 @@ no_third u cs h = absurd (omega (arith, h.0.2))
 unchanged : IsRearrangement [] report (tree_of small_ballot) → ⊥
 unfolding serde_json_on_literals
 unchanged h = true≢false (ap (λ t. length (objects family.Unit t) == 1) h)
-
--- ---- small reports under two preferences: what the law says of them
 
 -- ---- three reports, and two preferences
 

@@ -5,7 +5,7 @@ use Rattle.erd_normal.proofs.built.NormalTrees.{put_elsewhere, put_twice}
 use Rattle.erd_normal.proofs.lists.Matched.{matched_equal}
 use Rattle.erd_normal.proofs.lists.Lists.{rising-reordered}
 use Rattle.erd_normal.proofs.same.Lookups.{Aligned, both_there, not_both, MayLack, lookups, of_object, lacks_none, merged, is_steady, is_steady_kind, stays_one, steady_of_kind, steady_same, is_plain, is_plain_kind, plain_of_kind, AllPlain, plain_entry, plain_no_id, plain_scope}
-use Rattle.erd_normal.proofs.same.Related.{entries_matched, lacking_empty, ApartBy, AreSound, itself, json_sets_reordered, same_self, entries_self}
+use Rattle.erd_normal.proofs.same.Related.{entries_matched, lacking_empty, ApartBy, AreSound, itself, json_sets_reordered, alike_self, alike_same, entries_same, entries_self}
 use Rattle.erd_normal.proofs.throughout.ThroughoutMembers.{known_passes}
 
 -- ---- texts of values in order
@@ -121,7 +121,7 @@ plain_text m w s plain is = absurd (true≢false (sym is ∙ plain_no_id w plain
 
 -- what is plain says what it says, whatever the functions of texts
 pub plain_self : (m : Sides) (o : Option Want) (d : Data) → AllPlain o → Same m o d d
-plain_self m = same_self m AllPlain (plain_text m) plain_entry plain_scope
+plain_self m o d plain = alike_same (alike_self m AllPlain (plain_text m) plain_entry plain_scope o d plain)
 
 -- the parts of what a label means
 abbrev map_of : Label → JsonMap
@@ -147,7 +147,7 @@ module _ (m : Sides) where
 
   texts_same : (ds es : Items) → IsPermutation (list_of_items ds) (list_of_items es) → Same m (Some (Member kind.Languages true)) (array ds) (array es)
   texts_same ds es h =
-      a_set es refl h (entries_self m AllPlain (plain_text m) plain_entry plain_scope (Some (Object role.Language)) es refl)
+      a_set es refl h (entries_same (entries_self m AllPlain (plain_text m) plain_entry plain_scope (Some (Object role.Language)) es refl))
 
   pub labels_say : (ms ns : Members) → AreMembers ms → AreMembers ns → (left : Translations ms) (right : Translations ns) → get_member (codes "@type") ms ≡ get_member (codes "@type") ns
       → label_of (object ms) ≡ label_of (object ns) → SameMembers m in_label ms ns

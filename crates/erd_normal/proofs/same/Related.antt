@@ -182,43 +182,84 @@ says_back t u h = record { there = h.back; back = h.there; same = same_back (rec
 abbrev pub as_it_is : List ℕ → List ℕ
 as_it_is s = s
 
--- what is asked says what it says, with all that is inside it, where each text of an `@id` stands for itself
+-- ---- values that say the same with nothing absent
+
+-- a value with nothing inside it of which anything is asked
+abbrev pub is_leaf : Option Want → Data → Bool
+is_leaf (Some w) (array ds) = false
+is_leaf (Some w) (object ms) = false
+is_leaf o d = true
+
+mutual
+  -- The values say the same, and no member of the one is absent in the other.
+  pub data Alike (m : Sides) : Option Want → Data → Data → Type 0 where
+    alike_leaf : {o : Option Want} {d e : Data} → is_leaf o d ≡ true → Same m o d e → Alike m o d e
+    alike_list : {w : Want} {ds es : Items} → is_table_set w ≡ false → AlikeEntries m (entry_want w) ds es → Alike m (Some w) (array ds) (array es)
+    alike_set : {w : Want} {ds es : Items} (fs : Items) → is_table_set w ≡ true → IsPermutation (list_of_items ds) (list_of_items fs) → AlikeEntries m (entry_want w) fs es
+        → Alike m (Some w) (array ds) (array es)
+    alike_object : {w : Want} {ms ns : Members} → AlikeMembers m (scope_inside w (object ms)) ms ns → Alike m (Some w) (object ms) (object ns)
+
+  -- the entries of an array, one by one
+  pub data AlikeEntries (m : Sides) : Option Want → Items → Items → Type 0 where
+    alike_none : {o : Option Want} → AlikeEntries m o no_items no_items
+    alike_more : {o : Option Want} {d e : Data} {ds es : Items} → Alike m o d e → AlikeEntries m o ds es → AlikeEntries m o (item d ds) (item e es)
+
+  -- the members of an object, one by one
+  pub data AlikeMembers (m : Sides) : Scope → Members → Members → Type 0 where
+    alike_nothing : {s : Scope} → AlikeMembers m s no_members no_members
+    alike_under : {s : Scope} {k : List ℕ} {d e : Data} {ms ns : Members} → Alike m (want_of_name s k) d e → AlikeMembers m s ms ns → AlikeMembers m s (member k d ms) (member k e ns)
+
+mutual
+  pub alike_same : {m : Sides} {o : Option Want} {d e : Data} → Alike m o d e → Same m o d e
+  alike_same (alike_leaf is h) = h
+  alike_same (alike_list is h) = a_list is (entries_same h)
+  alike_same (alike_set fs is p h) = a_set fs is p (entries_same h)
+  alike_same (alike_object h) = an_object (members_same h)
+
+  pub entries_same : {m : Sides} {o : Option Want} {ds es : Items} → AlikeEntries m o ds es → SameEntries m o ds es
+  entries_same alike_none = no_entry
+  entries_same (alike_more h rest) = one_entry (alike_same h) (entries_same rest)
+
+  pub members_same : {m : Sides} {s : Scope} {ms ns : Members} → AlikeMembers m s ms ns → SameMembers m s ms ns
+  members_same alike_nothing = no_member
+  members_same (alike_under h rest) = in_both (alike_same h) (members_same rest)
+
+-- arrays whose entries are alike in their order
+pub alike_array : (m : Sides) (w : Want) (ds es : Items) (b : Bool) → is_table_set w ≡ b → AlikeEntries m (entry_want w) ds es → Alike m (Some w) (array ds) (array es)
+alike_array m w ds es true is h = alike_set ds is (IsPermutation-refl (list_of_items ds)) h
+alike_array m w ds es false is h = alike_list is h
+
+-- what is asked is alike to itself, with all that is inside it, where each text of an `@id` stands for itself
 module _ (m : Sides) (H : Option Want → Type 0) (texts : (w : Want) (s : List ℕ) → H (Some w) → is_id_text w ≡ true → NameOneThing m s s) (entries : (w : Want) → H (Some w) → H (entry_want w))
     (names : (w : Want) (ms : Members) → H (Some w) → (n : List ℕ) → H (want_of_name (scope_inside w (object ms)) n)) where
   text_self : (w : Want) (s : List ℕ) (b : Bool) → is_id_text w ≡ b → H (Some w) → Same m (Some w) (string s) (string s)
   text_self w s true is h = an_id is (texts w s h is)
   text_self w s false is h = a_text is
 
-  array_self : (w : Want) (ds : Items) (b : Bool) → is_table_set w ≡ b → SameEntries m (entry_want w) ds ds → Same m (Some w) (array ds) (array ds)
-  array_self w ds true is h = a_set ds is (IsPermutation-refl (list_of_items ds)) h
-  array_self w ds false is h = a_list is h
-
   mutual
-    pub same_self : (o : Option Want) (d : Data) → H o → Same m o d d
-    same_self None d h = not_asked
-    same_self (Some w) null h = a_null
-    same_self (Some w) (boolean b) h = a_flag
-    same_self (Some w) (number n) h = a_number
-    same_self (Some w) (string s) h = text_self w s (is_id_text w) refl h
-    same_self (Some w) (array ds) h = array_self w ds (is_table_set w) refl (entries_self (entry_want w) ds (entries w h))
-    same_self (Some w) (object ms) h = an_object (members_self (scope_inside w (object ms)) ms (names w ms h))
+    pub alike_self : (o : Option Want) (d : Data) → H o → Alike m o d d
+    alike_self None d h = alike_leaf refl not_asked
+    alike_self (Some w) null h = alike_leaf refl a_null
+    alike_self (Some w) (boolean b) h = alike_leaf refl a_flag
+    alike_self (Some w) (number n) h = alike_leaf refl a_number
+    alike_self (Some w) (string s) h = alike_leaf refl (text_self w s (is_id_text w) refl h)
+    alike_self (Some w) (array ds) h = alike_array m w ds ds (is_table_set w) refl (entries_self (entry_want w) ds (entries w h))
+    alike_self (Some w) (object ms) h = alike_object (members_self (scope_inside w (object ms)) ms (names w ms h))
 
-    pub entries_self : (o : Option Want) (ds : Items) → H o → SameEntries m o ds ds
-    entries_self o no_items h = no_entry
-    entries_self o (item d ds) h = one_entry (same_self o d h) (entries_self o ds h)
+    pub entries_self : (o : Option Want) (ds : Items) → H o → AlikeEntries m o ds ds
+    entries_self o no_items h = alike_none
+    entries_self o (item d ds) h = alike_more (alike_self o d h) (entries_self o ds h)
 
-    members_self : (s : Scope) (ms : Members) → ((n : List ℕ) → H (want_of_name s n)) → SameMembers m s ms ms
-    members_self s no_members h = no_member
-    members_self s (member k d ms) h = in_both (same_self (want_of_name s k) d (h k)) (members_self s ms h)
+    pub members_self : (s : Scope) (ms : Members) → ((n : List ℕ) → H (want_of_name s n)) → AlikeMembers m s ms ms
+    members_self s no_members h = alike_nothing
+    members_self s (member k d ms) h = alike_under (alike_self (want_of_name s k) d (h k)) (members_self s ms h)
 
 pub says_itself : SaysItself
 says_itself t = record {
   there = as_it_is;
   back = as_it_is;
-  same = same_self (record { left = t; right = t; there = as_it_is; back = as_it_is }) (λ o. Unit {0}) (λ w s h is. (refl, refl)) (λ w h. tt) (λ w ms h n. tt) (Some (Object role.Report)) t tt;
+  same = alike_same (alike_self (record { left = t; right = t; there = as_it_is; back = as_it_is }) (λ o. Unit {0}) (λ w s h is. (refl, refl)) (λ w h. tt) (λ w ms h n. tt) (Some (Object role.Report)) t tt);
 }
-
--- ---- values of two reports that say the same, and the entries of those that are arrays
 
 -- ---- values of a report
 
@@ -257,7 +298,7 @@ matched_within_both S h m = record {
   reordered = m.reordered;
 }
 
-matched_left : {A B : Type 0} {R : A → B → Type 0} {xs ws : List A} {ys : List B} → IsPermutation xs ws → Paired R ws ys → Matched R xs ys
+pub matched_left : {A B : Type 0} {R : A → B → Type 0} {xs ws : List A} {ys : List B} → IsPermutation xs ws → Paired R ws ys → Matched R xs ys
 matched_left h p = let f = follows (IsPermutation-sym _ _ h) p in record { middle = f.new; paired = f.paired; reordered = IsPermutation-sym _ _ f.reordered }
 
 -- ---- arrays
