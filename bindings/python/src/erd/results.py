@@ -8,8 +8,8 @@ from typing import Optional, Tuple, Union
 
 Step = Union[str, int]
 
-# The words of each reason for a fault, by its number, as `tests/pages/tables.py --write` writes them from docs/PROFILE.md. For
-# reason 2 the name of the member follows.
+# The words of each reason for a fault, by its number. For reason 2 the name of the member follows.
+# `tests/pages/tables.py --write` writes them from docs/PROFILE.md.
 WORDS = {
     1: 'wrong kind',
     2: 'missing member',
