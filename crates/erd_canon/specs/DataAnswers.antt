@@ -4,10 +4,11 @@ use Rattle.serde_json.specs.Data.{Data, string}
 use Rattle.serde_json.specs.Written.{compact_text}
 use Rattle.erd_tables.specs.declared.fault.Fault.{Fault}
 use Rattle.erd_meaning.specs.Keys.{Preference}
+use Rattle.erd_compare.specs.declared.detailed.DetailedDifference.{DetailedDifference}
 use Rattle.erd_compare.specs.declared.difference.Difference.{Difference}
 use Rattle.erd_canon.specs.Bytes.{IsNotJson, IsTreeOf}
 use Rattle.erd_canon.specs.DataValues.{comparison_data, differences_data, faults_data, refused_data}
-use Rattle.erd_canon.specs.EngineTexts.{AreCompared, IsComparison, IsRefusedReport}
+use Rattle.erd_canon.specs.EngineTexts.{AreDetailed, IsComparison, IsRefusedReport}
 use Rattle.erd_canon.specs.Refused.{IsSomeReport}
 use Rattle.erd_canon.specs.Run.{comparison_outcome}
 use Rattle.erd_canon.specs.declared.engines.outcome.Outcome.{Outcome}
@@ -45,17 +46,22 @@ IsCompareData π left right outcome value =
     ⊎ ((found : Option Difference) × IsComparison π left right found × (outcome ≡ comparison_outcome found) × (value ≡ comparison_data found)))
 
 -- The outcome of listing the differences of two accepted reports: good if there are none, and bad otherwise.
-abbrev pub listing_outcome : List Difference → Outcome
+abbrev pub listing_outcome : {A : Type 0} → List A → Outcome
 listing_outcome [] = Good
 listing_outcome (d ∷ ds) = Bad
 
+-- How many bytes the names of selections may have where no caller bounds them: the greatest number of a machine word. No text in
+-- memory is longer.
+abbrev pub any_size : ℕ
+any_size = 18446744073709551615
+
 -- Listing the differences of the two inputs ends with this outcome and answers this value: why the left input is refused, else
--- why the right one is refused, else the array of all differences.
+-- why the right one is refused, else the array of all differences, with what differs inside the selections of contests.
 abbrev pub IsListData : Preference → List ℕ → List ℕ → Outcome → Data → Type 0
 IsListData π left right outcome value =
     IsSideData π (codes "left") left outcome value
     ⊎ ((IsSomeReport π left × IsSideData π (codes "right") right outcome value)
-    ⊎ ((found : List Difference) × AreCompared π left right found × (outcome ≡ listing_outcome found) × (value ≡ differences_data found)))
+    ⊎ ((found : List DetailedDifference) × AreDetailed π left right 0 any_size found × (outcome ≡ listing_outcome found) × (value ≡ differences_data found)))
 
 -- The text is that of the value that checking the bytes answers with this outcome.
 pub record IsCheckedData (π : Preference) (bytes : List ℕ) (outcome : Outcome) (text : List ℕ) : Type 0 where

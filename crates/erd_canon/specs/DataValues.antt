@@ -9,6 +9,8 @@ use Rattle.erd_tables.specs.declared.fault.Reason.TheVariants as reason
 use Rattle.erd_tables.specs.declared.place.Step.{Step}
 use Rattle.erd_tables.specs.declared.place.Step.TheVariants.{Name, At}
 use Rattle.erd_compare.specs.DifferenceData.{difference_data}
+use Rattle.erd_compare.specs.SelectionData.{detailed_data}
+use Rattle.erd_compare.specs.declared.detailed.DetailedDifference.{DetailedDifference}
 use Rattle.erd_compare.specs.declared.difference.Difference.{Difference}
 
 -- A step of a place: the name of a member as a string, or a position, counted from 0, as a number.
@@ -47,5 +49,5 @@ comparison_data None = null
 comparison_data (Some d) = difference_data d
 
 -- A list of differences as the array of their objects, in the same order.
-abbrev pub differences_data : List Difference → Data
-differences_data ds = array (items_of (map difference_data ds))
+abbrev pub differences_data : List DetailedDifference → Data
+differences_data ds = array (items_of (map detailed_data ds))

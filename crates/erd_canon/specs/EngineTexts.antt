@@ -9,6 +9,8 @@ use Rattle.erd_meaning.specs.Accepted.{IsFault}
 use Rattle.erd_meaning.specs.Records.{meaning}
 use Rattle.erd_compare.specs.DifferenceLine.{difference_line}
 use Rattle.erd_compare.specs.Differences.{AreDifferences, IsDifference}
+use Rattle.erd_compare.specs.SelectionDifferences.{AreDetailedDifferences}
+use Rattle.erd_compare.specs.declared.detailed.DetailedDifference.{DetailedDifference}
 use Rattle.erd_compare.specs.declared.difference.Difference.{Difference}
 use Rattle.erd_canon.specs.Bytes.{IsTreeOf, IsNotJson, IsAcceptedReport, IsCanonicalBytes}
 
@@ -64,6 +66,15 @@ pub record AreCompared (π : Preference) (left right : List ℕ) (found : List D
   pub left_accepted : IsAcceptedReport π left left_tree
   pub right_accepted : IsAcceptedReport π right right_tree
   pub differences : AreDifferences (meaning π left_tree) (meaning π right_tree) found
+
+-- Both inputs are accepted reports, and these are all differences of what they mean, in rising order. From the number `first`
+-- on, each has what differs inside the selections of a contest, as long as the names fit into `most` bytes.
+pub record AreDetailed (π : Preference) (left right : List ℕ) (first most : ℕ) (found : List DetailedDifference) : Type 0 where
+  pub left_tree : Data
+  pub right_tree : Data
+  pub left_accepted : IsAcceptedReport π left left_tree
+  pub right_accepted : IsAcceptedReport π right right_tree
+  pub differences : AreDetailedDifferences (meaning π left_tree) (meaning π right_tree) first most found
 
 -- The lines, each with the name of one side in front.
 abbrev pub lines_of_side : List ℕ → List (List ℕ) → List (List ℕ)

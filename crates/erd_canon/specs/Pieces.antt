@@ -6,13 +6,14 @@ use Rattle.serde_json.specs.Written.{compact_text}
 use Rattle.erd_tables.specs.Faults.{fault_line}
 use Rattle.erd_tables.specs.declared.fault.Fault.{Fault}
 use Rattle.erd_meaning.specs.Keys.{Preference}
-use Rattle.erd_compare.specs.DifferenceData.{difference_data}
 use Rattle.erd_compare.specs.DifferenceLine.{difference_line}
+use Rattle.erd_compare.specs.SelectionData.{detailed_data}
+use Rattle.erd_compare.specs.declared.detailed.DetailedDifference.{DetailedDifference}
 use Rattle.erd_compare.specs.declared.difference.Difference.{Difference}
 use Rattle.erd_canon.specs.Bytes.{IsCanonicalBytes, IsNotJson}
 use Rattle.erd_canon.specs.DataAnswers.{IsDataText, listing_outcome}
 use Rattle.erd_canon.specs.DataValues.{comparison_data, fault_data, faults_data, refused_data}
-use Rattle.erd_canon.specs.EngineTexts.{AreCompared, IsComparison, IsRefusedReport, comparison_line, lines_of_side, text_of_lines}
+use Rattle.erd_canon.specs.EngineTexts.{AreCompared, AreDetailed, IsComparison, IsRefusedReport, comparison_line, lines_of_side, text_of_lines}
 use Rattle.erd_canon.specs.Refused.{IsSomeReport}
 use Rattle.erd_canon.specs.Run.{comparison_outcome}
 use Rattle.erd_canon.specs.declared.engines.outcome.Outcome.{Outcome}
@@ -84,12 +85,14 @@ IsComparePiece π left right piece outcome told value =
     ⊎ ((found : Option Difference) × IsComparison π left right found × (outcome ≡ comparison_outcome found) × (value ≡ comparison_data found) × TellsNone told))
 
 -- Listing the differences of the two inputs ends with this outcome and answers this value: why the left input is refused, else
--- why the right one is refused, each with a piece of the faults, else the array of a piece of the differences.
+-- why the right one is refused, each with a piece of the faults, else the array of a piece of the differences. These have what
+-- differs inside the selections of contests from the first entry of the piece on, as long as the names fit into as many bytes
+-- as are enough for the piece.
 abbrev pub IsListPiece : Preference → List ℕ → List ℕ → Piece → Outcome → Told → Data → Type 0
 IsListPiece π left right piece outcome told value =
     IsSidePiece π (codes "left") left piece outcome told value
     ⊎ ((IsSomeReport π left × IsSidePiece π (codes "right") right piece outcome told value)
-    ⊎ ((found : List Difference) × AreCompared π left right found × (outcome ≡ listing_outcome found) × IsPieceData difference_data piece found told value))
+    ⊎ ((found : List DetailedDifference) × AreDetailed π left right piece.first piece.enough_bytes found × (outcome ≡ listing_outcome found) × IsPieceData detailed_data piece found told value))
 
 -- The text is that of a value that meets `Answers`, with what is told of its list.
 pub record IsPieceText (Answers : Told → Data → Type 0) (told : Told) (text : List ℕ) : Type 0 where

@@ -1,9 +1,9 @@
 -- What differs inside the selections of contests, and the list of all differences with it. All of this is the profile's own.
-use Rattle.std.specs.Prelude.{◌≡◌, List, Bool, true, false, map, Option, Some, None, option_and_then, option_map, codes}
-use Rattle.std.specs.List.{AllByRecursion}
+use Rattle.std.specs.Prelude.{ℕ, zero, suc, ◌+◌, ◌≤◌, ◌≡◌, ◌≢◌, ◌↔◌, List, [], ◌∷◌, Bool, true, false, map, length, sum, Option, Some, None, option_and_then, option_map, unwrap_or, codes, ⊤}
+use Rattle.std.specs.List.{AllByRecursion, IsDistinct}
 use Rattle.std.specs.List.Sorted.{IsStrictlySortedBy}
 use Rattle.std.specs.Option.{option_cmp}
-use Rattle.std.specs.Ordering.{ordering_then}
+use Rattle.std.specs.Ordering.{eq_by_cmp, ordering_then}
 use Rattle.std.specs.Str.{bytes_eq}
 use Rattle.std.specs.declared.cmp.Ordering.{Ordering}
 use Rattle.erd_tables.specs.Texts.{text_cmp}
@@ -53,6 +53,29 @@ pub record AreSelectionDifferences (m n : SelectionMap) (ds : List SelectionDiff
   pub differ : AllByRecursion (AreUnlikeSelections m n) ds
   pub all : (name : NameParts) → AgreeBut (λ how. Stands (record { name = name; how = how }) ds) (m name) (n name)
 
+-- ---- how long names are
+
+-- How many bytes the three texts of a key have.
+abbrev pub key_size : Key → ℕ
+key_size k = length k.kind + (length k.other + length k.value)
+
+-- How many bytes the texts in a name have: those of its keys, of its label and of its identifier.
+abbrev pub name_size : NameParts → ℕ
+name_size n = sum (map key_size n.keys) + (unwrap_or (option_map length n.label) 0 + unwrap_or (option_map key_size n.identifier) 0)
+
+-- These are the names of all selections of a contest, each once.
+pub record AreNamesOf (m : SelectionMap) (names : List NameParts) : Type 0 where
+  pub once : IsDistinct (eq_by_cmp name_cmp) names
+  pub all : (name : NameParts) → Stands name names ↔ (m name ≢ None)
+
+-- The names of the selections of two contests have so many bytes together. A name that both contests have counts for each.
+pub record HaveSize (m n : SelectionMap) (size : ℕ) : Type 0 where
+  pub left : List NameParts
+  pub right : List NameParts
+  pub left_names : AreNamesOf m left
+  pub right_names : AreNamesOf n right
+  pub counted : size ≡ sum (map name_size left) + sum (map name_size right)
+
 -- ---- the list of all differences
 
 -- True for the member of a contest that has its selections.
@@ -64,17 +87,31 @@ is_member_of_selections p how = false
 abbrev pub is_in_selections : Difference → Bool
 is_in_selections d = is_member_of_selections d.part d.how
 
--- What is told with a difference: all differences of the selections, if it is in the selections of a contest, and nothing
--- otherwise.
-abbrev pub TellsSelections : Meaning → Meaning → Difference → Option (List SelectionDifference) → Type 0
-TellsSelections m n d None = is_in_selections d ≡ false
-TellsSelections m n d (Some ds) = (is_in_selections d ≡ true) × AreSelectionDifferences (selections_with_key m d.key) (selections_with_key n d.key) ds
+-- How many bytes the names have that telling the difference takes: those of the selections of both contests, if it is in the
+-- selections of a contest, and none otherwise.
+abbrev pub Takes : Meaning → Meaning → Difference → ℕ → Type 0
+Takes m n d size = (is_in_selections d ≡ true → HaveSize (selections_with_key m d.key) (selections_with_key n d.key) size) × (is_in_selections d ≡ false → size ≡ 0)
 
--- The difference is told with those of the selections, if it is in the selections of a contest.
-abbrev pub IsDetailed : Meaning → Meaning → DetailedDifference → Type 0
-IsDetailed m n d = TellsSelections m n d.difference (option_map (λ v. v.items) d.selections)
+-- What is told with a difference: all differences of the selections, if it is in the selections of a contest and `Fits` holds,
+-- and nothing otherwise.
+abbrev pub TellsSelections : Meaning → Meaning → Type 0 → Difference → Option (List SelectionDifference) → Type 0
+TellsSelections m n Fits d None = is_in_selections d ≡ true → ¬ Fits
+TellsSelections m n Fits d (Some ds) = (is_in_selections d ≡ true) × Fits × AreSelectionDifferences (selections_with_key m d.key) (selections_with_key n d.key) ds
 
--- These are all differences of the two meanings, in rising order, each with those of the selections.
-pub record AreDetailedDifferences (m n : Meaning) (ds : List DetailedDifference) : Type 0 where
+-- The difference is told with those of the selections, if it is in the selections of a contest and `Fits` holds.
+abbrev pub IsDetailed : Meaning → Meaning → Type 0 → DetailedDifference → Type 0
+IsDetailed m n Fits d = TellsSelections m n Fits d.difference (option_map (λ v. v.items) d.selections)
+
+-- The differences before the number `first` are told without those of the selections. From there on, a difference is told with
+-- them if and only if the names that it takes fit: with those of the differences since `first`, which have used so many bytes,
+-- they have at most `most`. So the first that does not fit is the last that counts.
+abbrev pub AreTold : Meaning → Meaning → (first used most : ℕ) → List DetailedDifference → Type 0
+AreTold m n first used most [] = ⊤
+AreTold m n (suc first) used most (d ∷ ds) = IsDetailed m n ⊥ d × AreTold m n first used most ds
+AreTold m n zero used most (d ∷ ds) = (size : ℕ) × Takes m n d.difference size × IsDetailed m n (used + size ≤ most) d × AreTold m n zero (used + size) most ds
+
+-- These are all differences of the two meanings, in rising order. From the number `first` on, each is told with those of the
+-- selections, as long as the names of the selections have at most `most` bytes together.
+pub record AreDetailedDifferences (m n : Meaning) (first most : ℕ) (ds : List DetailedDifference) : Type 0 where
   pub list : AreDifferences m n (map (λ d. d.difference) ds)
-  pub selections : AllByRecursion (IsDetailed m n) ds
+  pub selections : AreTold m n first 0 most ds

@@ -1,12 +1,13 @@
 //! The list of all differences, with what differs inside the selections of contests.
 ghost use Rattle.std.specs.Prelude.{◌≡◌, option_copied, option_map, IfOk};
-ghost use Rattle.erd_compare.specs.Words.{view, meaning, is_in_selections, selections_with_key, AreDetailedDifferences, TellsSelections};
-ghost use Rattle.erd_compare.specs.code.ContestSelections.{contest_map, AreDetailsOf};
+ghost use Rattle.erd_compare.specs.Words.{view, meaning, is_in_selections, selections_with_key, AreDetailedDifferences};
+ghost use Rattle.erd_compare.specs.code.ContestSelections.{contest_map, AreDetailsOf, PassesOne};
 ghost use Rattle.erd_compare.specs.code.KeyedDifferences.{IsComparable};
 
 use crate::comparer::Comparer;
 use crate::difference::{Difference, How, Part};
 use crate::first::all_differences;
+use crate::inside::room::{Room, left_after_both};
 use crate::inside::{SelectionDifference, selection_differences};
 use crate::ranks::common_ranks::CommonRanks;
 use crate::ranks::name_numbers::names_of_both;
@@ -19,13 +20,20 @@ use std::alloc::{AllocError, Global};
 pub struct DetailedDifference {
     /// The difference.
     pub difference: Difference,
-    /// All differences of the selections, in rising order, if two contests differ in their member `ContestSelection`, and `None`
-    /// for any other difference.
+    /// All differences of the selections, in rising order, if two contests differ in their member `ContestSelection` and the
+    /// bounds of the call let them be told, and `None` for any other difference.
     pub selections: Option<Vec<SelectionDifference>>,
 }
 
-/// Returns what `differences` does, each difference with what differs inside the selections of the contest. Both reports must
-/// have been resolved under the same preference.
+/// Returns what `differences` does. From the difference with the number `first` on, counted from 0, each has what differs inside
+/// the selections of the contest, as long as the names of the selections fit. Both reports must have been resolved under the
+/// same preference.
+///
+/// A name has its keys in full, so the names of one contest can be as long as the square of a report. So a difference is told
+/// with its selections only if their names have at most `most_bytes` bytes, together with those of the differences since
+/// `first`: the texts of all keys, labels and identifiers in the names of both contests. The first difference whose names do
+/// not fit and all behind it have no selections. Before that is known, only lengths are read. With 0 and `usize::MAX` there is
+/// no bound.
 ///
 /// The differences of selections rise by the names of the selections, and then by the names of members. If only one contest
 /// has a selection with a name, that is one difference. Otherwise there is one for each member that differs.
@@ -35,15 +43,18 @@ pub struct DetailedDifference {
 /// `AllocError` if out of memory.
 ///
 /// ```
-/// assert!(rt; detailed_differences(alloc, &report, &report)?.is_empty());
+/// let none = detailed_differences(alloc, &report, &report, 0, 1_048_576)?;
+/// assert!(rt; none.is_empty());
 /// ```
 pub fn detailed_differences(
     alloc: Global,
     left: &Report,
     right: &Report,
+    first: usize,
+    most_bytes: usize,
 ) -> Result<Vec<DetailedDifference>, AllocError>
     requires one_preference { left.now.prefer ≡ right.now.prefer }
-    ensures { IfOk result (λ found. AreDetailedDifferences (meaning left.now.prefer (view left.now.tree)) (meaning right.now.prefer (view right.now.tree)) found.items) }
+    ensures { IfOk result (λ found. AreDetailedDifferences (meaning left.now.prefer (view left.now.tree)) (meaning right.now.prefer (view right.now.tree)) first most_bytes found.items) }
 {
     // read for what they ensure: both trees are accepted, and their numbers are whole
     let _one = left.tree();
@@ -51,19 +62,26 @@ pub fn detailed_differences(
     let ranks = CommonRanks::of_both(alloc, left, right)?;
     let names = names_of_both(alloc, left, right, &ranks)?;
     let comparer = Comparer::of(alloc, left, right, &ranks, &names);
-    with_selections(&comparer, all_differences(&comparer)?)
+    let found = all_differences(&comparer)?;
+    with_selections(&comparer, found, first, most_bytes)
 }
 
-/// Returns the differences, each with what differs inside the selections of the contest.
+/// Returns the differences, from the first on with what differs inside the selections of the contest, as long as the names fit.
 fn with_selections(
     comparer: &Comparer,
     differences: Vec<Difference>,
+    first: usize,
+    most_bytes: usize,
 ) -> Result<Vec<DetailedDifference>, AllocError>
-    ensures { IfOk result (λ found. AreDetailsOf (meaning comparer.now.left.prefer (view comparer.now.left.tree)) (meaning comparer.now.right.prefer (view comparer.now.right.tree)) differences.items found.items) }
+    ensures { IfOk result (λ found. AreDetailsOf (meaning comparer.now.left.prefer (view comparer.now.left.tree)) (meaning comparer.now.right.prefer (view comparer.now.right.tree)) first most_bytes differences.items found.items) }
 {
     let mut found = Vec::with_capacity(comparer.alloc, differences.len())?;
+    let mut room = Room {
+        first,
+        bytes: Some(most_bytes),
+    };
     for difference in differences {
-        let selections = selections_of(comparer, &difference)?;
+        let selections = selections_of(comparer, &difference, &mut room)?;
         found.push(DetailedDifference {
             difference,
             selections,
@@ -72,18 +90,28 @@ fn with_selections(
     Ok(found)
 }
 
-/// Returns the differences of the selections, if the difference is in the selections of a contest.
+/// Returns the differences of the selections, if the difference is in the selections of a contest and the names fit into the
+/// room, and leaves the room that is for the next difference.
 fn selections_of(
     comparer: &Comparer,
     difference: &Difference,
+    room: &mut Room,
 ) -> Result<Option<Vec<SelectionDifference>>, AllocError>
-    ensures { IfOk result (λ told. TellsSelections (meaning comparer.now.left.prefer (view comparer.now.left.tree)) (meaning comparer.now.right.prefer (view comparer.now.right.tree)) difference.now (option_map (λ v. v.items) told)) }
+    ensures { IfOk result (λ told. PassesOne (meaning comparer.now.left.prefer (view comparer.now.left.tree)) (meaning comparer.now.right.prefer (view comparer.now.right.tree)) difference.now (option_map (λ v. v.items) told) room.old room.new) }
 {
+    if room.first > 0 {
+        room.first -= 1;
+        return Ok(None);
+    }
     if !is_in_selections(difference) {
         return Ok(None);
     }
     let contest = contest_with_key(comparer.left(), difference.key.as_ref());
     let other_contest = contest_with_key(comparer.right(), difference.key.as_ref());
+    room.bytes = left_after_both(comparer, contest, other_contest, room.bytes);
+    if room.bytes.is_none() {
+        return Ok(None);
+    }
     Ok(Some(selection_differences(comparer, contest, other_contest)?))
 }
 

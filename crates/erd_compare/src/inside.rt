@@ -5,6 +5,7 @@ ghost use Rattle.erd_compare.specs.code.ContestSelections.{contest_map};
 
 mod named;
 mod names;
+pub(crate) mod room;
 mod told;
 
 use crate::comparer::Comparer;

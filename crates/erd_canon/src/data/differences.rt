@@ -10,7 +10,7 @@ use crate::data::check::Answer;
 use crate::data::compare::refused_side;
 use crate::data::listed::push_entry;
 use crate::engines::outcome::Outcome;
-use erd_compare::Difference;
+use erd_compare::DetailedDifference;
 use std::alloc::{AllocError, Global};
 
 /// Lists the differences of two reports, as `differences_data_with` does with no preference.
@@ -36,8 +36,12 @@ pub fn differences_data(alloc: Global, left: &[u8], right: &[u8]) -> Result<Answ
 /// JSON text.
 ///
 /// The text is an array with an object for each difference, in rising order, which is empty if the reports mean the same. The
-/// objects are those of `compare_data_with`, and the first is the one that it answers. If a report is refused, the text is what
+/// objects are those of `compare_data_with`, and the first is the one that it answers. The object of a difference in the
+/// selections of a contest has what differs inside them too, in a member `selections`. If a report is refused, the text is what
 /// `compare_data_with` answers. docs/DATA.md describes the objects.
+///
+/// A name of a selection has its keys in full, so the text can be as long as the square of the reports. `differences_data_piece`
+/// bounds it.
 ///
 /// # Errors
 ///
@@ -55,7 +59,7 @@ pub fn differences_data_with(
 ) -> Result<Answer, AllocError>
     ensures { IfOk result (λ answer. IsListedData (option_copied prefer.entry) left.now right.now answer.outcome (string_bytes answer.text)) }
 {
-    match differences_of(alloc, left, right, prefer) {
+    match differences_of(alloc, left, right, prefer, 0, usize::MAX) {
         Ok(found) => listed(alloc, &found),
         Err(Side::Left(refusal)) => refused_side(alloc, "left", &refusal),
         Err(Side::Right(refusal)) => refused_side(alloc, "right", &refusal),
@@ -64,7 +68,7 @@ pub fn differences_data_with(
 }
 
 /// Returns the answer for two accepted reports with these differences.
-fn listed(alloc: Global, found: &[Difference]) -> Result<Answer, AllocError>
+fn listed(alloc: Global, found: &[DetailedDifference]) -> Result<Answer, AllocError>
     ensures outcome { IfOk result (λ answer. answer.outcome ≡ listing_outcome found.now) }
     ensures text { IfOk result (λ answer. IsDataText (string_bytes answer.text) (differences_data found.now)) }
 {
@@ -75,7 +79,7 @@ fn listed(alloc: Global, found: &[Difference]) -> Result<Answer, AllocError>
 }
 
 /// Returns the outcome for two accepted reports with these differences.
-pub(crate) fn outcome_of(found: &[Difference]) -> Outcome
+pub(crate) fn outcome_of(found: &[DetailedDifference]) -> Outcome
     ensures { result ≡ listing_outcome found.now }
 {
     match found.first() {
@@ -88,7 +92,7 @@ pub(crate) fn outcome_of(found: &[Difference]) -> Outcome
 /// time.
 fn push_differences(
     alloc: Global,
-    found: &[Difference],
+    found: &[DetailedDifference],
     text: &mut String,
 ) -> Result<(), AllocError>
     ensures { OnOk result (string_bytes text.new ≡ string_bytes text.old ++ compact_text (differences_data found.now)) }

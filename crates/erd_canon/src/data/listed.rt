@@ -4,8 +4,8 @@ ghost use Rattle.std.specs.Iterator.Adapters.{IterYieldsInOrder};
 ghost use Rattle.serde_json.specs.Data.{Data};
 ghost use Rattle.serde_json.specs.Written.{comma_if, compact_text};
 ghost use Rattle.erd_check.specs.Numbers.{HasFittingNumbers};
-ghost use Rattle.erd_compare.specs.DifferenceData.{difference_data};
 ghost use Rattle.erd_compare.specs.DifferenceLine.{difference_line};
+ghost use Rattle.erd_compare.specs.SelectionData.{detailed_data};
 ghost use Rattle.erd_tables.specs.Faults.{fault_line};
 ghost use Rattle.erd_canon.specs.DataValues.{fault_data};
 ghost use Rattle.erd_canon.specs.Pieces.{whole_line};
@@ -14,7 +14,7 @@ ghost use Rattle.erd_canon.specs.code.Fronts.{AppendsEntries, AppendsPiece, Fits
 use crate::data::fault_values::fault_value;
 use crate::data::notation::Notation;
 use crate::data::piece::Piece;
-use erd_compare::Difference;
+use erd_compare::DetailedDifference;
 use erd_tables::Fault;
 use std::alloc::{AllocError, Global};
 use std::slice::Iter;
@@ -50,17 +50,17 @@ impl Listed for Fault {
     }
 }
 
-impl Listed for Difference {
-    ghost value = { difference_data };
+impl Listed for DetailedDifference {
+    ghost value = { detailed_data };
 
-    ghost line = { difference_line };
+    ghost line = { λ d. difference_line d.difference };
 
     fn json(&self, alloc: Global) -> Result<String, AllocError> {
         self.to_value(alloc)?.to_string(alloc)
     }
 
     fn to_line(&self, alloc: Global) -> Result<String, AllocError> {
-        self.line(alloc)
+        self.difference.line(alloc)
     }
 }
 

@@ -1,7 +1,7 @@
 ghost use Rattle.std.specs.Prelude.{◌≡◌, string_bytes, IfOk};
 ghost use Rattle.std.specs.Option.{option_copied};
 ghost use Rattle.erd_canon.specs.DataAnswers.{listing_outcome};
-ghost use Rattle.erd_compare.specs.DifferenceData.{difference_data};
+ghost use Rattle.erd_compare.specs.SelectionData.{detailed_data};
 ghost use Rattle.erd_canon.specs.Pieces.{IsCheckPiece, IsComparePiece, IsFormPiece, IsListPiece, IsPieceData, IsPieceText};
 ghost use Rattle.erd_canon.specs.code.Fronts.{AppendsRefusalPiece, IsRefusalPieceAnswer, IsSidePieceAnswer};
 
@@ -17,7 +17,7 @@ use crate::data::listed::push_piece;
 use crate::data::piece::{Piece, PieceAnswer, Told};
 use crate::data::refusals::push_string;
 use crate::engines::outcome::Outcome;
-use erd_compare::Difference;
+use erd_compare::DetailedDifference;
 use std::alloc::{AllocError, Global};
 
 /// Checks the bytes of a report, as `check_data_with` does, and answers with a piece of the list of faults.
@@ -123,6 +123,9 @@ pub fn compare_data_piece(
 /// Lists the differences of the bytes of two reports, as `differences_data_with` does, and answers with a piece of the list. If
 /// a report is refused, it is a piece of its list of faults.
 ///
+/// An entry has its member `selections` only as long as the names of the selections fit: those of the entries of the piece up to
+/// this one, of both contests, have at most `enough_bytes` bytes together.
+///
 /// # Errors
 ///
 /// `AllocError` if out of memory.
@@ -146,7 +149,7 @@ pub fn differences_data_piece(
 ) -> Result<PieceAnswer, AllocError>
     ensures { IfOk result (λ answer. IsPieceText (IsListPiece (option_copied prefer.entry) left.now right.now piece.now answer.outcome) answer.told answer.text.items) }
 {
-    match differences_of(alloc, left, right, prefer) {
+    match differences_of(alloc, left, right, prefer, piece.first, piece.enough_bytes) {
         Ok(found) => listed(alloc, &found, piece),
         Err(Side::Left(refusal)) => refused_side(alloc, "left", &refusal, piece),
         Err(Side::Right(refusal)) => refused_side(alloc, "right", &refusal, piece),
@@ -155,9 +158,13 @@ pub fn differences_data_piece(
 }
 
 /// Returns the answer for two accepted reports with these differences.
-fn listed(alloc: Global, found: &[Difference], piece: &Piece) -> Result<PieceAnswer, AllocError>
+fn listed(
+    alloc: Global,
+    found: &[DetailedDifference],
+    piece: &Piece,
+) -> Result<PieceAnswer, AllocError>
     ensures outcome { IfOk result (λ answer. answer.outcome ≡ listing_outcome found.now) }
-    ensures text { IfOk result (λ answer. IsPieceText (IsPieceData difference_data piece.now found.now) answer.told answer.text.items) }
+    ensures text { IfOk result (λ answer. IsPieceText (IsPieceData detailed_data piece.now found.now) answer.told answer.text.items) }
 {
     let mut text = String::new(alloc);
     let count = push_piece(alloc, found.iter(), piece, &mut text)?;

@@ -1,6 +1,6 @@
 //! The calls that answer with a piece of a list as lines, as the engines write them.
 
-ghost use Rattle.std.specs.Prelude.{◌≡◌, [], ◌∷◌, IfOk};
+ghost use Rattle.std.specs.Prelude.{◌≡◌, [], ◌∷◌, map, IfOk};
 ghost use Rattle.std.specs.Option.{option_copied};
 ghost use Rattle.erd_canon.specs.DataAnswers.{listing_outcome};
 ghost use Rattle.erd_canon.specs.EngineTexts.{comparison_line, lines_of_side, text_of_lines};
@@ -19,7 +19,7 @@ use crate::data::notation::Notation;
 use crate::data::piece::{Piece, PieceAnswer, Told};
 use crate::engines::lines::line_of_side;
 use crate::engines::outcome::Outcome;
-use erd_compare::Difference;
+use erd_compare::{DetailedDifference, Difference};
 use std::alloc::{AllocError, Global};
 
 /// Checks the bytes of a report, as `check_bytes_with` does, and answers with the text that `run_check_with` writes: the line
@@ -148,7 +148,8 @@ pub fn differences_text_piece(
 ) -> Result<PieceAnswer, AllocError>
     ensures { IfOk result (λ answer. IsListLines (option_copied prefer.entry) left.now right.now piece.now answer.outcome answer.told answer.text.items) }
 {
-    match differences_of(alloc, left, right, prefer) {
+    // no line tells what differs inside selections
+    match differences_of(alloc, left, right, prefer, usize::MAX, 0) {
         Ok(found) => listed(alloc, &found, piece),
         Err(Side::Left(refusal)) => refused(alloc, "left: ", &refusal, piece),
         Err(Side::Right(refusal)) => refused(alloc, "right: ", &refusal, piece),
@@ -172,9 +173,13 @@ fn compared(alloc: Global, found: &Option<Difference>) -> Result<PieceAnswer, Al
 }
 
 /// Returns the answer for two accepted reports with these differences.
-fn listed(alloc: Global, found: &[Difference], piece: &Piece) -> Result<PieceAnswer, AllocError>
+fn listed(
+    alloc: Global,
+    found: &[DetailedDifference],
+    piece: &Piece,
+) -> Result<PieceAnswer, AllocError>
     ensures outcome { IfOk result (λ answer. answer.outcome ≡ listing_outcome found.now) }
-    ensures text { IfOk result (λ answer. IsFoundLines piece.now found.now answer.told answer.text.items) }
+    ensures text { IfOk result (λ answer. IsFoundLines piece.now (map (λ d. d.difference) found.now) answer.told answer.text.items) }
 {
     if found.is_empty() {
         return one_line(alloc, Outcome::Good, "", "same");

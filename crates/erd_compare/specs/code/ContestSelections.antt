@@ -1,8 +1,8 @@
 -- The selections of a contest that stands at a position of a report, by their names.
-use Rattle.std.specs.Prelude.{◌≡◌, ℕ, List, [], Bool, map, find, Option, Some, None, option_and_then, option_map, unwrap_or, codes}
+use Rattle.std.specs.Prelude.{◌≡◌, ℕ, ◌+◌, ◌<◌, List, [], ◌∷◌, Bool, map, sum, find, Option, Some, None, option_and_then, option_map, unwrap_or, codes}
 use Rattle.std.specs.BTreeSet.{BTreeSet}
 use Rattle.std.specs.Borrow.{Bor}
-use Rattle.std.specs.List.{AllByRecursion}
+use Rattle.std.specs.List.{AllByRecursion, filter_map}
 use Rattle.std.specs.Option.{option_cmp}
 use Rattle.std.specs.Ordering.{is_eq}
 use Rattle.serde_json.specs.Data.{Data}
@@ -16,11 +16,12 @@ use Rattle.erd_meaning.specs.Records.{selection_map}
 use Rattle.erd_meaning.specs.SelectionNames.{name_cmp, name_of}
 use Rattle.std.specs.List.{slice_get}
 use Rattle.erd_compare.specs.Differences.{Stands}
-use Rattle.erd_compare.specs.SelectionDifferences.{SelectionMap, IsDetailed}
+use Rattle.erd_compare.specs.SelectionDifferences.{SelectionMap, AreTold, name_size}
 use Rattle.erd_compare.specs.code.DifferingWays.{hows_of}
 use Rattle.erd_compare.specs.declared.detailed.DetailedDifference.{DetailedDifference}
 use Rattle.erd_compare.specs.declared.difference.Difference.{Difference}
 use Rattle.erd_compare.specs.declared.inside.SelectionDifference.{SelectionDifference}
+use Rattle.erd_compare.specs.declared.inside.room.Room.{Room}
 use Rattle.erd_compare.specs.declared.objects.ways.Ways.{Ways}
 
 -- The values of the selections of the contest at the position, or no values if there is no such contest.
@@ -53,11 +54,42 @@ abbrev pub AddsNames : Judged → Option ℕ → List NameParts → List NamePar
 AddsNames a None before after = (name : NameParts) → Stands name before → Stands name after
 AddsNames a (Some c) before after = ((name : NameParts) → Stands name before → Stands name after) × AreNamesAmong a after (selection_values a c)
 
+-- The names of the selections of the contest, in the order of the report, or no names if there is no such contest.
+abbrev pub names_in : Judged → Option ℕ → List NameParts
+names_in a None = []
+names_in a (Some c) = filter_map (name_of a.prefer (view a.tree)) (selection_values a c)
+
+-- How many bytes they have together.
+abbrev pub size_in : Judged → Option ℕ → ℕ
+size_in a contest = sum (map name_size (names_in a contest))
+
 -- The differences at the name of a selection, one for each way.
 abbrev pub differences_named : NameParts → Ways → List SelectionDifference
 differences_named name ways = map (λ how. record { name = name; how = how }) (hows_of ways)
 
--- These are the differences, each with those of the selections.
-pub record AreDetailsOf (m n : Meaning) (ds : List Difference) (es : List DetailedDifference) : Type 0 where
+-- So many bytes are left of the room behind texts of this size, or none if they do not fit.
+abbrev pub Leaves : ℕ → ℕ → Option ℕ → Type 0
+Leaves size room None = room < size
+Leaves size room (Some left) = left + size ≡ room
+
+-- The same where there may be no room.
+abbrev pub LeavesRoom : ℕ → Option ℕ → Option ℕ → Type 0
+LeavesRoom size None left = left ≡ None
+LeavesRoom size (Some room) left = Leaves size room left
+
+-- Of `most` bytes, so many are left where so many were used, or none if more were used.
+abbrev pub IsLeft : ℕ → ℕ → Option ℕ → Type 0
+IsLeft most used None = most < used
+IsLeft most used (Some left) = left + used ≡ most
+
+-- The next difference is told with this, and so the room of the differences is that of those behind it.
+abbrev pub PassesOne : Meaning → Meaning → Difference → Option (List SelectionDifference) → Room → Room → Type 0
+PassesOne m n d told before after =
+    (used most : ℕ) → IsLeft most used before.bytes
+    → (now : ℕ) × IsLeft most now after.bytes
+    × ((e : DetailedDifference) (rest : List DetailedDifference) → e.difference ≡ d → option_map (λ v. v.items) e.selections ≡ told → AreTold m n after.first now most rest → AreTold m n before.first used most (e ∷ rest))
+
+-- These are the differences, each with those of the selections that fit into the room.
+pub record AreDetailsOf (m n : Meaning) (first most : ℕ) (ds : List Difference) (es : List DetailedDifference) : Type 0 where
   pub list : map (λ e. e.difference) es ≡ ds
-  pub selections : AllByRecursion (IsDetailed m n) es
+  pub selections : AreTold m n first 0 most es

@@ -285,7 +285,8 @@ fn comparisons(rt: HostRuntime) -> Result<(), Fail> {
     let report = report_of(alloc, &tree)?;
     assert!(rt; first_difference(alloc, &report, &report)?.is_none());
     assert!(rt; differences(alloc, &report, &report)?.is_empty());
-    assert!(rt; detailed_differences(alloc, &report, &report)?.is_empty());
+    let none = detailed_differences(alloc, &report, &report, 0, 1_048_576)?;
+    assert!(rt; none.is_empty());
     Ok(())
 }
 
