@@ -5,3 +5,7 @@ pub mod ContestRecords
 pub mod NamedSelections
 pub mod SelectionLists
 pub mod ValueLists
+pub mod RoomSizes
+pub mod NameSizes
+pub mod ContestNames
+pub mod ToldBounds

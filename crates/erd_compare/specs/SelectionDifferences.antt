@@ -1,5 +1,5 @@
 -- What differs inside the selections of contests, and the list of all differences with it. All of this is the profile's own.
-use Rattle.std.specs.Prelude.{ℕ, zero, suc, ◌+◌, ◌≤◌, ◌≡◌, ◌≢◌, ◌↔◌, List, [], ◌∷◌, Bool, true, false, map, length, sum, Option, Some, None, option_and_then, option_map, unwrap_or, codes, ⊤}
+use Rattle.std.specs.Prelude.{ℕ, zero, suc, ◌+◌, ◌≤◌, ◌≡◌, ◌≢◌, ◌↔◌, List, [], ◌∷◌, Bool, true, false, map, length, sum_by, Option, Some, None, option_and_then, option_map, unwrap_or, codes, ⊤}
 use Rattle.std.specs.List.{AllByRecursion, IsDistinct}
 use Rattle.std.specs.List.Sorted.{IsStrictlySortedBy}
 use Rattle.std.specs.Option.{option_cmp}
@@ -61,7 +61,7 @@ key_size k = length k.kind + (length k.other + length k.value)
 
 -- How many bytes the texts in a name have: those of its keys, of its label and of its identifier.
 abbrev pub name_size : NameParts → ℕ
-name_size n = sum (map key_size n.keys) + (unwrap_or (option_map length n.label) 0 + unwrap_or (option_map key_size n.identifier) 0)
+name_size n = sum_by key_size n.keys + (unwrap_or (option_map length n.label) 0 + unwrap_or (option_map key_size n.identifier) 0)
 
 -- These are the names of all selections of a contest, each once.
 pub record AreNamesOf (m : SelectionMap) (names : List NameParts) : Type 0 where
@@ -74,7 +74,7 @@ pub record HaveSize (m n : SelectionMap) (size : ℕ) : Type 0 where
   pub right : List NameParts
   pub left_names : AreNamesOf m left
   pub right_names : AreNamesOf n right
-  pub counted : size ≡ sum (map name_size left) + sum (map name_size right)
+  pub counted : size ≡ sum_by name_size left + sum_by name_size right
 
 -- ---- the list of all differences
 

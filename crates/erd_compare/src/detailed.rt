@@ -1,7 +1,7 @@
 //! The list of all differences, with what differs inside the selections of contests.
-ghost use Rattle.std.specs.Prelude.{◌≡◌, option_copied, option_map, IfOk};
-ghost use Rattle.erd_compare.specs.Words.{view, meaning, is_in_selections, selections_with_key, AreDetailedDifferences};
-ghost use Rattle.erd_compare.specs.code.ContestSelections.{contest_map, AreDetailsOf, PassesOne};
+ghost use Rattle.std.specs.Prelude.{◌≡◌, map, option_copied, option_map, IfOk};
+ghost use Rattle.erd_compare.specs.Words.{view, meaning, is_in_selections, selections_with_key, AreDetailedDifferences, AreTold};
+ghost use Rattle.erd_compare.specs.code.ContestSelections.{contest_map, PassesOne};
 ghost use Rattle.erd_compare.specs.code.KeyedDifferences.{IsComparable};
 
 use crate::comparer::Comparer;
@@ -73,7 +73,8 @@ fn with_selections(
     first: usize,
     most_bytes: usize,
 ) -> Result<Vec<DetailedDifference>, AllocError>
-    ensures { IfOk result (λ found. AreDetailsOf (meaning comparer.now.left.prefer (view comparer.now.left.tree)) (meaning comparer.now.right.prefer (view comparer.now.right.tree)) first most_bytes differences.items found.items) }
+    ensures listed { IfOk result (λ found. map (λ d. d.difference) found.items ≡ differences.items) }
+    ensures told { IfOk result (λ found. AreTold (meaning comparer.now.left.prefer (view comparer.now.left.tree)) (meaning comparer.now.right.prefer (view comparer.now.right.tree)) first 0 most_bytes found.items) }
 {
     let mut found = Vec::with_capacity(comparer.alloc, differences.len())?;
     let mut room = Room {
@@ -109,10 +110,10 @@ fn selections_of(
     let contest = contest_with_key(comparer.left(), difference.key.as_ref());
     let other_contest = contest_with_key(comparer.right(), difference.key.as_ref());
     room.bytes = left_after_both(comparer, contest, other_contest, room.bytes);
-    if room.bytes.is_none() {
-        return Ok(None);
+    match room.bytes {
+        Some(_) => Ok(Some(selection_differences(comparer, contest, other_contest)?)),
+        None => Ok(None),
     }
-    Ok(Some(selection_differences(comparer, contest, other_contest)?))
 }
 
 /// Returns whether the difference is in the selections of two contests of one class.

@@ -101,7 +101,7 @@ module _ (a : Judged) (c : ℕ) where
     pub has_the_name : (d : Data) → has_name_in a n d ≡ true → name_of a.prefer t d ≡ Some n
     has_the_name d is = options_exact name_cmp (λ x y e. name_cmp_exact x y ((Equal-is (name_cmp x y)).0 e)) (name_of a.prefer t d) (Some n) is
 
-    is_named : (d : Data) → name_of a.prefer t d ≡ Some n → has_name_in a n d ≡ true
+    pub is_named : (d : Data) → name_of a.prefer t d ≡ Some n → has_name_in a n d ≡ true
     is_named d e = ap (λ o. is_eq (option_cmp name_cmp o (Some n))) e ∙ ap is_eq (tied_itself (options_total name_cmp_total) (Some n))
 
     abbrev first : Option Data

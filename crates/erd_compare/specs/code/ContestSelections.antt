@@ -1,5 +1,5 @@
 -- The selections of a contest that stands at a position of a report, by their names.
-use Rattle.std.specs.Prelude.{◌≡◌, ℕ, ◌+◌, ◌<◌, List, [], ◌∷◌, Bool, map, sum, find, Option, Some, None, option_and_then, option_map, unwrap_or, codes}
+use Rattle.std.specs.Prelude.{◌≡◌, ℕ, ◌+◌, ◌<◌, List, [], ◌∷◌, Bool, map, sum_by, find, Option, Some, None, option_and_then, option_map, unwrap_or, codes}
 use Rattle.std.specs.BTreeSet.{BTreeSet}
 use Rattle.std.specs.Borrow.{Bor}
 use Rattle.std.specs.List.{AllByRecursion, filter_map}
@@ -61,7 +61,7 @@ names_in a (Some c) = filter_map (name_of a.prefer (view a.tree)) (selection_val
 
 -- How many bytes they have together.
 abbrev pub size_in : Judged → Option ℕ → ℕ
-size_in a contest = sum (map name_size (names_in a contest))
+size_in a contest = sum_by name_size (names_in a contest)
 
 -- The differences at the name of a selection, one for each way.
 abbrev pub differences_named : NameParts → Ways → List SelectionDifference
@@ -88,8 +88,3 @@ PassesOne m n d told before after =
     (used most : ℕ) → IsLeft most used before.bytes
     → (now : ℕ) × IsLeft most now after.bytes
     × ((e : DetailedDifference) (rest : List DetailedDifference) → e.difference ≡ d → option_map (λ v. v.items) e.selections ≡ told → AreTold m n after.first now most rest → AreTold m n before.first used most (e ∷ rest))
-
--- These are the differences, each with those of the selections that fit into the room.
-pub record AreDetailsOf (m n : Meaning) (first most : ℕ) (ds : List Difference) (es : List DetailedDifference) : Type 0 where
-  pub list : map (λ e. e.difference) es ≡ ds
-  pub selections : AreTold m n first 0 most es

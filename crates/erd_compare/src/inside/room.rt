@@ -1,5 +1,5 @@
 //! How many bytes the names of selections have, measured before any of them is read.
-ghost use Rattle.std.specs.Prelude.{◌+◌, map, sum};
+ghost use Rattle.std.specs.Prelude.{◌+◌, sum_by};
 ghost use Rattle.erd_compare.specs.Words.{key_size, name_size, view, IsBounded};
 ghost use Rattle.erd_compare.specs.code.ContestSelections.{size_in, Leaves, LeavesRoom};
 
@@ -71,7 +71,7 @@ fn left_after_name(name: &SelectionName, room: usize) -> Option<usize>
 /// Returns how many bytes are left of the room behind the keys of the candidates or parties in a name, or `None` if they do not
 /// fit.
 fn left_after_keys(name: &SelectionName, room: usize) -> Option<usize>
-    ensures { Leaves (sum (map key_size name.now.keys)) room result }
+    ensures { Leaves (sum_by key_size name.now.keys) room result }
 {
     let mut left = room;
     for index in 0..name.key_count() {

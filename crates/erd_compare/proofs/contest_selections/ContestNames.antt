@@ -1,0 +1,137 @@
+-- The names of the selections of a contest of an accepted report: each once, and all of them.
+use Rattle.erd_compare.proofs.Common.{◌≡◌, ℕ, zero, suc, ◌+◌, ◌++◌, false, List, [], ◌∷◌, Some, None, Option, codes, option_map, option_and_then, filter_map, cons_option, eq_by_cmp, sym, refl, ap, ◌∙◌, subst, inl, inr, arith, slice_get, slice_get-map, Equal-is, Data, view, family, In, any_at, entries_at, Judged, Placed, placed_from, contests, selections_of_contest, objects, NameParts, name_of, name_cmp, in_at, find-Some, find-any, option_map-Some, position_of, selection_record, IsDistinct, Stands, Key, meaning, IsComparable}
+use Rattle.std.proofs.lemmas.Bool.{false_from_ne_true}
+use Rattle.erd_tables.specs.declared.place.Step.{Step}
+use Rattle.erd_tables.specs.declared.place.Step.TheVariants.{At, Name}
+use Rattle.erd_check.proofs.Order.{In-filter_map, all_from_In}
+use Rattle.erd_meaning.specs.Accepted.{IsAccepted}
+use Rattle.erd_meaning.specs.code.Orders.{name_cmp_exact}
+use Rattle.erd_meaning.proofs.accepted.Standing.{one_named, values-placed_entries}
+use Rattle.erd_compare.specs.SelectionDifferences.{AreNamesOf, HaveSize, selections_with_key}
+use Rattle.erd_compare.specs.code.ContestSelections.{AreNamesAmong, contest_map, has_name_in, names_in, selection_values, size_in}
+use Rattle.erd_compare.proofs.contest_selections.ContestRecords.{has_record}
+use Rattle.erd_compare.proofs.contest_selections.PlacedNames.{beside_names, has_the_name, is_named, values_of}
+use Rattle.erd_compare.proofs.differing.Walks.{to_in, to_stands}
+
+-- ---- entries of an array at their places
+
+one_index : (p : List Step) (m n : ℕ) → p ++ At m ∷ [] ≡ p ++ At n ∷ [] → m ≡ n
+one_index [] m n e = cc
+one_index (s ∷ p) m n e = let h : p ++ At m ∷ [] ≡ p ++ At n ∷ [] = cc in one_index p m n h
+
+placed_at : (p : List Step) (n : ℕ) (ds : List Data) (i : ℕ) (o : Placed) → slice_get (placed_from p n ds) i ≡ Some o → o.place ≡ p ++ At (n + i) ∷ []
+placed_at p n [] i o e = cc
+placed_at p n (d ∷ ds) zero o e =
+    let same : n ≡ n + 0 = omega arith in
+    let places : Some (p ++ At n ∷ []) ≡ Some o.place = ap (λ x. option_map (λ o. o.place) x) e in
+    let place : p ++ At n ∷ [] ≡ o.place = cc in
+    sym place ∙ ap (λ m. p ++ At m ∷ []) same
+placed_at p n (d ∷ ds) (suc i) o e = let same : n + 1 + i ≡ n + suc i = omega arith in placed_at p (n + 1) ds i o e ∙ ap (λ m. p ++ At m ∷ []) same
+
+-- the same entry stands at one position
+one_position : (p : List Step) (ds : List Data) (i j : ℕ) (o q : Placed) → slice_get (placed_from p 0 ds) i ≡ Some o → slice_get (placed_from p 0 ds) j ≡ Some q → o ≡ q → i ≡ j
+one_position p ds i j o q a b e =
+    let h : 0 + i ≡ 0 + j = one_index p (0 + i) (0 + j) (sym (placed_at p 0 ds i o a) ∙ ap (λ x. x.place) e ∙ placed_at p 0 ds j q b) in
+    omega (arith, h)
+
+-- ---- names that some entries have
+
+came_from : {A B : Type 0} (f : A → Option B) (xs : List A) (y : B) → In y (filter_map f xs) → (x : A) × In x xs × (f x ≡ Some y)
+came_from f [] y h = absurd h
+came_from {A} {B} f (x ∷ xs) y h = at (f x) refl h (came_from f xs y)
+  where
+    at : (o : Option B) → f x ≡ o → In y (cons_option o (filter_map f xs)) → (In y (filter_map f xs) → (z : A) × In z xs × (f z ≡ Some y)) → (z : A) × In z (x ∷ xs) × (f z ≡ Some y)
+    at None is i more = let from = more i in (from.0, inr from.1, from.2)
+    at (Some z) is (inl e) more = (x, inl refl, is ∙ ap Some e)
+    at (Some z) is (inr i) more = let from = more i in (from.0, inr from.1, from.2)
+
+-- no two have one name
+abbrev HasOnce : {A : Type 0} → (A → Option NameParts) → List A → Type 0
+HasOnce {A} name xs = (i j : ℕ) (x y : A) (n : NameParts) → slice_get xs i ≡ Some x → slice_get xs j ≡ Some y → name x ≡ Some n → name y ≡ Some n → i ≡ j
+
+names_once : {A : Type 0} (name : A → Option NameParts) (xs : List A) → HasOnce name xs → IsDistinct (eq_by_cmp name_cmp) (filter_map name xs)
+unfolding IsDistinct
+names_once name [] h = tt
+names_once name (x ∷ xs) h = at (name x) refl (names_once name xs (λ i j y z n a b e f. let later : suc i ≡ suc j = h (suc i) (suc j) y z n a b e f in omega (arith, later)))
+  where
+    differs : (n : NameParts) → name x ≡ Some n → (m : NameParts) → In m (filter_map name xs) → eq_by_cmp name_cmp n m ≡ false
+    differs n is m i = false_from_ne_true (eq_by_cmp name_cmp n m) (λ e.
+        let from = came_from name xs m i in
+        let place = position_of xs from.0 from.1 in
+        let same : m ≡ n = sym (name_cmp_exact n m ((Equal-is (name_cmp n m)).0 e)) in
+        let one : 0 ≡ suc place.0 = h 0 (suc place.0) x from.0 n refl place.1 is (from.2 ∙ ap Some same) in
+        absurd (omega (arith, one)))
+
+    at : (o : Option NameParts) → name x ≡ o → IsDistinct (eq_by_cmp name_cmp) (filter_map name xs) → IsDistinct (eq_by_cmp name_cmp) (cons_option o (filter_map name xs))
+    at None is rest = rest
+    at (Some n) is rest = (all_from_In (λ m. eq_by_cmp name_cmp n m ≡ false) (filter_map name xs) (differs n is), rest)
+
+-- ---- the names of a contest
+
+module _ (a : Judged) (accepted : IsAccepted a.prefer (view a.tree)) where
+  -- the selection at a position
+  selection_at : (contest : Placed) (i : ℕ) (d : Data) → slice_get (entries_at (codes "ContestSelection") contest.value) i ≡ Some d → (o : Placed) × (slice_get (selections_of_contest contest) i ≡ Some o) × (o.value ≡ d)
+  selection_at contest i d at =
+      option_map-Some (λ (o : Placed). o.value) (slice_get (selections_of_contest contest) i) d
+      (sym (slice_get-map (λ (o : Placed). o.value) (selections_of_contest contest) i) ∙ (ap (λ vs. slice_get vs i) (values-placed_entries (codes "ContestSelection") contest) ∙ at))
+
+  -- no two selections have one name
+  once_in : (contest : Placed) → In contest (contests (view a.tree)) → HasOnce (name_of a.prefer (view a.tree)) (entries_at (codes "ContestSelection") contest.value)
+  once_in contest stands i j d e n at there named other =
+      let o = selection_at contest i d at in
+      let p = selection_at contest j e there in
+      one_position _ (entries_at (codes "ContestSelection") contest.value) i j o.0 p.0 o.1 p.1
+      (one_named a.prefer (view a.tree) accepted contest o.0 p.0 n stands (in_at (selections_of_contest contest) i o.0 o.1) (in_at (selections_of_contest contest) j p.0 p.1)
+      (ap (name_of a.prefer (view a.tree)) o.2 ∙ named) (ap (name_of a.prefer (view a.tree)) p.2 ∙ other))
+
+  once_at : (c : ℕ) → HasOnce (name_of a.prefer (view a.tree)) (selection_values a c)
+  once_at c = at (slice_get (contests (view a.tree)) c) refl
+    where
+      at : (o : Option Placed) → slice_get (contests (view a.tree)) c ≡ o → HasOnce (name_of a.prefer (view a.tree)) (values_of o)
+      at None is = λ i j d e n here. cc
+      at (Some o) is = once_in o (in_at (contests (view a.tree)) c o is)
+
+  module _ (c : ℕ) where
+    abbrev names : List NameParts
+    names = names_in a (Some c)
+
+    among : AreNamesAmong a names (selection_values a c)
+    among =
+        all_from_In (λ d. (n : NameParts) → name_of a.prefer (view a.tree) d ≡ Some n → Stands n names) (selection_values a c)
+        (λ d i n e. to_stands n names (In-filter_map (name_of a.prefer (view a.tree)) d n (selection_values a c) i e))
+
+    -- a name of a selection is one at which the contest has something
+    has_one : (n : NameParts) → Stands n names → contest_map a (Some c) n ≡ None → ⊥
+    has_one n stands none =
+        let from = came_from (name_of a.prefer (view a.tree)) (selection_values a c) n (to_in n names stands) in
+        let found = find-any (has_name_in a n) (selection_values a c) (any_at (has_name_in a n) from.0 (selection_values a c) from.1 (is_named a c n from.0 from.2)) in
+        let h = find-Some (has_name_in a n) (selection_values a c) found.0 found.1 in
+        let r = has_record a.prefer (view a.tree) found.0 n (has_the_name a c n found.0 h.1) in
+        let clash : None ≡ Some r.0 = sym none ∙ (ap (option_and_then (selection_record a.prefer (view a.tree))) found.1 ∙ r.1) in
+        cc
+
+  pub names_of_contest : (contest : Option ℕ) → AreNamesOf (contest_map a contest) (names_in a contest)
+  unfolding IsDistinct
+  names_of_contest None = record { once = tt; all = λ n. ((λ s. absurd s), (λ some. absurd (some refl))) }
+  names_of_contest (Some c) = record {
+    once = names_once (name_of a.prefer (view a.tree)) (selection_values a c) (once_at c);
+    all = λ n. (has_one c n, (λ some. elim (beside_names a c (names c) (among c) n) [ inl none ↦ absurd (some none) | inr stands ↦ stands ]));
+  }
+
+-- ---- their size
+
+module _ (a b : Judged) (left : IsComparable a.prefer (view a.tree)) (right : IsComparable b.prefer (view b.tree)) where
+  have_size : (c d : Option ℕ) → HaveSize (contest_map a c) (contest_map b d) (size_in a c + size_in b d)
+  have_size c d = record {
+    left = names_in a c;
+    right = names_in b d;
+    left_names = names_of_contest a left.accepted c;
+    right_names = names_of_contest b right.accepted d;
+    counted = refl;
+  }
+
+  -- the same by the key of the contests
+  pub size_at : (c d : Option ℕ) (k : Option Key) → contest_map a c ≡ selections_with_key (meaning a.prefer (view a.tree)) k → contest_map b d ≡ selections_with_key (meaning b.prefer (view b.tree)) k
+      → HaveSize (selections_with_key (meaning a.prefer (view a.tree)) k) (selections_with_key (meaning b.prefer (view b.tree)) k) (size_in a c + size_in b d)
+  size_at c d k mine its =
+      subst (λ x. HaveSize x (selections_with_key (meaning b.prefer (view b.tree)) k) (size_in a c + size_in b d)) mine (subst (λ y. HaveSize (contest_map a c) y (size_in a c + size_in b d)) its (have_size c d))
