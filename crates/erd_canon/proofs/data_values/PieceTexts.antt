@@ -1,9 +1,10 @@
 -- The answers that have a piece of a list.
 use Rattle.erd_canon.proofs.Common.{◌≡◌, ℕ, ◌≤◌, List, [], ◌++◌, codes, IsUtf8, sym, refl, ap, ◌∙◌, subst, inl, inr, arith, Data, string, compact_text, IsTree, depth, Preference, Difference, Option, IsComparison, IsSomeReport, RefusedAs, Refusal, refusal, Outcome, Bad, Good, NotJson, refused_data, comparison_data}
-use Rattle.erd_compare.specs.DifferenceData.{difference_data}
+use Rattle.erd_compare.specs.SelectionData.{detailed_data}
+use Rattle.erd_compare.specs.declared.detailed.DetailedDifference.{DetailedDifference}
 use Rattle.erd_canon.specs.DataAnswers.{IsDataText, listing_outcome}
 use Rattle.erd_canon.specs.DataValues.{faults_data}
-use Rattle.erd_canon.specs.EngineTexts.{AreCompared}
+use Rattle.erd_canon.specs.EngineTexts.{AreDetailed}
 use Rattle.erd_canon.specs.Pieces.{IsCheckPiece, IsComparePiece, IsFormPiece, IsListPiece, IsPieceData, IsPieceText, IsRefusalPiece, TellsNone}
 use Rattle.erd_canon.specs.Run.{comparison_outcome}
 use Rattle.erd_canon.specs.code.Fronts.{AppendsPiece, AppendsRefusalPiece, IsRefusalPieceAnswer, IsSidePieceAnswer, TellsPieceAs}
@@ -41,8 +42,8 @@ why_side side refused piece outcome told first second third fourth text a begun 
     record { why = a.value; tells = a.tells; is_text = side_text side a.value first second third fourth text v.0 v.1 a.fits a.wrote begun named sided ended utf8 }
 
 -- the array of differences
-pub differences_text : (piece : Piece) (found : List Difference) (told : Told) (before text : List ℕ) → before ≡ [] → AppendsPiece difference_data piece found told before text → IsUtf8 text
-    → IsPieceText (IsPieceData difference_data piece found) told text
+pub differences_text : (piece : Piece) (found : List DetailedDifference) (told : Told) (before text : List ℕ) → before ≡ [] → AppendsPiece detailed_data piece found told before text → IsUtf8 text
+    → IsPieceText (IsPieceData detailed_data piece found) told text
 differences_text piece found told before text none a utf8 = record {
   value = a.value;
   answers = a.is_piece;
@@ -129,6 +130,6 @@ pub both_compared : (π : Preference) (left right : List ℕ) (piece : Piece) (o
 both_compared π left right piece outcome told text found is ends none written =
     record { value = comparison_data found; answers = inr (inr (found, is, ends, refl, none)); is_text = written }
 
-pub both_listed : (π : Preference) (left right : List ℕ) (piece : Piece) (outcome : Outcome) (told : Told) (text : List ℕ) (found : List Difference) → AreCompared π left right found
-    → outcome ≡ listing_outcome found → IsPieceText (IsPieceData difference_data piece found) told text → IsPieceText (IsListPiece π left right piece outcome) told text
+pub both_listed : (π : Preference) (left right : List ℕ) (piece : Piece) (outcome : Outcome) (told : Told) (text : List ℕ) (found : List DetailedDifference) → AreDetailed π left right piece.first piece.enough_bytes found
+    → outcome ≡ listing_outcome found → IsPieceText (IsPieceData detailed_data piece found) told text → IsPieceText (IsListPiece π left right piece outcome) told text
 both_listed π left right piece outcome told text found is ends written = record { value = written.value; answers = inr (inr (found, is, ends, written.answers)); is_text = written.is_text }

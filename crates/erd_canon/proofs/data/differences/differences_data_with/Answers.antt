@@ -1,5 +1,6 @@
 use Rattle.erd_canon.proofs.Common.{string_bytes, option_copied, sym, subst, IfOk-weaker, RefusedSide}
-use Rattle.erd_canon.specs.EngineTexts.{AreCompared}
+use Rattle.erd_canon.specs.DataAnswers.{any_size}
+use Rattle.erd_canon.specs.EngineTexts.{AreDetailed}
 use Rattle.erd_canon.proofs.runs.Listings.{both_facts, both_listed, left_refused, right_refused}
 use Rattle.erd_canon.proofs.data.differences.differences_data_with.Goals as goal
 
@@ -7,7 +8,7 @@ pub returns-in-Ok : goal.returns-in-Ok
 returns-in-Ok c =
     both_facts c.listed.result _ _ _
     (λ answer outcome text. both_listed (option_copied c.args.prefer) c.args.left.now c.args.right.now (string_bytes answer.text) answer.outcome c.deref.result.now
-    (subst (AreCompared (option_copied c.args.prefer) c.args.left.now c.args.right.now) (sym c.deref.ensures.value) c.in-Ok.ensures.ok) outcome text)
+    (subst (AreDetailed (option_copied c.args.prefer) c.args.left.now c.args.right.now 0 any_size) (sym c.deref.ensures.value) c.in-Ok.ensures.ok) outcome text)
     c.listed.ensures.outcome c.listed.ensures.text
 
 pub returns-in-Err-Left : goal.returns-in-Err-Left
