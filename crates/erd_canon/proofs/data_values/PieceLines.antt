@@ -1,7 +1,7 @@
 -- The answers that have a piece of a list as lines.
-use Rattle.erd_canon.proofs.Common.{◌≡◌, ℕ, zero, suc, ◌<◌, ◌≤◌, Bool, true, false, List, [], ◌∷◌, ◌++◌, map, take, drop, codes, sym, refl, ap, ◌∙◌, subst, inl, inr, arith, Preference, IsSomeReport, RefusedAs, Refusal, refusal, Outcome, Bad, Good, NotJson, lines_of_side, text_of_lines}
+use Rattle.erd_canon.proofs.Common.{◌≡◌, ℕ, zero, suc, ◌<◌, ◌≤◌, Bool, true, false, List, [], ◌∷◌, ◌++◌, map, take, drop, codes, sym, refl, ap, ◌∙◌, subst, inl, inr, Preference, IsSomeReport, RefusedAs, Refusal, refusal, Outcome, Bad, Good, NotJson, lines_of_side, text_of_lines}
 use Rattle.std.proofs.Common.{◌==◌, length, sum, true≢false}
-use Rattle.erd_meaning.proofs.Common.{Decides-eqb, length-map, map-append}
+use Rattle.erd_meaning.proofs.Common.{length-map, map-append}
 use Rattle.erd_compare.specs.DifferenceLine.{difference_line}
 use Rattle.erd_compare.specs.declared.detailed.DetailedDifference.{DetailedDifference}
 use Rattle.erd_canon.specs.DataAnswers.{listing_outcome}
@@ -109,13 +109,6 @@ pub found_lines : (piece : Piece) (found : List DetailedDifference) (told : Told
 found_lines piece [] told text other is lines = absurd (true≢false (sym is ∙ other))
 found_lines piece (d ∷ ds) told text other is lines = lines
 
-pub no_lines : (piece : Piece) (found : List DetailedDifference) (told : Told) (text : List ℕ) {empty : Bool} → empty ≡ true → empty ≡ (length found == 0) → text ≡ text_of_lines (codes "same" ∷ []) → TellsNone told
-    → IsFoundLines piece (map (λ d. d.difference) found) told text
-no_lines piece [] told text none is line tells = (line, tells)
-no_lines piece (d ∷ ds) told text none is line tells =
-    let length_zero : length (d ∷ ds) ≡ 0 = (Decides-eqb (length (d ∷ ds)) 0).0 (sym is ∙ none) in
-    absurd (omega (arith, length_zero))
-
 -- the lists of two accepted reports
 same_outcome : (ds : List DetailedDifference) → listing_outcome ds ≡ listing_outcome (map (λ d. d.difference) ds)
 same_outcome [] = refl
@@ -126,11 +119,11 @@ pub both_lines : (π : Preference) (left right : List ℕ) (first most : ℕ) (p
 both_lines π left right first most piece outcome told text found are ends lines = inr (inr (
   map (λ d. d.difference) found,
   record {
-      left_tree = are.left_tree;
-      right_tree = are.right_tree;
-      left_accepted = are.left_accepted;
-      right_accepted = are.right_accepted;
-      differences = are.differences.list;
+    left_tree = are.left_tree;
+    right_tree = are.right_tree;
+    left_accepted = are.left_accepted;
+    right_accepted = are.right_accepted;
+    differences = are.differences.list;
   },
   ends ∙ same_outcome found,
   lines,
