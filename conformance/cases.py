@@ -111,7 +111,7 @@ def pretty(value):
 
 
 def canonical(value):
-    """A report as it stands in `canonical.json`."""
+    """A value as it stands in `canonical.json` and in `entries.json`."""
     return json.dumps(value, separators=(',', ':'), sort_keys=True, ensure_ascii=False).encode('utf-8', 'surrogatepass')
 
 
@@ -127,6 +127,8 @@ class Case:
         """One part of the case: its word, what follows on the line, and the lines below it."""
         if word in ('why', 'prefer'):
             self.files[word] = (words + '\n').encode('utf-8')
+        elif word == 'entries':
+            self.files['entries.json'] = canonical(value_of(words or '\n'.join(lines)))
         elif word in LISTS:
             self.files[word + '.txt'] = ''.join(line + '\n' for line in ([words] if words else lines)).encode('utf-8')
         elif word in REPORTS or word == 'canonical':

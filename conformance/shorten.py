@@ -186,6 +186,8 @@ def short(folder):
                 if found is not None and (answers == 'check') == (word == 'input'):
                     rows = found.decode('utf-8').rstrip('\n').split('\n')
                     lines += [answers + ' ' + rows[0]] if len(rows) == 1 else [answers] + ['  ' + row for row in rows]
+    if contents('entries.json') is not None:
+        lines += ['entries'] + ['  ' + line for line in spread(json.loads(contents('entries.json')))]
     return lines
 
 
@@ -195,7 +197,7 @@ def difference(folder, case):
         kept, made = path.read_bytes(), case.files.get(path.name)
         if made == kept:
             continue
-        if made is None or plain(kept) is None or path.name == 'canonical.json':
+        if made is None or plain(kept) is None or path.name in ('canonical.json', 'entries.json'):
             return path.name
         if normal(json.loads(kept)) != normal(json.loads(made)):
             return path.name

@@ -14,6 +14,9 @@ How to run it (Python 3, standard library only):
     python3 erd_reference.py canon [--prefer TYPE] FILE
     python3 erd_reference.py compare [--prefer TYPE] LEFT RIGHT
 
+Two more commands write all differences of two reports: `differences` as lines, and `entries` as data, which docs/DATA.md
+describes.
+
 One thing Python does before this program begins: it ends with status 1 if its standard input is a folder, where the
 pages ask for `read failed` and status 3. And what the pages say of memory can be followed only as far as Python tells
 of its want.
@@ -799,20 +802,35 @@ def node_of(resolved, value):
     return ('contest', resolved.key_named(value['ContestId']), names, carried)
 
 
+# An entry of the list of all differences. `member` is None where the records differ in no member. `selections` is what differs
+# inside the selections of a contest that differs in them, and None of any other entry.
+Difference = namedtuple('Difference', 'part key how member selections')
+
+# What differs inside: the name of a selection, and how the two contests differ there.
+SelectionDifference = namedtuple('SelectionDifference', 'name how member')
+
+
 def first_difference(left, right):
-    """'The first entry' of the list. None if the reports mean the same: 'it is empty if and only if the reports mean
-    the same.'"""
+    """'The first entry' of the list, as a line. None if the reports mean the same: 'it is empty if and only if the reports
+    mean the same.'"""
     return next(differences(left, right), None)
 
 
 def differences(left, right):
-    """The lines of the list, one after another. 'It rises by part, then by key, then by name.'"""
+    """The lines of the list, one after another."""
+    return map(difference_line, entries(left, right))
+
+
+def entries(left, right):
+    """The list of all differences. 'It rises by part, then by key, then by name.'"""
     left_meaning = meaning_of(left)
     right_meaning = meaning_of(right)
     for part in PARTS:
         for key in sorted(left_meaning[part].keys() | right_meaning[part].keys(), key=no_key_first):
-            for difference in differences_of(left_meaning[part].get(key), right_meaning[part].get(key)):
-                yield difference_line(part, key, difference)
+            one, other = left_meaning[part].get(key), right_meaning[part].get(key)
+            for how, member in differences_of(one, other):
+                is_inside = part == 'contest' and member == 'ContestSelection'
+                yield Difference(part, key, how, member, differences_inside(one, other) if is_inside else None)
 
 
 def differences_of(left, right):
@@ -820,19 +838,63 @@ def differences_of(left, right):
     'Where the records have one class, it has `member NAME` for each name at which they differ.' 'It may be a name that
     only one of them has.'"""
     if right is None:
-        return ['only left']
+        return [('only left', None)]
     if left is None:
-        return ['only right']
+        return [('only right', None)]
     if left.class_name != right.class_name:
-        return ['other class']
-    return ['member ' + compact_text(name) for name in sorted(left.members.keys() | right.members.keys())
+        return [('other class', None)]
+    return [('member', name) for name in sorted(left.members.keys() | right.members.keys())
             if name not in left.members or name not in right.members or left.members[name] != right.members[name]]
 
 
-def difference_line(part, key, difference):
+def differences_inside(left, right):
+    """DATA.md: 'The array rises by the names of the selections, and then by the names of members. A selection that only one
+    of the two contests has is one entry. Otherwise there is an entry for each member that differs.'"""
+    one, other = (record.members.get('ContestSelection', {}) for record in (left, right))
+    return [SelectionDifference(name, how, member) for name in sorted(one.keys() | other.keys())
+            for how, member in differences_of(one.get(name), other.get(name))]
+
+
+def difference_line(difference):
     """'The line is the part; then, if there is a key, a blank and the compact JSON array of its three texts; then a
     colon, a blank and one of the above, the member's name as compact JSON text.'"""
-    return part + ('' if key is None else ' ' + compact_text(key)) + ': ' + difference
+    key = '' if difference.key is None else ' ' + compact_text(difference.key)
+    member = '' if difference.member is None else ' ' + compact_text(difference.member)
+    return difference.part + key + ': ' + difference.how + member
+
+
+# ---------------------------------------------------------------------------------------------------------------
+# The list as data
+# ---------------------------------------------------------------------------------------------------------------
+
+
+def difference_data(difference):
+    """DATA.md: 'an object for each difference' with `how`, `key`, `member` and `part`. '`key` is `null` for the report itself,
+    and for a sole election without external identifiers.' 'For the member `ContestSelection` of a contest' the object has
+    'a member `selections`, which is the array of what differs inside.'"""
+    data = {'part': difference.part, 'key': difference.key, **way_data(difference)}
+    if difference.selections is not None:
+        data['selections'] = [{'name': name_data(inside.name), **way_data(inside)} for inside in difference.selections]
+    return data
+
+
+def way_data(difference):
+    """DATA.md: '`member`: the name of the member that differs. Only `"member"` has it.'"""
+    return {'how': difference.how} if difference.member is None else {'how': difference.how, 'member': difference.member}
+
+
+def name_data(name):
+    """DATA.md: 'The name of a selection is the array of its six parts: the `@type` of its class; the array of the keys of its
+    candidates or parties; whether it is for a write-in; its `SequenceOrder`; the compact text of its label; and the triple
+    chosen from its identifiers. A part that the name has not is null.'"""
+    class_name, keys, write_in, *parts = name
+    return [CLASS_PREFIX + class_name, keys, write_in, *(part[0] if part else None for part in parts)]
+
+
+def fault_data(fault):
+    """DATA.md: '`name`: the name of the missing member. Only reason 2 has it.'"""
+    data = {'place': fault.place, 'reason': fault.reason}
+    return {**data, 'name': fault.name} if fault.reason == 2 else data
 
 
 # ---------------------------------------------------------------------------------------------------------------
@@ -894,17 +956,22 @@ def write_lines(handle, lines):
     write_bytes(handle, ''.join(line + '\n' for line in lines).encode('utf-8'))
 
 
-def answer_of(data, preference):
-    """What is judged of one input: the exit status, the lines that tell of it, and what is resolved if it is
-    accepted."""
+def verdict_on(data, preference):
+    """What is judged of one input: the exit status, the faults, and what is resolved if it is accepted."""
     try:
         report = read_report(data)
     except NotJson:
-        return 2, ['not JSON'], None
+        return 2, [], None
     faults, resolved = judged(report, preference)
-    if faults:
-        return 1, [fault_line(fault) for fault in faults], None
-    return 0, ['accepted'], resolved
+    return (1 if faults else 0), faults, resolved
+
+
+def answer_of(data, preference):
+    """What is judged of one input: the exit status, the lines that tell of it, and what is resolved if it is
+    accepted."""
+    status, faults, resolved = verdict_on(data, preference)
+    lines = [fault_line(fault) for fault in faults]
+    return status, {0: ['accepted'], 1: lines, 2: ['not JSON']}[status], resolved
 
 
 def run_check(handle, preference):
@@ -955,7 +1022,29 @@ def run_differences(left_handle, right_handle, preference):
     return run_two(left_handle, right_handle, preference, lambda left, right: list(differences(left, right)))
 
 
-FILES_OF = {'check': 1, 'canon': 1, 'compare': 2, 'differences': 2}
+def run_entries(left_handle, right_handle, preference):
+    """The same as data, with no line end. Of `erd` only the library answers so."""
+    left_data = read_input(left_handle)
+    right_data = read_input(right_handle)
+    status, value = entries_answer(left_data, right_data, preference)
+    write_bytes(STANDARD_OUTPUT, compact_text(value).encode('utf-8'))
+    return status
+
+
+def entries_answer(left_data, right_data, preference):
+    """DATA.md: '[]' if the reports mean the same; 'an array with one object for each difference'; 'if the left report is
+    refused, or else if the right one is, the object names the side' and has its faults, or 'the string `"not JSON"`'."""
+    resolved = []
+    for side, data in (('left', left_data), ('right', right_data)):
+        status, faults, accepted = verdict_on(data, preference)
+        if status != 0:
+            return status, {'refused': side, 'faults': 'not JSON' if status == 2 else [fault_data(fault) for fault in faults]}
+        resolved.append(accepted)
+    found = [difference_data(difference) for difference in entries(*resolved)]
+    return (1 if found else 0), found
+
+
+FILES_OF = {'check': 1, 'canon': 1, 'compare': 2, 'differences': 2, 'entries': 2}
 
 USAGE = 'usage: erd < report | erd check|canon [--prefer TYPE] FILE | erd compare [--prefer TYPE] LEFT RIGHT'
 
@@ -1023,8 +1112,9 @@ def run(words):
         raise Stop(USAGE)
     preference, files = words_of_command(command, rest)
     handles = [open_input(name) for name in files]
-    runner = {'check': run_check, 'canon': run_canon, 'compare': run_compare, 'differences': run_differences}[command]
-    return runner(*handles, preference)
+    runners = {'check': run_check, 'canon': run_canon, 'compare': run_compare, 'differences': run_differences,
+               'entries': run_entries}
+    return runners[command](*handles, preference)
 
 
 def main(words):

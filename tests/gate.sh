@@ -75,7 +75,8 @@ lane 'python3 tests/pages/definitions.py' 'python3 tests/pages/closures.py' 'pyt
     'python3 packaging/notices.py' 'python3 tests/pages/site.py' 'python3 tests/prepare/steps.py' \
     'tests/forms/make_try.sh' \
     'conformance/run --in-process reference/erd_reference.py' \
-    'conformance/run --differences --in-process reference/erd_reference.py'
+    'conformance/run --differences --in-process reference/erd_reference.py' \
+    'conformance/run --entries --in-process reference/erd_reference.py'
 
 edits erd_check erd_text erd_meaning erd_normal
 edits erd_compare erd_canon erd_program

@@ -118,6 +118,11 @@ def caught_before():
     return {name: case for name, _, case in (line.rpartition(': ') for line in lines)}
 
 
+def is_failed(suite, program, case):
+    """Whether the program fails the case by any of its commands."""
+    return bool(suite.failures_of_case(program, case) or any(suite.failures_of_list(program, case, command) for command in suite.LISTS))
+
+
 def main(words):
     is_finding = '--find' in words
     names = [word for word in words if word != '--find']
@@ -134,7 +139,7 @@ def main(words):
         cases = [str(folder / caught[name])] if name in caught else []
         if is_finding:
             cases += sorted(suite.cases_of(folder), key=lambda case: -often[case])
-        case = next((case for case in cases if suite.failures_of_case(program, case) or suite.failures_of_list(program, case)), None)
+        case = next((case for case in cases if is_failed(suite, program, case)), None)
         if case is None:
             failed += 1
             print('FAILED  no case fails, of a program that ' + name, flush=True)
