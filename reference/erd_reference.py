@@ -963,7 +963,7 @@ def verdict_on(data, preference):
     except NotJson:
         return 2, [], None
     faults, resolved = judged(report, preference)
-    return (1 if faults else 0), faults, resolved
+    return (1, faults, None) if faults else (0, [], resolved)
 
 
 def answer_of(data, preference):

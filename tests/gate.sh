@@ -84,7 +84,7 @@ for crate in $(sed -n 's|^\([a-z_]*\)/.*|\1|p' tests/edits/gate.txt | sort -u); 
     [[ $tried == *" $crate "* ]] || missing "tests/edits/gate.txt: the edits of $crate are not tried"
 done
 
-lane 'proved: erd_canon' 'tests/library/c_library.sh' 'tests/fuzz/fuzz.sh' 'program:' 'tests/forms/other_machines.sh' 'tests/forms/other_programs.sh' \
+lane 'proved: erd_canon' 'tests/library/c_library.sh' 'python3 tests/library/lists_agree.py 300' 'tests/fuzz/fuzz.sh' 'program:' 'tests/forms/other_machines.sh' 'tests/forms/other_programs.sh' \
     'tests/forms/language_examples.sh' 'tests/forms/javascript_package.sh' 'tests/forms/python_package.sh' 'tests/page/page.sh' \
     'python3 tests/bodies/wrong_lines.py --gate' 'tests/forms/program_packages.sh' 'tests/forms/release_files.sh' 'tests/forms/installed_alone.sh'
 

@@ -9,10 +9,8 @@ import sys
 from typing import NamedTuple, Optional
 
 from by_ctypes import Library, both
+from listed import ALL, listed as list_of
 from texts_of_data import check_text, compact, compare_text, difference_line, differences_text, fault_line
-
-# More entries, and more bytes, than any list has.
-ALL = 2 ** 64 - 1
 
 FOLDER = os.path.join(os.path.dirname(os.path.abspath(__file__)), os.pardir, os.pardir, "conformance")
 
@@ -59,14 +57,33 @@ def failure_of_pieces(library, command, case, suite, prefer):
     wanted = json.loads(text)
     found = library.piece("erd_differences_data", reports, prefer, 0, ALL, ALL)
     listed = json.loads(found[1])
-    lines = suite.contents(case, "differences.txt")
+    lines, entries = (suite.contents(case, name) for name in ("differences.txt", "entries.json"))
+    if entries is not None and found[1] != entries.decode():
+        return f"the list as data is {found[1]}"
     if lines is not None and isinstance(listed, list) and differences_text(listed) != lines.decode():
         return f"the list of differences is {listed}"
-    if isinstance(wanted, dict) and "refused" not in wanted and listed[:1] != [wanted]:
+    if isinstance(wanted, dict) and "refused" not in wanted and not begins_with(listed, wanted):
         return f"the list begins with {listed[:1]}, and not with {wanted}"
     text_of_list = differences_text(listed) if isinstance(listed, list) else compare_text(listed)
-    return failure_of_lists(library, [List("erd_compare", reports, prefer, outcome, wanted, compare_text(wanted)),
+    return failure_of_entries(library, reports, prefer) \
+        or failure_of_lists(library, [List("erd_compare", reports, prefer, outcome, wanted, compare_text(wanted)),
                                       List("erd_differences", reports, prefer, found[0], listed, text_of_list)])
+
+
+def begins_with(listed, difference):
+    """Whether the first entry is this difference, but for what differs inside selections."""
+    return bool(listed) and {name: value for name, value in listed[0].items() if name != "selections"} == difference
+
+
+def failure_of_entries(library, reports, prefer):
+    """What is wrong in the answers with a piece of the list of differences as data, or None. What an entry has inside depends on the
+    bounds of the piece, so the answers are held against those of the reference program."""
+    found = list_of(*reports, None if prefer is None else prefer.decode())
+    for bounds in bounds_of([len(compact(data).encode()) for data in found.told(0, ALL)]) if found else ():
+        answer = library.piece("erd_differences_data", reports, prefer, *bounds)
+        if answer != found.piece(*bounds):
+            return f"erd_differences_data of {bounds}: {answer}, and not {found.piece(*bounds)}"
+    return None
 
 
 def failure_of_form(library, report, prefer):
@@ -106,9 +123,11 @@ def failure_of_lists(library, lists):
     for it in lists:
         data = "erd_differences_data" if it.call == "erd_differences" else f"{it.call}_data_piece"
         lines = it.call if it.call == "erd_differences" else f"{it.call}_piece"
-        why = failure_of_list(library, it, data, lambda entry: compact(json.loads(json.dumps(entry, sort_keys=True))),
-                              lambda text, shown: json.loads(text) == it.json_of(shown)) \
-            or failure_of_list(library, it, lines, it.line_of, lambda text, shown: text == it.lines_of(shown))
+        why = failure_of_list(library, it, lines, it.line_of, lambda text, shown: text == it.lines_of(shown))
+        # what an entry of the other list has inside depends on the piece
+        if why is None and not (it.call == "erd_differences" and isinstance(it.wanted, list)):
+            why = failure_of_list(library, it, data, lambda entry: compact(json.loads(json.dumps(entry, sort_keys=True))),
+                                  lambda text, shown: json.loads(text) == it.json_of(shown))
         if why:
             return why
     return None
@@ -130,16 +149,22 @@ def with_entries(value, entries):
 def failure_of_list(library, it, name, text_of_entry, is_right):
     entries = entries_in(it.wanted)
     sizes = [len(text_of_entry(entry).encode()) for entry in entries]
-    for first in sorted({0, 1, 2, len(entries) - 1, len(entries), len(entries) + 1, ALL} - {-1}):
+    for first, most, enough in bounds_of(sizes):
+        shown = []
+        while len(shown) < most and first + len(shown) < len(entries) and sum(sizes[first:first + len(shown)]) < enough:
+            shown.append(entries[first + len(shown)])
+        found, text, told, count = library.piece(name, it.reports, it.prefer, first, most, enough)
+        if (found, told, count) != (it.outcome, len(shown), len(entries)) or not is_right(text, shown):
+            return f"{name} of {first}, {most}, {enough}: {found} {text[:200]} {told} {count}"
+    return None
+
+
+def bounds_of(sizes):
+    """The first, the most and enough bytes of pieces of a list whose entries have these sizes."""
+    for first in sorted({0, 1, 2, len(sizes) - 1, len(sizes), len(sizes) + 1, ALL} - {-1}):
         for most in (0, 1, 2, ALL):
             for enough in (0, 1, sum(sizes[first:first + 2]), sum(sizes[first:first + 2]) + 1, ALL):
-                shown = []
-                while len(shown) < most and first + len(shown) < len(entries) and sum(sizes[first:first + len(shown)]) < enough:
-                    shown.append(entries[first + len(shown)])
-                found, text, told, count = library.piece(name, it.reports, it.prefer, first, most, enough)
-                if (found, told, count) != (it.outcome, len(shown), len(entries)) or not is_right(text, shown):
-                    return f"{name} of {first}, {most}, {enough}: {found} {text[:200]} {told} {count}"
-    return None
+                yield first, most, enough
 
 
 def main():

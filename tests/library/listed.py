@@ -1,0 +1,79 @@
+"""The list of all differences of two reports as the calls of the C library have to answer with it, made by the reference program
+(reference/erd_reference.py), and pieces of it by the rules of docs/DATA.md."""
+import itertools
+import pathlib
+import sys
+
+ROOT = pathlib.Path(__file__).resolve().parents[2]
+sys.path.append(str(ROOT / 'reference'))
+sys.dont_write_bytecode = True
+import erd_reference  # noqa: E402
+
+# More entries, and more bytes, than any list has.
+ALL = 2 ** 64 - 1
+
+
+def bytes_in_name(name):
+    """How many bytes the texts in the name of a selection have: those of its keys, its label and its identifier."""
+    _, keys, _, _, label, triples = name
+    texts = itertools.chain(*keys, label, *triples)
+    return sum(len(text.encode('utf-8')) for text in texts)
+
+
+class Listed:
+    """All differences of two accepted reports."""
+
+    def __init__(self, left, right):
+        self.entries = list(erd_reference.entries(left, right))
+        self.meanings = erd_reference.meaning_of(left), erd_reference.meaning_of(right)
+        self.outcome = 1 if self.entries else 0
+
+    def bytes_in_names(self, entry):
+        """How many bytes the names of all selections of both contests have."""
+        contests = [meaning['contest'][entry.key] for meaning in self.meanings]
+        return sum(bytes_in_name(name) for contest in contests for name in contest.members.get('ContestSelection', {}))
+
+    def told(self, first, enough_bytes):
+        """The objects of the entries from the first on. Those inside selections are told as long as the names fit: behind the first
+        entry whose names don't fit, none is."""
+        room = enough_bytes
+        for entry in self.entries[first:]:
+            data = erd_reference.difference_data(entry)
+            if 'selections' in data:
+                room -= self.bytes_in_names(entry)
+                if room < 0:
+                    room = -1
+                    del data['selections']
+            yield data
+
+    def piece(self, first, most, enough_bytes):
+        """The answer with a piece of the list as data: the outcome, the text, and the two numbers that are told."""
+        texts = (erd_reference.compact_text(data) for data in self.told(first, enough_bytes))
+        shown = taken(texts, most, enough_bytes)
+        return self.outcome, '[' + ','.join(shown) + ']', len(shown), len(self.entries)
+
+    def lines(self, first, most, enough_bytes):
+        """The answer with the lines of a piece of the list."""
+        if not self.entries:
+            return 0, 'same\n', 0, 0
+        lines = (erd_reference.difference_line(entry) + '\n' for entry in self.entries[first:])
+        shown = taken(lines, most, enough_bytes)
+        return 1, ''.join(shown), len(shown), len(self.entries)
+
+
+def taken(texts, most, enough_bytes):
+    """The first of these texts: at most so many, and none behind those that have enough bytes together."""
+    shown, size = [], 0
+    while len(shown) < most and size < enough_bytes:
+        text = next(texts, None)
+        if text is None:
+            break
+        shown.append(text)
+        size += len(text.encode('utf-8'))
+    return shown
+
+
+def listed(left, right, prefer):
+    """The list of two reports, from their bytes; None if one of them is refused."""
+    resolved = [erd_reference.answer_of(data, prefer)[2] for data in (left, right)]
+    return None if None in resolved else Listed(*resolved)

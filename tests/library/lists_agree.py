@@ -1,0 +1,216 @@
+"""Compares the list of all differences of the C library with that of the reference program, on random pairs of reports: each byte,
+outcome and number of `erd_differences_data` and `erd_differences`, with the whole list in one piece, and in pieces of several sizes.
+
+usage: lists_agree.py COUNT [SEED]
+
+LIBRARY names the shared library, if it is not the one that is made of out/c/liberd.a here. The pairs are those of
+tests/program/agrees_with_reference.py, with further edits of the selections of contests. At a difference it prints both reports and
+both answers.
+"""
+import copy
+import json
+import os
+import pathlib
+import random
+import subprocess
+import sys
+import tempfile
+
+ROOT = pathlib.Path(__file__).resolve().parents[2]
+sys.path[:0] = [str(ROOT / 'tests' / 'program'), str(ROOT / 'tests' / 'reports'), str(ROOT / 'tests' / 'library')]
+sys.dont_write_bytecode = True
+from agrees_with_reference import EXAMPLES, TYPES, edited, types_in, with_elections, written  # noqa: E402
+from by_ctypes import Library  # noqa: E402
+from listed import ALL, erd_reference, listed  # noqa: E402
+from reports import identifier, label, selection, translation  # noqa: E402
+
+CLASSES = ['CandidateSelection', 'BallotMeasureSelection', 'PartySelection']
+ORDERS = [0, 1, 2, 10, -1, 2 ** 53, 2 ** 53 + 1, 2 ** 64 - 1, -2 ** 63]
+# Members that a selection must have.
+NEEDED = ['PartyIds', 'Selection']
+LABELS = ['Yes', 'yes', '\u00e9', '"\\', '\U00010000', '']
+
+
+# ---- edits of selections
+
+
+def contests_of(report):
+    return [contest for election in report['Election'] for contest in election.get('Contest', [])]
+
+
+def ids_of(holders):
+    return [entry['@id'] for entry in holders if '@id' in entry]
+
+
+def some_of(ids, dice):
+    return dice.sample(ids, dice.randrange(min(len(ids), 3) + 1))
+
+
+class Edits:
+    """Edits of the selections of a contest. What a report may not have can come of them: such pairs are refused."""
+
+    def __init__(self, report, dice):
+        self.dice = dice
+        self.parties = ids_of(report.get('Party', []))
+        self.candidates = ids_of([entry for election in report['Election'] for entry in election.get('Candidate', [])])
+        self.count = 0
+
+    def some_label(self):
+        plain = self.dice.choice(LABELS)
+        return plain if self.dice.random() < 0.6 else label([translation(plain), translation(self.dice.choice(LABELS), 'es')])
+
+    def add(self, selections):
+        self.count += 1
+        new = selection('new-%d-%d' % (self.dice.randrange(10 ** 6), self.count), self.dice.choice(CLASSES))
+        if new['@type'].endswith('CandidateSelection'):
+            new['CandidateIds'] = some_of(self.candidates, self.dice)
+        elif new['@type'].endswith('PartySelection') and self.parties:
+            new['PartyIds'] = some_of(self.parties, self.dice) or self.parties[:1]
+        else:
+            new.update(selection(new['@id'], 'BallotMeasureSelection'), Selection=self.some_label())
+        selections.insert(self.dice.randrange(len(selections) + 1), new)
+
+    def remove(self, selections):
+        if selections:
+            selections.pop(self.dice.randrange(len(selections)))
+
+    def change(self, selections):
+        if not selections:
+            return
+        one = self.dice.choice(selections)
+        name, value = self.dice.choice(self.changes(one['@type']))
+        if name in one and name not in NEEDED and self.dice.random() < 0.3:
+            del one[name]
+        else:
+            one[name] = value
+
+    def changes(self, class_text):
+        """Members that a selection of the class may have, each with a value."""
+        found = [('SequenceOrder', self.dice.choice(ORDERS)), ('Note', self.dice.choice([None, 1, []])),
+                 ('ExternalIdentifier', [identifier(self.dice.choice('123'), self.dice.choice(['b', 'fips', 'local-level']))])]
+        if class_text.endswith('CandidateSelection'):
+            found += [('IsWriteIn', self.dice.choice([True, False])), ('CandidateIds', some_of(self.candidates, self.dice)),
+                      ('EndorsementPartyIds', some_of(self.parties, self.dice))]
+        elif class_text.endswith('PartySelection'):
+            found.append(('PartyIds', some_of(self.parties, self.dice) or self.parties[:1]))
+        else:
+            found.append(('Selection', self.some_label()))
+        return found
+
+
+def with_selections(report, dice, most):
+    """The report with some edits of the selections of its contests. References of ballots to what is gone are gone too."""
+    report = copy.deepcopy(report)
+    edits = Edits(report, dice)
+    contests = contests_of(report)
+    for _ in range(dice.randrange(most + 1) if contests else 0):
+        selections = dice.choice(contests).setdefault('ContestSelection', [])
+        dice.choice([edits.add, edits.add, edits.remove, edits.change, edits.change])(selections)
+    kept = set(ids_of([entry for contest in contests for entry in contest.get('ContestSelection', [])]))
+    for election in report['Election']:
+        for style in election.get('BallotStyle', []):
+            drop_references(style.get('OrderedContent', []), kept)
+    return report
+
+
+def drop_references(content, kept):
+    for entry in content:
+        drop_references(entry.get('OrderedContent', []), kept)
+        if 'OrderedContestSelectionIds' in entry:
+            entry['OrderedContestSelectionIds'] = [it for it in entry['OrderedContestSelectionIds'] if it in kept]
+
+
+# ---- pairs
+
+
+def pairs(bases, count, dice):
+    """The bytes of two reports and a preference. Most pairs are of accepted reports that differ inside selections."""
+    for _ in range(count):
+        base = with_elections(dice.choice(bases), dice)
+        left = with_selections(base, dice, 6)
+        right = with_selections(left, dice, 6)
+        if dice.random() < 0.3:
+            right = edited(right, dice, 2)
+        prefer = dice.choice([None, None, dice.choice(TYPES), dice.choice(types_in(left) or TYPES)])
+        yield [written(report, dice).encode() for report in (left, right)], prefer
+
+
+# ---- the library
+
+
+def shared_library(folder):
+    """The path of the library: the one that the environment names, or one of out/c/liberd.a."""
+    given = os.environ.get('LIBRARY')
+    if given:
+        return given
+    made = os.path.join(folder, 'liberd.so')
+    subprocess.run([os.environ.get('CC', 'cc'), '-shared', '-o', made, '-Wl,--whole-archive', str(ROOT / 'out' / 'c' / 'liberd.a'),
+                    '-Wl,--no-whole-archive'], check=True)
+    return made
+
+
+def sizes_of(found, dice):
+    """Bounds for pieces: so many entries, and so many bytes. Some end where the names of selections just fit or just do not."""
+    names = [found.bytes_in_names(entry) for entry in found.entries if entry.selections is not None]
+    edges = [size + more for size in (sum(names[:1]), sum(names[:2]), sum(names)) for more in (-1, 0, 1) if size + more > 0]
+    return [(1, ALL), (2, 1000), (ALL, 1), (1000, 2 ** 20), (3, 300), (ALL, dice.randrange(1, 2000)), *((ALL, edge) for edge in edges)]
+
+
+def failure_of_list(library, reports, prefer, found, dice):
+    """What is wrong in the answers with the list of two accepted reports, or None."""
+    for name, wanted in (('erd_differences_data', found.piece), ('erd_differences', found.lines)):
+        for most, enough in [(ALL, ALL), *sizes_of(found, dice)]:
+            first = 0
+            while True:
+                answer = library.piece(name, reports, prefer, first, most, enough)
+                if answer != wanted(first, most, enough):
+                    return f'{name} of {first}, {most}, {enough}:\n{answer}\nreference:\n{wanted(first, most, enough)}'
+                first += answer[2]
+                if first >= answer[3]:
+                    break
+    return None
+
+
+def failure_of_refusal(library, reports, prefer):
+    """What is wrong in the answers for two reports of which one is refused, or None."""
+    status, value = erd_reference.entries_answer(*reports, None if prefer is None else prefer.decode())
+    outcome, text, told, count = library.piece('erd_differences_data', reports, prefer, 0, ALL, ALL)
+    faults = value['faults'] if isinstance(value['faults'], list) else []
+    if (outcome, text, told, count) != (status, erd_reference.compact_text(value), len(faults), len(faults)):
+        return f'erd_differences_data:\n{outcome} {text} {told} {count}\nreference:\n{status} {erd_reference.compact_text(value)}'
+    return None
+
+
+def tried(library, reports, prefer, dice, seen):
+    """What is wrong in the answers for two reports, or None. Counts what the pairs are."""
+    found = listed(*reports, prefer)
+    taken = None if prefer is None else prefer.encode()
+    seen['refused' if found is None else 'same' if not found.entries else 'different'] += 1
+    if found is None:
+        return failure_of_refusal(library, reports, taken)
+    for entry in found.entries:
+        for inside in entry.selections or []:
+            seen[f'inside: {inside.how}'] = seen.get(f'inside: {inside.how}', 0) + 1
+    return failure_of_list(library, reports, taken, found, dice)
+
+
+def main():
+    count = int(sys.argv[1])
+    seed = int(sys.argv[2]) if len(sys.argv) > 2 else random.randrange(10 ** 6)
+    print(f'{count} random pairs, seed {seed}')
+    bases = [json.loads((ROOT / 'examples' / f'{name}.json').read_text(encoding='utf-8')) for name in EXAMPLES]
+    dice, seen = random.Random(seed), {'refused': 0, 'same': 0, 'different': 0}
+    with tempfile.TemporaryDirectory() as folder:
+        library = Library(shared_library(folder))
+        for reports, prefer in pairs(bases, count, dice):
+            why = tried(library, reports, prefer, dice, seen)
+            if why:
+                print(f'FAILED: preference {prefer}:', *reports, why, '0 passed, 1 failed', sep='\n')
+                return 1
+    print(', '.join(f'{what} {number}' for what, number in seen.items()))
+    print('1 passed, 0 failed')
+    return 0
+
+
+if __name__ == '__main__':
+    sys.exit(main())
