@@ -35,17 +35,41 @@ export interface Fault {
     line: string;
 }
 
+/** The `Type`, the `OtherType` and the `Value` of an identifier. */
+export type Key = [string, string, string];
+
 /** A difference of two reports. */
 export interface Difference {
     part: 'report' | 'unit' | 'party' | 'person' | 'office' | 'header' | 'election' | 'candidate' | 'contest' | 'style';
-    /** The `Type`, the `OtherType` and the `Value` of the identifier that is the key; null if the object has no key. */
-    key: [string, string, string] | null;
+    /** The identifier that is the key; null if the object has no key. */
+    key: Key | null;
     how: 'only left' | 'only right' | 'other class' | 'member';
     /** The member in which the two differ. Only `member` has it. */
     member?: string;
+    /**
+     * What differs inside the selections of a contest, in rising order of names and then of members, if the member is
+     * `ContestSelection`. Only `differences` tells it. It is left out too where the names of selections, from the first difference
+     * of the list on, have more than a megabyte together. If all differences are asked for, this holds for each piece of the list.
+     */
+    selections?: SelectionDifference[];
     /** The line that the program writes for the difference, without its line feed. */
     line: string;
 }
+
+/** A difference of the selections of two contests. */
+export interface SelectionDifference {
+    name: SelectionName;
+    how: 'only left' | 'only right' | 'member';
+    /** The member in which the two selections with this name differ. Only `member` has it. */
+    member?: string;
+}
+
+/**
+ * What tells a selection from the others of its contest: docs/PROFILE.md, "Names of selections". A part that the name has not is
+ * null. An order that a number of JavaScript can't hold is a bigint.
+ */
+export type SelectionName = [type: string, keys: Key[], isWriteIn: boolean, sequenceOrder: number | bigint | null, label: string | null,
+    identifier: Key | null];
 
 /** The result of `check`. */
 export class Checked {

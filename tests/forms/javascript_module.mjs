@@ -2,6 +2,7 @@
 // each case that fails; at the end stand the counts.
 import { existsSync, readdirSync, readFileSync } from 'node:fs';
 import { load, MOST_BYTES, NoMemoryError, repeatedNames, TooLongError, TrapError } from '../../bindings/js/index.mjs';
+import { compactText } from '../../bindings/js/lib/exact.mjs';
 import { withMostPages } from '../shared/less_memory.mjs';
 
 const SUITE = new URL('../../out/conformance/', import.meta.url);
@@ -76,11 +77,28 @@ function tryPair(name, left, right, options, lines) {
     equal(`${name}: the outcome of the list`, outcome, compared.outcome);
     equal(`${name}: the first of the list`, side === null && differences.length > 0 ? `${differences[0].line}\n` : text, lines);
     equal(`${name}: the list as the command writes it`, written('differences', [left, right], options), text);
+    const entries = fileOf(new URL(`${name}/`, SUITE), 'entries.json');
+    if (entries !== null && side === null) {
+        equal(`${name}: the list as data`, compactText(inOrder(differences.map(withoutLine))), entries.toString());
+    }
     if (compared.difference !== null) {
         const { part, key, how, member } = compared.difference;
         const object = key === null ? part : `${part} ${JSON.stringify(key)}`;
         equal(`${name}: the difference`, `${object}: ${how}${how === 'member' ? ` ${JSON.stringify(member)}` : ''}\n`, lines);
     }
+}
+
+function withoutLine({ line: _line, ...difference }) {
+    return difference;
+}
+
+// The value with the members of each object in the order of their names.
+function inOrder(value) {
+    if (Array.isArray(value)) {
+        return value.map(inOrder);
+    }
+    return value === null || typeof value !== 'object' ? value
+        : Object.fromEntries(Object.entries(value).sort().map(([name, inner]) => [name, inOrder(inner)]));
 }
 
 function written(name, reports, options) {
@@ -110,6 +128,30 @@ equal('pieces of the lines', pieces.length > 90, true);
 equal('each piece has its own bytes', new TextDecoder().decode(pieces[0].bytes.subarray(0, 9)), '/Election');
 equal('what is taken of the pieces', [...erd.written('check', [many], {}, (bytes, outcome) => bytes.length * outcome)].map(({ bytes }) => bytes).join(),
     pieces.map(({ bytes }) => bytes.length).join());
+
+// A list that is longer than a piece: in each of these contests a selection has another note.
+const oneUnit = readFileSync(new URL('one-unit.json', EXAMPLES)).toString();
+function contests(count, note, kind) {
+    const report = JSON.parse(oneUnit);
+    const identifiers = (type, value) => [{ '@type': 'ElectionResults.ExternalIdentifier', Type: type, Value: value }];
+    report.Election[0].Contest = Array.from({ length: count }, (_, index) => ({
+        '@id': `contest-${index}`, '@type': 'ElectionResults.PartyContest', Name: 'Mayor', ElectionDistrictId: report.GpUnit[0]['@id'],
+        ExternalIdentifier: identifiers('local-level', `C-${10000 + index}`),
+        ContestSelection: [{ '@id': `selection-${index}`, '@type': 'ElectionResults.CandidateSelection', Note: note, ExternalIdentifier: identifiers(kind, 'S') }],
+    }));
+    return JSON.stringify(report);
+}
+const long2500 = [contests(2500, 1, 'a'), contests(2500, 2, 'a')];
+const listed = erd.differences(...long2500);
+equal('a thousand differences', `${listed.differences.length} ${listed.allDifferences} ${listed.more}`, '1000 2500 true');
+const wholeList = erd.differences(...long2500, { mostDifferences: null });
+equal('all differences', `${wholeList.differences.length} ${wholeList.allDifferences} ${wholeList.more}`, '2500 2500 false');
+equal('their keys', wholeList.differences.every(({ key }, index) => key[2] === `C-${10000 + index}`), true);
+equal('what differs inside each', JSON.stringify([...new Set(wholeList.differences.map(({ selections }) => JSON.stringify(selections)))]),
+    JSON.stringify(['[{"name":["ElectionResults.CandidateSelection",[],false,null,null,["a","","S"]],"how":"member","member":"Note"}]']));
+// Names of both contests that are longer than a megabyte together, with those of the contests before: what they would tell is left out.
+const wide = [1, 2].map((note) => contests(3, note, 'a').replaceAll('"Type":"a"', `"Type":"${'a'.repeat(250_000)}"`));
+equal('names that are too long together', erd.differences(...wide).differences.map(({ selections }) => selections?.length).join(), '1,1,');
 
 // The words of a command line.
 const WORDS = ['compare', '--prefer', 'Wähler 🗳', '', 'b'];

@@ -1,5 +1,5 @@
 // A caller of the package whose types are checked: each result and each option once.
-import { Canonical, Checked, Compared, Difference, Differences, Erd, Fault, load, MOST_BYTES, NoMemoryError, TooLongError, TrapError } from 'erd';
+import { Canonical, Checked, Compared, Difference, Differences, Erd, Fault, load, MOST_BYTES, NoMemoryError, SelectionDifference, SelectionName, TooLongError, TrapError } from 'erd';
 
 const erd: Erd = await load(new Uint8Array(MOST_BYTES));
 const checked: Checked = erd.check('{}', { prefer: 'fips' });
@@ -12,6 +12,9 @@ const compared: Compared = erd.compare(new Uint8Array(1), '', { prefer: null });
 const difference: Difference | null = compared.difference;
 const all: Differences = erd.differences('', '', { prefer: 'fips', mostDifferences: null });
 const counts: number[] = [erd.check('', { mostFaults: 5 }).allFaults, all.allDifferences, all.differences.length];
+const inside: SelectionDifference[] = all.differences[0].selections ?? [];
+const selection: SelectionName = inside[0].name;
+const order: number | bigint | null = selection[3];
 const more: boolean = all.more || checked.more || compared.more;
 const { request } = erd.commandLine(['check', 'a.json']);
 const files: string[] = request?.files ?? [];
@@ -24,7 +27,7 @@ const errors: Error[] = [new TooLongError(), new NoMemoryError(), new TrapError(
 erd.check(5);
 // @ts-expect-error: there is no such option
 erd.check('', { preferred: 'fips' });
-export { bytes, counts, difference, errors, files, more, pieces, name, side, steps, taken, text };
+export { bytes, counts, difference, errors, files, more, order, pieces, name, side, steps, taken, text };
 
 import { Preparation, stepsOf, told } from 'erd/prepare';
 

@@ -8,7 +8,7 @@ import { isUnchangedLine } from '../../web/scripts/ballot_changes.mjs';
 import { renamed, talliesOf } from '../../web/scripts/causes.mjs';
 import { csvOf } from '../../web/scripts/csv.mjs';
 import { whyNotJson } from '../../web/scripts/diagnosis.mjs';
-import { compactText, readCanonical } from '../../web/scripts/exact.mjs';
+import { compactText, readExactly } from '../../bindings/js/lib/exact.mjs';
 import { excerptOf, Lines } from '../../web/scripts/excerpt.mjs';
 import { Meaning } from '../../web/scripts/meaning.mjs';
 import { kindsOf } from '../../web/scripts/fault_kinds.mjs';
@@ -92,7 +92,7 @@ function tryPair(name, [left, right], prefer) {
     }
     const { differences } = erd.differences(left, right, { prefer, mostDifferences: null });
     equal(`${name}: the first difference`, differences[0]?.line ?? null, difference?.line ?? null);
-    const meanings = [left, right].map((bytes) => new Meaning(readCanonical(erd.canonical(bytes, { prefer }).bytes), prefer));
+    const meanings = [left, right].map((bytes) => new Meaning(readExactly(erd.canonical(bytes, { prefer }).bytes), prefer));
     for (const entry of differences) {
         const { rows, there, classes } = rowsOfDifference(meanings, entry);
         const isShown = entry.how === 'member' ? rows.some((row) => !row.same) || there[0] !== there[1] : classes[0] !== classes[1];
@@ -122,7 +122,7 @@ equal('the types of identifiers', typesIn(encoder.encode(typed)), ['a', 'b']);
 
 // Whole numbers that a number of JavaScript can't hold, and names that an object of JavaScript has by itself.
 const exact = '{"__proto__":{"n":-9223372036854775808},"a":[18446744073709551615,1,"1234567890123456789"],"constructor":true}';
-equal('exact numbers', compactText(readCanonical(encoder.encode(exact))), exact);
+equal('exact numbers', compactText(readExactly(encoder.encode(exact))), exact);
 
 // Lines beside each other.
 const line = (text) => ({ text, like: text, indent: 0 });
@@ -170,7 +170,7 @@ wordsOf.forEach(([difference, word]) => equal(`the word of ${JSON.stringify(diff
 
 // One changed identifier: the object is found again, and all differences follow from it.
 const county = readFileSync(new URL('examples/county.canonical.json', ROOT), 'utf8');
-const meaningOf = (text) => new Meaning(readCanonical(encoder.encode(text)), null);
+const meaningOf = (text) => new Meaning(readExactly(encoder.encode(text)), null);
 for (const [value, other] of [['K-12', 'K-99'], ['P-1', 'P-1x'], ['C-SHERIFF', 'C-0'], ['MEADOW', 'A']]) {
     const texts = [county, county.replaceAll(`"Value":"${value}"`, `"Value":"${other}"`)];
     const pair = texts.map(meaningOf);

@@ -7,7 +7,7 @@ import { BallotAnswers } from '../../web/scripts/ballot_answers.mjs';
 import { renamed, talliesOf } from '../../web/scripts/causes.mjs';
 import { whyNotJson } from '../../web/scripts/diagnosis.mjs';
 import { envelopeIn } from '../../web/scripts/envelope.mjs';
-import { compactText, readCanonical } from '../../web/scripts/exact.mjs';
+import { compactText, readExactly } from '../../bindings/js/lib/exact.mjs';
 import { kindsOf } from '../../web/scripts/fault_kinds.mjs';
 import { firstLanguage } from '../../web/scripts/languages.mjs';
 import { Meaning } from '../../web/scripts/meaning.mjs';
@@ -73,7 +73,7 @@ equal('the member that occurs most is first', kindsOf(faults).map(({ names }) =>
 equal('places stay in their order', kindsOf(faults)[0].faults.map(({ place }) => place[0]), ['a', 'b', 'c']);
 
 for (const text of ['9007199254740993', '-9007199254740993', '{"a":[18446744073709551615]}', '9007199254740992']) {
-    equal(`the number ${text}`, compactText(readCanonical(bytesOf(text))), text);
+    equal(`the number ${text}`, compactText(readExactly(bytesOf(text))), text);
 }
 
 // ---- texts

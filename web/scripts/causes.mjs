@@ -1,6 +1,6 @@
 // The causes of differences: how many objects of each kind differ, objects that are the same under another identifier, and what
 // follows from that. All of it is the page's own, and only helps to read the list.
-import { compactText } from './exact.mjs';
+import { compactText } from '../../bindings/js/lib/exact.mjs';
 import { textOfKey } from '../../bindings/js/lib/order.mjs';
 import { PARTS } from './meaning.mjs';
 

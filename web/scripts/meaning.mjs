@@ -1,7 +1,7 @@
 // What a canonical form says, as records by key: docs/PROFILE.md, "What a report means". It serves to show the values of a
 // difference, and to find an object again under another identifier. What differs comes from the proved code.
 import { ENVELOPE } from './envelope.mjs';
-import { compactText } from './exact.mjs';
+import { compactText } from '../../bindings/js/lib/exact.mjs';
 import { orderOfKeys, orderOfTexts, textOfKey } from '../../bindings/js/lib/order.mjs';
 import { textOfLabel } from './trail.mjs';
 

@@ -3,7 +3,7 @@ import { MOST_BYTES, NoMemoryError } from '../../bindings/js/lib/calls.mjs';
 import { repeatedNames } from '../../bindings/js/lib/repeated.mjs';
 import { whyNotJson } from './diagnosis.mjs';
 import { envelopeIn } from './envelope.mjs';
-import { readCanonical } from './exact.mjs';
+import { readExactly } from '../../bindings/js/lib/exact.mjs';
 import { excerptOf, Lines } from './excerpt.mjs';
 import { kindsOf } from './fault_kinds.mjs';
 import { foundPlaces } from './places.mjs';
@@ -134,7 +134,7 @@ export class Side {
 
     /** The report that the canonical form is the text of. */
     report(erd, prefer, tell) {
-        this.keptReport ??= readCanonical(this.canonical(erd, prefer, tell));
+        this.keptReport ??= readExactly(this.canonical(erd, prefer, tell));
         return this.keptReport;
     }
 

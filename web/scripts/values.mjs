@@ -1,5 +1,5 @@
 // The value of a member as lines for a reader: one line for each object that it names, text that it has, or entry of a list.
-import { compactText } from './exact.mjs';
+import { compactText } from '../../bindings/js/lib/exact.mjs';
 import { isReference } from './meaning.mjs';
 import { orderOfTexts } from '../../bindings/js/lib/order.mjs';
 import { say } from './texts.mjs';

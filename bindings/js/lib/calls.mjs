@@ -1,5 +1,6 @@
 // The calls, on top of the module.
 import { Engine, LINE, OUTCOME } from './engine.mjs';
+import { readExactly } from './exact.mjs';
 import { checkedOf, comparedOf, differencesOf, withCanonical, withoutCanonical } from './results.mjs';
 
 /** How many faults, or differences, are listed if the caller names no other number. */
@@ -104,7 +105,7 @@ export class Erd {
     #list(call, reports, { prefer, most }) {
         const isForm = (outcome) => call === 'erd_canonical_data_piece' && outcome === OUTCOME.good;
         const pieces = this.#pieces(call, reports, prefer, most ?? ALL,
-            (bytes, outcome) => (isForm(outcome) ? copied(bytes) : JSON.parse(new TextDecoder().decode(bytes))));
+            (bytes, outcome) => (isForm(outcome) ? copied(bytes) : readExactly(bytes)));
         const { value: answer } = pieces.next();
         const entries = entriesOf(answer.taken);
         for (const piece of most === null ? pieces : []) {

@@ -143,9 +143,15 @@ function faultOf({ place, reason, name }) {
     return { place, pointer, reason, ...(name === undefined ? {} : { name }), words, line: lineOfFault(pointer, words) };
 }
 
-function differenceOf({ part, key, how, member }) {
-    const difference = { part, key, how, ...(member === undefined ? {} : { member }) };
-    return { ...difference, line: lineOfDifference(difference) };
+function differenceOf({ part, key, how, member, selections }) {
+    const difference = { part, key, ...wayOf({ how, member }) };
+    const inside = selections === undefined ? {} : { selections: selections.map(({ name, ...way }) => ({ name, ...wayOf(way) })) };
+    return { ...difference, ...inside, line: lineOfDifference(difference) };
+}
+
+// How two objects or two selections differ. The rest of an answer is no part of a result.
+function wayOf({ how, member }) {
+    return { how, ...(member === undefined ? {} : { member }) };
 }
 
 // The lines of `erd check` for a report, without their line feeds. A name in a line may have a line feed itself.

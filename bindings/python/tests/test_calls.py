@@ -118,6 +118,42 @@ def test_differences(top):
     assert (refused.refused, refused.lines, refused.status) == ('right', ('right: not JSON',), 2)
 
 
+def contests(top, count, note, kind='a'):
+    """A report with contests that have one selection each, with this note and this type of identifier."""
+    def identifiers(type_text, value):
+        return [{'@type': 'ElectionResults.ExternalIdentifier', 'Type': type_text, 'Value': value}]
+
+    report = json.loads((top / 'examples' / 'one-unit.json').read_text('utf-8'))
+    report['Election'][0]['Contest'] = [{
+        '@id': f'contest-{index}', '@type': 'ElectionResults.PartyContest', 'Name': 'Mayor', 'ElectionDistrictId': report['GpUnit'][0]['@id'],
+        'ExternalIdentifier': identifiers('local-level', f'C-{10000 + index}'),
+        'ContestSelection': [{'@id': f'selection-{index}', '@type': 'ElectionResults.CandidateSelection', 'Note': note,
+                              'ExternalIdentifier': identifiers(kind, 'S')}]} for index in range(count)]
+    return json.dumps(report)
+
+
+def test_what_differs_inside_selections(top):
+    found = erd.differences(contests(top, 1, 1), contests(top, 1, 2)).differences[0]
+    name = erd.SelectionName('ElectionResults.CandidateSelection', (), False, None, None, ('a', '', 'S'))
+    assert found.selections == (erd.SelectionDifference(name, 'member', 'Note'),)
+    assert found.line == 'contest ["local-level","","C-10000"]: member "ContestSelection"'
+
+
+def test_a_list_that_is_longer_than_a_piece(top):
+    left, right = contests(top, 2500, 1), contests(top, 2500, 2)
+    some, every = erd.differences(left, right), erd.differences(left, right, most_differences=None)
+    assert (len(some.differences), some.all_differences, some.more) == (1000, 2500, True)
+    assert (every.all_differences, every.more) == (2500, False)
+    assert [it.key[2] for it in every.differences] == [f'C-{10000 + index}' for index in range(2500)]
+    assert all(len(it.selections) == 1 for it in every.differences)
+    assert every.differences[:1000] == some.differences
+
+
+def test_names_of_selections_that_are_too_long_together(top):
+    found = erd.differences(*(contests(top, 3, note, 'a' * 250_000) for note in (1, 2))).differences
+    assert [None if it.selections is None else len(it.selections) for it in found] == [1, 1, None]
+
+
 def test_several_threads(top):
     data = (top / 'examples' / 'county.vendor-a.json').read_bytes()
     wanted, found = erd.canonical(data).form, []

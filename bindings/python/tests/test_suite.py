@@ -1,5 +1,6 @@
 """The conformance suite, by the calls and, for some cases, by the command."""
 
+import json
 import subprocess
 import sys
 
@@ -34,6 +35,23 @@ def test_answers(case):
         found = erd.compare(left, right, prefer=prefer)
         assert found.text == lines
         assert (found.same, bool(found)) == (lines == 'same\n', lines == 'same\n')
+        listed = erd.differences(left, right, prefer=prefer)
+        entries = case / 'entries.json'
+        if entries.exists() and listed.refused is None:
+            assert list(map(data_of, listed.differences)) == json.loads(entries.read_text('utf-8'))
+
+
+def data_of(difference):
+    """The object that the library's JSON has for a difference."""
+    data = {'part': difference.part, 'key': difference.key and list(difference.key), **way_of(difference)}
+    if difference.selections is not None:
+        data['selections'] = [{'name': json.loads(json.dumps(it.name)), **way_of(it)} for it in difference.selections]
+    return data
+
+
+def way_of(difference):
+    """How two objects or two selections differ."""
+    return {'how': difference.how, **({} if difference.member is None else {'member': difference.member})}
 
 
 @pytest.mark.parametrize('name', ['one-unit.json', 'county.vendor-b.json', 'small-ballot.json'])

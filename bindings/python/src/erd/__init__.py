@@ -31,10 +31,11 @@ from typing import Optional, Union
 from .library import TooLong, version
 from .listing import MOST_LISTED, listed, utf_8
 from .repeats import RepeatedName, repeated_names
-from .results import (Canonical, Check, Comparison, Difference, Differences, Fault, check_of, comparison_of, differences_of)
+from .results import (Canonical, Check, Comparison, Difference, Differences, Fault, SelectionDifference, SelectionName, check_of,
+                      comparison_of, differences_of)
 
-__all__ = ['Canonical', 'Check', 'Comparison', 'Difference', 'Differences', 'Fault', 'MOST_LISTED', 'RepeatedName', 'TooLong',
-           'canonical', 'check', 'compare', 'differences', 'repeated_names', 'version']
+__all__ = ['Canonical', 'Check', 'Comparison', 'Difference', 'Differences', 'Fault', 'MOST_LISTED', 'RepeatedName',
+           'SelectionDifference', 'SelectionName', 'TooLong', 'canonical', 'check', 'compare', 'differences', 'repeated_names', 'version']
 
 Report = Union[bytes, bytearray, memoryview, str]
 
@@ -75,7 +76,7 @@ def compare(left: Report, right: Report, *, prefer: Optional[str] = None, most_f
 def differences(left: Report, right: Report, *, prefer: Optional[str] = None,
                 most_differences: Optional[int] = MOST_LISTED) -> Differences:
     """Returns the differences of the two reports in rising order, or the faults of the first report that is refused: at most
-    `most_differences` of either.
+    `most_differences` of either. A difference in the selections of a contest tells what differs inside them.
 
     >>> differences('{', '{').lines
     ('left: not JSON',)

@@ -4,9 +4,12 @@ from __future__ import annotations
 
 import json
 from dataclasses import dataclass
-from typing import Optional, Tuple, Union
+from typing import NamedTuple, Optional, Tuple, Union
 
 Step = Union[str, int]
+
+# The Type, OtherType and Value of an identifier.
+Key = Tuple[str, str, str]
 
 # The words of each reason for a fault, by its number. For reason 2 the name of the member follows.
 # `tests/pages/tables.py --write` writes them from docs/PROFILE.md.
@@ -73,6 +76,45 @@ class Fault:
         return f'{self.pointer}: {self.words}'
 
 
+class SelectionName(NamedTuple):
+    """What tells a selection from the others of its contest: `docs/PROFILE.md`, "Names of selections".
+
+    A part that the name has not is None.
+    """
+
+    type: str
+    """The `@type` of its class."""
+
+    keys: Tuple[Key, ...]
+    """The keys of its candidates or parties, in rising order."""
+
+    is_write_in: bool
+    """Whether it is for a write-in."""
+
+    sequence_order: Optional[int]
+    """Its `SequenceOrder`."""
+
+    label: Optional[str]
+    """The compact JSON text of its label."""
+
+    identifier: Optional[Key]
+    """The triple that is chosen from its identifiers."""
+
+
+@dataclass(frozen=True)
+class SelectionDifference:
+    """A selection in which two contests differ, and how they differ there."""
+
+    name: SelectionName
+    """The name of the selection."""
+
+    how: str
+    """One of `only left`, `only right` and `member`."""
+
+    member: Optional[str] = None
+    """A member in which the two selections differ, if `how` is `member`."""
+
+
 @dataclass(frozen=True)
 class Difference:
     """An object in which two reports differ, and how they differ there.
@@ -84,7 +126,7 @@ class Difference:
     part: str
     """What the object is: report, unit, party, person, office, header, election, candidate, contest or style."""
 
-    key: Optional[Tuple[str, str, str]]
+    key: Optional[Key]
     """Type, OtherType and Value of the object's key. None for the report, and for an election without identifiers."""
 
     how: str
@@ -92,6 +134,11 @@ class Difference:
 
     member: Optional[str] = None
     """A member in which the two objects differ, if `how` is `member`."""
+
+    selections: Optional[Tuple[SelectionDifference, ...]] = None
+    """What differs inside the selections of a contest, in rising order of names and then of members, if the member is
+    `ContestSelection`. Only `differences` tells it. It is None too where the names of selections, from the first difference of the
+    list on, have more than a megabyte together; if all differences are asked for, this holds for each piece of the list."""
 
     @property
     def line(self) -> str:
@@ -263,8 +310,21 @@ def fault_of(data: dict) -> Fault:
 
 def difference_of(data: dict) -> Difference:
     """Returns the difference that one object of the library's JSON describes."""
-    key = None if data['key'] is None else tuple(data['key'])
-    return Difference(data['part'], key, data['how'], data.get('member'))
+    inside = data.get('selections')
+    selections = None if inside is None else tuple(map(selection_difference_of, inside))
+    return Difference(data['part'], key_of(data['key']), data['how'], data.get('member'), selections)
+
+
+def selection_difference_of(data: dict) -> SelectionDifference:
+    """Returns the difference inside selections that one object of the library's JSON describes."""
+    type_text, keys, is_write_in, order, label, identifier = data['name']
+    name = SelectionName(type_text, tuple(map(tuple, keys)), is_write_in, order, label, key_of(identifier))
+    return SelectionDifference(name, data['how'], data.get('member'))
+
+
+def key_of(data: Optional[list]) -> Optional[Key]:
+    """Returns the key that an array of the library's JSON describes, or None."""
+    return None if data is None else tuple(data)
 
 
 def check_of(data: object, all_faults: int) -> Check:

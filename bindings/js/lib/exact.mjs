@@ -1,11 +1,11 @@
-// Reads a canonical form and writes values of it, with whole numbers kept as they are.
-import { Scanner, Visitor, textOf } from '../../bindings/js/lib/scanner.mjs';
+// Reads JSON that the proved code has written, and writes values of it, with whole numbers kept as they are.
+import { Scanner, Visitor, textOf } from './scanner.mjs';
 
 /**
- * The value of a canonical form. Whole numbers that a number of JavaScript can't hold become BigInt.
+ * The value of a JSON text that the proved code has written. Whole numbers that a number of JavaScript can't hold become BigInt.
  * @param {Uint8Array} bytes
  */
-export function readCanonical(bytes) {
+export function readExactly(bytes) {
     const text = textOf(bytes, 0, bytes.length);
     return /\d{16}/.test(text) ? new ExactReader(bytes).read() : JSON.parse(text);
 }
