@@ -16,6 +16,7 @@ import { whyAlike } from '../../web/scripts/look_alikes.mjs';
 import { foundPlaces } from '../../web/scripts/places.mjs';
 import { rowsOfDifference, withMoves } from '../../web/scripts/rows.mjs';
 import { wordOf } from '../../web/scripts/seen.mjs';
+import { insideOf } from '../../web/scripts/selection_names.mjs';
 import { codeOf } from '../../web/scripts/sums.mjs';
 import { mergedText, piecesOfBoth } from '../../web/scripts/text_changes.mjs';
 import { NotJson, Scanner } from '../../bindings/js/lib/scanner.mjs';
@@ -191,6 +192,29 @@ for (const [why, least, other] of [['past 16 bits', '\ufffd', '\u{10000}'], ['a 
     equal(`the least of two identifiers: ${why}`, [key[2], ...texts.map((text) => meaningOf(text).thing(part, key)?.object.Name)],
         [least, 'one', 'two']);
 }
+
+// Names of selections for a reader: by each part, from the report that has the selection, and without a report.
+const ofContest = { part: 'contest', key: ['local-level', '', 'C1'], how: 'member', member: 'ContestSelection' };
+const CANDIDATES = 'ElectionResults.CandidateSelection';
+const K12 = ['local-level', '', 'K-12'];
+const inTwo = [county, county.replaceAll('Ingrith', 'Ingrid')].map(meaningOf);
+const namesOf = (meanings, ...selections) => insideOf(meanings, { ...ofContest, selections }).entries.map(({ name }) => name);
+equal('the name of a selection, from its own side', namesOf(inTwo, ...['only left', 'only right', 'member'].map((how) => ({ how, name: [CANDIDATES, [K12], false, null, null, null] }))),
+    ['Ingrith', 'Ingrid', 'Ingrith'].map((name) => `Candidate “${name} Sablewood” (local-level K-12)`));
+equal('the name of a selection without a report', namesOf(null, { how: 'only left', name: [CANDIDATES, [K12, ['a', 'b', 'c']], true, 18446744073709551615n, null, ['fips', '', '7']] }),
+    ['local-level K-12 + a b c + write-in (place 18446744073709551615, fips 7)']);
+equal('a selection without a name', namesOf(inTwo, { how: 'only left', name: [CANDIDATES, [], false, 0, null, null] }), ['no candidate, party or label (place 0)']);
+const languages = [['en', 'Yes'], ['es', 'Sí']].map(([Language, Content]) => ({ '@type': 'ElectionResults.LanguageString', Content, Language }));
+equal('a selection with a label', namesOf(inTwo, ...['Yes', { '@type': 'ElectionResults.InternationalizedText', Text: languages }]
+    .map((label) => ({ how: 'only left', name: ['ElectionResults.BallotMeasureSelection', [], false, null, JSON.stringify(label), null] }))), ['“Yes”', 'en: “Yes” + es: “Sí”']);
+const [party] = inTwo[0].things.get('party').values();
+equal('a selection of a party', namesOf(inTwo, { how: 'only left', name: ['ElectionResults.PartySelection', [party.key], false, null, null, null] }),
+    [`Party “${party.title}” (${party.key.filter(Boolean).join(' ')})`]);
+const many = insideOf(inTwo, { ...ofContest, selections: new Array(101).fill({ how: 'member', member: 'Note', name: [CANDIDATES, [], true, null, null, null] }) });
+equal('many selections', [many.count, many.entries.length, many.entries[0]], [101, 100, { how: 'member', member: 'Note', name: 'write-in' }]);
+equal('selections that are not told', insideOf(inTwo, ofContest), null);
+equal('a difference that has none', [{ member: 'Name' }, { part: 'party' }, { how: 'only left', member: undefined }].map((other) => insideOf(inTwo, { ...ofContest, ...other }) ?? 'none'),
+    ['none', 'none', 'none']);
 
 // A ballot of two files, in which a name is changed and two selections have changed places.
 const moved = county.replace('Ingrith', 'Ingrid').replace('"cs1-2","cs1-3","cs1-4"', '"cs1-3","cs1-2","cs1-4"');

@@ -18,6 +18,8 @@ def run(session):
     after_election(session)
     seen(session)
     look_alikes(session)
+    many_selections(session)
+    long_names(session)
     renamed(session)
     other_type(session)
 
@@ -125,6 +127,34 @@ def look_alikes(session):
     session.equal('look-alikes: the letter is marked', session.texts('#first-difference ~ div tbody:last-child mark'), ['A', '\u0410'])
     session.has('look-alikes: the reason', session.text('.alike'), 'a letter of another alphabet')
     session.has('look-alikes: its explanation', session.text('.alike p'), 'looks like a Latin')
+
+
+def with_selections(session, name, count, note, filling=''):
+    """The small ballot with so many more selections for a write-in, which have this note, and names of this length."""
+    report = small()
+    report['Election'][0]['Contest'][0]['ContestSelection'] += [
+        {'@type': 'ElectionResults.CandidateSelection', 'IsWriteIn': True, 'SequenceOrder': number, 'Note': note, 'ExternalIdentifier': [
+            {'@type': 'ElectionResults.ExternalIdentifier', 'Type': 'fips', 'Value': f'{number}{filling}'}]} for number in range(count)]
+    return written(session, name, report)
+
+
+def many_selections(session):
+    """More selections that differ than the page shows: it says how many more there are, in the record too."""
+    session.judged(with_selections(session, 'left.json', 130, 1), with_selections(session, 'right.json', 130, 2))
+    shown = session.texts('.inside > li')
+    session.equal('many selections: the heading', session.texts('.inside-heading'), [answers.say('inside.heading', count=130)])
+    session.equal('many selections: the first and the last', [shown[0], *shown[-2:]],
+                  [answers.say('inside.member', selection=f'write-in (place {number}, fips {number})', member='Note') for number in (0, 99)]
+                  + [answers.say('inside.more', count=30)])
+    filed = session.texts('[data-filed] li > div')
+    session.equal('many selections: in the record', [len(filed), filed[-1]], [21, answers.say('inside.more', count=110)])
+
+
+def long_names(session):
+    """Names of selections that are longer than a megabyte together: the page says that they are not listed."""
+    session.judged(*(with_selections(session, name, 2, note, 'x' * 300_000) for name, note in (('left.json', 1), ('right.json', 2))))
+    session.equal('long names: they are not listed', session.texts('[aria-labelledby="first-difference"] > .note'), [answers.say('inside.notTold')])
+    session.equal('long names: nor in the record', session.texts('[data-filed] li > div')[:1], [answers.say('inside.notTold')])
 
 
 def renamed(session):

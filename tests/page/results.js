@@ -19,12 +19,13 @@ const faults = (node) => ({
 const notJson = (node) => ({
     heading: text(node.querySelector('h3')), paragraphs: texts(':scope > p', node), marked: marked(node), mending: mending(node),
 });
+const inside = (node) => texts('.inside-heading, .inside > li', node);
 const others = (node) => ({
     heading: text(node.querySelector('h3')),
     tallies: every('.tallies tr', node, (row) => texts('th, td', row)),
-    entries: every(':scope > .differences > li', node, (entry) => [text(entry.querySelector('summary') ?? entry), ...table(entry)]),
+    entries: every(':scope > .differences > li', node, (entry) => [text(entry.querySelector('summary') ?? entry), ...inside(entry), ...table(entry)]),
 });
-const first = (node) => [text(node.querySelector('.sentence')), ...table(node)];
+const first = (node) => [text(node.querySelector('.sentence')), ...inside(node), ...table(node)];
 const seen = (node) => [text(node.querySelector('h3')), ...texts('li', node)];
 const line = (node) => {
     const sum = node.querySelector('.sum');

@@ -105,12 +105,13 @@ class Result:
         names = [f'{side}.json' for side in SIDES] if len(self.specs) == 2 else ['only.json']
         self.paths = [made(session, spec, name) for spec, name in zip(self.specs, names)]
         self.answers = [Answer(program, path, self.prefer, spec.get('outcome')) for spec, path in zip(self.specs, self.paths)]
-        self.compared, self.lines = None, []
+        self.compared, self.lines, self.data = None, [], []
         self.is_listed = row.get('others') is not None
         self.has_values = row.get('page') != 'short'
         if len(self.paths) == 2 and all(it.outcome == 'accepted' for it in self.answers):
             self.line = program.run(self.prefer, 'compare', *self.paths)[1].decode('utf-8').rstrip('\n')
             self.lines = program.run(self.prefer, 'differences', *self.paths)[1].decode('utf-8').splitlines() if self.is_listed else []
+            self.data = json.loads(program.run(self.prefer, 'entries', *self.paths)[1]) if self.is_listed else []
             self.compared = row.get('compared') or ('same' if self.line == 'same' else 'different')
 
     def tried(self):
@@ -255,13 +256,22 @@ class Result:
         return {'titles': [], **difference_of(self.line), **(self.row.get('first') or {})}
 
     def entry(self, entry):
-        """A difference as it is shown: its sentence, and its table."""
-        return [self.sentence_on(entry), *(self.table(entry) if self.has_values else [])]
+        """A difference as it is shown: its sentence, what differs inside selections, and its table."""
+        return [self.sentence_on(entry), *self.inside(entry), *(self.table(entry) if self.has_values else [])]
 
     def other(self, entry):
         """A difference of the list. Its table has no more than its sentence needs."""
-        sentence, *table = self.entry(entry)
-        return [sentence, *(table[-1:] if entry['how'] == 'member' else table)]
+        table = self.table(entry) if self.has_values else []
+        return [self.sentence_on(entry), *self.inside(entry), *(table[-1:] if entry['how'] == 'member' else table)]
+
+    def inside(self, entry):
+        """What differs inside the selections of a contest: the reference program says how, and the row has the names."""
+        ways = next((it['selections'] for it in self.data if (it['key'], it.get('member')) == (entry.get('key'), entry.get('member')) and 'selections' in it), [])
+        names = entry.get('inside', [])
+        assert len(ways) == len(names), f'{self.name}: {len(ways)} names of {entry}'
+        lines = [say(f'inside.{way["how"]}', selection=name, member=member_words(way.get('member', '')), left=self.answers[0].name,
+                     right=self.answers[1].name) for way, name in zip(ways, names)]
+        return [say('inside.heading', count=len(lines)), *lines] if lines else []
 
     def sentence_on(self, entry):
         title = next((f' “{it}”' for it in entry['titles'] if it), '')
@@ -325,7 +335,7 @@ class Result:
         entries = [line for it in refused for line in it.lines.decode('utf-8').splitlines()]
         if self.is_listed:
             headings = [say('difference.all', count=len(self.entries))]
-            entries = [self.sentence_on(entry) + ''.join(values_filed(entry)) for entry in self.entries]
+            entries = [self.sentence_on(entry) + ''.join(self.inside(entry)[1:] or values_filed(entry)) for entry in self.entries]
         return {'headings': headings, 'entries': entries, 'paragraphs': [*self.notices(), say('record.proved'), say('record.notProved')]}
 
     @staticmethod

@@ -109,6 +109,21 @@ def spanish(session):
     session.open_details()
 
 
+def selections_changed(session):
+    """The county with other selections: one more, one less, one for a write-in that has a place, and one with another label."""
+    report = json.loads(COUNTY[1].read_text(encoding='utf-8'))
+    for contest in report['Election'][0]['Contest']:
+        chosen = contest['ContestSelection']
+        for one in chosen:
+            if one.get('IsWriteIn'):
+                one['SequenceOrder'] = one.get('SequenceOrder', 0) + 20
+        if chosen[0]['@type'].endswith('CandidateSelection') and chosen[0].get('CandidateIds'):
+            chosen[0]['EndorsementPartyIds'] = [report['Party'][0]['@id']]
+        elif 'Selection' in chosen[0]:
+            chosen[0]['Selection'] = 'Maybe'
+    return session.file('selections.json', json.dumps(report, ensure_ascii=False))
+
+
 def open_all(session, *paths):
     session.judged(*paths)
     session.open_details()
@@ -124,6 +139,7 @@ VIEWS = {
     'not-json': lambda session: session.judged(session.file('comma.json', SMALL.read_bytes().replace(b'}]', b'},]', 1))),
     'not-compared': lambda session: session.judged(FAULTY, session.file('cut.json', SMALL.read_bytes()[:900])),
     'after-election': lambda session: session.judged(small(session, 'results.json', Status='certified')),
+    'selections': lambda session: open_all(session, COUNTY[0], selections_changed(session)),
     'renamed': lambda session: open_all(session, COUNTY[0], changed(session, **{'"K-12"': '"K-99"'})),
     'look-alikes': lambda session: open_all(session, SMALL, changed(session, path=SMALL, **{'"Ann"': '"\u0410nn"'})),
     'other-type': other_type,

@@ -24,18 +24,21 @@ export function firstDifference(first, names) {
     const groups = first.titles === undefined ? [] : [...objectGroups(first), ...memberGroups(first)];
     return element('section', { 'aria-labelledby': 'first-difference' },
         element('h3', { id: 'first-difference' }, say('difference.first')),
-        element('p', { class: 'sentence' }, sentence(first, names)), groups.length === 0 ? null : table(groups, names));
+        element('p', { class: 'sentence' }, sentence(first, names)), ...insideShown(first, names), groups.length === 0 ? null : table(groups, names));
 }
 
-/** A difference of the list: its sentence, and its values when it is opened. */
+/** A difference of the list: its sentence, and when it is opened what differs inside its selections, and its values. */
 export function differenceEntry(entry, names) {
-    if (entry.rows === undefined) {
+    if (entry.rows === undefined && entry.inside === undefined) {
         return element('li', {}, sentence(entry, names));
     }
     const details = element('details', {}, element('summary', {}, sentence(entry, names)));
-    const groups = entry.rows === null ? objectGroups(entry) : memberGroups(entry);
-    details.addEventListener('toggle', () => details.append(table(groups, names)), { once: true });
+    details.addEventListener('toggle', () => details.append(...insideShown(entry, names), ...valuesShown(entry, names)), { once: true });
     return element('li', {}, details);
+}
+
+function valuesShown(entry, names) {
+    return entry.rows === undefined ? [] : [table(entry.rows === null ? objectGroups(entry) : memberGroups(entry), names)];
 }
 
 // ---- the sentence
@@ -66,6 +69,27 @@ function code(text) {
 function memberWords(name) {
     const words = sayIfKnown(`member.${name}`);
     return words === undefined ? element('span', {}, code(name)) : element('span', {}, `${words} (`, code(name), ')');
+}
+
+// ---- what differs inside the selections of two contests
+
+function insideShown({ inside }, names) {
+    if (inside === undefined) {
+        return [];
+    }
+    if (inside === null) {
+        return [element('p', { class: 'note' }, say('inside.notTold'))];
+    }
+    const more = inside.count - inside.entries.length;
+    return [element('p', { class: 'inside-heading' }, say('inside.heading', { count: inside.count })),
+        element('ul', { class: 'inside' }, ...inside.entries.map((one) => element('li', {}, insideSentence(one, names))),
+            more === 0 ? null : element('li', {}, say('inside.more', { count: more })))];
+}
+
+/** A difference inside selections, as a sentence. */
+export function insideSentence({ how, member, name }, names) {
+    return saidWith(`inside.${how}`, { selection: element('strong', {}, long(name, LONGEST_LINE)), member: memberWords(member ?? ''),
+        left: theirs(names[0]), right: theirs(names[1]) });
 }
 
 // ---- the table: groups of rows, each group with a heading

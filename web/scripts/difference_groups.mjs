@@ -2,6 +2,7 @@
 import { renamed, talliesOf } from './causes.mjs';
 import { rowsOfDifference } from './rows.mjs';
 import { countsOf, wordOf } from './seen.mjs';
+import { insideOf } from './selection_names.mjs';
 
 /** The most differences for which objects under another identifier are looked for, and other types of identifier are tried. */
 const MOST_PAIRED = 2000;
@@ -9,7 +10,7 @@ const MOST_TYPES = 12;
 
 export class Differences {
     /**
-     * @param {{part: string, key: string[] | null, how: string, member?: string}[]} entries the proved list
+     * @param {import('../../bindings/js/index.d.ts').Difference[]} entries the proved list
      * @param {import('./meaning.mjs').Meaning[] | null} meanings null where the files are too large for their values to be shown
      * @param {Record<string, Record<string, string>>} seen what a voter sees
      */
@@ -54,8 +55,10 @@ export class Differences {
         return this.groups[group].slice(from, from + count).map((entry) => this.shown(entry));
     }
 
-    shown(entry) {
-        return this.meanings === null ? entry : { ...entry, ...rowsOfDifference(this.meanings, entry) };
+    shown(difference) {
+        const { selections: _selections, ...entry } = difference;
+        const inside = insideOf(this.meanings, difference);
+        return { ...entry, ...(this.meanings === null ? {} : rowsOfDifference(this.meanings, entry)), ...(inside === undefined ? {} : { inside }) };
     }
 
     /** How many differences there are under each type, where there are fewer; the fewest first. `countOf` tells how many, or null. */

@@ -1,5 +1,5 @@
 // What a record has of the differences or the faults, in print: the first hundred, and how many there are.
-import { sentence } from './comparison.mjs';
+import { insideSentence, sentence } from './comparison.mjs';
 import { element, saidWith, theirs } from './dom.mjs';
 import { say } from './texts.mjs';
 import { beginningOf } from './visible.mjs';
@@ -9,6 +9,7 @@ export const MOST_FILED = 100;
 
 const LONGEST_VALUE = 160;
 const MOST_ROWS = 3;
+const MOST_INSIDE = 20;
 
 /**
  * The differences of two files.
@@ -17,9 +18,19 @@ const MOST_ROWS = 3;
  * @param {string[]} names
  */
 export function differencesFiled(entries, count, names) {
-    const items = entries.map((entry) => element('li', {}, sentence(entry, names), ...valuesOf(entry).map((line) => element('div', {}, line))));
+    const items = entries.map((entry) => element('li', {}, sentence(entry, names), ...linesOf(entry, names).map((line) => element('div', {}, line))));
     return element('div', { 'data-filed': 'differences' }, element('h4', {}, say('difference.all', { count })),
         element('ol', {}, ...items), leftOut(count - items.length));
+}
+
+// What differs inside selections, or else the values of a member.
+function linesOf(entry, names) {
+    if (entry.inside === undefined || entry.inside === null) {
+        return [...(entry.inside === null ? [say('inside.notTold')] : []), ...valuesOf(entry)];
+    }
+    const { count, entries } = entry.inside;
+    const shown = entries.slice(0, MOST_INSIDE).map((one) => insideSentence(one, names));
+    return count === shown.length ? shown : [...shown, say('inside.more', { count: count - shown.length })];
 }
 
 // The values of a member, where they are short, and why two of them look alike.
