@@ -56,16 +56,25 @@ class Library:
     def piece(self, name, reports, prefer, first, most, enough_bytes):
         """The outcome and the text of a call for a piece, and what it tells: how many entries the text has, and how many the list
         has."""
+        piece = Piece(first, most, enough_bytes, 77, 78)
+        outcome, found = self.asked(name, reports, prefer, ctypes.byref(piece))
+        assert (piece.first, piece.most, piece.enough_bytes) == (first, most, enough_bytes), "a call changes its piece"
+        return outcome, found, piece.told, piece.all
+
+    def whole(self, name, reports, prefer):
+        """The outcome and the text of the same call without a piece, which has the whole list."""
+        return self.asked(name, reports, prefer, None)
+
+    def asked(self, name, reports, prefer, piece):
         call = getattr(self.library, name)
         call.argtypes = [ctypes.c_char_p, ctypes.c_size_t] * len(reports) + [
             ctypes.c_char_p, ctypes.POINTER(Piece), ctypes.POINTER(ctypes.c_void_p), ctypes.POINTER(ctypes.c_size_t)]
         given = [part for report in reports for part in (report, len(report))]
-        piece, text, length = Piece(first, most, enough_bytes, 77, 78), ctypes.c_void_p(), ctypes.c_size_t()
-        outcome = call(*given, prefer, ctypes.byref(piece), ctypes.byref(text), ctypes.byref(length))
+        text, length = ctypes.c_void_p(), ctypes.c_size_t()
+        outcome = call(*given, prefer, piece, ctypes.byref(text), ctypes.byref(length))
         found = ctypes.string_at(text, length.value).decode() if text else None
         self.library.erd_free(text)
-        assert (piece.first, piece.most, piece.enough_bytes) == (first, most, enough_bytes), "a call changes its piece"
-        return outcome, found, piece.told, piece.all
+        return outcome, found
 
 
 def told_of_data(answer, text_of):

@@ -1,5 +1,5 @@
 /* Calls the C library as the program would be called: `library [check|canon|compare [--prefer TYPE] FILE ..]`. The words
- * `check-data` and `compare-data` ask for the same as JSON. With `library threads FILE` several threads call at once, and with
+ * `check-data` and `compare-data` ask for the same as JSON, and `differences` and `differences-data` for all differences. With `library threads FILE` several threads call at once, and with
  * `library odd FILE` the calls are handed unusual arguments. `library line WORD ..` parses the words as a command line. */
 #include "../../bindings/c/erd.h"
 
@@ -43,6 +43,11 @@ static int run(const char *command, const char *prefer, const char *left_name, c
         right = read_file(right_name);
         outcome = (is_data ? erd_compare_data : erd_compare)(left.bytes, left.size, right.bytes, right.size, prefer, &text,
                                                              &length);
+    } else if (strncmp(command, "differences", 11) == 0) {
+        int is_data = strcmp(command, "differences-data") == 0;
+        right = read_file(right_name);
+        outcome = (is_data ? erd_differences_data : erd_differences)(left.bytes, left.size, right.bytes, right.size, prefer, NULL,
+                                                                     &text, &length);
     } else if (strcmp(command, "check") == 0) {
         outcome = erd_check(left.bytes, left.size, prefer, &text, &length);
     } else if (strcmp(command, "check-data") == 0) {

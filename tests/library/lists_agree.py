@@ -159,6 +159,8 @@ def sizes_of(found, dice):
 def failure_of_list(library, reports, prefer, found, dice):
     """What is wrong in the answers with the list of two accepted reports, or None."""
     for name, wanted in (('erd_differences_data', found.piece), ('erd_differences', found.lines)):
+        if library.whole(name, reports, prefer) != wanted(0, ALL, ALL)[:2]:
+            return f'{name} without a piece:\n{library.whole(name, reports, prefer)}\nreference:\n{wanted(0, ALL, ALL)}'
         for most, enough in [(ALL, ALL), *sizes_of(found, dice)]:
             first = 0
             while True:
