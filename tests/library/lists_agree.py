@@ -22,7 +22,7 @@ sys.dont_write_bytecode = True
 from agrees_with_reference import EXAMPLES, TYPES, edited, types_in, with_elections, written  # noqa: E402
 from by_ctypes import Library  # noqa: E402
 from listed import ALL, erd_reference, listed  # noqa: E402
-from reports import identifier, label, selection, translation  # noqa: E402
+from reports import contest, identifier, label, report, selection, translation, unit  # noqa: E402
 
 CLASSES = ['CandidateSelection', 'BallotMeasureSelection', 'PartySelection']
 ORDERS = [0, 1, 2, 10, -1, 2 ** 53, 2 ** 53 + 1, 2 ** 64 - 1, -2 ** 63]
@@ -34,8 +34,8 @@ LABELS = ['Yes', 'yes', '\u00e9', '"\\', '\U00010000', '']
 # ---- edits of selections
 
 
-def contests_of(report):
-    return [contest for election in report['Election'] for contest in election.get('Contest', [])]
+def contests_of(whole):
+    return [one for election in whole['Election'] for one in election.get('Contest', [])]
 
 
 def ids_of(holders):
@@ -49,10 +49,10 @@ def some_of(ids, dice):
 class Edits:
     """Edits of the selections of a contest. What a report may not have can come of them: such pairs are refused."""
 
-    def __init__(self, report, dice):
+    def __init__(self, whole, dice):
         self.dice = dice
-        self.parties = ids_of(report.get('Party', []))
-        self.candidates = ids_of([entry for election in report['Election'] for entry in election.get('Candidate', [])])
+        self.parties = ids_of(whole.get('Party', []))
+        self.candidates = ids_of([entry for election in whole['Election'] for entry in election.get('Candidate', [])])
         self.count = 0
 
     def some_label(self):
@@ -98,19 +98,19 @@ class Edits:
         return found
 
 
-def with_selections(report, dice, most):
+def with_selections(base, dice, most):
     """The report with some edits of the selections of its contests. References of ballots to what is gone are gone too."""
-    report = copy.deepcopy(report)
-    edits = Edits(report, dice)
-    contests = contests_of(report)
+    changed = copy.deepcopy(base)
+    edits = Edits(changed, dice)
+    contests = contests_of(changed)
     for _ in range(dice.randrange(most + 1) if contests else 0):
         selections = dice.choice(contests).setdefault('ContestSelection', [])
         dice.choice([edits.add, edits.add, edits.remove, edits.change, edits.change])(selections)
-    kept = set(ids_of([entry for contest in contests for entry in contest.get('ContestSelection', [])]))
-    for election in report['Election']:
+    kept = set(ids_of([entry for one in contests for entry in one.get('ContestSelection', [])]))
+    for election in changed['Election']:
         for style in election.get('BallotStyle', []):
             drop_references(style.get('OrderedContent', []), kept)
-    return report
+    return changed
 
 
 def drop_references(content, kept):
@@ -132,7 +132,7 @@ def pairs(bases, count, dice):
         if dice.random() < 0.3:
             right = edited(right, dice, 2)
         prefer = dice.choice([None, None, dice.choice(TYPES), dice.choice(types_in(left) or TYPES)])
-        yield [written(report, dice).encode() for report in (left, right)], prefer
+        yield [written(side, dice).encode() for side in (left, right)], prefer
 
 
 # ---- the library
@@ -156,12 +156,13 @@ def sizes_of(found, dice):
     return [(1, ALL), (2, 1000), (ALL, 1), (1000, 2 ** 20), (3, 300), (ALL, dice.randrange(1, 2000)), *((ALL, edge) for edge in edges)]
 
 
-def failure_of_list(library, reports, prefer, found, dice):
-    """What is wrong in the answers with the list of two accepted reports, or None."""
+def failure_of_list(library, reports, prefer, found, sizes):
+    """What is wrong in the answers with the list of two accepted reports, or None: with the whole list, and with one piece after
+    another, for each of these sizes of pieces."""
     for name, wanted in (('erd_differences_data', found.piece), ('erd_differences', found.lines)):
         if library.whole(name, reports, prefer) != wanted(0, ALL, ALL)[:2]:
             return f'{name} without a piece:\n{library.whole(name, reports, prefer)}\nreference:\n{wanted(0, ALL, ALL)}'
-        for most, enough in [(ALL, ALL), *sizes_of(found, dice)]:
+        for most, enough in [(ALL, ALL), *sizes]:
             first = 0
             while True:
                 answer = library.piece(name, reports, prefer, first, most, enough)
@@ -171,6 +172,18 @@ def failure_of_list(library, reports, prefer, found, dice):
                 if first >= answer[3]:
                     break
     return None
+
+
+def failure_of_many_entries(library):
+    """What is wrong in a list of 2,500 contests, or None: each differs in a selection that only one report has, and in its title."""
+    reports = []
+    for title, is_right in (('Mayor', False), ('Sheriff', True)):
+        contests = [contest(f'c{number}', f'C{10000 + number}', 'u', [selection(f's{number}', SequenceOrder=number % 7 + is_right)], BallotTitle=title)
+                    for number in range(2500)]
+        reports.append(json.dumps(report([unit('u', 'U')], 'u', Contest=contests)).encode())
+    found = listed(*reports, None)
+    why = failure_of_list(library, reports, None, found, [(1000, 2 ** 20), (ALL, 100_000), (2499, ALL)])
+    return why or (None if len(found.entries) == 5000 else f'the list has {len(found.entries)} entries')
 
 
 def failure_of_refusal(library, reports, prefer):
@@ -193,7 +206,7 @@ def tried(library, reports, prefer, dice, seen):
     for entry in found.entries:
         for inside in entry.selections or []:
             seen[f'inside: {inside.how}'] = seen.get(f'inside: {inside.how}', 0) + 1
-    return failure_of_list(library, reports, taken, found, dice)
+    return failure_of_list(library, reports, taken, found, sizes_of(found, dice))
 
 
 def main():
@@ -204,6 +217,10 @@ def main():
     dice, seen = random.Random(seed), {'refused': 0, 'same': 0, 'different': 0}
     with tempfile.TemporaryDirectory() as folder:
         library = Library(shared_library(folder))
+        why = failure_of_many_entries(library)
+        if why:
+            print(f'FAILED: many entries: {why[:2000]}', '0 passed, 1 failed', sep='\n')
+            return 1
         for reports, prefer in pairs(bases, count, dice):
             why = tried(library, reports, prefer, dice, seen)
             if why:
