@@ -1,7 +1,7 @@
 """The page in Spanish: its language is switched, and all of it follows."""
 import json
 
-from session import COUNTY, ROOT
+from session import COUNTY, ROOT, SMALL
 
 TEXTS = {lang: json.loads((ROOT / 'web' / ('texts.%s.json' % lang)).read_text(encoding='utf-8')) for lang in ('en', 'es')}
 
@@ -9,6 +9,7 @@ TEXTS = {lang: json.loads((ROOT / 'web' / ('texts.%s.json' % lang)).read_text(en
 def run(session):
     switched(session)
     faults(session)
+    selections(session)
 
 
 def speak(session, language):
@@ -41,4 +42,18 @@ def faults(session):
     session.browser.script("document.querySelectorAll('#examples button')[2].click()")
     session.becomes('Spanish: a refused file', session.verdict, 'Rechazado: 3 errores')
     session.said('Spanish: an explanation', '' if 'Una referencia nombra un @id que ningún objeto del archivo tiene.' in session.text('.faults') else 'there is none')
+    speak(session, 'en')
+
+
+def selections(session):
+    """What differs inside the selections of a contest."""
+    text = SMALL.read_text(encoding='utf-8').replace('"IsWriteIn":true', '"IsWriteIn":true,"SequenceOrder":3').replace('"CandidateIds":["a7"]', '"CandidateIds":["a7"],"IsWriteIn":false')
+    session.fresh()
+    speak(session, 'es')
+    for side, path in enumerate((SMALL, session.file('otro.json', text))):
+        session.choose(side, path)
+        session.verdict()
+    session.becomes('Spanish: selections', lambda: session.texts('[aria-labelledby="first-difference"] :is(.inside-heading, .inside > li)'), [
+        '3 diferencias entre sus selecciones', 'Solo en small-ballot.json: candidato por escrito', 'Solo en otro.json: candidato por escrito (lugar 3)',
+        'Candidato “Cy” (local-level K3) difiere en %s (IsWriteIn).' % TEXTS['es']['member.IsWriteIn']])
     speak(session, 'en')
