@@ -1,5 +1,5 @@
 -- The names of the selections of a contest of an accepted report: each once, and all of them.
-use Rattle.erd_compare.proofs.Common.{◌≡◌, ℕ, zero, suc, ◌+◌, ◌++◌, false, List, [], ◌∷◌, Some, None, Option, codes, option_map, option_and_then, filter_map, cons_option, eq_by_cmp, sym, refl, ap, ◌∙◌, subst, inl, inr, arith, slice_get, slice_get-map, Equal-is, Data, view, family, In, any_at, entries_at, Judged, Placed, placed_from, contests, selections_of_contest, objects, NameParts, name_of, name_cmp, in_at, find-Some, find-any, option_map-Some, position_of, selection_record, IsDistinct, Stands, Key, meaning, IsComparable}
+use Rattle.erd_compare.proofs.Common.{◌≡◌, ℕ, zero, suc, ◌+◌, ◌++◌, false, List, [], ◌∷◌, Some, None, Option, codes, option_map, option_and_then, filter_map, cons_option, eq_by_cmp, sym, refl, ap, ◌∙◌, subst, inl, inr, arith, slice_get, slice_get-map, Equal-is, Data, view, family, In, any_at, entries_at, Judged, Placed, placed_from, contests, selections_of_contest, objects, NameParts, name_of, name_cmp, in_at, find-Some, find-any, option_map-Some, position_of, selection_record, IsDistinct, Stands, IsComparable}
 use Rattle.std.proofs.lemmas.Bool.{false_from_ne_true}
 use Rattle.erd_tables.specs.declared.place.Step.{Step}
 use Rattle.erd_tables.specs.declared.place.Step.TheVariants.{At, Name}
@@ -7,8 +7,8 @@ use Rattle.erd_check.proofs.Order.{In-filter_map, all_from_In}
 use Rattle.erd_meaning.specs.Accepted.{IsAccepted}
 use Rattle.erd_meaning.specs.code.Orders.{name_cmp_exact}
 use Rattle.erd_meaning.proofs.accepted.Standing.{one_named, values-placed_entries}
-use Rattle.erd_compare.specs.SelectionDifferences.{AreNamesOf, HaveSize, selections_with_key}
-use Rattle.erd_compare.specs.code.ContestSelections.{AreNamesAmong, contest_map, has_name_in, names_in, selection_values, size_in}
+use Rattle.erd_compare.specs.SelectionDifferences.{AreNamesOf, SelectionMap}
+use Rattle.erd_compare.specs.code.ContestSelections.{AreNamesAmong, contest_map, has_name_in, names_in, selection_values}
 use Rattle.erd_compare.proofs.contest_selections.ContestRecords.{has_record}
 use Rattle.erd_compare.proofs.contest_selections.PlacedNames.{beside_names, has_the_name, is_named, values_of}
 use Rattle.erd_compare.proofs.differing.Walks.{to_in, to_stands}
@@ -118,20 +118,6 @@ module _ (a : Judged) (accepted : IsAccepted a.prefer (view a.tree)) where
     all = λ n. (has_one c n, (λ some. elim (beside_names a c (names c) (among c) n) [ inl none ↦ absurd (some none) | inr stands ↦ stands ]));
   }
 
--- ---- their size
-
-module _ (a b : Judged) (left : IsComparable a.prefer (view a.tree)) (right : IsComparable b.prefer (view b.tree)) where
-  have_size : (c d : Option ℕ) → HaveSize (contest_map a c) (contest_map b d) (size_in a c + size_in b d)
-  have_size c d = record {
-    left = names_in a c;
-    right = names_in b d;
-    left_names = names_of_contest a left.accepted c;
-    right_names = names_of_contest b right.accepted d;
-    counted = refl;
-  }
-
-  -- the same by the key of the contests
-  pub size_at : (c d : Option ℕ) (k : Option Key) → contest_map a c ≡ selections_with_key (meaning a.prefer (view a.tree)) k → contest_map b d ≡ selections_with_key (meaning b.prefer (view b.tree)) k
-      → HaveSize (selections_with_key (meaning a.prefer (view a.tree)) k) (selections_with_key (meaning b.prefer (view b.tree)) k) (size_in a c + size_in b d)
-  size_at c d k mine its =
-      subst (λ x. HaveSize x (selections_with_key (meaning b.prefer (view b.tree)) k) (size_in a c + size_in b d)) mine (subst (λ y. HaveSize (contest_map a c) y (size_in a c + size_in b d)) its (have_size c d))
+-- the names of the contest that a meaning has for a key
+pub names_at : (a : Judged) → IsComparable a.prefer (view a.tree) → (c : Option ℕ) (m : SelectionMap) → contest_map a c ≡ m → AreNamesOf m (names_in a c)
+names_at a comparable c m is = subst (λ (x : SelectionMap). AreNamesOf x (names_in a c)) is (names_of_contest a comparable.accepted c)
