@@ -10,8 +10,6 @@ use crate::first::all_differences;
 use crate::inside::room::{Room, left_after_both, left_after_differences};
 use crate::inside::told::differences_at;
 use crate::inside::{SelectionDifference, selection_ways};
-use crate::ranks::common_ranks::CommonRanks;
-use crate::ranks::name_numbers::names_of_both;
 use erd_meaning::{Key, Report};
 use erd_tables::Family;
 use std::alloc::{AllocError, Global};
@@ -56,12 +54,7 @@ pub fn detailed_differences(
     requires one_preference { left.now.prefer ≡ right.now.prefer }
     ensures { IfOk result (λ found. AreDetailedDifferences (meaning left.now.prefer (view left.now.tree)) (meaning right.now.prefer (view right.now.tree)) first most_bytes found.items) }
 {
-    // read for what they ensure: both trees are accepted, and their numbers are whole
-    let _one = left.tree();
-    let _other = right.tree();
-    let ranks = CommonRanks::of_both(alloc, left, right)?;
-    let names = names_of_both(alloc, left, right, &ranks)?;
-    let comparer = Comparer::of(alloc, left, right, &ranks, &names);
+    let comparer = Comparer::of_both(alloc, left, right)?;
     let found = all_differences(&comparer)?;
     with_selections(&comparer, found, first, most_bytes)
 }

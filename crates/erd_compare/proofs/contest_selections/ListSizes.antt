@@ -1,5 +1,5 @@
 -- How many bytes differences of selections have, name by name and member by member.
-use Rattle.erd_compare.proofs.Common.{◌≡◌, ℕ, ◌+◌, List, [], ◌∷◌, map, length, flat_map, sym, refl, ap, ◌∙◌, ap₂, arith, Bor, NameParts, Ways, ways}
+use Rattle.erd_compare.proofs.Common.{◌≡◌, ℕ, ◌+◌, List, [], ◌∷◌, map, length, flat_map, sym, refl, ap, ◌∙◌, ap₂, arith, Bor, NameParts, Member}
 use Rattle.std.specs.Prelude.{sum_by}
 use Rattle.std.proofs.lemmas.List.Sums.{sum_by-append, sum_by-cons}
 use Rattle.erd_compare.specs.SelectionDifferences.{difference_size, name_size}
@@ -25,7 +25,7 @@ size_in_member n s = name_size n + length s.now
 pub sizes_in_members : (n : NameParts) (ss : List (Bor (List ℕ))) → sum_by (size_in_member n) ss ≡ size_of_list (in_members n ss)
 sizes_in_members n [] = refl
 sizes_in_members n (s ∷ ss) =
-    sum_by-cons (size_in_member n) s ss ∙ (ap (λ k. size_in_member n s + k) (sizes_in_members n ss) ∙ sym (sum_by-cons difference_size _ (in_members n ss)))
+    sum_by-cons (size_in_member n) s ss ∙ (ap (λ k. size_in_member n s + k) (sizes_in_members n ss) ∙ sym (sum_by-cons difference_size (record { name = n; how = Member s.now }) (in_members n ss)))
 
 -- one difference at a name, in no member
 pub size_alone : (d : SelectionDifference) → difference_size d ≡ name_size d.name → size_of_list (d ∷ []) ≡ name_size d.name

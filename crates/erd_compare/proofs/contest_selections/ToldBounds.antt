@@ -96,9 +96,9 @@ module _ (m n : Meaning) (d : Difference) where
         let h = within used most told before.bytes after.bytes left passes in
         let size = names + size_of_list h.0 in (
           used + size,
-          h.2.0,
+          h.2,
           (λ e rest is tells later.
-              next_here before.first used most size none (takes used most h.0 h.1) told h.2.1 e rest is tells (subst (λ f. AreTold m n f (used + size) most rest) first later)),
+              next_here before.first used most size none (takes used most h.0 h.1) told h.3 e rest is tells (subst (λ f. AreTold m n f (used + size) most rest) first later)),
         )
 
 -- ---- all of them

@@ -1,5 +1,5 @@
 -- What a bound lets be told of a contest whose selections differ: how long names and differences are, and which lists are told.
-use Rattle.erd_compare.proofs.Common.{◌≡◌, ◌≢◌, ℕ, ◌+◌, ◌≤◌, Bool, true, false, List, [], ◌∷◌, Some, None, Option, codes, bytes_eq, sym, refl, ap, ◌∙◌, subst, inl, inr, arith, class, Class, Key, local_key, Meaning, ObjectRecord, MemberValue, a_selection_map, SelectionRecord, NameParts, Difference, Member, OnlyLeft, part, Family, family}
+use Rattle.erd_compare.proofs.Common.{◌≡◌, ◌≢◌, ℕ, zero, ◌+◌, ◌≤◌, Bool, true, false, List, [], ◌∷◌, Some, None, Option, codes, bytes_eq, sym, refl, ap, ◌∙◌, subst, inl, inr, arith, class, Class, Key, local_key, Meaning, ObjectRecord, MemberValue, a_selection_map, SelectionRecord, NameParts, Difference, Member, OnlyLeft, part, Family, family}
 use Rattle.std.specs.List.Sorted.{IsStrictlySortedBy}
 use Rattle.std.specs.List.{IsDistinct}
 use Rattle.std.specs.Prelude.{ℤ, if◌then◌else◌, sum_by}
@@ -13,12 +13,12 @@ use Rattle.erd_compare.specs.declared.inside.SelectionDifference.{SelectionDiffe
 abbrev bare : SelectionRecord
 bare = record { class = class.BallotMeasureSelection; members = λ name. None }
 
--- a selection whose name is the text "c"
+-- a selection whose name is a text of one byte
 abbrev labelled : NameParts
-labelled = record { class = class.BallotMeasureSelection; keys = []; write_in = false; order = None; label = Some (99 ∷ []); identifier = None }
+labelled = record { class = class.BallotMeasureSelection; keys = []; write_in = false; order = None; label = Some (zero ∷ []); identifier = None }
 
 abbrev sole : Class → List Key → Bool → Option ℤ → Option (List ℕ) → Option Key → Option SelectionRecord
-sole class.BallotMeasureSelection [] false None (Some (99 ∷ [])) None = Some bare
+sole class.BallotMeasureSelection [] false None (Some (zero ∷ [])) None = Some bare
 sole c ks w o l i = None
 
 -- one contest has it, and the other has no selection
@@ -38,7 +38,7 @@ sizes = (refl, refl, refl)
 
 has_it : (c : Class) (ks : List Key) (w : Bool) (o : Option ℤ) (l : Option (List ℕ)) (i : Option Key) → (sole c ks w o l i ≢ None)
     → Stands (record { class = c; keys = ks; write_in = w; order = o; label = l; identifier = i }) (labelled ∷ [])
-has_it class.BallotMeasureSelection [] false None (Some (99 ∷ [])) None some = inl refl
+has_it class.BallotMeasureSelection [] false None (Some (zero ∷ [])) None some = inl refl
 has_it c ks w o l i some = absurd (some refl)
 
 pub names_of_one : AreNamesOf one (labelled ∷ [])
@@ -55,7 +55,7 @@ names_of_other = record { once = tt; all = λ n. ((λ none. absurd none), (λ so
 
 agree : (c : Class) (ks : List Key) (w : Bool) (o : Option ℤ) (l : Option (List ℕ)) (i : Option Key)
     → AgreeBut (λ how. Stands (record { name = record { class = c; keys = ks; write_in = w; order = o; label = l; identifier = i }; how = how }) (only ∷ [])) (sole c ks w o l i) (other labelled)
-agree class.BallotMeasureSelection [] false None (Some (99 ∷ [])) None = inl refl
+agree class.BallotMeasureSelection [] false None (Some (zero ∷ [])) None = inl refl
 agree c ks w o l i = tt
 
 are_all : AreSelectionDifferences one other (only ∷ [])

@@ -1,4 +1,4 @@
-use Rattle.erd_compare.proofs.Common.{◌≡◌, ℕ, ◌+◌, ◌-◌, true, false, Option, refl, ap, ◌∙◌, subst, rules, arith, IfOk-weaker, option_copied, view, Judged, meaning, Key}
+use Rattle.erd_compare.proofs.Common.{◌≡◌, ℕ, ◌+◌, ◌-◌, true, false, Option, option_map, refl, ap, ◌∙◌, subst, rules, arith, IfOk-weaker, option_copied, view, Judged, meaning, Key}
 use Rattle.erd_compare.specs.SelectionDifferences.{is_in_selections, selections_with_key}
 use Rattle.erd_compare.specs.code.ContestSelections.{contest_map, names_in, PassesInside}
 use Rattle.erd_compare.proofs.contest_selections.ContestNames.{names_at}

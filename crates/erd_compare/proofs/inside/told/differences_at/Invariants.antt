@@ -5,4 +5,4 @@ use Rattle.erd_compare.proofs.inside.told.differences_at.Given as goal
 
 -- with those at the names that are left, all are listed
 abbrev pub invariant-loop-named : goal.invariant-loop-named
-invariant-loop-named l = l.found.items ++ differences_from l.named-index l.named-items ≡ differences_at l.named-items
+invariant-loop-named l = l.found.items ++ differences_from l.named-index l.ways ≡ differences_at l.ways
