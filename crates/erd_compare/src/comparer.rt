@@ -1,6 +1,6 @@
 //! The two reports that are compared, and what they have in common.
 ghost use Rattle.std.specs.Prelude.{◌≡◌, true, option_and_then, option_map, slice_get, IfOk};
-ghost use Rattle.erd_compare.specs.Words.{view, Election, IsBounded, objects};
+ghost use Rattle.erd_compare.specs.Words.{view, Election, objects};
 ghost use Rattle.erd_tables.specs.declared.class.Family.TheVariants as family;
 ghost use Rattle.erd_compare.specs.code.CommonNames.{number_of_selection};
 ghost use Rattle.erd_compare.specs.code.CommonRanks.{AreCommonRanks, rank_of_key};
@@ -90,7 +90,7 @@ impl<'a> Comparer<'a> {
     /// Returns the report on a side.
     pub(crate) fn on(&self, side: ComparedReport) -> &'a Report<'a>
         ensures same { result.now ≡ on_side side self.now.left self.now.right }
-        ensures bounded { IsBounded (view (on_side side self.now.left self.now.right).tree) }
+        ensures comparable { IsComparable (on_side side self.now.left self.now.right).prefer (view (on_side side self.now.left self.now.right).tree) }
     {
         match side {
             ComparedReport::Left => self.left,
@@ -118,9 +118,10 @@ impl<'a> Comparer<'a> {
         ensures found { option_map (λ v. view v.now) result ≡ option_map (λ o. o.value) (slice_get (objects_in role (view (on_side side self.now.left self.now.right).tree)) position) }
         ensures comparable { IsComparable (on_side side self.now.left self.now.right).prefer (view (on_side side self.now.left self.now.right).tree) }
     {
+        let report = self.on(side);
         match role {
-            Role::OfFamily(family) => self.on(side).object(family, position),
-            Role::Election => self.on(side).election_at(position),
+            Role::OfFamily(family) => report.object(family, position),
+            Role::Election => report.election_at(position),
             _ if position == 0 => Some(self.tree_on(side)),
             _ => None,
         }

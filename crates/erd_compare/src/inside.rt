@@ -39,9 +39,9 @@ pub(crate) fn selection_ways<'a>(
     add_names(comparer.left(), contest, &mut names)?;
     add_names(comparer.right(), other_contest, &mut names)?;
     let mut found = Vec::new(comparer.alloc);
-    for &name in &names {
+    for name in &names {
         let ways = ways_of_name(comparer, contest, other_contest, name)?;
-        found.push(NamedWays { name, ways })?;
+        found.push(NamedWays { name: *name, ways })?;
     }
     Ok(found)
 }

@@ -1,5 +1,5 @@
 -- How many bytes differences of selections have, name by name and member by member.
-use Rattle.erd_compare.proofs.Common.{◌≡◌, ℕ, ◌+◌, List, [], ◌∷◌, map, length, flat_map, sym, refl, ap, ◌∙◌, ap₂, arith, Bor, NameParts, Member}
+use Rattle.erd_compare.proofs.Common.{◌≡◌, ℕ, ◌+◌, List, [], ◌∷◌, length, sym, refl, ap, ◌∙◌, arith, Bor, NameParts, Member}
 use Rattle.std.specs.Prelude.{sum_by}
 use Rattle.std.proofs.lemmas.List.Sums.{sum_by-append, sum_by-cons}
 use Rattle.erd_compare.specs.SelectionDifferences.{difference_size, name_size}

@@ -1,9 +1,9 @@
 -- The differences at the names of selections, one name after another in rising order, are all differences of two contests.
-use Rattle.erd_compare.proofs.Common.{◌≡◌, ◌⊎◌, ℕ, ◌+◌, true, List, [], ◌∷◌, ◌++◌, map, drop, slice_get, Some, None, Option, Ordering, Less, sym, refl, ap, ◌∙◌, subst, inl, inr, tied_itself, append-nil, Bor, AllByRecursion, In, In-map, In-map_from, In-all, ordering_then, SelectionRecord, How, Member, AgreeBut, DifferIn, Stands, hows_of, AreWays, Ways, Judged, NameParts}
+use Rattle.erd_compare.proofs.Common.{◌≡◌, ◌⊎◌, ℕ, ◌+◌, true, List, [], ◌∷◌, ◌++◌, map, drop, slice_get, Some, None, Option, Less, sym, refl, ap, ◌∙◌, subst, inl, inr, tied_itself, append-nil, Bor, AllByRecursion, In, In-map, In-map_from, In-all, ordering_then, SelectionRecord, How, Member, AgreeBut, DifferIn, Stands, hows_of, AreWays, Ways, Judged, NameParts}
 use Rattle.std.proofs.lemmas.Grind.{flat_map-append}
 use Rattle.std.proofs.lemmas.List.{append_assoc}
 use Rattle.std.specs.List.Sorted.{IsStrictlySortedBy}
-use Rattle.erd_check.proofs.Order.{In-append, In-append_left, In-append_right, all_from_In, sorted_append, sorted_map}
+use Rattle.erd_check.proofs.Order.{In-append, all_from_In, sorted_append, sorted_map}
 use Rattle.erd_check.proofs.Positions.{left_there}
 use Rattle.erd_meaning.proofs.selections.ContestSelections.{all_both}
 use Rattle.erd_meaning.specs.SelectionNames.{name_cmp}
@@ -16,7 +16,7 @@ use Rattle.erd_compare.proofs.contest_selections.ContestRecords.{agree_plain, di
 use Rattle.erd_compare.proofs.contest_selections.NameSets.{lent}
 use Rattle.erd_compare.proofs.contest_selections.PlacedNames.{beside_names}
 use Rattle.erd_compare.proofs.differing.RecordWays.{agree_more, way_cmp, ways_all, ways_rise, ways_sound}
-use Rattle.erd_compare.proofs.differing.Walks.{to_in, to_stands}
+use Rattle.erd_compare.proofs.differing.Walks.{stands_before, stands_behind, to_in, to_stands}
 
 abbrev the_difference : NameParts → How → SelectionDifference
 the_difference name how = record { name = name; how = how }
@@ -66,12 +66,12 @@ module _ (m n : SelectionMap) where
     its_name e i = ap (λ (d : SelectionDifference). d.name) (way_of e i).2
 
     more : (y : NameParts) (how : How) → Told found y how → Told (found ++ new) y how
-    more y how s = to_stands (the_difference y how) (found ++ new) (In-append_left (the_difference y how) found new (to_in (the_difference y how) found s))
+    more y how s = stands_before (the_difference y how) found new s
 
     here : AgreeBut (Told (found ++ new) x) (m x) (n x)
     here =
         agree_more (λ how. Stands how (hows_of w)) (Told (found ++ new) x)
-        (λ how s. to_stands (the_difference x how) (found ++ new) (In-append_right (the_difference x how) found new (In-map (the_difference x) how (hows_of w) (to_in how (hows_of w) s)))) (m x) (n x)
+        (λ how s. stands_behind (the_difference x how) found new (to_stands (the_difference x how) new (In-map (the_difference x) how (hows_of w) (to_in how (hows_of w) s)))) (m x) (n x)
         (agree_plain (λ how. Stands how (hows_of w)) (m x) (n x) (ways_all (whole_record (m x)) (whole_record (n x)) w ways))
 
     pub one_passed : ArePassed (found ++ new) rest

@@ -3,7 +3,6 @@ use Rattle.erd_compare.proofs.Common.{◌≡◌, ℕ, true, false, List, [], ◌
 use Rattle.std.specs.Prelude.{pos, negsuc}
 use Rattle.serde_json.specs.View.{items_of}
 use Rattle.erd_compare.specs.SelectionData.{name_data, selection_data, whole_data}
-use Rattle.erd_compare.specs.declared.inside.SelectionDifference.{SelectionDifference}
 
 -- numbers of 64 bits are numbers, and others are null
 whole_numbers : (whole_data (pos 9007199254740993) ≡ number (unsigned 9007199254740993)) × (whole_data (pos 18446744073709551615) ≡ number (unsigned 18446744073709551615)) × (whole_data (pos 18446744073709551616) ≡ null)

@@ -1,5 +1,5 @@
 -- What a bound lets be told of a contest whose selections differ: how long names and differences are, and which lists are told.
-use Rattle.erd_compare.proofs.Common.{◌≡◌, ◌≢◌, ℕ, zero, ◌+◌, ◌≤◌, Bool, true, false, List, [], ◌∷◌, Some, None, Option, codes, bytes_eq, sym, refl, ap, ◌∙◌, subst, inl, inr, arith, class, Class, Key, local_key, Meaning, ObjectRecord, MemberValue, a_selection_map, SelectionRecord, NameParts, Difference, Member, OnlyLeft, part, Family, family}
+use Rattle.erd_compare.proofs.Common.{◌≡◌, ◌≢◌, ℕ, zero, ◌≤◌, Bool, false, List, [], ◌∷◌, Some, None, Option, codes, bytes_eq, sym, refl, ap, ◌∙◌, subst, inl, inr, arith, class, Class, Key, local_key, Meaning, ObjectRecord, a_selection_map, SelectionRecord, NameParts, Difference, Member, OnlyLeft, part, Family, family}
 use Rattle.std.specs.List.Sorted.{IsStrictlySortedBy}
 use Rattle.std.specs.List.{IsDistinct}
 use Rattle.std.specs.Prelude.{ℤ, if◌then◌else◌, sum_by}
@@ -47,7 +47,7 @@ names_of_one = record { once = (tt, tt); all = λ n. (here n, has_it n.class n.k
   where
     here : (n : NameParts) → Stands n (labelled ∷ []) → one n ≢ None
     here n (inl same) none = let clash : one labelled ≡ None = ap one same ∙ none in cc
-    here n (inr none) = absurd none
+    here n (inr never) none = absurd never
 
 names_of_other : AreNamesOf other []
 unfolding IsDistinct

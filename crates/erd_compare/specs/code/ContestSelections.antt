@@ -1,5 +1,5 @@
 -- The selections of a contest that stands at a position of a report, by their names.
-use Rattle.std.specs.Prelude.{◌≡◌, ℕ, ◌+◌, ◌<◌, ◌≤◌, List, [], ◌∷◌, Bool, map, flat_map, sum_by, find, Option, Some, None, option_and_then, option_map, unwrap_or, codes}
+use Rattle.std.specs.Prelude.{◌≡◌, ℕ, ◌+◌, ◌<◌, ◌≤◌, List, [], ◌∷◌, Bool, map, flat_map, sum_by, Option, Some, None, option_map, unwrap_or, codes}
 use Rattle.std.specs.BTreeSet.{BTreeSet}
 use Rattle.std.specs.Borrow.{Bor}
 use Rattle.std.specs.List.{AllByRecursion, filter_map}

@@ -22,5 +22,5 @@ loop-name-init c =
 
 pub loop-name-preserved : goal.loop-name-preserved
 loop-name-preserved c =
-    next_passed (contest_map c.args.comparer.now.left c.args.contest) (contest_map c.args.comparer.now.right c.args.other_contest) c.loop-name.found.items _ c.in-Some.name c.in-Some.ensures.steps c.loop-name.invariant
+    next_passed (contest_map c.args.comparer.now.left c.args.contest) (contest_map c.args.comparer.now.right c.args.other_contest) c.loop-name.found.items _ c.in-Some.name.now c.in-Some.ensures.steps c.loop-name.invariant
     c.in_ok-ways.ways c.in_ok-ways.ensures c.in_ok-push.ensures.items

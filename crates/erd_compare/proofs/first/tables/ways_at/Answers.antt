@@ -1,4 +1,4 @@
-use Rattle.erd_compare.proofs.Common.{slice_get, Bool, Option, option_map, sym, ap, ◌∙◌, subst, ap₂, IfOk-weaker, view, Judged, object_record, Key, Decides, TellsHeld, role_of_part, objects_in, holder_key_in, TellsAtPositions, AreWays}
+use Rattle.erd_compare.proofs.Common.{slice_get, Bool, Option, option_map, sym, ap, ◌∙◌, subst, IfOk-weaker, view, object_record, Key, Decides, TellsHeld, role_of_part, objects_in, holder_key_in, TellsAtPositions, AreWays}
 use Rattle.erd_compare.proofs.least_difference.KeyedRecords.{records_here, whole_here}
 use Rattle.erd_compare.proofs.first.tables.ways_at.Goals as goal
 
