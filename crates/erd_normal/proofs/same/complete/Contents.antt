@@ -6,7 +6,7 @@ use Rattle.erd_normal.proofs.lists.Matched.{Matched, matched_back, matched_on, P
 use Rattle.erd_normal.proofs.same.Related.{entries_paired, set_says, list_says}
 use Rattle.erd_normal.proofs.same.Lookups.{Aligned, both_there, not_both, lacks_none as lacks_nothing, lacks_one, merged, AllPlain, is_plain_kind, plain_of_kind}
 use Rattle.erd_normal.proofs.same.Labels.{equal_aligned}
-use Rattle.erd_normal.proofs.same.complete.Sets.{TextsTied}
+use Rattle.erd_normal.proofs.same.complete.Counterparts.{TextsTied}
 
 -- ---- the contests and headers of the ballots of an accepted report: what they refer to, and the arrays inside them
 
