@@ -1,8 +1,5 @@
-ghost use Rattle.std.specs.Prelude.{◌≡◌, string_bytes, IfOk};
-ghost use Rattle.std.specs.Option.{option_copied};
-ghost use Rattle.erd_canon.specs.DataAnswers.{listing_outcome};
-ghost use Rattle.erd_compare.specs.SelectionData.{detailed_data};
-ghost use Rattle.erd_canon.specs.Pieces.{IsCheckPiece, IsComparePiece, IsFormPiece, IsListPiece, IsPieceData, IsPieceText};
+ghost use Rattle.std.specs.Prelude.{◌≡◌, string_bytes, IfOk, option_copied};
+ghost use Rattle.erd_canon.specs.Words.{listing_outcome, detailed_data, IsCheckPiece, IsComparePiece, IsFormPiece, IsListPiece, IsPieceData, IsPieceText};
 ghost use Rattle.erd_canon.specs.code.Fronts.{AppendsRefusalPiece, IsRefusalPieceAnswer, IsSidePieceAnswer};
 
 use crate::bytes::acceptance::check_bytes_with;
