@@ -29,20 +29,4 @@ returns g c =
     }
 
 pub returns-in_err-bytes : goal.returns-in_err-bytes
-returns-in_err-bytes g c = record {
-  whole = search rules;
-  told = search rules;
-  flushed = search rules;
-  quiet = search rules;
-  broken = λ e. absurd (not_of_fault c.from_residual.result c.in_err-bytes.field-0.0 c.from_residual.ensures.1 (λ w. c.in_err-bytes.ensures.no_write (ap Err w)) e);
-  out_first = search rules;
-  writes_first = search rules;
-  flush_order = search rules;
-  out_needed = search rules;
-  err_needed = search rules;
-  read = search rules;
-  write = search rules;
-  too_long = search rules;
-  too_many = search rules;
-  calls = search rules;
-}
+returns-in_err-bytes g c = let not = not_of_fault c.from_residual.result c.in_err-bytes.field-0.0 c.from_residual.ensures.1 (λ w. c.in_err-bytes.ensures.no_write (ap Err w)) in search (rules, not)

@@ -36,35 +36,7 @@ returns g c =
     }
 
 pub returns-in_err-left_bytes : goal.returns-in_err-left_bytes
-returns-in_err-left_bytes g c = record {
-  whole = search rules;
-  told = search rules;
-  flushed = search rules;
-  quiet = search rules;
-  broken = λ e. absurd (not_of_fault c.from_residual.result c.in_err-left_bytes.field-0.0 c.from_residual.ensures.1 (λ w. c.in_err-left_bytes.ensures.no_write (ap Err w)) e);
-  left_first = search rules;
-  left_failed = search rules;
-  read = search rules;
-  write = search rules;
-  too_long = search rules;
-  too_many = search rules;
-  left_calls = search rules;
-  right_calls = search rules;
-}
+returns-in_err-left_bytes g c = let not = not_of_fault c.from_residual.result c.in_err-left_bytes.field-0.0 c.from_residual.ensures.1 (λ w. c.in_err-left_bytes.ensures.no_write (ap Err w)) in search (rules, not)
 
 pub returns-in_err-right_bytes : goal.returns-in_err-right_bytes
-returns-in_err-right_bytes g c = record {
-  whole = search rules;
-  told = search rules;
-  flushed = search rules;
-  quiet = search rules;
-  broken = λ e. absurd (not_of_fault c.from_residual-in_err-right_bytes.result c.in_err-right_bytes.field-0.0 c.from_residual-in_err-right_bytes.ensures.1 (λ w. c.in_err-right_bytes.ensures.no_write (ap Err w)) e);
-  left_first = search rules;
-  left_failed = search rules;
-  read = search rules;
-  write = search rules;
-  too_long = search rules;
-  too_many = search rules;
-  left_calls = search rules;
-  right_calls = search rules;
-}
+returns-in_err-right_bytes g c = let not = not_of_fault c.from_residual-in_err-right_bytes.result c.in_err-right_bytes.field-0.0 c.from_residual-in_err-right_bytes.ensures.1 (λ w. c.in_err-right_bytes.ensures.no_write (ap Err w)) in search (rules, not)
