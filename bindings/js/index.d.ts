@@ -48,8 +48,9 @@ export interface Difference {
     member?: string;
     /**
      * What differs inside the selections of a contest, in rising order of names and then of members, if the member is
-     * `ContestSelection`. Only `differences` tells it. It is left out too where the names of selections, from the first difference
-     * of the list on, have more than a megabyte together. If all differences are asked for, this holds for each piece of the list.
+     * `ContestSelection`. Only `differences` tells it. It is left out too where the names of selections and of what differs,
+     * from the first difference of the list on, have more than a megabyte together. If all differences are asked for, this holds
+     * for each piece of the list.
      */
     selections?: SelectionDifference[];
     /** The line that the program writes for the difference, without its line feed. */

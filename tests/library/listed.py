@@ -20,6 +20,16 @@ def bytes_in_name(name):
     return sum(len(text.encode('utf-8')) for text in texts)
 
 
+def bytes_in_differences(data):
+    """How many bytes the objects of the differences of selections take: the texts in the name of each, and its member."""
+    size = 0
+    for inside in data['selections']:
+        _, keys, _, _, label, identifier = inside['name']
+        texts = [*itertools.chain(*keys), label or '', *(identifier or []), inside.get('member', '')]
+        size += sum(len(text.encode('utf-8')) for text in texts)
+    return size
+
+
 class Listed:
     """All differences of two accepted reports."""
 
@@ -34,13 +44,13 @@ class Listed:
         return sum(bytes_in_name(name) for contest in contests for name in contest.members.get('ContestSelection', {}))
 
     def told(self, first, enough_bytes):
-        """The objects of the entries from the first on. Those inside selections are told as long as the names fit: behind the first
-        entry whose names don't fit, none is."""
+        """The objects of the entries from the first on. Those inside selections are told as long as the names and they fit: behind
+        the first entry that doesn't fit, none is."""
         room = enough_bytes
         for entry in self.entries[first:]:
             data = erd_reference.difference_data(entry)
             if 'selections' in data:
-                room -= self.bytes_in_names(entry)
+                room -= self.bytes_in_names(entry) + bytes_in_differences(data)
                 if room < 0:
                     room = -1
                     del data['selections']

@@ -21,7 +21,7 @@ sys.path[:0] = [str(ROOT / 'tests' / 'program'), str(ROOT / 'tests' / 'reports')
 sys.dont_write_bytecode = True
 from agrees_with_reference import EXAMPLES, TYPES, edited, types_in, with_elections, written  # noqa: E402
 from by_ctypes import Library  # noqa: E402
-from listed import ALL, erd_reference, listed  # noqa: E402
+from listed import ALL, bytes_in_differences, erd_reference, listed  # noqa: E402
 from reports import contest, identifier, label, report, selection, translation, unit  # noqa: E402
 
 CLASSES = ['CandidateSelection', 'BallotMeasureSelection', 'PartySelection']
@@ -150,19 +150,22 @@ def shared_library(folder):
 
 
 def sizes_of(found, dice):
-    """Bounds for pieces: so many entries, and so many bytes. Some end where the names of selections just fit or just do not."""
-    names = [found.bytes_in_names(entry) for entry in found.entries if entry.selections is not None]
-    edges = [size + more for size in (sum(names[:1]), sum(names[:2]), sum(names)) for more in (-1, 0, 1) if size + more > 0]
+    """Bounds for pieces: so many entries, and so many bytes. Some end where what differs inside selections just fits or just does
+    not, or where the names alone do."""
+    entries = [entry for entry in found.entries if entry.selections is not None]
+    names = [found.bytes_in_names(entry) for entry in entries]
+    whole = [size + bytes_in_differences(erd_reference.difference_data(entry)) for size, entry in zip(names, entries)]
+    edges = [size + more for size in (sum(names[:1]), sum(whole[:1]), sum(whole[:2]), sum(whole)) for more in (-1, 0, 1) if size + more > 0]
     return [(1, ALL), (2, 1000), (ALL, 1), (1000, 2 ** 20), (3, 300), (ALL, dice.randrange(1, 2000)), *((ALL, edge) for edge in edges)]
 
 
-def failure_of_list(library, reports, prefer, found, sizes):
-    """What is wrong in the answers with the list of two accepted reports, or None: with the whole list, and with one piece after
-    another, for each of these sizes of pieces."""
+def failure_of_list(library, reports, prefer, found, sizes, whole=True):
+    """What is wrong in the answers with the list of two accepted reports, or None: with the whole list, if it is asked for, and with
+    one piece after another, for each of these sizes of pieces."""
     for name, wanted in (('erd_differences_data', found.piece), ('erd_differences', found.lines)):
-        if library.whole(name, reports, prefer) != wanted(0, ALL, ALL)[:2]:
+        if whole and library.whole(name, reports, prefer) != wanted(0, ALL, ALL)[:2]:
             return f'{name} without a piece:\n{library.whole(name, reports, prefer)}\nreference:\n{wanted(0, ALL, ALL)}'
-        for most, enough in [(ALL, ALL), *sizes]:
+        for most, enough in [(ALL, ALL)] * whole + sizes:
             first = 0
             while True:
                 answer = library.piece(name, reports, prefer, first, most, enough)
@@ -184,6 +187,18 @@ def failure_of_many_entries(library):
     found = listed(*reports, None)
     why = failure_of_list(library, reports, None, found, [(1000, 2 ** 20), (ALL, 100_000), (2499, ALL)])
     return why or (None if len(found.entries) == 5000 else f'the list has {len(found.entries)} entries')
+
+
+def failure_of_long_name(library):
+    """What is wrong in a piece of the list of two small reports whose whole list has 200 MB, or None: 2,000 members differ in one
+    selection, whose name has 100,000 bytes."""
+    reports = []
+    for note in (1, 2):
+        chosen = selection('s', ExternalIdentifier=[identifier('x' * 100_000)], **{f'Note{number}': note for number in range(2000)})
+        reports.append(json.dumps(report([unit('u', 'U')], 'u', Contest=[contest('c', 'C', 'u', [chosen])])).encode())
+    found = listed(*reports, None)
+    why = failure_of_list(library, reports, None, found, [(ALL, 2 ** 20)], whole=False)
+    return why or (None if len(found.entries[0].selections) == 2000 else f'{len(found.entries[0].selections)} members differ')
 
 
 def failure_of_refusal(library, reports, prefer):
@@ -217,10 +232,11 @@ def main():
     dice, seen = random.Random(seed), {'refused': 0, 'same': 0, 'different': 0}
     with tempfile.TemporaryDirectory() as folder:
         library = Library(shared_library(folder))
-        why = failure_of_many_entries(library)
-        if why:
-            print(f'FAILED: many entries: {why[:2000]}', '0 passed, 1 failed', sep='\n')
-            return 1
+        for what, failure_of in (('many entries', failure_of_many_entries), ('a long name', failure_of_long_name)):
+            why = failure_of(library)
+            if why:
+                print(f'FAILED: {what}: {why[:2000]}', '0 passed, 1 failed', sep='\n')
+                return 1
         for reports, prefer in pairs(bases, count, dice):
             why = tried(library, reports, prefer, dice, seen)
             if why:

@@ -11,7 +11,7 @@ const LABELS = new Values(null);
 
 /**
  * What the page shows of what differs inside: how many differences there are, and the first of them. Null if the list does not tell
- * them, since the names are too long, and undefined for a difference that is not in selections.
+ * them, since the list is too long, and undefined for a difference that is not in selections.
  * @param {import('./meaning.mjs').Meaning[] | null} meanings null where the files are too large for their names to be known
  * @param {import('../../bindings/js/index.d.ts').Difference} difference
  */

@@ -50,8 +50,8 @@ abbrev pub listing_outcome : {A : Type 0} → List A → Outcome
 listing_outcome [] = Good
 listing_outcome (d ∷ ds) = Bad
 
--- How many bytes the names of selections may have where no caller bounds them: the greatest number of a machine word. No text in
--- memory is longer.
+-- How many bytes what differs inside selections may take where no caller bounds it: the greatest number of a machine word. No
+-- text in memory is longer.
 abbrev pub any_size : ℕ
 any_size = 18446744073709551615
 

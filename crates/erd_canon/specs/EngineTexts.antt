@@ -68,7 +68,7 @@ pub record AreCompared (π : Preference) (left right : List ℕ) (found : List D
   pub differences : AreDifferences (meaning π left_tree) (meaning π right_tree) found
 
 -- Both inputs are accepted reports, and these are all differences of what they mean, in rising order. From the number `first`
--- on, each has what differs inside the selections of a contest, as long as the names fit into `most` bytes.
+-- on, each has what differs inside the selections of a contest, as long as it fits into `most` bytes.
 pub record AreDetailed (π : Preference) (left right : List ℕ) (first most : ℕ) (found : List DetailedDifference) : Type 0 where
   pub left_tree : Data
   pub right_tree : Data

@@ -19,4 +19,5 @@ pub mod ExactLines  -- the exact command lines
 pub mod Subcommands  -- the command line, as the parser of command lines sees it
 pub mod ReadLines  -- what any words are read as
 pub mod LineAnswers  -- what the words of a command line are answered with as data
+pub mod Words  -- the words that the contracts cite, passed on from one place
 pub mod code  -- what private functions answer, which a reader may skip

@@ -86,8 +86,8 @@ IsComparePiece π left right piece outcome told value =
 
 -- Listing the differences of the two inputs ends with this outcome and answers this value: why the left input is refused, else
 -- why the right one is refused, each with a piece of the faults, else the array of a piece of the differences. These have what
--- differs inside the selections of contests from the first entry of the piece on, as long as the names fit into as many bytes
--- as are enough for the piece.
+-- differs inside the selections of contests from the first entry of the piece on, as long as it fits into as many bytes as are
+-- enough for the piece.
 abbrev pub IsListPiece : Preference → List ℕ → List ℕ → Piece → Outcome → Told → Data → Type 0
 IsListPiece π left right piece outcome told value =
     IsSidePiece π (codes "left") left piece outcome told value

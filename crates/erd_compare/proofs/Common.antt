@@ -51,7 +51,7 @@ pub use Rattle.erd_compare.specs.declared.difference.Difference.{Difference}
 pub use Rattle.erd_compare.specs.declared.difference.How.{How}
 pub use Rattle.erd_compare.specs.declared.difference.How.TheVariants.{Member, OnlyLeft, OnlyRight, OtherClass}
 pub use Rattle.erd_compare.specs.declared.difference.Part.{Part, Part as part}
-pub use Rattle.erd_compare.specs.declared.objects.least_name.MemberPair.{MemberPair}
+pub use Rattle.erd_compare.specs.declared.objects.differing_names.MemberPair.{MemberPair}
 pub use Rattle.erd_compare.specs.declared.objects.ways.Ways.{Ways, Ways as ways}
 pub use Rattle.erd_compare.specs.declared.ranks.common_ranks.CommonRanks.{CommonRanks}
 pub use Rattle.erd_compare.specs.declared.ranks.common_ranks.ComparedReport.{ComparedReport}

@@ -7,5 +7,6 @@ pub mod SelectionLists
 pub mod ValueLists
 pub mod RoomSizes
 pub mod NameSizes
+pub mod ListSizes
 pub mod ContestNames
 pub mod ToldBounds

@@ -1,4 +1,5 @@
 pub mod Walks
+pub mod NameWalks
 pub mod NamePairs
 pub mod NameLists
 pub mod HeldNames

@@ -4,3 +4,5 @@ mod BallotDifferenceExamples
 mod ElectionDifferenceExamples
 mod AllDifferenceExamples
 mod SelectionDifferenceExamples
+mod ToldExamples
+mod SelectionDataExamples

@@ -53,7 +53,7 @@ pub record AreSelectionDifferences (m n : SelectionMap) (ds : List SelectionDiff
   pub differ : AllByRecursion (AreUnlikeSelections m n) ds
   pub all : (name : NameParts) → AgreeBut (λ how. Stands (record { name = name; how = how }) ds) (m name) (n name)
 
--- ---- how long names are
+-- ---- how long names and differences are
 
 -- How many bytes the three texts of a key have.
 abbrev pub key_size : Key → ℕ
@@ -68,13 +68,21 @@ pub record AreNamesOf (m : SelectionMap) (names : List NameParts) : Type 0 where
   pub once : IsDistinct (eq_by_cmp name_cmp) names
   pub all : (name : NameParts) → Stands name names ↔ (m name ≢ None)
 
--- The names of the selections of two contests have so many bytes together. A name that both contests have counts for each.
-pub record HaveSize (m n : SelectionMap) (size : ℕ) : Type 0 where
+-- How many bytes the texts in a difference have: those of the name of its selection, and the name of the member.
+abbrev pub difference_size : SelectionDifference → ℕ
+difference_size d = name_size d.name + unwrap_or (option_map length (member_of d.how)) 0
+
+-- What differs between the selections of two contests takes so many bytes: the names of both contests, and then each difference.
+-- So a name that both contests have counts for each, and once more for each difference at it. Where so many bytes of `most` are
+-- used that not even the names fit, any list may stand for the differences.
+pub record HaveSize (m n : SelectionMap) (used most size : ℕ) : Type 0 where
   pub left : List NameParts
   pub right : List NameParts
+  pub inside : List SelectionDifference
   pub left_names : AreNamesOf m left
   pub right_names : AreNamesOf n right
-  pub counted : size ≡ sum_by name_size left + sum_by name_size right
+  pub differences : used + (sum_by name_size left + sum_by name_size right) ≤ most → AreSelectionDifferences m n inside
+  pub counted : size ≡ sum_by name_size left + sum_by name_size right + sum_by difference_size inside
 
 -- ---- the list of all differences
 
@@ -87,10 +95,10 @@ is_member_of_selections p how = false
 abbrev pub is_in_selections : Difference → Bool
 is_in_selections d = is_member_of_selections d.part d.how
 
--- How many bytes the names have that telling the difference takes: those of the selections of both contests, if it is in the
--- selections of a contest, and none otherwise.
-abbrev pub Takes : Meaning → Meaning → Difference → ℕ → Type 0
-Takes m n d size = (is_in_selections d ≡ true → HaveSize (selections_with_key m d.key) (selections_with_key n d.key) size) × (is_in_selections d ≡ false → size ≡ 0)
+-- How many bytes telling the difference takes: those of its selections, if it is in the selections of a contest, and none
+-- otherwise.
+abbrev pub Takes : Meaning → Meaning → (used most : ℕ) → Difference → ℕ → Type 0
+Takes m n used most d size = (is_in_selections d ≡ true → HaveSize (selections_with_key m d.key) (selections_with_key n d.key) used most size) × (is_in_selections d ≡ false → size ≡ 0)
 
 -- What is told with a difference: all differences of the selections, if it is in the selections of a contest and `Fits` holds,
 -- and nothing otherwise.
@@ -103,15 +111,15 @@ abbrev pub IsDetailed : Meaning → Meaning → Type 0 → DetailedDifference �
 IsDetailed m n Fits d = TellsSelections m n Fits d.difference (option_map (λ v. v.items) d.selections)
 
 -- The differences before the number `first` are told without those of the selections. From there on, a difference is told with
--- them if and only if the names that it takes fit: with those of the differences since `first`, which have used so many bytes,
--- they have at most `most`. So the first that does not fit is the last that counts.
+-- them if and only if what it takes fits: with what the differences since `first` take, which have used so many bytes, it has at
+-- most `most`. So the first that does not fit is the last that counts.
 abbrev pub AreTold : Meaning → Meaning → (first used most : ℕ) → List DetailedDifference → Type 0
 AreTold m n first used most [] = ⊤
 AreTold m n (suc first) used most (d ∷ ds) = IsDetailed m n ⊥ d × AreTold m n first used most ds
-AreTold m n zero used most (d ∷ ds) = (size : ℕ) × Takes m n d.difference size × IsDetailed m n (used + size ≤ most) d × AreTold m n zero (used + size) most ds
+AreTold m n zero used most (d ∷ ds) = (size : ℕ) × Takes m n used most d.difference size × IsDetailed m n (used + size ≤ most) d × AreTold m n zero (used + size) most ds
 
 -- These are all differences of the two meanings, in rising order. From the number `first` on, each is told with those of the
--- selections, as long as the names of the selections have at most `most` bytes together.
+-- selections, as long as these take at most `most` bytes together.
 pub record AreDetailedDifferences (m n : Meaning) (first most : ℕ) (ds : List DetailedDifference) : Type 0 where
   pub list : AreDifferences m n (map (λ d. d.difference) ds)
   pub selections : AreTold m n first 0 most ds

@@ -1,18 +1,19 @@
 //! The two reports that are compared, and what they have in common.
-ghost use Rattle.std.specs.Prelude.{◌≡◌, true, option_and_then, option_map, slice_get};
-ghost use Rattle.erd_compare.specs.Words.{view, Election, IsBounded, objects};
+ghost use Rattle.std.specs.Prelude.{◌≡◌, true, option_and_then, option_map, slice_get, IfOk};
+ghost use Rattle.erd_compare.specs.Words.{view, Election, objects};
 ghost use Rattle.erd_tables.specs.declared.class.Family.TheVariants as family;
-ghost use Rattle.erd_compare.specs.code.CommonNames.{AreNameNumbers, number_of_selection};
-ghost use Rattle.erd_compare.specs.code.CommonRanks.{AreAllCommonRanks, AreCommonRanks, rank_of_key};
-ghost use Rattle.erd_compare.specs.code.KeyedDifferences.{IsComparable, holder_key_in, is_ranked, key_in_role};
-ghost use Rattle.erd_compare.specs.code.RankedSides.{AreCommonByRank, on_side};
+ghost use Rattle.erd_compare.specs.code.CommonNames.{number_of_selection};
+ghost use Rattle.erd_compare.specs.code.CommonRanks.{AreCommonRanks, rank_of_key};
+ghost use Rattle.erd_compare.specs.code.KeyedDifferences.{IsComparable, holder_key_in, is_ranked, key_in_role, objects_in};
+ghost use Rattle.erd_compare.specs.code.RankedSides.{on_side};
 
 use crate::ranks::common_ranks::{CommonRanks, ComparedReport};
-use crate::ranks::name_numbers::NameNumbers;
+use crate::ranks::name_numbers::{NameNumbers, names_of_both};
 use crate::ranks::role_objects::{election_of, rank_at};
 use erd_meaning::Report;
 use erd_tables::Role;
-use std::alloc::Global;
+use serde_json::Value;
+use std::alloc::{AllocError, Global};
 use std::marker::Model;
 
 /// Compares two reports, by the ranks of their keys and the numbers of the names of their selections. Contracts see the two
@@ -22,8 +23,10 @@ pub(crate) struct Comparer<'a> {
     pub(crate) alloc: Global,
     left: &'a Report<'a>,
     right: &'a Report<'a>,
-    ranks: &'a CommonRanks,
-    names: &'a NameNumbers,
+    left_tree: &'a Value,
+    right_tree: &'a Value,
+    ranks: CommonRanks,
+    names: NameNumbers,
 }
 
 impl<'a> Model for Comparer<'a> {
@@ -40,33 +43,32 @@ impl<'a> Model for Comparer<'a> {
       right = c.right.now;
     } };
 
-    ghost invariant = { λ c. AreInCommon c.left.now c.right.now c.ranks.now c.names.now };
+    ghost invariant = { λ c. AreInCommon c.left.now c.right.now c.left_tree.now c.right_tree.now c.ranks c.names };
 }
 
 impl<'a> Comparer<'a> {
-    /// Returns a comparer of two reports, which have these ranks and numbers in common.
-    pub(crate) fn of(
+    /// Returns a comparer of two reports, with the ranks and numbers that they have in common.
+    pub(crate) fn of_both(
         alloc: Global,
         left: &'a Report<'a>,
         right: &'a Report<'a>,
-        ranks: &'a CommonRanks,
-        names: &'a NameNumbers,
-    ) -> Comparer<'a>
-        requires left { IsComparable left.now.prefer (view left.now.tree) }
-        requires right { IsComparable right.now.prefer (view right.now.tree) }
-        requires ranks { AreAllCommonRanks left.now right.now ranks.now }
-        requires by_rank { AreCommonByRank left.now right.now ranks.now }
-        requires names { AreNameNumbers left.now right.now names.now }
-        ensures left { result.left ≡ left.now }
-        ensures right { result.right ≡ right.now }
+    ) -> Result<Comparer<'a>, AllocError>
+        ensures left { IfOk result (λ comparer. comparer.left ≡ left.now) }
+        ensures right { IfOk result (λ comparer. comparer.right ≡ right.now) }
     {
-        Comparer {
+        let left_tree = left.tree();
+        let right_tree = right.tree();
+        let ranks = CommonRanks::of_both(alloc, left, right)?;
+        let names = names_of_both(alloc, left, right, &ranks)?;
+        Ok(Comparer {
             alloc,
             left,
             right,
+            left_tree,
+            right_tree,
             ranks,
             names,
-        }
+        })
     }
 
     /// Returns the left report.
@@ -88,7 +90,7 @@ impl<'a> Comparer<'a> {
     /// Returns the report on a side.
     pub(crate) fn on(&self, side: ComparedReport) -> &'a Report<'a>
         ensures same { result.now ≡ on_side side self.now.left self.now.right }
-        ensures bounded { IsBounded (view (on_side side self.now.left self.now.right).tree) }
+        ensures comparable { IsComparable (on_side side self.now.left self.now.right).prefer (view (on_side side self.now.left self.now.right).tree) }
     {
         match side {
             ComparedReport::Left => self.left,
@@ -96,8 +98,37 @@ impl<'a> Comparer<'a> {
         }
     }
 
+    /// Returns the tree of the report on a side.
+    fn tree_on(&self, side: ComparedReport) -> &'a Value
+        ensures { result.now ≡ (on_side side self.now.left self.now.right).tree }
+    {
+        match side {
+            ComparedReport::Left => self.left_tree,
+            ComparedReport::Right => self.right_tree,
+        }
+    }
+
+    /// Returns the object with a role at a position of the report on a side, if there is one.
+    pub(crate) fn object_at(
+        &self,
+        side: ComparedReport,
+        role: Role,
+        position: usize,
+    ) -> Option<&'a Value>
+        ensures found { option_map (λ v. view v.now) result ≡ option_map (λ o. o.value) (slice_get (objects_in role (view (on_side side self.now.left self.now.right).tree)) position) }
+        ensures comparable { IsComparable (on_side side self.now.left self.now.right).prefer (view (on_side side self.now.left self.now.right).tree) }
+    {
+        let report = self.on(side);
+        match role {
+            Role::OfFamily(family) => report.object(family, position),
+            Role::Election => report.election_at(position),
+            _ if position == 0 => Some(self.tree_on(side)),
+            _ => None,
+        }
+    }
+
     /// Returns the common ranks of the keys of the right report with a role, in the rising order of these keys.
-    pub(crate) fn common_ranks(&self, role: Role) -> &'a [usize]
+    pub(crate) fn common_ranks(&self, role: Role) -> &[usize]
         requires ranked { is_ranked role ≡ true }
         ensures { AreCommonRanks self.now.left self.now.right role result.now }
     {

@@ -1,16 +1,15 @@
 //! The list of all differences, with what differs inside the selections of contests.
-ghost use Rattle.std.specs.Prelude.{◌≡◌, map, option_copied, option_map, IfOk};
+ghost use Rattle.std.specs.Prelude.{◌≡◌, ◌+◌, map, option_copied, option_map, IfOk};
 ghost use Rattle.erd_compare.specs.Words.{view, meaning, is_in_selections, selections_with_key, AreDetailedDifferences, AreTold};
-ghost use Rattle.erd_compare.specs.code.ContestSelections.{contest_map, PassesOne};
+ghost use Rattle.erd_compare.specs.code.ContestSelections.{contest_map, size_in, PassesInside, PassesOne};
 ghost use Rattle.erd_compare.specs.code.KeyedDifferences.{IsComparable};
 
 use crate::comparer::Comparer;
 use crate::difference::{Difference, How, Part};
 use crate::first::all_differences;
-use crate::inside::room::{Room, left_after_both};
-use crate::inside::{SelectionDifference, selection_differences};
-use crate::ranks::common_ranks::CommonRanks;
-use crate::ranks::name_numbers::names_of_both;
+use crate::inside::room::{Room, left_after_both, left_after_differences};
+use crate::inside::told::differences_at;
+use crate::inside::{SelectionDifference, selection_ways};
 use erd_meaning::{Key, Report};
 use erd_tables::Family;
 use std::alloc::{AllocError, Global};
@@ -26,14 +25,13 @@ pub struct DetailedDifference {
 }
 
 /// Returns what `differences` does. From the difference with the number `first` on, counted from 0, each has what differs inside
-/// the selections of the contest, as long as the names of the selections fit. Both reports must have been resolved under the
-/// same preference.
+/// the selections of the contest, as long as it fits. Both reports must have been resolved under the same preference.
 ///
-/// A name has its keys in full, so the names of one contest can be as long as the square of a report. So a difference is told
-/// with its selections only if their names have at most `most_bytes` bytes, together with those of the differences since
-/// `first`: the texts of all keys, labels and identifiers in the names of both contests. The first difference whose names do
-/// not fit and all behind it have no selections. Before that is known, only lengths are read. With 0 and `usize::MAX` there is
-/// no bound.
+/// A name has its keys in full, so the names of one contest can be as long as the square of a report, and so can the differences
+/// inside it. So a difference is told with its selections only if they take at most `most_bytes` bytes, together with those of
+/// the differences since `first`. They take the texts of all keys, labels and identifiers in the names of both contests, and for
+/// each difference inside the texts of its name once more, and the name of its member. The first difference that does not fit
+/// and all behind it have no selections. No name is copied before that is known. With 0 and `usize::MAX` there is no bound.
 ///
 /// The differences of selections rise by the names of the selections, and then by the names of members. If only one contest
 /// has a selection with a name, that is one difference. Otherwise there is one for each member that differs.
@@ -56,17 +54,12 @@ pub fn detailed_differences(
     requires one_preference { left.now.prefer ≡ right.now.prefer }
     ensures { IfOk result (λ found. AreDetailedDifferences (meaning left.now.prefer (view left.now.tree)) (meaning right.now.prefer (view right.now.tree)) first most_bytes found.items) }
 {
-    // read for what they ensure: both trees are accepted, and their numbers are whole
-    let _one = left.tree();
-    let _other = right.tree();
-    let ranks = CommonRanks::of_both(alloc, left, right)?;
-    let names = names_of_both(alloc, left, right, &ranks)?;
-    let comparer = Comparer::of(alloc, left, right, &ranks, &names);
+    let comparer = Comparer::of_both(alloc, left, right)?;
     let found = all_differences(&comparer)?;
     with_selections(&comparer, found, first, most_bytes)
 }
 
-/// Returns the differences, from the first on with what differs inside the selections of the contest, as long as the names fit.
+/// Returns the differences, from the first on with what differs inside the selections of the contest, as long as it fits.
 fn with_selections(
     comparer: &Comparer,
     differences: Vec<Difference>,
@@ -91,8 +84,8 @@ fn with_selections(
     Ok(found)
 }
 
-/// Returns the differences of the selections, if the difference is in the selections of a contest and the names fit into the
-/// room, and leaves the room that is for the next difference.
+/// Returns the differences of the selections, if the difference is in the selections of a contest and they fit into the room,
+/// and leaves the room that is for the next difference.
 fn selections_of(
     comparer: &Comparer,
     difference: &Difference,
@@ -109,9 +102,27 @@ fn selections_of(
     }
     let contest = contest_with_key(comparer.left(), difference.key.as_ref());
     let other_contest = contest_with_key(comparer.right(), difference.key.as_ref());
-    room.bytes = left_after_both(comparer, contest, other_contest, room.bytes);
-    match room.bytes {
-        Some(_) => Ok(Some(selection_differences(comparer, contest, other_contest)?)),
+    selections_within(comparer, contest, other_contest, &mut room.bytes)
+}
+
+/// Returns the differences of the selections of the contests at these positions, if their names and the differences fit into the
+/// room, and leaves what is left of it. No position stands for a contest without selections.
+fn selections_within(
+    comparer: &Comparer,
+    contest: Option<usize>,
+    other_contest: Option<usize>,
+    room: &mut Option<usize>,
+) -> Result<Option<Vec<SelectionDifference>>, AllocError>
+    ensures { IfOk result (λ told. PassesInside (contest_map comparer.now.left contest) (contest_map comparer.now.right other_contest) (size_in comparer.now.left contest + size_in comparer.now.right other_contest) (option_map (λ v. v.items) told) room.old room.new) }
+{
+    *room = left_after_both(comparer, contest, other_contest, *room);
+    let Some(left) = *room else {
+        return Ok(None);
+    };
+    let ways = selection_ways(comparer, contest, other_contest)?;
+    *room = left_after_differences(&ways, left);
+    match *room {
+        Some(_) => Ok(Some(differences_at(comparer.alloc, &ways)?)),
         None => Ok(None),
     }
 }

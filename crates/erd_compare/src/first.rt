@@ -11,8 +11,6 @@ use crate::comparer::Comparer;
 use crate::difference::{Difference, Part};
 use crate::first::key_steps::{first_keyed, push_differences};
 use crate::first::told::copied;
-use crate::ranks::common_ranks::CommonRanks;
-use crate::ranks::name_numbers::names_of_both;
 use erd_meaning::Report;
 use std::alloc::{AllocError, Global};
 
@@ -59,12 +57,7 @@ pub fn first_difference(
     requires one_preference { left.now.prefer ≡ right.now.prefer }
     ensures { IfOk result (IsDifference (meaning left.now.prefer (view left.now.tree)) (meaning right.now.prefer (view right.now.tree))) }
 {
-    // read for what they ensure: both trees are accepted, and their numbers are whole
-    let _one = left.tree();
-    let _other = right.tree();
-    let ranks = CommonRanks::of_both(alloc, left, right)?;
-    let names = names_of_both(alloc, left, right, &ranks)?;
-    let comparer = Comparer::of(alloc, left, right, &ranks, &names);
+    let comparer = Comparer::of_both(alloc, left, right)?;
     for part in PARTS {
         if let Some(difference) = part_difference(&comparer, part)? {
             return Ok(Some(difference));
@@ -101,12 +94,7 @@ pub fn differences(
     ensures first { IfOk result (λ found. IsDifference (meaning left.now.prefer (view left.now.tree)) (meaning right.now.prefer (view right.now.tree)) (first_of found.items)) }
     ensures same { IfOk result (λ found. (found.items ≡ []) ↔ (meaning left.now.prefer (view left.now.tree) ≡ meaning right.now.prefer (view right.now.tree))) }
 {
-    // read for what they ensure: both trees are accepted, and their numbers are whole
-    let _one = left.tree();
-    let _other = right.tree();
-    let ranks = CommonRanks::of_both(alloc, left, right)?;
-    let names = names_of_both(alloc, left, right, &ranks)?;
-    let comparer = Comparer::of(alloc, left, right, &ranks, &names);
+    let comparer = Comparer::of_both(alloc, left, right)?;
     all_differences(&comparer)
 }
 

@@ -1,18 +1,17 @@
 //! What differs inside the selections of two contests.
 ghost use Rattle.std.specs.Prelude.{IfOk};
 ghost use Rattle.erd_compare.specs.Words.{AreSelectionDifferences};
-ghost use Rattle.erd_compare.specs.code.ContestSelections.{contest_map};
+ghost use Rattle.erd_compare.specs.code.ContestSelections.{contest_map, differences_at};
 
 mod named;
 mod names;
 pub(crate) mod room;
-mod told;
+pub(crate) mod told;
 
 use crate::comparer::Comparer;
 use crate::difference::How;
-use crate::inside::named::ways_of_name;
+use crate::inside::named::{NamedWays, ways_of_name};
 use crate::inside::names::add_names;
-use crate::inside::told::push_named;
 use erd_meaning::SelectionName;
 use std::alloc::AllocError;
 use std::collections::BTreeSet;
@@ -27,14 +26,14 @@ pub struct SelectionDifference {
     pub how: How,
 }
 
-/// Returns all differences between the selections of the contests at these positions, in rising order. No position stands for
-/// a contest without selections.
-pub(crate) fn selection_differences(
-    comparer: &Comparer,
+/// Returns the ways in which the selections of the contests at these positions differ, for one name after another in rising
+/// order. No position stands for a contest without selections. No name is copied.
+pub(crate) fn selection_ways<'a>(
+    comparer: &'a Comparer,
     contest: Option<usize>,
     other_contest: Option<usize>,
-) -> Result<Vec<SelectionDifference>, AllocError>
-    ensures { IfOk result (λ found. AreSelectionDifferences (contest_map comparer.now.left contest) (contest_map comparer.now.right other_contest) found.items) }
+) -> Result<Vec<NamedWays<'a>>, AllocError>
+    ensures { IfOk result (λ found. AreSelectionDifferences (contest_map comparer.now.left contest) (contest_map comparer.now.right other_contest) (differences_at found.items)) }
 {
     let mut names = BTreeSet::new(comparer.alloc);
     add_names(comparer.left(), contest, &mut names)?;
@@ -42,7 +41,7 @@ pub(crate) fn selection_differences(
     let mut found = Vec::new(comparer.alloc);
     for name in &names {
         let ways = ways_of_name(comparer, contest, other_contest, name)?;
-        push_named(comparer.alloc, name, &ways, &mut found)?;
+        found.push(NamedWays { name: *name, ways })?;
     }
     Ok(found)
 }

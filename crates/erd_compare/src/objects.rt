@@ -2,7 +2,6 @@
 
 pub(crate) mod differing_names;
 pub(crate) mod held;
-pub(crate) mod least_name;
 mod members_left;
 mod plain_members;
 pub(crate) mod records;

@@ -1,5 +1,3 @@
 -- Canonical forms, meanings and rearrangements of worked examples, by computation.
 pub mod CanonicalReports
-pub mod CanonicalExamples
 pub mod RearrangedExamples
-pub mod NormalTreeExamples

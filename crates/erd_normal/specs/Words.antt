@@ -1,5 +1,5 @@
 -- The words that the contracts of this crate cite, passed on from one place. Declares nothing.
-pub use Rattle.erd_meaning.specs.Words.{codes, elections, entries_at, entry_of, family_number, has_float, has_keys, items_view, key_in, name_cmp, objects, option_map_or, rank_of, rising_list, view, Data, Family, FindsId, IsAccepted, IsTree, Judged, Preference}
+pub use Rattle.erd_meaning.specs.Words.{codes, elections, entries_at, entry_of, family_number, has_float, has_keys, items_view, key_in, name_cmp, objects, option_map_or, rank_of, rising_list, view, Data, Family, FindsId, IsAccepted, IsBounded, IsShallow, IsTree, Judged, Preference}
 pub use Rattle.std.specs.Option.{option_cmp}
 pub use Rattle.arrayvec.specs.ArrayString.{array_string_len}
 pub use Rattle.json.specs.Token.{key}

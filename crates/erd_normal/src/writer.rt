@@ -1,6 +1,6 @@
 //! What the canonical form of a report is written from: the report, and the orders of its parts.
 ghost use Rattle.std.specs.Prelude.{◌≡◌, ◌==◌, ℕ, List, [], Some, true, false, map, option_map, slice_get, IfOk};
-ghost use Rattle.erd_normal.specs.Words.{option_map_or, string, Value, view, has_float, family_number, IsAccepted, has_keys, FindsId, id_in, key_in, rank_of, contests, elections, objects, canonical_selection_id};
+ghost use Rattle.erd_normal.specs.Words.{option_map_or, string, Value, view, has_float, family_number, IsAccepted, IsBounded, has_keys, FindsId, id_in, key_in, rank_of, contests, elections, objects, canonical_selection_id};
 ghost use denote.Ref.{Bor};
 ghost use Rattle.erd_tables.specs.declared.class.Family.TheVariants as family;
 ghost use Rattle.erd_normal.specs.code.ElectionParts.{objects_in_part, part_seen};
@@ -53,10 +53,11 @@ impl<'a> Model for Writer<'a> {
 
 /// Returns the orders in which the parts of a report are written.
 pub(crate) fn orders_of(alloc: Global, report: &Report) -> Result<Orders, AllocError>
+    requires accepted { IsAccepted report.now.prefer (view report.now.tree) }
+    requires bounded { IsBounded (view report.now.tree) }
+    requires whole { has_float (view report.now.tree) ≡ false }
     ensures { IfOk result (AreOrders report.now.prefer (view report.now.tree)) }
 {
-    // read for `whole`: no number in the report is a fraction
-    let _tree = report.tree();
     Ok(Orders {
         parts: election_parts(alloc, report)?,
         selections: selection_orders(alloc, report)?,
@@ -78,9 +79,7 @@ impl<'a> Writer<'a> {
 
     /// Returns the report.
     pub(crate) fn report(&self) -> &Report<'a>
-        ensures same { result.now ≡ self.now }
-        ensures accepted { IsAccepted self.now.prefer (view self.now.tree) }
-        ensures whole { has_float (view self.now.tree) ≡ false }
+        ensures { result.now ≡ self.now }
     {
         self.report
     }

@@ -1,12 +1,5 @@
-ghost use Rattle.std.specs.Prelude.{ℕ, ◌≡◌, List, IfOk, IfErr, OnOk, None};
-ghost use Rattle.std.specs.Bool.{Decides};
-ghost use Rattle.std.specs.Option.{option_copied};
-ghost use Rattle.serde_json.specs.View.{view};
-ghost use Rattle.erd_check.specs.Trees.{IsShallow};
-ghost use Rattle.erd_meaning.specs.Accepted.{IsAccepted};
-ghost use Rattle.erd_meaning.specs.Keys.{Preference};
-ghost use Rattle.erd_canon.specs.Bytes.{IsTreeOf};
-ghost use Rattle.erd_canon.specs.Refused.{IsSomeReport, RefusedAs};
+ghost use Rattle.std.specs.Prelude.{ℕ, ◌≡◌, List, IfOk, IfErr, OnOk, None, Decides, option_copied};
+ghost use Rattle.erd_canon.specs.Words.{view, IsShallow, IsAccepted, Preference, IsTreeOf, IsSomeReport, RefusedAs};
 
 use crate::bytes::disposal::{Disposal, Free};
 use crate::bytes::refusal::Refusal;

@@ -1,10 +1,5 @@
-ghost use Rattle.std.specs.Prelude.{ℕ, List, IfOk, IfErr, None};
-ghost use Rattle.std.specs.Option.{option_copied};
-ghost use Rattle.serde_json.specs.View.{view};
-ghost use Rattle.erd_check.specs.Trees.{IsShallow};
-ghost use Rattle.erd_canon.specs.Bytes.{IsTreeOf};
-ghost use Rattle.erd_canon.specs.Headline.{Headline};
-ghost use Rattle.erd_canon.specs.Refused.{RefusedAs};
+ghost use Rattle.std.specs.Prelude.{ℕ, List, IfOk, IfErr, None, option_copied};
+ghost use Rattle.erd_canon.specs.Words.{view, IsShallow, IsTreeOf, Headline, RefusedAs};
 
 use crate::bytes::acceptance::Input;
 use crate::bytes::disposal::{Disposal, Free};

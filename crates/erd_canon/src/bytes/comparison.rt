@@ -1,12 +1,5 @@
-ghost use Rattle.std.specs.Prelude.{ℕ, List, IfErr, IfOk, None};
-ghost use Rattle.std.specs.Option.{option_copied};
-ghost use Rattle.serde_json.specs.View.{view};
-ghost use Rattle.erd_check.specs.Trees.{IsShallow};
-ghost use Rattle.erd_meaning.specs.Keys.{Preference};
-ghost use Rattle.erd_canon.specs.ByteLaws.{AgreesUnderEach, TellsWhatIsSaid};
-ghost use Rattle.erd_canon.specs.Bytes.{IsAcceptedReport, IsTreeOf};
-ghost use Rattle.erd_canon.specs.EngineTexts.{IsComparison};
-ghost use Rattle.erd_canon.specs.Refused.{IsSomeReport, RefusedSide};
+ghost use Rattle.std.specs.Prelude.{ℕ, List, IfErr, IfOk, None, option_copied};
+ghost use Rattle.erd_canon.specs.Words.{view, IsShallow, Preference, AgreesUnderEach, TellsWhatIsSaid, IsAcceptedReport, IsTreeOf, IsComparison, IsSomeReport, RefusedSide};
 
 use crate::bytes::acceptance::{Input, check_input};
 use crate::bytes::disposal::{Disposal, Free};

@@ -1,7 +1,5 @@
-ghost use Rattle.std.specs.Prelude.{IfErr, IfOk};
-ghost use Rattle.std.specs.Option.{option_copied};
-ghost use Rattle.erd_canon.specs.EngineTexts.{AreDetailed};
-ghost use Rattle.erd_canon.specs.Refused.{RefusedSide};
+ghost use Rattle.std.specs.Prelude.{IfErr, IfOk, option_copied};
+ghost use Rattle.erd_canon.specs.Words.{AreDetailed, RefusedSide};
 
 use crate::bytes::comparison::{left_tree_of, right_tree_of};
 use crate::bytes::refusal::{Refusal, Side};

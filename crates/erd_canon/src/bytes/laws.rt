@@ -1,4 +1,4 @@
-ghost use Rattle.erd_canon.specs.ByteLaws.{OneFormForOneMeaning, IsItsOwnForm, SameFormWhenRearranged};
+ghost use Rattle.erd_canon.specs.Words.{OneFormForOneMeaning, IsItsOwnForm, SameFormWhenRearranged};
 
 /// The law that two reports have equal canonical bytes if and only if they mean the same. The function does nothing.
 pub fn one_form_for_one_meaning()

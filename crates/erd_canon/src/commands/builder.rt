@@ -1,6 +1,5 @@
 ghost use Rattle.std.specs.Prelude.{◌≡◌, IfOk, false, map};
-ghost use Rattle.erd_canon.specs.Subcommands.{canon_subcommand, check_subcommand, compare_subcommand, file_rule, prefer_rule, program};
-ghost use Rattle.clap.specs.Words.{app_of, rule_of};
+ghost use Rattle.erd_canon.specs.Words.{canon_subcommand, check_subcommand, compare_subcommand, file_rule, prefer_rule, program, app_of, rule_of};
 ghost use Rattle.clap.specs.declared.builder.command.Command.TheViews.{out-Command};
 
 use crate::commands::help;

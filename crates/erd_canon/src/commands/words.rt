@@ -1,8 +1,5 @@
 ghost use Rattle.std.specs.Prelude.{◌≡◌, ℕ, List, ◌∷◌, map, MatchResult, codes, string_bytes};
-ghost use Rattle.erd_canon.specs.ExactLines.{HasPlainWords, words_of};
-ghost use Rattle.erd_canon.specs.Options.{options_in};
-ghost use Rattle.erd_canon.specs.ReadLines.{IsFaultFor, IsLineRead, request_in, subcommand_request, word_for};
-ghost use Rattle.clap.specs.Words.{first_of, found_of, kind_of, rows_of, subcommand_rows_of};
+ghost use Rattle.erd_canon.specs.Words.{HasPlainWords, words_of, options_in, IsFaultFor, IsLineRead, request_in, subcommand_request, word_for, first_of, found_of, kind_of, rows_of, subcommand_rows_of};
 
 use crate::commands::builder::program_command;
 use crate::commands::prefer::Prefer;

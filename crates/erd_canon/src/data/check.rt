@@ -1,7 +1,5 @@
-ghost use Rattle.std.specs.Prelude.{◌≡◌, [], string_bytes, IfOk, None};
-ghost use Rattle.std.specs.Option.{option_copied};
-ghost use Rattle.erd_canon.specs.DataAnswers.{IsCheckedData, IsDataText};
-ghost use Rattle.erd_canon.specs.DataValues.{faults_data};
+ghost use Rattle.std.specs.Prelude.{◌≡◌, [], string_bytes, IfOk, None, option_copied};
+ghost use Rattle.erd_canon.specs.Words.{IsCheckedData, IsDataText, faults_data};
 ghost use Rattle.erd_canon.specs.code.RefusalData.{IsRefusalAnswer};
 
 use crate::bytes::acceptance::check_bytes_with;

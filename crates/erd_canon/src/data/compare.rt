@@ -1,8 +1,5 @@
-ghost use Rattle.std.specs.Prelude.{◌≡◌, string_bytes, IfOk, None};
-ghost use Rattle.std.specs.Option.{option_copied};
-ghost use Rattle.erd_canon.specs.DataAnswers.{IsComparedData, IsDataText};
-ghost use Rattle.erd_canon.specs.DataValues.{comparison_data};
-ghost use Rattle.erd_canon.specs.Run.{comparison_outcome};
+ghost use Rattle.std.specs.Prelude.{◌≡◌, string_bytes, IfOk, None, option_copied};
+ghost use Rattle.erd_canon.specs.Words.{IsComparedData, IsDataText, comparison_data, comparison_outcome};
 ghost use Rattle.erd_canon.specs.code.RefusalData.{IsSideAnswer};
 
 use crate::bytes::comparison::compare_bytes_with;

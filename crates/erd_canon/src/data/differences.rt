@@ -1,8 +1,5 @@
-ghost use Rattle.std.specs.Prelude.{◌≡◌, ◌++◌, string_bytes, IfOk, None, OnOk};
-ghost use Rattle.std.specs.Option.{option_copied};
-ghost use Rattle.serde_json.specs.Written.{compact_text};
-ghost use Rattle.erd_canon.specs.DataAnswers.{IsDataText, IsListedData, listing_outcome};
-ghost use Rattle.erd_canon.specs.DataValues.{differences_data};
+ghost use Rattle.std.specs.Prelude.{◌≡◌, ◌++◌, string_bytes, IfOk, None, OnOk, option_copied};
+ghost use Rattle.erd_canon.specs.Words.{compact_text, IsDataText, IsListedData, listing_outcome, differences_data};
 
 use crate::bytes::differences::differences_of;
 use crate::bytes::refusal::Side;

@@ -1,7 +1,5 @@
 ghost use Rattle.std.specs.Prelude.{◌≡◌, ◌++◌, string_bytes, OnOk};
-ghost use Rattle.serde_json.specs.Written.{compact_text};
-ghost use Rattle.erd_check.specs.Numbers.{HasFittingNumbers};
-ghost use Rattle.erd_canon.specs.DataValues.{faults_data};
+ghost use Rattle.erd_canon.specs.Words.{compact_text, HasFittingNumbers, faults_data};
 
 use crate::data::listed::push_entry;
 use erd_tables::FaultList;

@@ -1,8 +1,5 @@
 ghost use Rattle.std.specs.Prelude.{◌≡◌, IfOk, OnOk};
-ghost use Rattle.serde_json.specs.View.{view};
-ghost use Rattle.erd_check.specs.Numbers.{HasFittingNumbers};
-ghost use Rattle.erd_tables.specs.Faults.{reason_number};
-ghost use Rattle.erd_canon.specs.DataValues.{fault_data, place_data, step_data};
+ghost use Rattle.erd_canon.specs.Words.{view, HasFittingNumbers, reason_number, fault_data, place_data, step_data};
 
 use erd_tables::{Fault, Place, Reason, Step};
 use serde_json::{Value, json};

@@ -1,7 +1,5 @@
 ghost use Rattle.std.specs.Prelude.{◌≡◌, ◌∷◌, [], map, string_bytes, codes, Some, Ok, Err, IfOk};
-ghost use Rattle.serde_json.specs.View.{view};
-ghost use Rattle.erd_canon.specs.LineAnswers.{IsAnswerTo, IsLineData, command_data, request_data};
-ghost use Rattle.erd_canon.specs.Options.{preference_data};
+ghost use Rattle.erd_canon.specs.Words.{view, IsAnswerTo, IsLineData, command_data, request_data, preference_data};
 
 use crate::commands::prefer::Prefer;
 use crate::commands::request::{FileName, LineFault, Options, Request};

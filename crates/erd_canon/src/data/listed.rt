@@ -1,14 +1,5 @@
 ghost use Rattle.std.specs.Prelude.{ℕ, List, ◌≡◌, ◌∷◌, ◌++◌, length, string_bytes, IfOk, OnOk};
-ghost use Rattle.std.specs.Slice.Iter.{iter_rest};
-ghost use Rattle.std.specs.Iterator.Adapters.{IterYieldsInOrder};
-ghost use Rattle.serde_json.specs.Data.{Data};
-ghost use Rattle.serde_json.specs.Written.{comma_if, compact_text};
-ghost use Rattle.erd_check.specs.Numbers.{HasFittingNumbers};
-ghost use Rattle.erd_compare.specs.DifferenceLine.{difference_line};
-ghost use Rattle.erd_compare.specs.SelectionData.{detailed_data};
-ghost use Rattle.erd_tables.specs.Faults.{fault_line};
-ghost use Rattle.erd_canon.specs.DataValues.{fault_data};
-ghost use Rattle.erd_canon.specs.Pieces.{whole_line};
+ghost use Rattle.erd_canon.specs.Words.{iter_rest, IterYieldsInOrder, Data, comma_if, compact_text, HasFittingNumbers, difference_line, detailed_data, fault_line, fault_data, whole_line};
 ghost use Rattle.erd_canon.specs.code.Fronts.{AppendsEntries, AppendsPiece, FitsIn, IsReached, size_in, text_in};
 
 use crate::data::fault_values::fault_value;

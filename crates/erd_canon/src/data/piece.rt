@@ -1,5 +1,5 @@
 ghost use Rattle.std.specs.Prelude.{◌≡◌, string_bytes};
-ghost use Rattle.erd_canon.specs.Pieces.{TellsNone};
+ghost use Rattle.erd_canon.specs.Words.{TellsNone};
 
 use crate::data::check::Answer;
 use crate::engines::outcome::Outcome;

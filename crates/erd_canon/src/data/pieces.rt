@@ -1,8 +1,5 @@
-ghost use Rattle.std.specs.Prelude.{◌≡◌, string_bytes, IfOk};
-ghost use Rattle.std.specs.Option.{option_copied};
-ghost use Rattle.erd_canon.specs.DataAnswers.{listing_outcome};
-ghost use Rattle.erd_compare.specs.SelectionData.{detailed_data};
-ghost use Rattle.erd_canon.specs.Pieces.{IsCheckPiece, IsComparePiece, IsFormPiece, IsListPiece, IsPieceData, IsPieceText};
+ghost use Rattle.std.specs.Prelude.{◌≡◌, string_bytes, IfOk, option_copied};
+ghost use Rattle.erd_canon.specs.Words.{listing_outcome, detailed_data, IsCheckPiece, IsComparePiece, IsFormPiece, IsListPiece, IsPieceData, IsPieceText};
 ghost use Rattle.erd_canon.specs.code.Fronts.{AppendsRefusalPiece, IsRefusalPieceAnswer, IsSidePieceAnswer};
 
 use crate::bytes::acceptance::check_bytes_with;
@@ -123,8 +120,8 @@ pub fn compare_data_piece(
 /// Lists the differences of the bytes of two reports, as `differences_data_with` does, and answers with a piece of the list. If
 /// a report is refused, it is a piece of its list of faults.
 ///
-/// An entry has its member `selections` only as long as the names of the selections fit: those of the entries of the piece up to
-/// this one, of both contests, have at most `enough_bytes` bytes together.
+/// An entry has its member `selections` only as long as it fits: the names of the selections of both contests and the texts of
+/// what differs inside, of the entries of the piece up to this one, have at most `enough_bytes` bytes together.
 ///
 /// # Errors
 ///

@@ -1,6 +1,5 @@
 ghost use Rattle.std.specs.Prelude.{◌≡◌, ◌++◌, string_bytes, codes, IfOk};
-ghost use Rattle.serde_json.specs.Data.{string};
-ghost use Rattle.serde_json.specs.Written.{compact_text};
+ghost use Rattle.erd_canon.specs.Words.{string, compact_text};
 ghost use Rattle.erd_canon.specs.code.RefusalData.{AppendsRefusal};
 
 use crate::bytes::refusal::Refusal;

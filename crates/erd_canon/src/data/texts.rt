@@ -1,11 +1,7 @@
 //! The calls that answer with a piece of a list as lines, as the engines write them.
 
-ghost use Rattle.std.specs.Prelude.{◌≡◌, [], ◌∷◌, map, IfOk};
-ghost use Rattle.std.specs.Option.{option_copied};
-ghost use Rattle.erd_canon.specs.DataAnswers.{listing_outcome};
-ghost use Rattle.erd_canon.specs.EngineTexts.{comparison_line, lines_of_side, text_of_lines};
-ghost use Rattle.erd_canon.specs.Pieces.{IsCheckLines, IsCompareLines, IsFormLines, IsFoundLines, IsListLines, TellsNone};
-ghost use Rattle.erd_canon.specs.Run.{comparison_outcome};
+ghost use Rattle.std.specs.Prelude.{◌≡◌, [], ◌∷◌, map, IfOk, option_copied};
+ghost use Rattle.erd_canon.specs.Words.{listing_outcome, comparison_line, lines_of_side, text_of_lines, IsCheckLines, IsCompareLines, IsFormLines, IsFoundLines, IsListLines, TellsNone, comparison_outcome};
 ghost use Rattle.erd_canon.specs.code.Fronts.{TellsLinesAs};
 
 use crate::bytes::acceptance::check_bytes_with;

@@ -1,5 +1,4 @@
-ghost use Rattle.std.specs.Prelude.{◌≡◌, false, length};
-ghost use Rattle.std.specs.List.{sum_by};
+ghost use Rattle.std.specs.Prelude.{◌≡◌, false, length, sum_by};
 
 use crate::devices::log::Log;
 use crate::devices::source::{Failed, Source};

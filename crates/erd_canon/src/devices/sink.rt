@@ -1,8 +1,5 @@
 ghost use Rattle.std.specs.Prelude.{◌≡◌, ◌↔◌, ◌+◌, ◌<◌, length, true, false, IfOk, OnOk, OnErr, IsErr};
-ghost use Rattle.std.specs.Io.{WritesAtMost};
-ghost use Rattle.std.specs.Io.KnownBytes.{WriteAppends, Appends, Keeps};
-ghost use Rattle.erd_canon.specs.Devices.{Writer};
-ghost use Rattle.erd_canon.specs.Writing.{IsPartWritten};
+ghost use Rattle.erd_canon.specs.Words.{WritesAtMost, WriteAppends, Appends, Keeps, Writer, IsPartWritten};
 
 use crate::devices::source::Failed;
 

@@ -1,9 +1,5 @@
 ghost use Rattle.std.specs.Prelude.{◌≡◌, ◌≢◌, ◌↔◌, ℕ, ◌+◌, ◌<◌, ◌≤◌, List, [], length, true, false, IfOk, OnOk, OnErr, MatchResult, IsErrOf, Err, vec_len};
-ghost use Rattle.std.specs.Io.{ReadsAtMost};
-ghost use Rattle.std.specs.Io.KnownBytes.{ReadConsumes, Consumes, IsAtEnd};
-ghost use Rattle.erd_canon.specs.Devices.{Reader};
-ghost use Rattle.erd_canon.specs.Limits.{most_bytes, most_reads};
-ghost use Rattle.erd_canon.specs.Reading.{Exceeds};
+ghost use Rattle.erd_canon.specs.Words.{ReadsAtMost, ReadConsumes, Consumes, IsAtEnd, Reader, most_bytes, most_reads, Exceeds};
 ghost use Rattle.erd_canon.specs.code.Chunks.{TakesChunk};
 
 use crate::engines::outcome::RunFault;

@@ -1,11 +1,5 @@
-ghost use Rattle.std.specs.Prelude.{ℕ, List, ◌≡◌, ◌⊎◌, false, true, Err, IfErr, IfOk, OnOk, None};
-ghost use Rattle.std.specs.Option.{option_copied};
-ghost use Rattle.erd_canon.specs.Devices.{between};
-ghost use Rattle.erd_canon.specs.EngineTexts.{IsRefusal};
-ghost use Rattle.erd_canon.specs.Engines.{IsCanonRun};
-ghost use Rattle.erd_canon.specs.Refused.{IsSomeReport};
-ghost use Rattle.erd_canon.specs.Run.{IsAnswerWritten};
-ghost use Rattle.erd_canon.specs.Writing.{IsAnswerPartWritten};
+ghost use Rattle.std.specs.Prelude.{ℕ, List, ◌≡◌, ◌⊎◌, false, true, Err, IfErr, IfOk, OnOk, None, option_copied};
+ghost use Rattle.erd_canon.specs.Words.{between, IsRefusal, IsCanonRun, IsSomeReport, IsAnswerWritten, IsAnswerPartWritten};
 
 use crate::bytes::canonical::canonical_of_input;
 use crate::bytes::disposal::{Disposal, Free};

@@ -1,9 +1,5 @@
-ghost use Rattle.std.specs.Prelude.{◌≡◌, ◌⊎◌, false, true, Err, IfErr, IfOk, OnOk, None};
-ghost use Rattle.std.specs.Option.{option_copied};
-ghost use Rattle.erd_canon.specs.Devices.{between};
-ghost use Rattle.erd_canon.specs.Engines.{IsCheckRun};
-ghost use Rattle.erd_canon.specs.Run.{IsCheckWritten};
-ghost use Rattle.erd_canon.specs.Writing.{IsCheckPartWritten};
+ghost use Rattle.std.specs.Prelude.{◌≡◌, ◌⊎◌, false, true, Err, IfErr, IfOk, OnOk, None, option_copied};
+ghost use Rattle.erd_canon.specs.Words.{between, IsCheckRun, IsCheckWritten, IsCheckPartWritten};
 
 use crate::bytes::acceptance::check_input;
 use crate::bytes::disposal::{Disposal, Free};

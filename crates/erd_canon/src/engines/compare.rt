@@ -1,11 +1,5 @@
-ghost use Rattle.std.specs.Prelude.{◌≡◌, ◌⊎◌, [], ◌∷◌, false, true, Err, IfErr, IfOk, OnOk, None};
-ghost use Rattle.std.specs.Option.{option_copied};
-ghost use Rattle.erd_compare.specs.DifferenceLine.{difference_line};
-ghost use Rattle.erd_canon.specs.Devices.{between};
-ghost use Rattle.erd_canon.specs.EngineTexts.{text_of_lines};
-ghost use Rattle.erd_canon.specs.Engines.{IsCompareRun};
-ghost use Rattle.erd_canon.specs.Run.{IsCompareWritten};
-ghost use Rattle.erd_canon.specs.Writing.{IsComparePartWritten};
+ghost use Rattle.std.specs.Prelude.{◌≡◌, ◌⊎◌, [], ◌∷◌, false, true, Err, IfErr, IfOk, OnOk, None, option_copied};
+ghost use Rattle.erd_canon.specs.Words.{difference_line, between, text_of_lines, IsCompareRun, IsCompareWritten, IsComparePartWritten};
 ghost use Rattle.erd_canon.specs.code.SideRefusals.{IsRefusalPartWritten, IsRefusalWritten};
 
 use crate::bytes::comparison::compare_inputs;

@@ -1,10 +1,6 @@
 ghost use Rattle.std.specs.Prelude.{◌≡◌, ◌++◌, ◌∷◌, [], ◌↔◌, ◌<◌, map, codes, decimal, false, true, IsErr, IfOk, IsTrue, OnOk, OnErr};
-ghost use Rattle.erd_tables.specs.Faults.{fault_line, reason_text};
-ghost use Rattle.erd_tables.specs.Places.{escaped_byte, escaped_name, pointer_text, step_text};
-ghost use Rattle.erd_canon.specs.EngineTexts.{lines_of_side, text_of_lines};
-ghost use Rattle.erd_canon.specs.Writing.{IsPartWritten};
+ghost use Rattle.erd_canon.specs.Words.{fault_line, reason_text, escaped_byte, escaped_name, pointer_text, step_text, lines_of_side, text_of_lines, IsPartWritten, Appends};
 ghost use Rattle.erd_canon.specs.code.Pending.{IsFrontMoved, IsMoved};
-ghost use Rattle.std.specs.Io.KnownBytes.{Appends};
 
 use crate::devices::sink::Sink;
 use crate::devices::source::Failed;

@@ -1,5 +1,5 @@
 ghost use Rattle.std.specs.Prelude.{◌≡◌};
-ghost use Rattle.erd_canon.specs.Statuses.{outcome_status, fault_status, fault_words};
+ghost use Rattle.erd_canon.specs.Words.{outcome_status, fault_status, fault_words};
 
 use std::alloc::AllocError;
 use thiserror::Error;

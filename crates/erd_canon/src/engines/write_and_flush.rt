@@ -1,8 +1,5 @@
 ghost use Rattle.std.specs.Prelude.{◌≡◌, ◌⊎◌, ◌<◌, [], map, length, false, true, IfErr, IfOk, OnOk, OnErr};
-ghost use Rattle.erd_tables.specs.Faults.{fault_line};
-ghost use Rattle.erd_canon.specs.EngineTexts.{lines_of_side, text_of_lines};
-ghost use Rattle.std.specs.Io.KnownBytes.{Appends};
-ghost use Rattle.erd_canon.specs.Writing.{IsPartWritten};
+ghost use Rattle.erd_canon.specs.Words.{fault_line, lines_of_side, text_of_lines, Appends, IsPartWritten};
 
 use crate::devices::sink::{Sink, write_out};
 use crate::engines::lines::{write_fault_lines, write_lines};

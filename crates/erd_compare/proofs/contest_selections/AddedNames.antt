@@ -1,5 +1,5 @@
 -- The names of the selections of a contest are added to a set, from the first selection on.
-use Rattle.erd_compare.proofs.Common.{◌≡◌, ℕ, zero, suc, ◌+◌, ◌<◌, ◌≤◌, map, List, [], ◌∷◌, ◌++◌, length, take, get_or, slice_get, Some, None, codes, Option, option_map, sym, refl, ap, ◌∙◌, subst, arith, slice_get_within, get_or_from_slice_get, Bor, AllByRecursion, all_weakened, length-map, Data, Value, view, selections_before, family, entries_at, Judged, Placed, objects, name_of, take_more, take_all, Stands}
+use Rattle.erd_compare.proofs.Common.{◌≡◌, ℕ, zero, suc, ◌+◌, ◌<◌, ◌≤◌, map, List, [], ◌∷◌, ◌++◌, length, take, slice_get, Some, None, codes, Option, option_map, sym, refl, ap, ◌∙◌, subst, arith, slice_get_within, get_or_from_slice_get, Bor, all_weakened, length-map, Data, Value, view, selections_before, family, entries_at, Judged, Placed, objects, name_of, take_more, take_all, Stands}
 use Rattle.erd_meaning.proofs.selections.ContestSelections.{all_both}
 use Rattle.erd_meaning.specs.NameParts.{NameParts}
 use Rattle.erd_compare.specs.code.ContestSelections.{AddsNames, AreNamesAmong, selection_values}

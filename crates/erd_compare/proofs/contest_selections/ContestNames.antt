@@ -1,38 +1,16 @@
 -- The names of the selections of a contest of an accepted report: each once, and all of them.
-use Rattle.erd_compare.proofs.Common.{◌≡◌, ℕ, zero, suc, ◌+◌, ◌++◌, false, List, [], ◌∷◌, Some, None, Option, codes, option_map, option_and_then, filter_map, cons_option, eq_by_cmp, sym, refl, ap, ◌∙◌, subst, inl, inr, arith, slice_get, slice_get-map, Equal-is, Data, view, family, In, any_at, entries_at, Judged, Placed, placed_from, contests, selections_of_contest, objects, NameParts, name_of, name_cmp, in_at, find-Some, find-any, option_map-Some, position_of, selection_record, IsDistinct, Stands, Key, meaning, IsComparable}
+use Rattle.erd_compare.proofs.Common.{◌≡◌, ℕ, suc, ◌+◌, false, List, [], ◌∷◌, Some, None, Option, option_map, option_and_then, filter_map, cons_option, eq_by_cmp, sym, refl, ap, ◌∙◌, subst, inl, inr, arith, slice_get, Equal-is, view, In, any_at, Judged, NameParts, name_of, name_cmp, find-Some, find-any, position_of, selection_record, selections_before, IsDistinct, Stands, IsComparable}
 use Rattle.std.proofs.lemmas.Bool.{false_from_ne_true}
-use Rattle.erd_tables.specs.declared.place.Step.{Step}
-use Rattle.erd_tables.specs.declared.place.Step.TheVariants.{At, Name}
 use Rattle.erd_check.proofs.Order.{In-filter_map, all_from_In}
 use Rattle.erd_meaning.specs.Accepted.{IsAccepted}
 use Rattle.erd_meaning.specs.code.Orders.{name_cmp_exact}
-use Rattle.erd_meaning.proofs.accepted.Standing.{one_named, values-placed_entries}
-use Rattle.erd_compare.specs.SelectionDifferences.{AreNamesOf, HaveSize, selections_with_key}
-use Rattle.erd_compare.specs.code.ContestSelections.{AreNamesAmong, contest_map, has_name_in, names_in, selection_values, size_in}
+use Rattle.erd_meaning.proofs.accepted.Standing.{no_selection_fault}
+use Rattle.erd_meaning.proofs.selections.WalkedNames.{one_selection}
+use Rattle.erd_compare.specs.SelectionDifferences.{AreNamesOf, SelectionMap}
+use Rattle.erd_compare.specs.code.ContestSelections.{AreNamesAmong, contest_map, has_name_in, names_in, selection_values}
 use Rattle.erd_compare.proofs.contest_selections.ContestRecords.{has_record}
-use Rattle.erd_compare.proofs.contest_selections.PlacedNames.{beside_names, has_the_name, is_named, values_of}
+use Rattle.erd_compare.proofs.contest_selections.PlacedNames.{beside_names, has_the_name, is_named, name_here}
 use Rattle.erd_compare.proofs.differing.Walks.{to_in, to_stands}
-
--- ---- entries of an array at their places
-
-one_index : (p : List Step) (m n : ℕ) → p ++ At m ∷ [] ≡ p ++ At n ∷ [] → m ≡ n
-one_index [] m n e = cc
-one_index (s ∷ p) m n e = let h : p ++ At m ∷ [] ≡ p ++ At n ∷ [] = cc in one_index p m n h
-
-placed_at : (p : List Step) (n : ℕ) (ds : List Data) (i : ℕ) (o : Placed) → slice_get (placed_from p n ds) i ≡ Some o → o.place ≡ p ++ At (n + i) ∷ []
-placed_at p n [] i o e = cc
-placed_at p n (d ∷ ds) zero o e =
-    let same : n ≡ n + 0 = omega arith in
-    let places : Some (p ++ At n ∷ []) ≡ Some o.place = ap (λ x. option_map (λ o. o.place) x) e in
-    let place : p ++ At n ∷ [] ≡ o.place = cc in
-    sym place ∙ ap (λ m. p ++ At m ∷ []) same
-placed_at p n (d ∷ ds) (suc i) o e = let same : n + 1 + i ≡ n + suc i = omega arith in placed_at p (n + 1) ds i o e ∙ ap (λ m. p ++ At m ∷ []) same
-
--- the same entry stands at one position
-one_position : (p : List Step) (ds : List Data) (i j : ℕ) (o q : Placed) → slice_get (placed_from p 0 ds) i ≡ Some o → slice_get (placed_from p 0 ds) j ≡ Some q → o ≡ q → i ≡ j
-one_position p ds i j o q a b e =
-    let h : 0 + i ≡ 0 + j = one_index p (0 + i) (0 + j) (sym (placed_at p 0 ds i o a) ∙ ap (λ x. x.place) e ∙ placed_at p 0 ds j q b) in
-    omega (arith, h)
 
 -- ---- names that some entries have
 
@@ -69,27 +47,15 @@ names_once name (x ∷ xs) h = at (name x) refl (names_once name xs (λ i j y z 
 -- ---- the names of a contest
 
 module _ (a : Judged) (accepted : IsAccepted a.prefer (view a.tree)) where
-  -- the selection at a position
-  selection_at : (contest : Placed) (i : ℕ) (d : Data) → slice_get (entries_at (codes "ContestSelection") contest.value) i ≡ Some d → (o : Placed) × (slice_get (selections_of_contest contest) i ≡ Some o) × (o.value ≡ d)
-  selection_at contest i d at =
-      option_map-Some (λ (o : Placed). o.value) (slice_get (selections_of_contest contest) i) d
-      (sym (slice_get-map (λ (o : Placed). o.value) (selections_of_contest contest) i) ∙ (ap (λ vs. slice_get vs i) (values-placed_entries (codes "ContestSelection") contest) ∙ at))
-
   -- no two selections have one name
-  once_in : (contest : Placed) → In contest (contests (view a.tree)) → HasOnce (name_of a.prefer (view a.tree)) (entries_at (codes "ContestSelection") contest.value)
-  once_in contest stands i j d e n at there named other =
-      let o = selection_at contest i d at in
-      let p = selection_at contest j e there in
-      one_position _ (entries_at (codes "ContestSelection") contest.value) i j o.0 p.0 o.1 p.1
-      (one_named a.prefer (view a.tree) accepted contest o.0 p.0 n stands (in_at (selections_of_contest contest) i o.0 o.1) (in_at (selections_of_contest contest) j p.0 p.1)
-      (ap (name_of a.prefer (view a.tree)) o.2 ∙ named) (ap (name_of a.prefer (view a.tree)) p.2 ∙ other))
-
   once_at : (c : ℕ) → HasOnce (name_of a.prefer (view a.tree)) (selection_values a c)
-  once_at c = at (slice_get (contests (view a.tree)) c) refl
-    where
-      at : (o : Option Placed) → slice_get (contests (view a.tree)) c ≡ o → HasOnce (name_of a.prefer (view a.tree)) (values_of o)
-      at None is = λ i j d e n here. cc
-      at (Some o) is = once_in o (in_at (contests (view a.tree)) c o is)
+  once_at c i j d e n here there named other =
+      let start = selections_before (view a.tree) c in
+      let same : start + i ≡ start + j =
+      one_selection a.prefer (view a.tree) c n (start + i) (start + j) (no_selection_fault a.prefer (view a.tree) accepted)
+      (name_here a c start refl i d here ∙ ap (option_map (λ m. (c, m))) named) (name_here a c start refl j e there ∙ ap (option_map (λ m. (c, m))) other)
+      in
+      omega (arith, same)
 
   module _ (c : ℕ) where
     abbrev names : List NameParts
@@ -118,20 +84,6 @@ module _ (a : Judged) (accepted : IsAccepted a.prefer (view a.tree)) where
     all = λ n. (has_one c n, (λ some. elim (beside_names a c (names c) (among c) n) [ inl none ↦ absurd (some none) | inr stands ↦ stands ]));
   }
 
--- ---- their size
-
-module _ (a b : Judged) (left : IsComparable a.prefer (view a.tree)) (right : IsComparable b.prefer (view b.tree)) where
-  have_size : (c d : Option ℕ) → HaveSize (contest_map a c) (contest_map b d) (size_in a c + size_in b d)
-  have_size c d = record {
-    left = names_in a c;
-    right = names_in b d;
-    left_names = names_of_contest a left.accepted c;
-    right_names = names_of_contest b right.accepted d;
-    counted = refl;
-  }
-
-  -- the same by the key of the contests
-  pub size_at : (c d : Option ℕ) (k : Option Key) → contest_map a c ≡ selections_with_key (meaning a.prefer (view a.tree)) k → contest_map b d ≡ selections_with_key (meaning b.prefer (view b.tree)) k
-      → HaveSize (selections_with_key (meaning a.prefer (view a.tree)) k) (selections_with_key (meaning b.prefer (view b.tree)) k) (size_in a c + size_in b d)
-  size_at c d k mine its =
-      subst (λ x. HaveSize x (selections_with_key (meaning b.prefer (view b.tree)) k) (size_in a c + size_in b d)) mine (subst (λ y. HaveSize (contest_map a c) y (size_in a c + size_in b d)) its (have_size c d))
+-- the names of the contest that a meaning has for a key
+pub names_at : (a : Judged) → IsComparable a.prefer (view a.tree) → (c : Option ℕ) (m : SelectionMap) → contest_map a c ≡ m → AreNamesOf m (names_in a c)
+names_at a comparable c m is = subst (λ (x : SelectionMap). AreNamesOf x (names_in a c)) is (names_of_contest a comparable.accepted c)

@@ -1,11 +1,11 @@
 -- A selection means what an object with its members does, and the selections of a contest are those of its record.
-use Rattle.erd_compare.proofs.Common.{◌≡◌, ℕ, Bool, true, false, List, [], codes, Some, None, Option, option_map, option_and_then, sym, refl, ap, ◌∙◌, subst, inl, inr, fun_ext, Data, array, no_items, item, get, view, entries_of, entries_at, role_of_class, kind_of_member, Class, family, role, MemberKind, kind, PlainValue, MemberValue, a_plain, a_selection_map, ObjectRecord, SelectionRecord, Preference, Judged, Placed, objects, NameParts, key_in, plain_member, member_of_class, member_value, unless_empty, object_record, selection_record, selection_map, selection_role, name_of, name_in_class, key_named, meaning, record_at, How, Member, OnlyLeft, OnlyRight, OtherClass, DifferIn, AgreeBut, Key, HasKeyAt, IsComparable, holder_key_in, record_in_election, other_than_election, part, slice_get, same_Some, key_with_role, unwrap_or, contests}
+use Rattle.erd_compare.proofs.Common.{◌≡◌, ℕ, Bool, true, false, List, [], codes, Some, None, Option, option_map, option_and_then, sym, refl, ap, ◌∙◌, inl, inr, fun_ext, Data, array, no_items, item, get, view, entries_of, entries_at, role_of_class, kind_of_member, Class, family, role, MemberKind, kind, PlainValue, MemberValue, a_plain, a_selection_map, ObjectRecord, SelectionRecord, Preference, Judged, Placed, NameParts, key_in, plain_member, member_of_class, member_value, unless_empty, object_record, selection_record, selection_map, selection_role, name_of, name_in_class, key_named, meaning, record_at, How, Member, OnlyLeft, OnlyRight, OtherClass, DifferIn, AgreeBut, Key, HasKeyAt, IsComparable, holder_key_in, other_than_election, part, slice_get, same_Some, key_with_role, unwrap_or, contests}
 use Rattle.erd_check.specs.Wants.{class_of_object}
 use Rattle.erd_check.proofs.Positions.{and_then-Some}
 use Rattle.erd_meaning.specs.Lookups.{FindsKey}
 use Rattle.erd_meaning.proofs.accepted.Standing.{contest_selections}
 use Rattle.erd_meaning.proofs.meanings.SelectionKinds.{class_role, is_selections, selections_family, selections_name}
-use Rattle.erd_compare.specs.SelectionDifferences.{selections_in_member, selections_with_key, SelectionMap}
+use Rattle.erd_compare.specs.SelectionDifferences.{selections_in_member, selections_with_key}
 use Rattle.erd_compare.specs.code.ContestSelections.{contest_map, selection_values, whole_record}
 use Rattle.erd_compare.proofs.least_difference.KeyedRecords.{record_here, records_at}
 use Rattle.erd_compare.proofs.same_selections.MemberValues.{one_plain}

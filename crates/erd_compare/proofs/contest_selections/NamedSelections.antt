@@ -1,5 +1,5 @@
 -- The selections with a name in two contests, and the ways in which they differ.
-use Rattle.erd_compare.proofs.Common.{◌≡◌, ℕ, true, List, [], map, slice_get, Some, None, Option, option_map, find, option_and_then, sym, refl, ap, ◌∙◌, subst, Data, view, family, in_at, option_map-Some, find-Some, Judged, Placed, objects, object_record, selection_record, selection_role, ObjectRecord, IsWholeTree, IsComparable, IsPlaced, AreWays, Differ, DifferInNames, OnlyLeft, OnlyRight, Ways, ways}
+use Rattle.erd_compare.proofs.Common.{◌≡◌, ℕ, true, List, [], slice_get, Some, None, Option, find, option_and_then, sym, refl, ap, ◌∙◌, subst, Data, view, family, in_at, option_map-Some, find-Some, Judged, Placed, objects, object_record, selection_record, selection_role, ObjectRecord, IsWholeTree, IsComparable, IsPlaced, AreWays, DifferInNames, Ways, ways}
 use Rattle.erd_meaning.specs.NameParts.{NameParts}
 use Rattle.erd_compare.specs.code.ContestSelections.{contest_map, has_name_in, selection_values, whole_record}
 use Rattle.erd_compare.proofs.contest_selections.ContestRecords.{has_record, record_whole}

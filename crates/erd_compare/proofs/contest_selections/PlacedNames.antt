@@ -1,5 +1,5 @@
 -- The selections of a contest at their positions among those of the report, and which of them has a name.
-use Rattle.erd_compare.proofs.Common.{◌≡◌, ℕ, ◌+◌, ◌<◌, Bool, true, false, cond, ◌⊎◌, List, [], map, length, ◌==◌, slice_get, Some, None, codes, Option, option_map, find, option_and_then, unwrap_or, is_eq, option_cmp, sym, refl, ap, ap₂, ◌∙◌, subst, inl, inr, arith, same_Some, slice_get-map, slice_get_within, Decides-eqb, tied_itself, Equal-is, options_exact, Data, view, family, In, In-map, In-all, any_at, AllByRecursion, entries_at, Judged, Placed, contests, selections_of_contest, objects, numbered_selections, selection_record, name_of, option_map-Some, in_at, position_of, find-Some, find-any, AreSelectionsIn, selections_before, Stands}
+use Rattle.erd_compare.proofs.Common.{◌≡◌, ℕ, ◌+◌, Bool, true, false, cond, ◌⊎◌, List, [], ◌==◌, slice_get, Some, None, codes, Option, option_map, find, option_and_then, unwrap_or, is_eq, option_cmp, sym, refl, ap, ap₂, ◌∙◌, subst, inl, inr, same_Some, slice_get-map, Decides-eqb, tied_itself, Equal-is, options_exact, Data, view, family, In, In-map, In-all, any_at, entries_at, Judged, Placed, contests, selections_of_contest, objects, numbered_selections, selection_record, name_of, option_map-Some, in_at, position_of, find-Some, find-any, AreSelectionsIn, selections_before, Stands}
 use Rattle.std.specs.Cmp.Lexicographic.{options_total}
 use Rattle.erd_meaning.proofs.selections.ContestSelections.{stand_from_start}
 use Rattle.erd_meaning.proofs.selections.NamesTold.{numbered_at, of_its_contest}

@@ -1,20 +1,22 @@
 -- The differences at the names of selections, one name after another in rising order, are all differences of two contests.
-use Rattle.erd_compare.proofs.Common.{◌≡◌, ◌⊎◌, ℕ, ◌+◌, true, List, [], ◌∷◌, ◌++◌, map, drop, slice_get, Some, None, Option, Ordering, Less, sym, refl, ap, ◌∙◌, subst, inl, inr, tied_itself, append-nil, Bor, AllByRecursion, In, In-map, In-map_from, In-all, ordering_then, SelectionRecord, How, Member, AgreeBut, DifferIn, Stands, hows_of, AreWays, Ways, Judged, NameParts}
+use Rattle.erd_compare.proofs.Common.{◌≡◌, ◌⊎◌, ℕ, ◌+◌, true, List, [], ◌∷◌, ◌++◌, map, drop, slice_get, Some, None, Option, Less, sym, refl, ap, ◌∙◌, subst, inl, inr, tied_itself, append-nil, Bor, AllByRecursion, In, In-map, In-map_from, In-all, ordering_then, SelectionRecord, How, Member, AgreeBut, DifferIn, Stands, hows_of, AreWays, Ways, Judged, NameParts}
+use Rattle.std.proofs.lemmas.Grind.{flat_map-append}
 use Rattle.std.proofs.lemmas.List.{append_assoc}
 use Rattle.std.specs.List.Sorted.{IsStrictlySortedBy}
-use Rattle.erd_check.proofs.Order.{In-append, In-append_left, In-append_right, all_from_In, sorted_append, sorted_map}
+use Rattle.erd_check.proofs.Order.{In-append, all_from_In, sorted_append, sorted_map}
 use Rattle.erd_check.proofs.Positions.{left_there}
 use Rattle.erd_meaning.proofs.selections.ContestSelections.{all_both}
 use Rattle.erd_meaning.specs.SelectionNames.{name_cmp}
 use Rattle.erd_meaning.specs.code.Orders.{name_cmp_total}
 use Rattle.erd_compare.specs.SelectionDifferences.{selection_difference_cmp, AreSelectionDifferences, AreUnlikeSelections, SelectionMap}
-use Rattle.erd_compare.specs.code.ContestSelections.{contest_map, differences_named, whole_record, AddsNames}
+use Rattle.erd_compare.specs.code.ContestSelections.{contest_map, differences_at, differences_named, whole_record, AddsNames}
 use Rattle.erd_compare.specs.declared.inside.SelectionDifference.{SelectionDifference}
+use Rattle.erd_compare.specs.declared.inside.named.NamedWays.{NamedWays}
 use Rattle.erd_compare.proofs.contest_selections.ContestRecords.{agree_plain, differ_plain}
 use Rattle.erd_compare.proofs.contest_selections.NameSets.{lent}
 use Rattle.erd_compare.proofs.contest_selections.PlacedNames.{beside_names}
 use Rattle.erd_compare.proofs.differing.RecordWays.{agree_more, way_cmp, ways_all, ways_rise, ways_sound}
-use Rattle.erd_compare.proofs.differing.Walks.{to_in, to_stands}
+use Rattle.erd_compare.proofs.differing.Walks.{stands_before, stands_behind, to_in, to_stands}
 
 abbrev the_difference : NameParts → How → SelectionDifference
 the_difference name how = record { name = name; how = how }
@@ -64,12 +66,12 @@ module _ (m n : SelectionMap) where
     its_name e i = ap (λ (d : SelectionDifference). d.name) (way_of e i).2
 
     more : (y : NameParts) (how : How) → Told found y how → Told (found ++ new) y how
-    more y how s = to_stands (the_difference y how) (found ++ new) (In-append_left (the_difference y how) found new (to_in (the_difference y how) found s))
+    more y how s = stands_before (the_difference y how) found new s
 
     here : AgreeBut (Told (found ++ new) x) (m x) (n x)
     here =
         agree_more (λ how. Stands how (hows_of w)) (Told (found ++ new) x)
-        (λ how s. to_stands (the_difference x how) (found ++ new) (In-append_right (the_difference x how) found new (In-map (the_difference x) how (hows_of w) (to_in how (hows_of w) s)))) (m x) (n x)
+        (λ how s. stands_behind (the_difference x how) found new (to_stands (the_difference x how) new (In-map (the_difference x) how (hows_of w) (to_in how (hows_of w) s)))) (m x) (n x)
         (agree_plain (λ how. Stands how (hows_of w)) (m x) (n x) (ways_all (whole_record (m x)) (whole_record (n x)) w ways))
 
     pub one_passed : ArePassed (found ++ new) rest
@@ -105,11 +107,18 @@ module _ (m n : SelectionMap) where
     ];
   }
 
+-- the differences at one more name
+pub with_next : (found after : List NamedWays) (v : NamedWays) → after ≡ found ++ v ∷ [] → differences_at after ≡ differences_at found ++ differences_named v.name.now v.ways
+with_next found after v is =
+    ap differences_at is
+    ∙ (flat_map-append (λ (x : NamedWays). differences_named x.name.now x.ways) found (v ∷ []) ∙ ap (λ ds. differences_at found ++ ds) (append-nil (differences_named v.name.now v.ways)))
+
 -- the same for the next name of those that are lent
-pub next_passed : (m n : SelectionMap) (found after : List SelectionDifference) (k : Bor NameParts) {all rest : List (Bor NameParts)} → all ≡ k ∷ rest → ArePassed m n found (lent all) → (w : Ways)
-    → AreWays true (whole_record (m k.now)) (whole_record (n k.now)) w → after ≡ found ++ differences_named k.now w → ArePassed m n after (lent rest)
+pub next_passed : (m n : SelectionMap) (found after : List NamedWays) (k : Bor NameParts) {all rest : List (Bor NameParts)} → all ≡ k ∷ rest → ArePassed m n (differences_at found) (lent all) → (w : Ways)
+    → AreWays true (whole_record (m k.now)) (whole_record (n k.now)) w → after ≡ found ++ record { name = k; ways = w } ∷ [] → ArePassed m n (differences_at after) (lent rest)
 next_passed m n found after k {all = all} {rest = rest} next h w ways is =
-    subst (λ ds. ArePassed m n ds (lent rest)) (sym is) (one_passed m n found k.now (lent rest) w (subst (λ ks. ArePassed m n found (lent ks)) next h) ways)
+    subst (λ ds. ArePassed m n ds (lent rest)) (sym (with_next found after (record { name = k; ways = w }) is))
+    (one_passed m n (differences_at found) k.now (lent rest) w (subst (λ ks. ArePassed m n (differences_at found) (lent ks)) next h) ways)
 
 -- ---- the names of two contests
 
@@ -154,3 +163,18 @@ one_member name ss i s before after whole here known is =
 
 pub no_member : (name : NameParts) (ss : List (Bor (List ℕ))) (i : ℕ) (before whole : List SelectionDifference) → drop i ss ≡ [] → before ++ in_members_from name i ss ≡ whole → before ≡ whole
 no_member name ss i before whole none known = sym (append-nil before) ∙ (ap (λ xs. before ++ in_members name xs) (sym none) ∙ known)
+
+-- ---- the differences at all names
+
+-- those from a position on
+abbrev pub differences_from : ℕ → List NamedWays → List SelectionDifference
+differences_from i vs = differences_at (drop i vs)
+
+pub one_name : (vs : List NamedWays) (i : ℕ) (v : NamedWays) (before after whole : List SelectionDifference) → slice_get vs i ≡ Some v → before ++ differences_from i vs ≡ whole
+    → after ≡ before ++ differences_named v.name.now v.ways → after ++ differences_from (i + 1) vs ≡ whole
+one_name vs i v before after whole here known is =
+    ap (λ ds. ds ++ differences_from (i + 1) vs) is
+    ∙ (append_assoc before (differences_named v.name.now v.ways) (differences_from (i + 1) vs) ∙ (ap (λ xs. before ++ differences_at xs) (sym (left_there vs i v here)) ∙ known))
+
+pub no_name : (vs : List NamedWays) (i : ℕ) (before whole : List SelectionDifference) → drop i vs ≡ [] → before ++ differences_from i vs ≡ whole → before ≡ whole
+no_name vs i before whole none known = sym (append-nil before) ∙ (ap (λ xs. before ++ differences_at xs) (sym none) ∙ known)

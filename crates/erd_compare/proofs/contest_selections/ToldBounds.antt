@@ -1,8 +1,9 @@
 -- Which differences are told with those of the selections, one difference after another.
-use Rattle.erd_compare.proofs.Common.{◌≡◌, ℕ, zero, suc, ◌+◌, ◌<◌, ◌≤◌, true, false, List, [], ◌∷◌, ◌++◌, Some, None, Option, option_map, sym, refl, ap, ◌∙◌, subst, true≢false, append-nil, arith, Meaning, Difference}
+use Rattle.erd_compare.proofs.Common.{◌≡◌, ℕ, zero, suc, ◌+◌, ◌<◌, ◌≤◌, true, false, List, [], ◌∷◌, ◌++◌, Some, None, Option, option_map, sym, refl, ap, ◌∙◌, subst, true≢false, append-nil, arith, Meaning, Difference, NameParts}
+use Rattle.std.specs.Prelude.{sum_by}
 use Rattle.std.proofs.lemmas.List.{append_assoc}
-use Rattle.erd_compare.specs.SelectionDifferences.{is_in_selections, selections_with_key, AreSelectionDifferences, AreTold, HaveSize, IsDetailed, Takes, TellsSelections}
-use Rattle.erd_compare.specs.code.ContestSelections.{IsLeft, Leaves, LeavesRoom, PassesOne}
+use Rattle.erd_compare.specs.SelectionDifferences.{is_in_selections, name_size, selections_with_key, AreNamesOf, AreSelectionDifferences, AreTold, IsDetailed, Takes, TellsSelections}
+use Rattle.erd_compare.specs.code.ContestSelections.{size_of_list, IsLeft, PassesInside, PassesOne}
 use Rattle.erd_compare.specs.declared.detailed.DetailedDifference.{DetailedDifference}
 use Rattle.erd_compare.specs.declared.inside.SelectionDifference.{SelectionDifference}
 use Rattle.erd_compare.specs.declared.inside.room.Room.{Room}
@@ -31,10 +32,10 @@ module _ (m n : Meaning) (d : Difference) where
       (used, subst (IsLeft most used) (sym same) left, next_before before.first after.first used most low one)
 
   -- one that may
-  next_here : (first used most size : ℕ) → first ≡ 0 → Takes m n d size → (told : Option (List SelectionDifference)) → TellsSelections m n (used + size ≤ most) d told
+  next_here : (first used most size : ℕ) → first ≡ 0 → Takes m n used most d size → (told : Option (List SelectionDifference)) → TellsSelections m n (used + size ≤ most) d told
       → (e : DetailedDifference) (rest : List DetailedDifference) → e.difference ≡ d → told_with e ≡ told → AreTold m n first (used + size) most rest → AreTold m n first used most (e ∷ rest)
   next_here zero used most size none takes told tells e rest is same later =
-      (size, subst (λ x. Takes m n x size) (sym is) takes, as_told (used + size ≤ most) e told tells is same, later)
+      (size, subst (λ x. Takes m n used most x size) (sym is) takes, as_told (used + size ≤ most) e told tells is same, later)
   next_here (suc first) used most size none takes told tells e rest is same later = absurd (omega (arith, none))
 
   -- one that is in no selections
@@ -49,39 +50,55 @@ module _ (m n : Meaning) (d : Difference) where
       )
 
   -- one that is in the selections of a contest
-  module _ (size : ℕ) (inside : is_in_selections d ≡ true) (have : HaveSize (selections_with_key m d.key) (selections_with_key n d.key) size) where
-    takes : Takes m n d size
-    takes = ((λ _. have), (λ outside. absurd (true≢false (sym inside ∙ outside))))
+  module _ (inside : is_in_selections d ≡ true) (left right : List NameParts) (mine : AreNamesOf (selections_with_key m d.key) left) (its : AreNamesOf (selections_with_key n d.key) right) where
+    abbrev names : ℕ
+    names = sum_by name_size left + sum_by name_size right
 
-    -- its names do not fit
-    used_up : (used most : ℕ) (before after : Option ℕ) → after ≡ None → LeavesRoom size before after → IsLeft most used before → most < used + size
-    used_up used most None after none leaves left = omega (arith, left)
-    used_up used most (Some room) None none leaves left = omega (arith, leaves, left)
-    used_up used most (Some room) (Some more) none leaves left = cc
+    abbrev AreInside : List SelectionDifference → Type 0
+    AreInside ds = AreSelectionDifferences (selections_with_key m d.key) (selections_with_key n d.key) ds
 
-    pub passed_unfit : (before after : Room) → before.first ≡ 0 → after.first ≡ before.first → after.bytes ≡ None → LeavesRoom size before.bytes after.bytes → PassesOne m n d None before after
-    passed_unfit before after none first end leaves used most left =
-        let over = used_up used most before.bytes after.bytes end leaves left in (
+    takes : (used most : ℕ) (ds : List SelectionDifference) → (used + names ≤ most → AreInside ds) → Takes m n used most d (names + size_of_list ds)
+    takes used most ds are =
+        ((λ _. record { left = left; right = right; inside = ds; left_names = mine; right_names = its; differences = are; counted = refl }), (λ outside. absurd (true≢false (sym inside ∙ outside))))
+
+    -- what is told of it, and what it takes
+    abbrev IsPassed : (used most : ℕ) → Option (List SelectionDifference) → Option ℕ → Type 0
+    IsPassed used most told after =
+        (ds : List SelectionDifference)
+        × (used + names ≤ most → AreInside ds)
+        × IsLeft most (used + (names + size_of_list ds)) after
+        × TellsSelections m n (used + (names + size_of_list ds) ≤ most) d told
+
+    within : (used most : ℕ) (told : Option (List SelectionDifference)) (before after : Option ℕ) → IsLeft most used before → PassesInside (selections_with_key m d.key) (selections_with_key n d.key) names told before after
+        → IsPassed used most told after
+    within used most told None after left (none, end) = (
+      [],
+      (λ fit. absurd (omega (arith, fit, left))),
+      subst (IsLeft most (used + (names + size_of_list []))) (sym end) (omega (arith, left)),
+      subst (TellsSelections m n (used + (names + size_of_list []) ≤ most) d) (sym none) (λ _ fits. omega (arith, fits, left)),
+    )
+    within used most told (Some room) None left (ds, are, leaves, tells) = (
+      ds,
+      (λ fit. are (omega (arith, fit, left))),
+      omega (arith, leaves, left),
+      subst (TellsSelections m n (used + (names + size_of_list ds) ≤ most) d) (sym tells) (λ _ fits. omega (arith, fits, leaves, left)),
+    )
+    within used most told (Some room) (Some more) left (ds, are, leaves, tells) = (
+      ds,
+      (λ fit. are (omega (arith, fit, left))),
+      omega (arith, leaves, left),
+      subst (TellsSelections m n (used + (names + size_of_list ds) ≤ most) d) (sym tells) (inside, omega (arith, leaves, left), are (omega (arith, leaves))),
+    )
+
+    pub passed_inside : (before after : Room) → before.first ≡ 0 → after.first ≡ before.first → (told : Option (List SelectionDifference))
+        → PassesInside (selections_with_key m d.key) (selections_with_key n d.key) names told before.bytes after.bytes → PassesOne m n d told before after
+    passed_inside before after none first told passes used most left =
+        let h = within used most told before.bytes after.bytes left passes in
+        let size = names + size_of_list h.0 in (
           used + size,
-          subst (IsLeft most (used + size)) (sym end) over,
+          h.2,
           (λ e rest is tells later.
-              next_here before.first used most size none takes None (λ _ fits. omega (arith, fits, over)) e rest is tells (subst (λ f. AreTold m n f (used + size) most rest) first later)),
-        )
-
-    -- they fit
-    room_left : (used most : ℕ) (before after : Option ℕ) (more : ℕ) → after ≡ Some more → LeavesRoom size before after → IsLeft most used before → IsLeft most (used + size) after × (used + size ≤ most)
-    room_left used most None after more some leaves left = let clash : None ≡ Some more = sym leaves ∙ some in cc
-    room_left used most (Some room) None more some leaves left = cc
-    room_left used most (Some room) (Some next) more some leaves left = (omega (arith, leaves, left), omega (arith, leaves, left))
-
-    pub passed_fit : (before after : Room) (more : ℕ) → before.first ≡ 0 → after.first ≡ before.first → after.bytes ≡ Some more → LeavesRoom size before.bytes after.bytes → (ds : List SelectionDifference)
-        → AreSelectionDifferences (selections_with_key m d.key) (selections_with_key n d.key) ds → PassesOne m n d (Some ds) before after
-    passed_fit before after more none first some leaves ds are used most left =
-        let room = room_left used most before.bytes after.bytes more some leaves left in (
-          used + size,
-          room.0,
-          (λ e rest is tells later.
-              next_here before.first used most size none takes (Some ds) (inside, room.1, are) e rest is tells (subst (λ f. AreTold m n f (used + size) most rest) first later)),
+              next_here before.first used most size none (takes used most h.0 h.1) told h.3 e rest is tells (subst (λ f. AreTold m n f (used + size) most rest) first later)),
         )
 
 -- ---- all of them

@@ -1,10 +1,10 @@
 -- The first difference of two reports is the head of the list of all, and there is none exactly if the list is empty.
-use Rattle.erd_compare.proofs.Common.{ℕ, ◌≡◌, ◌↔◌, ◌⊎◌, List, [], ◌∷◌, Some, None, Option, Less, Equal, sym, refl, ap, ◌∙◌, subst, inl, inr, arith, fun_ext, tied_itself, IsTotalOrder, AllByRecursion, nat_cmp_total, nat_list_cmp_total, key_cmp_total, option_cmp, ordering_then, text_cmp, Data, Preference, meaning, ObjectRecord, Meaning, Key, part_number, part_cmp, record_at, Differ, IsDifference, IsFirstDifference, Difference, How, Member, OnlyLeft, OnlyRight, OtherClass, Part, AgreeBut, AreDifferences, AreDifferent, DifferIn, Stands, difference_cmp, first_of, member_of}
+use Rattle.erd_compare.proofs.Common.{ℕ, ◌≡◌, ◌↔◌, ◌⊎◌, List, [], ◌∷◌, Some, None, Option, Less, Equal, sym, refl, ap, ◌∙◌, subst, inl, inr, arith, fun_ext, tied_itself, IsTotalOrder, nat_cmp_total, nat_list_cmp_total, key_cmp_total, option_cmp, ordering_then, text_cmp, Data, Preference, meaning, ObjectRecord, Meaning, Key, part_number, part_cmp, record_at, Differ, IsDifference, IsFirstDifference, Difference, How, Member, OnlyLeft, OnlyRight, OtherClass, Part, AgreeBut, AreDifferences, AreDifferent, DifferIn, Stands, difference_cmp, first_of, member_of}
 use Rattle.std.specs.Cmp.Lexicographic.{options_total}
 use Rattle.std.proofs.lemmas.Cmp.{on_total, then_total}
 use Rattle.erd_compare.proofs.least_difference.PartsInOrder.{equal_meanings}
 use Rattle.erd_compare.proofs.differing.RecordWays.{same_members}
-use Rattle.erd_compare.proofs.differing.Walks.{below_first}
+use Rattle.erd_compare.proofs.differing.Walks.{none_less-head, stands_all}
 
 -- ---- the order of differences
 
@@ -13,11 +13,6 @@ place_total = then_total (on_total (λ (d : Difference). part_number d.part) nat
 
 pub difference_total : IsTotalOrder difference_cmp
 difference_total = then_total place_total (on_total (λ (d : Difference). member_of d.how) (options_total nat_list_cmp_total))
-
-all_in : {A : Type 0} (P : A → Type 0) (xs : List A) (x : A) → AllByRecursion P xs → Stands x xs → P x
-all_in P [] x all h = absurd h
-all_in P (y ∷ ys) x all (inl e) = subst P e all.0
-all_in P (y ∷ ys) x all (inr h) = all_in P ys x all.1 h
 
 -- ---- two records
 
@@ -68,14 +63,14 @@ module _ (m n : Meaning) (d : Difference) (ds : List Difference) (h : AreDiffere
   lesser x name is low stands =
       let first : part_cmp d.part d.key d.part d.key ≡ Equal = tied_itself place_total d in
       let then : option_cmp text_cmp (Some x) (member_of d.how) ≡ Less = ap (λ w. option_cmp text_cmp (Some x) (member_of w)) is ∙ low in
-      below_first difference_total (record { part = d.part; key = d.key; how = Member x }) d ds h.rise stands (ap (λ o. ordering_then o (option_cmp text_cmp (Some x) (member_of d.how))) first ∙ then)
+      none_less-head difference_total d ds h.rise (record { part = d.part; key = d.key; how = Member x }) stands (ap (λ o. ordering_then o (option_cmp text_cmp (Some x) (member_of d.how))) first ∙ then)
 
   before : (p : Part) (k : Option Key) → part_cmp p k d.part d.key ≡ Less → (how : How) → told p k how → ⊥
-  before p k low how stands = below_first difference_total (record { part = p; key = k; how = how }) d ds h.rise stands (ap (λ o. ordering_then o (option_cmp text_cmp (member_of how) (member_of d.how))) low)
+  before p k low how stands = none_less-head difference_total d ds h.rise (record { part = p; key = k; how = how }) stands (ap (λ o. ordering_then o (option_cmp text_cmp (member_of how) (member_of d.how))) low)
 
   pub head_is_first : IsFirstDifference m n d
   head_is_first = record {
-    differ = first_way (told d.part d.key) (record_at m d.part d.key) (record_at n d.part d.key) d.how (λ way stands. all_in (AreDifferent m n) (d ∷ ds) (record { part = d.part; key = d.key; how = way }) h.differ stands)
+    differ = first_way (told d.part d.key) (record_at m d.part d.key) (record_at n d.part d.key) d.how (λ way stands. stands_all (AreDifferent m n) (record { part = d.part; key = d.key; how = way }) (d ∷ ds) h.differ stands)
         lesser (h.all d.part d.key) h.differ.0;
     least = λ p k low. same_record (told p k) (record_at m p k) (record_at n p k) (before p k low) (h.all p k);
   }
@@ -111,7 +106,7 @@ each_way told (Some a) (Some b) (Member name) sound (inr (class, members)) h = e
 pub has_each : (m n : Meaning) (ds : List Difference) → AreDifferences m n ds → (d : Difference) → AreDifferent m n d → Stands d ds
 has_each m n ds h d differ =
     each_way (λ how. Stands (record { part = d.part; key = d.key; how = how }) ds) (record_at m d.part d.key) (record_at n d.part d.key) d.how
-    (λ way stands. all_in (AreDifferent m n) ds (record { part = d.part; key = d.key; how = way }) h.differ stands) (h.all d.part d.key) differ
+    (λ way stands. stands_all (AreDifferent m n) (record { part = d.part; key = d.key; how = way }) ds h.differ stands) (h.all d.part d.key) differ
 
 -- there are none exactly if the meanings are equal
 pub none_or_same : (π ρ : Preference) (t u : Data) (ds : List Difference) → AreDifferences (meaning π t) (meaning ρ u) ds → (ds ≡ []) ↔ (meaning π t ≡ meaning ρ u)

@@ -1,5 +1,5 @@
 -- The rising keys of two reports in a part, walked in step by ranks, on past each difference.
-use Rattle.erd_compare.proofs.Common.{◌≡◌, ◌≢◌, ℕ, zero, suc, ◌+◌, Bool, true, List, [], ◌∷◌, ◌++◌, drop, slice_get, Some, None, Option, option_map, is_eq, Ordering, Less, Equal, Greater, sym, refl, ap, ap₂, ◌∙◌, subst, inl, inr, option_copied, option_map-Some, In-all, in_at, Bor, view, Role, Judged, key_cmp, rising_positions, options_exact, equal_keys, greater_turned, KeyPosition, Key, ObjectRecord, RecordMap, Stands, first_of, role_of_part, keys_in_role, key_in_role, rising_in_role, is_ranked, shared, map_of, TellsAtPositions, TellsLeast, HasKeyAt, How, OnlyLeft, OnlyRight, Part, part, AreWays, Ways, hows_of, ways}
+use Rattle.erd_compare.proofs.Common.{◌≡◌, ◌≢◌, ℕ, zero, suc, ◌+◌, Bool, true, List, [], ◌∷◌, ◌++◌, drop, slice_get, Some, None, Option, option_map, is_eq, Ordering, Less, Equal, Greater, sym, refl, ap, ap₂, ◌∙◌, subst, inl, inr, option_copied, Bor, view, Role, Judged, key_cmp, rising_positions, options_exact, equal_keys, greater_turned, KeyPosition, Key, ObjectRecord, RecordMap, Stands, first_of, role_of_part, keys_in_role, key_in_role, rising_in_role, is_ranked, shared, map_of, TellsAtPositions, TellsLeast, HasKeyAt, IsComparable, How, OnlyLeft, OnlyRight, Part, part, AreWays, Ways, hows_of, ways}
 use Rattle.erd_check.proofs.Positions.{left_there}
 use Rattle.erd_compare.specs.code.DifferingNames.{IsBelowAll, IsWalked}
 use Rattle.erd_compare.specs.code.KeyedDifferences.{TellsLeastAt}
@@ -8,12 +8,11 @@ use Rattle.erd_compare.specs.code.RisingParts.{AreRising}
 use Rattle.erd_compare.specs.declared.first.key_steps.Ranks.{Ranks}
 use Rattle.erd_compare.specs.declared.first.tables.KeyedWays.{KeyedWays}
 use Rattle.erd_compare.specs.declared.first.tables.Rising.{Rising}
-use Rattle.erd_compare.proofs.least_difference.KeyedRecords.{none_beside, some_record, tells_as}
-use Rattle.erd_compare.proofs.least_difference.RisingKeys.{all_rise, all_stand, by_key, by_key_total, entries, key_at, key_there, keys_at, keys_rise}
-use Rattle.erd_compare.proofs.least_difference.StepWalks.{all_left, below_head, past_below, past_head}
+use Rattle.erd_compare.proofs.least_difference.KeyedRecords.{only_among, some_record, tells_as}
+use Rattle.erd_compare.proofs.least_difference.RisingKeys.{all_rise, by_key, by_key_total, entry_with, key_at, key_there, keys_at, keys_rise, stands_there}
 use Rattle.erd_compare.proofs.differing.RecordWays.{ways_apart, ways_first, ways_none}
 use Rattle.erd_compare.proofs.differing.RanksShared.{HaveShared, found_shared, none_found}
-use Rattle.erd_compare.proofs.differing.Walks.{all_found, first_found, from_step, lacks_left, lacks_right, none_there, pass_differing, pass_same}
+use Rattle.erd_compare.proofs.differing.Walks.{all_found, all_left, below_head, first_found, lacks_left, lacks_right, none_there, pass_differing, pass_same, past_below, past_head}
 
 -- each part has a role with ranks
 part_ranked : (p : Part) → is_ranked (role_of_part p) ≡ true
@@ -25,6 +24,25 @@ ended [] zero none = refl
 ended [] (suc i) none = refl
 ended (k ∷ ks) zero none = cc
 ended (k ∷ ks) (suc i) none = ended ks i none
+
+-- each key has a record
+has_record : (a : Judged) (p : Part) → IsComparable a.prefer (view a.tree) → (n : ℕ) (k : Option Key) → slice_get (rising_in_role a.prefer (view a.tree) (role_of_part p)) n ≡ Some k → (r : ObjectRecord) × (map_of a p k ≡ Some r)
+has_record a p c n k is =
+    let e = entry_with a.prefer (view a.tree) (role_of_part p) n k is in
+    let r = some_record a.prefer (view a.tree) c p e.0.0 e.0.1 (stands_there a.prefer (view a.tree) (role_of_part p) n e.0 e.1) in
+    (r.0, subst (λ x. map_of a p x ≡ Some r.0) e.2 r.1)
+
+-- a key that was passed by is the next one, if the reports differ there
+next_key : (all : Bool) (a b : Judged) (p : Part) (found : List (Option Key)) {after : Ranks} {d : KeyedWays} {k : Option Key} {w : Ways} {i j : ℕ} → IsPassedKey k w i j after d → AreWays all (map_of a p k) (map_of b p k) w → hows_of w ≢ []
+    → IsWalked by_key (map_of a p) (map_of b p) (found ++ (k ∷ [])) (keys_from a p i) (keys_from b p j) → IsNextKey all a b p found after d
+next_key all a b p found {after} {d} {k} {w} {i} {j} told differ some walked = record {
+  ways = subst (λ z. AreWays all (map_of a p z) (map_of b p z) d.ways) (sym told.its_key) (subst (AreWays all (map_of a p k) (map_of b p k)) (sym told.its_ways) differ);
+  some = subst (λ x. hows_of x ≢ []) (sym told.its_ways) some;
+  walked =
+      subst (λ z. IsWalked by_key (map_of a p) (map_of b p) (found ++ (z ∷ [])) (keys_from a p after.one) (keys_from b p after.other)) (sym told.its_key)
+      (subst (λ z. IsWalked by_key (map_of a p) (map_of b p) (found ++ (k ∷ [])) (keys_from a p z) (keys_from b p after.other)) (sym told.at_one)
+      (subst (λ z. IsWalked by_key (map_of a p) (map_of b p) (found ++ (k ∷ [])) (keys_from a p i) (keys_from b p z)) (sym told.at_other) walked));
+}
 
 module _ (all : Bool) (a b : Judged) (p : Part) (rising : Rising) (h : AreRising a b p rising) where
   abbrev role : Role
@@ -41,32 +59,6 @@ module _ (all : Bool) (a b : Judged) (p : Part) (rising : Rising) (h : AreRising
 
   abbrev others : List (Option Key)
   others = rising_in_role b.prefer (view b.tree) role
-
-  -- an entry of the left report and of the right one
-  entry_left : (i : ℕ) (k : Option Key) → slice_get ones i ≡ Some k → (e : KeyPosition) × (slice_get (entries a.prefer (view a.tree) role) i ≡ Some e) × (e.0 ≡ k)
-  entry_left i k is = option_map-Some (λ (e : KeyPosition). e.0) (slice_get (entries a.prefer (view a.tree) role) i) k (sym (key_at a.prefer (view a.tree) role i) ∙ is)
-
-  entry_right : (i : ℕ) (k : Option Key) → slice_get others i ≡ Some k → (e : KeyPosition) × (slice_get (entries b.prefer (view b.tree) role) i ≡ Some e) × (e.0 ≡ k)
-  entry_right i k is = option_map-Some (λ (e : KeyPosition). e.0) (slice_get (entries b.prefer (view b.tree) role) i) k (sym (key_at b.prefer (view b.tree) role i) ∙ is)
-
-  stands_left : (i : ℕ) (e : KeyPosition) → slice_get (entries a.prefer (view a.tree) role) i ≡ Some e → HasKeyAt a.prefer (view a.tree) role e.1 e.0
-  stands_left i e is = In-all (λ (x : KeyPosition). HasKeyAt a.prefer (view a.tree) role x.1 x.0) e (entries a.prefer (view a.tree) role) (all_stand a.prefer (view a.tree) role) (in_at (entries a.prefer (view a.tree) role) i e is)
-
-  stands_right : (i : ℕ) (e : KeyPosition) → slice_get (entries b.prefer (view b.tree) role) i ≡ Some e → HasKeyAt b.prefer (view b.tree) role e.1 e.0
-  stands_right i e is = In-all (λ (x : KeyPosition). HasKeyAt b.prefer (view b.tree) role x.1 x.0) e (entries b.prefer (view b.tree) role) (all_stand b.prefer (view b.tree) role) (in_at (entries b.prefer (view b.tree) role) i e is)
-
-  -- each key has a record
-  has_left : (i : ℕ) (k : Option Key) → slice_get ones i ≡ Some k → (r : ObjectRecord) × (mine k ≡ Some r)
-  has_left i k is =
-      let e = entry_left i k is in
-      let r = some_record a.prefer (view a.tree) h.left p e.0.0 e.0.1 (stands_left i e.0 e.1) in
-      (r.0, subst (λ x. mine x ≡ Some r.0) e.2 r.1)
-
-  has_right : (i : ℕ) (k : Option Key) → slice_get others i ≡ Some k → (r : ObjectRecord) × (its k ≡ Some r)
-  has_right i k is =
-      let e = entry_right i k is in
-      let r = some_record b.prefer (view b.tree) h.right p e.0.0 e.0.1 (stands_right i e.0 e.1) in
-      (r.0, subst (λ x. its x ≡ Some r.0) e.2 r.1)
 
   -- the positions of both at these ranks
   abbrev pub between : ℕ → ℕ → Option (ℕ × ℕ)
@@ -101,31 +93,22 @@ module _ (all : Bool) (a b : Judged) (p : Part) (rising : Rising) (h : AreRising
       ways_there w told = subst (λ z. TellsAtPositions all a b p z both.other.1 w) (sym both.first) (subst (λ z. TellsAtPositions all a b p x z w) (sym both.second) told)
 
       its_key : HasKeyAt b.prefer (view b.tree) role both.other.1 both.one.0
-      its_key = subst (HasKeyAt b.prefer (view b.tree) role both.other.1) (sym both.same) (stands_right j both.other both.there)
+      its_key = subst (HasKeyAt b.prefer (view b.tree) role both.other.1) (sym both.same) (stands_there b.prefer (view b.tree) role j both.other both.there)
 
       its_ways : (w : Ways) → TellsAtPositions all a b p x y w → AreWays all (mine both.one.0) (its both.one.0) w
-      its_ways w told = ways_there w told both.one.0 (stands_left i both.one both.here) its_key
+      its_ways w told = ways_there w told both.one.0 (stands_there a.prefer (view a.tree) role i both.one both.here) its_key
 
       pub passed_same : (w : Ways) → TellsAtPositions all a b p x y w → hows_of w ≡ [] → IsWalked by_key mine its found (drop (i + 1) ones) (drop (j + 1) others)
       passed_same w told none =
-          pass_same by_key_total mine its found (both.one.0 ∷ drop (i + 1) ones) (both.one.0 ∷ drop (j + 1) others) heads both.one.0 (drop (i + 1) ones) (drop (j + 1) others)
-          (past_head by_key_total both.one.0 (drop (i + 1) ones) heads.left) (past_head by_key_total both.one.0 (drop (j + 1) others) heads.right) (ways_none all (mine both.one.0) (its both.one.0) w (its_ways w told) none)
+          pass_same heads (past_head heads.left) (past_head heads.right) (ways_none all (mine both.one.0) (its both.one.0) w (its_ways w told) none)
 
       pub passed_other : (w : Ways) → TellsAtPositions all a b p x y w → hows_of w ≢ [] → (k : Option (Bor Key)) → option_copied k ≡ key_in_role a.prefer role (view a.tree) x
           → (after : Ranks) → after.one ≡ i + 1 → after.other ≡ j + 1 → IsNextKey all a b p found after (record { key = k; ways = w })
       passed_other w told some k key after one other =
           let differ = its_ways w told in
           let same : option_copied k ≡ both.one.0 = key ∙ (ap (key_in_role a.prefer role (view a.tree)) (sym both.first) ∙ key_there a.prefer (view a.tree) role (part_ranked p) i both.one both.here) in
-          record {
-            ways = subst (λ z. AreWays all (mine z) (its z) w) (sym same) differ;
-            some = some;
-            walked =
-                subst (λ z. IsWalked by_key mine its (found ++ (z ∷ [])) (drop after.one ones) (drop after.other others)) (sym same)
-                (subst (λ z. IsWalked by_key mine its (found ++ (both.one.0 ∷ [])) (drop z ones) (drop after.other others)) (sym one)
-                (subst (λ z. IsWalked by_key mine its (found ++ (both.one.0 ∷ [])) (drop (i + 1) ones) (drop z others)) (sym other)
-                (pass_differing by_key_total mine its found (both.one.0 ∷ drop (i + 1) ones) (both.one.0 ∷ drop (j + 1) others) heads both.one.0 (drop (i + 1) ones) (drop (j + 1) others)
-                (past_head by_key_total both.one.0 (drop (i + 1) ones) heads.left) (past_head by_key_total both.one.0 (drop (j + 1) others) heads.right) (ways_apart all (mine both.one.0) (its both.one.0) w differ some) (inl (inl refl)))));
-          }
+          next_key all a b p found {k = both.one.0} {w = w} {i = i + 1} {j = j + 1} (record { its_key = same; its_ways = refl; at_one = one; at_other = other }) differ some
+          (pass_differing heads (past_head heads.left) (past_head heads.right) (ways_apart all (mine both.one.0) (its both.one.0) w differ some) (inl (inl refl)))
 
     -- ---- one alone has a key
 
@@ -133,38 +116,22 @@ module _ (all : Bool) (a b : Judged) (p : Part) (rising : Rising) (h : AreRising
       pass_left : (k : Option Key) → slice_get ones i ≡ Some k → IsBelowAll by_key k (drop j others) → IsPassedKey k ways.OnlyLeft (i + 1) j after d → IsNextKey all a b p found after d
       pass_left k is below told =
           let step = heads_left k is in
-          let r = has_left i k is in
+          let r = has_record a p h.left i k is in
           let some_way : OnlyLeft ∷ [] ≢ [] = λ e. cc in
-          let none = lacks_right by_key_total mine its found k (drop (i + 1) ones) (drop j others) step below in
+          let none = lacks_right by_key_total step below in
           let differ : AreWays all (mine k) (its k) ways.OnlyLeft = tells_as (λ x y. AreWays all x y ways.OnlyLeft) (mine k) (its k) (Some r.0) None r.1 none refl in
-          record {
-            ways = subst (λ z. AreWays all (mine z) (its z) d.ways) (sym told.its_key) (subst (AreWays all (mine k) (its k)) (sym told.its_ways) differ);
-            some = subst (λ w. hows_of w ≢ []) (sym told.its_ways) some_way;
-            walked =
-                subst (λ z. IsWalked by_key mine its (found ++ (z ∷ [])) (drop after.one ones) (drop after.other others)) (sym told.its_key)
-                (subst (λ z. IsWalked by_key mine its (found ++ (k ∷ [])) (drop z ones) (drop after.other others)) (sym told.at_one)
-                (subst (λ z. IsWalked by_key mine its (found ++ (k ∷ [])) (drop (i + 1) ones) (drop z others)) (sym told.at_other)
-                (pass_differing by_key_total mine its found (k ∷ drop (i + 1) ones) (drop j others) step k (drop (i + 1) ones) (drop j others)
-                (past_head by_key_total k (drop (i + 1) ones) step.left) (past_below by_key_total k (drop j others) step.right below) (ways_apart all (mine k) (its k) ways.OnlyLeft differ some_way) (inl (inl refl)))));
-          }
+          next_key all a b p found told differ some_way
+          (pass_differing step (past_head step.left) (past_below k step.right below) (ways_apart all (mine k) (its k) ways.OnlyLeft differ some_way) (inl (inl refl)))
 
       pass_right : (k : Option Key) → slice_get others j ≡ Some k → IsBelowAll by_key k (drop i ones) → IsPassedKey k ways.OnlyRight i (j + 1) after d → IsNextKey all a b p found after d
       pass_right k is below told =
           let step = heads_right k is in
-          let r = has_right j k is in
+          let r = has_record b p h.right j k is in
           let some_way : OnlyRight ∷ [] ≢ [] = λ e. cc in
-          let none = lacks_left by_key_total mine its found k (drop i ones) (drop (j + 1) others) step below in
+          let none = lacks_left by_key_total step below in
           let differ : AreWays all (mine k) (its k) ways.OnlyRight = tells_as (λ x y. AreWays all x y ways.OnlyRight) (mine k) (its k) None (Some r.0) none r.1 refl in
-          record {
-            ways = subst (λ z. AreWays all (mine z) (its z) d.ways) (sym told.its_key) (subst (AreWays all (mine k) (its k)) (sym told.its_ways) differ);
-            some = subst (λ w. hows_of w ≢ []) (sym told.its_ways) some_way;
-            walked =
-                subst (λ z. IsWalked by_key mine its (found ++ (z ∷ [])) (drop after.one ones) (drop after.other others)) (sym told.its_key)
-                (subst (λ z. IsWalked by_key mine its (found ++ (k ∷ [])) (drop z ones) (drop after.other others)) (sym told.at_one)
-                (subst (λ z. IsWalked by_key mine its (found ++ (k ∷ [])) (drop i ones) (drop z others)) (sym told.at_other)
-                (pass_differing by_key_total mine its found (drop i ones) (k ∷ drop (j + 1) others) step k (drop i ones) (drop (j + 1) others)
-                (past_below by_key_total k (drop i ones) step.left below) (past_head by_key_total k (drop (j + 1) others) step.right) (ways_apart all (mine k) (its k) ways.OnlyRight differ some_way) (inr (inl refl)))));
-          }
+          next_key all a b p found told differ some_way
+          (pass_differing step (past_below k step.left below) (past_head step.right) (ways_apart all (mine k) (its k) ways.OnlyRight differ some_way) (inr (inl refl)))
 
     -- what is told at ranks where the keys are not the same
     pub step_on : (after : Ranks) (o : Option KeyedWays) → between i j ≡ None → TellsStep (slice_get ones i) (slice_get others j) (record { one = i; other = j }) after o → GoesOnToKey all a b p found after o
@@ -178,8 +145,8 @@ module _ (all : Bool) (a b : Judged) (p : Part) (rising : Rising) (h : AreRising
 
         two : (k l : Option Key) → slice_get ones i ≡ Some k → slice_get others j ≡ Some l → k ≡ l → ⊥
         two k l here there same =
-            let e = entry_left i k here in
-            let g = entry_right j l there in
+            let e = entry_with a.prefer (view a.tree) role i k here in
+            let g = entry_with b.prefer (view b.tree) role j l there in
             none_found a b role h.left (part_ranked p) rising.common.now h.common i j (exact i j None apart) e.0 g.0 e.1 g.1 (e.2 ∙ (same ∙ sym g.2))
 
         by : (k l : Option Key) → slice_get ones i ≡ Some k → slice_get others j ≡ Some l → (c : Ordering) → by_key k l ≡ c → (o : Option KeyedWays) → PassesLesser c k l (record { one = i; other = j }) after o → GoesOnToKey all a b p found after o
@@ -195,7 +162,7 @@ module _ (all : Bool) (a b : Judged) (p : Part) (rising : Rising) (h : AreRising
         at : (x : Option (Option Key)) → slice_get ones i ≡ x → (y : Option (Option Key)) → slice_get others j ≡ y → (o : Option KeyedWays) → TellsStep x y (record { one = i; other = j }) after o → GoesOnToKey all a b p found after o
         at None v None w o told =
             subst (GoesOnToKey all a b p found after) (sym told)
-            (all_found by_key_total mine its found (drop i ones) (drop j others) walked (λ k. nothing_in k (drop i ones) (ended ones i v)) (λ k. nothing_in k (drop j others) (ended others j w)))
+            (all_found walked (λ k. nothing_in k (drop i ones) (ended ones i v)) (λ k. nothing_in k (drop j others) (ended others j w)))
         at (Some k) v None w None told = absurd told
         at (Some k) v None w (Some d) told = pass_left d after k v (subst (IsBelowAll by_key k) (sym (ended others j w)) tt) told
         at None v (Some l) w None told = absurd told
@@ -217,14 +184,12 @@ module _ (all : Bool) (a b : Judged) (p : Part) (rising : Rising) (h : AreRising
   -- at first nothing was found
   pub start : IsWalked by_key mine its [] ones others
   start =
-      from_step by_key_total mine its ones others
-      (all_left by_key_total mine its ones others (keys_rise a.prefer (view a.tree) role h.left (part_ranked p)) (keys_rise b.prefer (view b.tree) role h.right (part_ranked p))
-      (λ k. none_beside a.prefer (view a.tree) h.left p ones (all_rise a.prefer (view a.tree) role) k)
-      (λ k. none_beside b.prefer (view b.tree) h.right p others (all_rise b.prefer (view b.tree) role) k))
+      all_left by_key mine its ones others (keys_rise a.prefer (view a.tree) role h.left (part_ranked p)) (keys_rise b.prefer (view b.tree) role h.right (part_ranked p))
+      (only_among a.prefer (view a.tree) h.left p ones (all_rise a.prefer (view a.tree) role)) (only_among b.prefer (view b.tree) h.right p others (all_rise b.prefer (view b.tree) role))
 
 -- what is found first is the least
 pub first_told : (all : Bool) (a b : Judged) (p : Part) (after : Ranks) (o : Option KeyedWays) → GoesOnToKey all a b p [] after o → TellsLeast (map_of a p) (map_of b p) o
-first_told all a b p after None end = none_there by_key_total (map_of a p) (map_of b p) end
+first_told all a b p after None end = none_there end
 first_told all a b p after (Some d) next = at (hows_of d.ways) refl
   where
     k : Option Key
@@ -234,5 +199,5 @@ first_told all a b p after (Some d) next = at (hows_of d.ways) refl
     at [] is = absurd (next.some is)
     at (how ∷ hs) is = record {
       differ = ways_first all (map_of a p k) (map_of b p k) d.ways how next.ways (ap first_of is);
-      least = first_found by_key_total (map_of a p) (map_of b p) k (keys_from a p after.one) (keys_from b p after.other) next.walked;
+      least = first_found by_key_total next.walked;
     }

@@ -1,16 +1,16 @@
 -- The names that a walk in step found: all at which two maps differ, or the first.
 use Rattle.erd_compare.proofs.Common.{◌≡◌, ℕ, Bool, false, List, [], ◌∷◌, sym, ◌∙◌, inl, inr, true≢false, fun_ext, nat_list_cmp_total, text_cmp, MemberMap, TellsLeastName, first_of}
 use Rattle.erd_compare.specs.code.DifferingNames.{AreDiffering, AreNames, IsWalked}
-use Rattle.erd_compare.proofs.differing.Walks.{below_first, first_found, none_there}
+use Rattle.erd_compare.proofs.differing.Walks.{first_found, none_less-head, none_there}
 
 module _ (m n : MemberMap) (all : Bool) where
   least : (names : List (List ℕ)) → AreDiffering text_cmp m n names → TellsLeastName m n (first_of names)
-  least [] h = fun_ext (none_there nat_list_cmp_total m n h)
+  least [] h = fun_ext (none_there h)
   least (k ∷ ks) h = record {
     differ = h.differ.0;
     least = λ j low. elim (h.all j) [
       | inl same ↦ same
-      | inr stands ↦ absurd (below_first nat_list_cmp_total j k ks h.rise stands low)
+      | inr stands ↦ absurd (none_less-head nat_list_cmp_total k ks h.rise j stands low)
     ];
   }
 
@@ -23,6 +23,6 @@ module _ (m n : MemberMap) (all : Bool) where
   first_name name ls rs not_all step = record {
     rise = step.rise;
     differ = step.differ;
-    first = record { differ = step.differ.0; least = first_found nat_list_cmp_total m n name ls rs step };
+    first = record { differ = step.differ.0; least = first_found nat_list_cmp_total step };
     each = λ yes. absurd (true≢false (sym yes ∙ not_all));
   }

@@ -3,7 +3,7 @@ use Rattle.erd_compare.proofs.Common.{◌≡◌, ◌⊎◌, ℕ, ◌+◌, ◌<�
 use Rattle.std.proofs.lemmas.Grind.{flat_map-append}
 use Rattle.std.proofs.lemmas.List.{append_assoc}
 use Rattle.std.specs.List.Sorted.{IsStrictlySortedBy}
-use Rattle.erd_check.proofs.Order.{In-append_left, In-append_right, all_from_In, sorted_append, sorted_map}
+use Rattle.erd_check.proofs.Order.{all_from_In, sorted_append, sorted_map}
 use Rattle.erd_meaning.proofs.selections.ContestSelections.{all_both}
 use Rattle.erd_compare.specs.code.DifferingKeys.{AreKeysFound, GoesOnToKey}
 use Rattle.erd_compare.specs.code.DifferingNames.{AreDiffering}
@@ -13,7 +13,7 @@ use Rattle.erd_compare.specs.declared.first.tables.KeyedWays.{KeyedWays}
 use Rattle.erd_compare.proofs.least_difference.PartsInOrder.{numbered, part_at}
 use Rattle.erd_compare.proofs.least_difference.RisingKeys.{by_key, by_key_total}
 use Rattle.erd_compare.proofs.differing.RecordWays.{agree_more, agree_same, way_cmp, ways_all, ways_rise, ways_sound}
-use Rattle.erd_compare.proofs.differing.Walks.{to_in, to_stands}
+use Rattle.erd_compare.proofs.differing.Walks.{stands_before, stands_behind, to_in, to_stands}
 
 abbrev the_key : KeyedWays → Option Key
 the_key d = option_copied d.key
@@ -165,17 +165,11 @@ module _ (m n : Meaning) where
       all = λ p k low. at p k (below_more (part_number p) i low);
     }
       where
-        before : (x : Difference) → Stands x ds → Stands x (ds ++ es)
-        before x s = to_stands x (ds ++ es) (In-append_left x ds es (to_in x ds s))
-
-        behind : (x : Difference) → Stands x es → Stands x (ds ++ es)
-        behind x s = to_stands x (ds ++ es) (In-append_right x ds es (to_in x es s))
-
         at : (p : Part) (k : Option Key) → (part_number p < i) ⊎ (part_number p ≡ i) → AgreeBut (ToldAt (ds ++ es) p k) (record_at m p k) (record_at n p k)
-        at p k (inl low) = agree_more (ToldAt ds p k) (ToldAt (ds ++ es) p k) (λ how s. before (record { part = p; key = k; how = how }) s) (record_at m p k) (record_at n p k) (h.all p k low)
+        at p k (inl low) = agree_more (ToldAt ds p k) (ToldAt (ds ++ es) p k) (λ how s. stands_before (record { part = p; key = k; how = how }) ds es s) (record_at m p k) (record_at n p k) (h.all p k low)
         at p k (inr same) =
             subst (λ q. AgreeBut (ToldAt (ds ++ es) q k) (record_at m q k) (record_at n q k)) (numbered p i same)
-            (agree_more (ToldAt es (part_at i) k) (ToldAt (ds ++ es) (part_at i) k) (λ how s. behind (record { part = part_at i; key = k; how = how }) s) (record_at m (part_at i) k) (record_at n (part_at i) k) (g.all k))
+            (agree_more (ToldAt es (part_at i) k) (ToldAt (ds ++ es) (part_at i) k) (λ how s. stands_behind (record { part = part_at i; key = k; how = how }) ds es s) (record_at m (part_at i) k) (record_at n (part_at i) k) (g.all k))
 
   -- those below all parts are all
   pub all_parts : (i : ℕ) (ds : List Difference) → ((p : Part) → part_number p < i) → AreDifferencesBelow m n i ds → AreDifferences m n ds

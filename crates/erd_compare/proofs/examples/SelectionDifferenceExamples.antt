@@ -1,5 +1,5 @@
 -- The list of all differences of the selections of two contests, and lists that are not.
-use Rattle.erd_compare.proofs.Common.{ℕ, Bool, true, List, [], ◌∷◌, Some, None, Option, refl, inl, SelectionRecord, Class, Key, OnlyLeft, OnlyRight}
+use Rattle.erd_compare.proofs.Common.{◌≡◌, ◌⊎◌, ℕ, Bool, true, List, [], ◌∷◌, Some, None, Option, option_map, refl, inl, inr, Data, null, boolean, PlainValue, a_json, SelectionRecord, Class, Key, Member, OnlyLeft, OnlyRight}
 use Rattle.std.specs.List.Sorted.{IsStrictlySortedBy}
 use Rattle.std.specs.Prelude.{ℤ}
 use Rattle.erd_tables.specs.declared.class.Class.TheVariants as class
@@ -48,3 +48,34 @@ not_twice h = absurd (cc h.rise.0.0)
 
 not_turned : AreSelectionDifferences one other (record { name = line; how = OnlyRight } ∷ []) → ⊥
 not_turned h = absurd (cc h.differ.0)
+
+-- ---- a member that differs
+
+-- a carried member with the empty name
+abbrev noted : Data → List ℕ → Option PlainValue
+noted d [] = Some (a_json d)
+noted d (c ∷ cs) = None
+
+abbrev with_note : Data → SelectionMap
+with_note d n = option_map (λ r. record { class = r.class; members = noted d }) (one n)
+
+abbrev changed : SelectionDifference
+changed = record { name = line; how = Member [] }
+
+agree_but_note : (c : Class) (ks : List Key) (w : Bool) (o : Option ℤ) (l : Option (List ℕ)) (i : Option Key)
+    → AgreeBut (λ how. Stands (record { name = record { class = c; keys = ks; write_in = w; order = o; label = l; identifier = i }; how = how }) (changed ∷ []))
+    (option_map (λ r. record { class = r.class; members = noted null }) (sole c ks w o l i)) (option_map (λ r. record { class = r.class; members = noted (boolean true) }) (sole c ks w o l i))
+agree_but_note class.CandidateSelection [] true None None None = inr (refl, other_names)
+  where
+    other_names : (name : List ℕ) → (noted null name ≡ noted (boolean true) name) ⊎ Stands (record { name = line; how = Member name }) (changed ∷ [])
+    other_names [] = inr (inl refl)
+    other_names (c ∷ cs) = inl refl
+agree_but_note c ks w o l i = tt
+
+pub are_changed : AreSelectionDifferences (with_note null) (with_note (boolean true)) (changed ∷ [])
+unfolding IsStrictlySortedBy
+are_changed = record { rise = (tt, tt); differ = ((refl, λ e. cc), tt); all = λ n. agree_but_note n.class n.keys n.write_in n.order n.label n.identifier }
+
+-- a list that names a member that does not differ
+not_another : AreSelectionDifferences (with_note null) (with_note (boolean true)) (changed ∷ record { name = line; how = Member (0 ∷ []) } ∷ []) → ⊥
+not_another h = h.differ.1.0.1 refl

@@ -8,7 +8,8 @@ use Rattle.erd_check.proofs.Shapes.{ObjectIn, object_in, Within, Within-root}
 use Rattle.erd_meaning.proofs.finding.Found.{one_election_key}
 use Rattle.erd_meaning.proofs.accepted.DistinctKeys.{election_has_identifier}
 use Rattle.erd_meaning.proofs.accepted.Standing.{no_identity_fault, no_shape_fault, election_stands, skeleton, stands}
-use Rattle.erd_compare.proofs.least_difference.StepWalks.{IsNoneBeside}
+use Rattle.erd_compare.specs.code.DifferingNames.{IsOnlyAmong}
+use Rattle.erd_compare.proofs.differing.Walks.{to_stands}
 use Rattle.erd_compare.proofs.whole_trees.WholeTrees.{whole_election, whole_object}
 
 -- ---- the first object with a key
@@ -189,10 +190,10 @@ module _ (π : Preference) (t : Data) (c : IsComparable π t) (p : Part) where
   some_record k i h = let r = record_here k i h in (record_in_election (holder_key_in π (role_of_part p) t i) r.0, r.3)
 
   -- a key has no record, unless it is among these, among which is each key of an object
-  pub none_beside : (ks : List (Option Key)) → ((i : ℕ) (k : Option Key) → HasKeyAt π t (role_of_part p) i k → In k ks) → (k : Option Key) → IsNoneBeside (record_at (meaning π t) p) ks k
-  none_beside ks all k = elim ((records_at π t c p).beside k) [
+  pub only_among : (ks : List (Option Key)) → ((i : ℕ) (k : Option Key) → HasKeyAt π t (role_of_part p) i k → In k ks) → (k : Option Key) → IsOnlyAmong (record_at (meaning π t) p) ks k
+  only_among ks all k = elim ((records_at π t c p).beside k) [
     | inl none ↦ inl none
-    | inr found ↦ inr (all found.0 k found.1)
+    | inr found ↦ inr (to_stands k ks (all found.0 k found.1))
   ]
 
   -- the value that is found at a position is that of the object there

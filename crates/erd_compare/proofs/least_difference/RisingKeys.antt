@@ -50,17 +50,25 @@ module _ (π : Preference) (t : Data) (r : Role) where
   pub key_at : (n : ℕ) → slice_get rising n ≡ option_map (λ (e : KeyPosition). e.0) (slice_get entries n)
   key_at n = ap (λ ks. slice_get ks n) (sym entry_keys) ∙ slice_get-map (λ (e : KeyPosition). e.0) entries n
 
-  pub all_stand : AllByRecursion (λ (e : KeyPosition). HasKeyAt π t r e.1 e.0) entries
+  -- the entry at the rank of a key
+  pub entry_with : (n : ℕ) (k : Option Key) → slice_get rising n ≡ Some k → (e : KeyPosition) × (slice_get entries n ≡ Some e) × (e.0 ≡ k)
+  entry_with n k is = option_map-Some (λ (e : KeyPosition). e.0) (slice_get entries n) k (sym (key_at n) ∙ is)
+
+  all_stand : AllByRecursion (λ (e : KeyPosition). HasKeyAt π t r e.1 e.0) entries
   all_stand =
       all_weakened (λ (e : KeyPosition). slice_get keys e.1 ≡ Some e.0) (λ (e : KeyPosition). HasKeyAt π t r e.1 e.0) entries (λ e is. listed_key π t r e.1 e.0 is)
       (all_rising (λ (e : KeyPosition). slice_get keys e.1 ≡ Some e.0) (λ a b. by_key a.0 b.0) (positioned 0 keys) (all_positioned keys keys 0 (λ j. let none : j ≡ 0 + j = omega arith in ap (slice_get keys) none)))
+
+  -- it stands there with its key
+  pub stands_there : (j : ℕ) (e : KeyPosition) → slice_get entries j ≡ Some e → HasKeyAt π t r e.1 e.0
+  stands_there j e is = In-all (λ (x : KeyPosition). HasKeyAt π t r x.1 x.0) e entries all_stand (in_at entries j e is)
 
   pub all_rise : (i : ℕ) (k : Option Key) → HasKeyAt π t r i k → In k rising
   all_rise i k h = rising-In by_key k keys (in_at keys i k (key_listed π t r i k h))
 
   -- the key at a rank, by the position that stands there
   pub key_there : is_ranked r ≡ true → (j : ℕ) (e : KeyPosition) → slice_get entries j ≡ Some e → key_in_role π r t e.1 ≡ e.0
-  key_there ranked j e is = key_found π t r e.1 e.0 (In-all (λ (x : KeyPosition). HasKeyAt π t r x.1 x.0) e entries all_stand (in_at entries j e is)) ranked
+  key_there ranked j e is = key_found π t r e.1 e.0 (stands_there j e is) ranked
 
   -- the keys at the ranks are those of the objects at the rising positions
   pub keys_at : is_ranked r ≡ true → (n : ℕ) → slice_get rising n ≡ option_map (key_in_role π r t) (slice_get (rising_positions keys) n)

@@ -1,5 +1,8 @@
 -- What members mean: the selections of a contest, and all others, which mean what they do by themselves.
-use Rattle.erd_compare.proofs.Common.{◌≡◌, ℕ, Bool, false, not, List, is_some, IfSome, IfOk, Some, None, Ok, Err, Option, Result, option_map, sym, refl, ap, ◌∙◌, subst, Bor, fun_ext, Data, array, no_items, item, view, Value, kind_of_member, Class, family, MemberKind, kind, entries_of, Judged, Preference, PlainValue, MemberValue, a_plain, NameParts, selection_map, member_value, SelectionRecord, a_selection_map, Decides, IsWholeTree, MemberMap, TellsLeastName, plain_found, member_found, is_selections, if_filled, selections_meant}
+use Rattle.erd_compare.proofs.Common.{◌≡◌, ℕ, Bool, false, not, List, [], is_some, IfSome, IfOk, Some, None, Ok, Err, Option, Result, option_map, sym, refl, ap, ◌∙◌, subst, Bor, fun_ext, Data, array, no_items, item, view, Value, kind_of_member, Class, family, MemberKind, kind, entries_of, Judged, Preference, PlainValue, MemberValue, a_plain, NameParts, selection_map, member_value, SelectionRecord, a_selection_map, Decides, IsWholeTree, plain_found, member_found, is_selections, if_filled, selections_meant}
+use Rattle.erd_compare.specs.code.DifferingNames.{GoesOn}
+use Rattle.erd_compare.specs.declared.objects.differing_names.PairsLeft.{PairsLeft}
+use Rattle.erd_compare.proofs.differing.Walks.{none_there}
 
 -- ---- selections
 
@@ -56,10 +59,10 @@ one_plain p q same = cc
 pub plain-Decides : (answer : Bool) (p q : Option PlainValue) → Decides answer p q → Decides answer (option_map a_plain p) (option_map a_plain q)
 plain-Decides answer p q h = (λ is. ap (option_map a_plain) (h.0 is), λ same. h.1 (one_plain p q same))
 
--- what all members mean by themselves is the same exactly if there is no least name at which they differ
-pub plain_maps-Decide : (p q : List ℕ → Option PlainValue) (found : Option (List ℕ)) → TellsLeastName (λ k. option_map a_plain (p k)) (λ k. option_map a_plain (q k)) found → Decides (not (is_some found)) p q
-plain_maps-Decide p q None told = (λ h. fun_ext (λ k. one_plain (p k) (q k) (ap (λ (m : MemberMap). m k) told)), λ same. refl)
-plain_maps-Decide p q (Some name) told = (λ h. cc, λ same. absurd (told.differ (ap (λ (m : List ℕ → Option PlainValue). option_map a_plain (m name)) same)))
+-- what all members mean by themselves is the same exactly if there is no name at which they differ
+pub plain_maps-Decide : (p q : List ℕ → Option PlainValue) (left : PairsLeft) (found : Option (List ℕ)) → GoesOn (λ k. option_map a_plain (p k)) (λ k. option_map a_plain (q k)) [] left found → Decides (not (is_some found)) p q
+plain_maps-Decide p q left None end = (λ h. fun_ext (λ k. one_plain (p k) (q k) (none_there end k)), λ same. refl)
+plain_maps-Decide p q left (Some name) next = (λ h. cc, λ same. absurd (next.differ.0 (ap (λ (m : List ℕ → Option PlainValue). option_map a_plain (m name)) same)))
 
 -- members of a kind other than selections mean the same exactly if they do so by themselves
 other_kind : (π ρ : Preference) (answer : Bool) (t u : Data) (k : MemberKind) (found other : Option Data) (p q : Option PlainValue) → is_selections k ≡ false

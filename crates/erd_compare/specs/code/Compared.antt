@@ -1,5 +1,7 @@
 -- The two reports that are compared, and what is known of them.
+use Rattle.std.specs.Prelude.{◌≡◌}
 use Rattle.serde_json.specs.View.{view}
+use Rattle.serde_json.specs.declared.value.Value.{Value}
 use Rattle.erd_meaning.specs.Judged.{Judged}
 use Rattle.erd_compare.specs.code.CommonNames.{AreNameNumbers}
 use Rattle.erd_compare.specs.code.CommonRanks.{AreAllCommonRanks}
@@ -13,8 +15,11 @@ pub record Compared : Type 0 where
   pub left : Judged
   pub right : Judged
 
--- The reports are accepted and their numbers are whole, and these are the ranks of their keys and the numbers of their names.
-pub record AreInCommon (a b : Judged) (ranks : CommonRanks) (names : NameNumbers) : Type 0 where
+-- The reports are accepted and their numbers are whole, and these are their trees, the ranks of their keys and the numbers of
+-- their names.
+pub record AreInCommon (a b : Judged) (one other : Value) (ranks : CommonRanks) (names : NameNumbers) : Type 0 where
+  pub left_tree : one ≡ a.tree
+  pub right_tree : other ≡ b.tree
   pub left : IsComparable a.prefer (view a.tree)
   pub right : IsComparable b.prefer (view b.tree)
   pub all : AreAllCommonRanks a b ranks

@@ -1,5 +1,5 @@
 -- The selections of a contest that stands at a position of a report, by their names.
-use Rattle.std.specs.Prelude.{◌≡◌, ℕ, ◌+◌, ◌<◌, List, [], ◌∷◌, Bool, map, sum_by, find, Option, Some, None, option_and_then, option_map, unwrap_or, codes}
+use Rattle.std.specs.Prelude.{◌≡◌, ℕ, ◌+◌, ◌<◌, ◌≤◌, List, [], ◌∷◌, Bool, map, flat_map, sum_by, Option, Some, None, option_map, unwrap_or, codes}
 use Rattle.std.specs.BTreeSet.{BTreeSet}
 use Rattle.std.specs.Borrow.{Bor}
 use Rattle.std.specs.List.{AllByRecursion, filter_map}
@@ -16,11 +16,12 @@ use Rattle.erd_meaning.specs.Records.{selection_map}
 use Rattle.erd_meaning.specs.SelectionNames.{name_cmp, name_of}
 use Rattle.std.specs.List.{slice_get}
 use Rattle.erd_compare.specs.Differences.{Stands}
-use Rattle.erd_compare.specs.SelectionDifferences.{SelectionMap, AreTold, name_size}
+use Rattle.erd_compare.specs.SelectionDifferences.{SelectionMap, AreSelectionDifferences, AreTold, difference_size, name_size}
 use Rattle.erd_compare.specs.code.DifferingWays.{hows_of}
 use Rattle.erd_compare.specs.declared.detailed.DetailedDifference.{DetailedDifference}
 use Rattle.erd_compare.specs.declared.difference.Difference.{Difference}
 use Rattle.erd_compare.specs.declared.inside.SelectionDifference.{SelectionDifference}
+use Rattle.erd_compare.specs.declared.inside.named.NamedWays.{NamedWays}
 use Rattle.erd_compare.specs.declared.inside.room.Room.{Room}
 use Rattle.erd_compare.specs.declared.objects.ways.Ways.{Ways}
 
@@ -67,6 +68,14 @@ size_in a contest = sum_by name_size (names_in a contest)
 abbrev pub differences_named : NameParts → Ways → List SelectionDifference
 differences_named name ways = map (λ how. record { name = name; how = how }) (hows_of ways)
 
+-- The differences at all these names, in their order.
+abbrev pub differences_at : List NamedWays → List SelectionDifference
+differences_at vs = flat_map (λ v. differences_named v.name.now v.ways) vs
+
+-- How many bytes they have together.
+abbrev pub size_of_list : List SelectionDifference → ℕ
+size_of_list ds = sum_by difference_size ds
+
 -- So many bytes are left of the room behind texts of this size, or none if they do not fit.
 abbrev pub Leaves : ℕ → ℕ → Option ℕ → Type 0
 Leaves size room None = room < size
@@ -81,6 +90,16 @@ LeavesRoom size (Some room) left = Leaves size room left
 abbrev pub IsLeft : ℕ → ℕ → Option ℕ → Type 0
 IsLeft most used None = most < used
 IsLeft most used (Some left) = left + used ≡ most
+
+-- The names of two contests have so many bytes, and this is told of their differences: all of them if names and differences fit
+-- into the room before, which leaves the room after.
+abbrev pub PassesInside : SelectionMap → SelectionMap → ℕ → Option (List SelectionDifference) → Option ℕ → Option ℕ → Type 0
+PassesInside m n names told None after = (told ≡ None) × (after ≡ None)
+PassesInside m n names told (Some room) after =
+    (inside : List SelectionDifference)
+    × (names ≤ room → AreSelectionDifferences m n inside)
+    × Leaves (names + size_of_list inside) room after
+    × (told ≡ option_map (λ left. inside) after)
 
 -- The next difference is told with this, and so the room of the differences is that of those behind it.
 abbrev pub PassesOne : Meaning → Meaning → Difference → Option (List SelectionDifference) → Room → Room → Type 0

@@ -12,7 +12,7 @@ use Rattle.erd_compare.specs.code.LeastNames.{MemberMap, TellsLeastName}
 use Rattle.erd_compare.specs.code.MemberPairs.{DecideNames, IsMapOf}
 use Rattle.erd_compare.specs.code.NamesInStep.{AreMembersOf, members_left, names_left}
 use Rattle.erd_compare.specs.declared.objects.differing_names.PairsLeft.{PairsLeft}
-use Rattle.erd_compare.specs.declared.objects.least_name.MemberPair.{MemberPair}
+use Rattle.erd_compare.specs.declared.objects.differing_names.MemberPair.{MemberPair}
 
 -- These are all keys at which the two maps differ, in rising order.
 pub record AreDiffering {K V : Type 0} (cmp : K → K → Ordering) (m n : K → Option V) (found : List K) : Type 0 where

@@ -5,7 +5,7 @@ use Rattle.serde_json.specs.Find.{get}
 use Rattle.serde_json.specs.View.{view}
 use Rattle.erd_compare.specs.code.Comparing.{Decides}
 use Rattle.erd_compare.specs.code.LeastNames.{MemberMap}
-use Rattle.erd_compare.specs.declared.objects.least_name.MemberPair.{MemberPair}
+use Rattle.erd_compare.specs.declared.objects.differing_names.MemberPair.{MemberPair}
 
 -- The pair has what the two objects have under its name.
 pub record IsPairOf (d e : Data) (pair : MemberPair) : Type 0 where

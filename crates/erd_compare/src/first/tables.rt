@@ -9,7 +9,8 @@ use crate::difference::Part;
 use crate::objects::held::{held_ways, is_same_holder};
 use crate::objects::records::{PlacedObject, object_ways};
 use crate::objects::ways::Ways;
-use crate::ranks::role_objects::{object_at, rising, role_of};
+use crate::ranks::common_ranks::ComparedReport;
+use crate::ranks::role_objects::{rising, role_of};
 use erd_meaning::Key;
 use std::alloc::AllocError;
 
@@ -74,8 +75,8 @@ pub(crate) fn ways_at<'a>(
 {
     let role = role_of(part);
     match (
-        object_at(comparer.left(), role, position),
-        object_at(comparer.right(), role, other_position),
+        comparer.object_at(ComparedReport::Left, role, position),
+        comparer.object_at(ComparedReport::Right, role, other_position),
     ) {
         (Some(value), Some(other_value)) => {
             let one = PlacedObject {

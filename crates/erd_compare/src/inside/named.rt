@@ -12,6 +12,13 @@ use erd_meaning::{Report, SelectionName};
 use erd_tables::{Family, Role};
 use std::alloc::AllocError;
 
+/// The ways in which the selections with a name differ.
+#[derive(Drop)]
+pub(crate) struct NamedWays<'a> {
+    pub(crate) name: &'a SelectionName,
+    pub(crate) ways: Ways<'a>,
+}
+
 /// Returns the ways in which the selections with a name differ, in the contests at these positions.
 pub(crate) fn ways_of_name<'a>(
     comparer: &'a Comparer,

@@ -1,9 +1,11 @@
-//! How many bytes the names of selections have, measured before any of them is read.
-ghost use Rattle.std.specs.Prelude.{◌+◌, sum_by};
+//! How many bytes the names of selections and their differences have, measured before any of them is copied.
+ghost use Rattle.std.specs.Prelude.{◌+◌, length, sum_by};
 ghost use Rattle.erd_compare.specs.Words.{key_size, name_size, view, IsBounded};
-ghost use Rattle.erd_compare.specs.code.ContestSelections.{size_in, Leaves, LeavesRoom};
+ghost use Rattle.erd_compare.specs.code.ContestSelections.{differences_at, differences_named, size_in, size_of_list, Leaves, LeavesRoom};
 
 use crate::comparer::Comparer;
+use crate::inside::named::NamedWays;
+use crate::objects::ways::Ways;
 use erd_check::values::entries_at;
 use erd_meaning::{Key, Report, SelectionName};
 use erd_tables::Family;
@@ -13,7 +15,7 @@ use erd_tables::Family;
 pub(crate) struct Room {
     /// How many differences are to be told without their selections.
     pub(crate) first: usize,
-    /// How many bytes the names of the differences behind them may have, or `None` once some did not fit.
+    /// How many bytes the selections of the differences behind them may take, or `None` once some did not fit.
     pub(crate) bytes: Option<usize>,
 }
 
@@ -29,6 +31,40 @@ pub(crate) fn left_after_both(
 {
     let left = left_after_contest(comparer.left(), contest, room?)?;
     left_after_contest(comparer.right(), other_contest, left)
+}
+
+/// Returns how many bytes are left of the room behind the differences at these names, or `None` if they do not fit.
+pub(crate) fn left_after_differences(ways: &[NamedWays], room: usize) -> Option<usize>
+    ensures { Leaves (size_of_list (differences_at ways.now)) room result }
+{
+    let mut left = room;
+    for named in ways {
+        left = left_after_ways(named, left)?;
+    }
+    Some(left)
+}
+
+/// Returns how many bytes are left of the room behind the differences at one name, or `None` if they do not fit.
+fn left_after_ways(named: &NamedWays, room: usize) -> Option<usize>
+    ensures { Leaves (size_of_list (differences_named named.now.name.now named.now.ways)) room result }
+{
+    match &named.ways {
+        Ways::Members(members) => {
+            let mut left = room;
+            for member in members {
+                left = left_after_member(named.name, member, left)?;
+            }
+            Some(left)
+        }
+        _ => left_after_name(named.name, room),
+    }
+}
+
+/// Returns how many bytes are left of the room behind a name and the name of a member, or `None` if they do not fit.
+fn left_after_member(name: &SelectionName, member: &str, room: usize) -> Option<usize>
+    ensures { Leaves (name_size name.now + length member.now) room result }
+{
+    left_after_name(name, room)?.checked_sub(member.len())
 }
 
 /// Returns how many bytes are left of the room behind the names of the selections of the contest at a position of a report, or

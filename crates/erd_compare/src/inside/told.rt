@@ -1,14 +1,29 @@
 ghost use Rattle.std.specs.Prelude.{◌≡◌, ◌++◌, ◌∷◌, [], IfOk, OnOk};
-ghost use Rattle.erd_compare.specs.code.ContestSelections.{differences_named};
+ghost use Rattle.erd_compare.specs.code.ContestSelections.{differences_at, differences_named};
 
 use crate::difference::How;
 use crate::inside::SelectionDifference;
+use crate::inside::named::NamedWays;
 use crate::objects::ways::Ways;
 use erd_meaning::SelectionName;
 use std::alloc::{AllocError, Global};
 
+/// Returns the differences at these names, one for each way.
+pub(crate) fn differences_at(
+    alloc: Global,
+    ways: &[NamedWays],
+) -> Result<Vec<SelectionDifference>, AllocError>
+    ensures { IfOk result (λ found. found.items ≡ differences_at ways.now) }
+{
+    let mut found = Vec::new(alloc);
+    for named in ways {
+        push_named(alloc, named.name, &named.ways, &mut found)?;
+    }
+    Ok(found)
+}
+
 /// Appends the differences at the name of a selection, one for each way.
-pub(crate) fn push_named(
+fn push_named(
     alloc: Global,
     name: &SelectionName,
     ways: &Ways,

@@ -5,10 +5,17 @@ ghost use Rattle.erd_compare.specs.code.LeastNames.{IsObject};
 ghost use Rattle.erd_compare.specs.code.MemberPairs.{IsPairOf};
 ghost use Rattle.erd_compare.specs.code.DifferingNames.{GoesFrom, IsAtStart, StandInPair, count_left};
 
-use crate::objects::least_name::MemberPair;
 use crate::objects::members_left::{MembersLeft, lesser_name};
 use serde_json::Value;
 use std::alloc::AllocError;
+
+/// What two objects have under a name: the values of the members, or none where an object lacks the member.
+#[derive(Clone, Copy)]
+pub(crate) struct MemberPair<'a> {
+    pub(crate) name: &'a str,
+    pub(crate) one: Option<&'a Value>,
+    pub(crate) other: Option<&'a Value>,
+}
 
 /// The members of two objects that remain in a walk in step by their names. It stands between two names that differ.
 #[derive(Drop)]

@@ -4,7 +4,7 @@ ghost use Rattle.erd_compare.specs.code.Comparing.{Decides, IsWholeTree, NamesKe
 ghost use Rattle.erd_compare.specs.code.PlainParts.{means_nothing, meant_value, plain_found};
 
 use crate::comparer::Comparer;
-use crate::objects::least_name::MemberPair;
+use crate::objects::differing_names::MemberPair;
 use crate::values::content::is_same_content;
 use crate::values::labels::is_same_label;
 use crate::values::references::{is_same_key_set, is_same_reference};

@@ -10,8 +10,7 @@ ghost use Rattle.erd_compare.specs.code.PlainParts.{member_found};
 ghost use Rattle.erd_compare.specs.code.SelectionMembers.{is_selections};
 
 use crate::comparer::Comparer;
-use crate::objects::differing_names::PairsLeft;
-use crate::objects::least_name::MemberPair;
+use crate::objects::differing_names::{MemberPair, PairsLeft};
 use crate::objects::plain_members::is_same_plain_member;
 use crate::objects::selections::{PlacedMember, is_same_selections};
 use crate::objects::ways::Ways;

@@ -8,7 +8,7 @@ ghost use Rattle.erd_compare.specs.code.SelectionMembers.{if_filled, selections_
 ghost use Rattle.erd_compare.specs.code.SelectionsByName.{IsByNumber};
 
 use crate::comparer::Comparer;
-use crate::objects::least_name::least_differing_name;
+use crate::objects::differing_names::PairsLeft;
 use crate::objects::plain_members::is_same_plain_member;
 use crate::ranks::common_ranks::ComparedReport;
 use erd_check::values::{class_of_object, entries_of, is_empty_array};
@@ -154,8 +154,10 @@ fn is_same_by_members(
     requires other_object { IsObject (view other.now) }
     ensures { IfOk result (λ answer. Decides answer (plain_member comparer.now.left.prefer (view comparer.now.left.tree) (view one.now) class) (plain_member comparer.now.right.prefer (view comparer.now.right.tree) (view other.now) class)) }
 {
-    let found = least_differing_name(one, other, |pair| {
-        is_same_plain_member(comparer, class, pair)
-    })?;
+    // a value with a class is an object
+    let Some(mut left) = PairsLeft::of(one, other) else {
+        return Ok(true);
+    };
+    let found = left.next_differing(|pair| is_same_plain_member(comparer, class, pair))?;
     Ok(found.is_none())
 }

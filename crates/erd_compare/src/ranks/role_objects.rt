@@ -3,12 +3,11 @@
 ghost use Rattle.std.specs.Prelude.{◌≡◌, true, Some, option_copied, option_map, slice_get};
 ghost use Rattle.erd_compare.specs.Words.{view};
 ghost use Rattle.erd_meaning.specs.code.KeyOrders.{rank_in_keys, rising_positions};
-ghost use Rattle.erd_compare.specs.code.KeyedDifferences.{holder_in, is_ranked, key_in_role, keys_in_role, objects_in, rising_in_role, role_of_part};
+ghost use Rattle.erd_compare.specs.code.KeyedDifferences.{holder_in, is_ranked, key_in_role, keys_in_role, rising_in_role, role_of_part};
 
 use crate::difference::Part;
 use erd_meaning::{Key, Report};
 use erd_tables::{Family, Role};
-use serde_json::Value;
 
 /// Returns the role of the objects in a part.
 pub(crate) fn role_of(part: Part) -> Role
@@ -36,18 +35,6 @@ pub(crate) fn key_at<'a>(report: &'a Report, role: Role, position: usize) -> Opt
     match role {
         Role::OfFamily(family) => report.key_at(family, position),
         Role::Election => report.election_key(position),
-        _ => None,
-    }
-}
-
-/// Returns the object with a role at a position, if there is one.
-pub(crate) fn object_at<'a>(report: &Report<'a>, role: Role, position: usize) -> Option<&'a Value>
-    ensures { option_map (λ v. view v.now) result ≡ option_map (λ o. o.value) (slice_get (objects_in role (view report.now.tree)) position) }
-{
-    match role {
-        Role::OfFamily(family) => report.object(family, position),
-        Role::Election => report.election_at(position),
-        _ if position == 0 => Some(report.tree()),
         _ => None,
     }
 }

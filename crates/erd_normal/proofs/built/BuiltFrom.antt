@@ -1,5 +1,5 @@
 -- The members that are built: what is asked of them, and of which members of the report they are built.
-use Rattle.erd_normal.proofs.Common.{◌≡◌, ℕ, Bool, true, false, ◌&&◌, List, map, is_some, Some, codes, flat_map, bytes_eq, sym, refl, ap, ◌∙◌, subst, and_parts, list_all, Data, object, Members, get_member, role_of_class, family_of_class, rows_of_class, kind_of_identity, kind_of_member, Class, class, Family, family, Role, role, MemberKind, kind, entries_in, text_exact, kind_of_name, kind_of_id, list_of_items, entries_of, entries_at, values-placed_entries, values_in_elections, Skeleton, kind_of_type, has_keys, placed_entries, report_of, elections, objects, In, None, Option, option_map, option_and_then, Ordering, Equal, exact_bytes, option_map_or, match_ordering, no_members, member, text_cmp, IsTree, Preference, IsBeforeFirst, AreMembers, before_later, get_member-before, get_member-first, get_member-later, normal_members, normal_node_value, normal_content, normal_node_members, zero, suc, ◌⊎◌, if◌then◌else◌, inl, inr, AllByRecursion, array, Items, no_items, item, get_item, get, Step, At, Name, array_from, Within-step, of_role, wanted_within, lacks_none, member_within, Within, ShapeFault, NoneOf, class_of_object, is_report_class, member_want, entry_want, is_compared_set, Asked, asked, asked_of_member, asked_inside, Want, ClassText, Member, AsksObject, of_label, classed, Classed, is_required, ObjectAt, want_of_kind, Status, want_unless_status, Object}
+use Rattle.erd_normal.proofs.Common.{◌≡◌, ℕ, Bool, true, false, ◌&&◌, List, map, is_some, Some, codes, flat_map, bytes_eq, sym, refl, ap, ◌∙◌, subst, and_parts, list_all, Data, object, Members, get_member, role_of_class, family_of_class, rows_of_class, kind_of_identity, kind_of_member, Class, class, Family, family, Role, role, MemberKind, kind, entries_in, text_exact, kind_of_name, kind_of_id, list_of_items, entries_of, entries_at, values-placed_entries, values_in_elections, Skeleton, kind_of_type, has_keys, placed_entries, report_of, elections, objects, In, None, Option, option_map, option_and_then, Ordering, Equal, exact_bytes, option_map_or, match_ordering, no_members, member, text_cmp, IsTree, Preference, IsBeforeFirst, AreMembers, before_later, get_member-before, get_member-first, get_member-later, normal_members, normal_node_value, normal_content, normal_node_members, zero, suc, ◌⊎◌, if◌then◌else◌, inl, inr, AllByRecursion, array, Items, no_items, item, get_item, get, Step, At, Name, array_from, Within-step, of_role, wanted_within, lacks_none, member_within, Within, ShapeFault, NoneOf, class_of_object, is_report_class, member_want, entry_want, is_compared_set, Asked, asked, asked_of_member, asked_inside, Want, ClassText, Member, AsksObject, of_label, classed, Classed, is_required, ObjectAt, want_of_kind, Status, want_unless_status, Object, is_empty_array, [], length, nil_from_length, Decides-eqb}
 use Rattle.erd_normal.proofs.lists.Lists.{IsPart, part_flat, part_self}
 
 -- ---- the names of the members that hold objects: what stands there is the array of the objects of the family
@@ -209,6 +209,10 @@ label_texts t clean r ms w =
     ]) refl
 
 -- ---- entries
+
+pub no_entry : (d : Data) → is_empty_array d ≡ true → entries_of d ≡ []
+no_entry (array ds) is = nil_from_length (list_of_items ds) ((Decides-eqb (length (list_of_items ds)) 0).0 is)
+no_entry d is = cc
 
 -- what holds of each entry by its position holds of all
 pub all_items : (P : Data → Type 0) (ds : Items) → ((i : ℕ) (d : Data) → get_item i ds ≡ Some d → P d) → AllByRecursion P (list_of_items ds)

@@ -1,8 +1,11 @@
--- The objects that are built, with the report and the entries of arrays: what stands in them, and of what they are built.
-use Rattle.erd_normal.proofs.Common.{◌≡◌, ℕ, true, false, List, [], ◌∷◌, if◌then◌else◌, Some, None, codes, Option, option_and_then, bytes_eq, sym, refl, ap, ◌∙◌, subst, true≢false, and_parts, list_all, Data, object, Members, put, get_member, get, as_str, class_in_role, kind_of_member, class, role, ShapeFault, NoneOf, IsTree, class_of_object, Preference, get_member-put, is_envelope_name, text_exact, skeleton_of_shape, Skeleton, HasCanonicalEnvelope, put_all, normal_members, normal_object_with, normal_report_value, envelope_values, with_envelope, in_envelope, normal_tree, map, length, Decides-eqb, array, Class, Family, family, kind, entries_in, list_of_items, entries_of, entries_at, rising_list, compact_cmp, is_empty_array, nil_from_length, list_of_items-items_of, unless_no_entry, array_of, normal_selection, by_key, by_name, normal_object, normal_election, Bool, option_map, same_Some, string, Role, ObjectAt, ObjectIn, asked, key_of, selection_role, within-tree, Object, id_of_key, id_of_selection, normal_value, normal_node_value, normal_content, normal_node, normal_object_value, normal_election_value, flat_map, Within, has_keys, placed_entries, report_of, elections, objects, values-placed_entries, values-placed_flat, election_entries, values_in_elections, election_within, election_object, contest_selections, class_role, reordered_rising, IsPermutation-map, In}
+-- The objects that are built, with the report and the entries of arrays: what stands in them, of what they are built, and their
+-- keys, which do not depend on the order of identifiers.
+use Rattle.erd_normal.proofs.Common.{◌≡◌, ℕ, true, false, List, [], ◌∷◌, if◌then◌else◌, Some, None, codes, Option, option_and_then, bytes_eq, sym, refl, ap, ◌∙◌, subst, true≢false, and_parts, list_all, Data, object, Members, put, get_member, get, as_str, class_in_role, kind_of_member, class, role, ShapeFault, NoneOf, IsTree, class_of_object, Preference, get_member-put, is_envelope_name, text_exact, skeleton_of_shape, Skeleton, HasCanonicalEnvelope, put_all, normal_members, normal_object_with, normal_report_value, envelope_values, with_envelope, in_envelope, normal_tree, map, Class, Family, family, kind, entries_in, list_of_items, entries_of, entries_at, rising_list, compact_cmp, is_empty_array, list_of_items-items_of, unless_no_entry, array_of, normal_selection, by_key, by_name, normal_object, normal_election, Bool, option_map, same_Some, string, Role, ObjectAt, ObjectIn, asked, key_of, selection_role, within-tree, Object, id_of_key, id_of_selection, normal_value, normal_node_value, normal_content, normal_node, normal_object_value, normal_election_value, flat_map, Within, has_keys, placed_entries, report_of, elections, objects, values-placed_entries, values-placed_flat, election_entries, values_in_elections, election_within, election_object, contest_selections, class_role, reordered_rising, IsPermutation-map, In, is_lt, Ordering, Less, Equal, Greater, CmpEqualImpliesEq, IsTotalOrder, ordering_reverse, role_of_class, less, triple_of, key_of_identifiers, whole-reordered, Key, fun_ext, IsPermutation}
 use Rattle.erd_normal.proofs.built.NormalTrees.{put_elsewhere, no_value, same_value, get_election, get_object, class_of_built, class_of_built_node, class_of_built_selection, get_election-type, get_node, get_object-id, get_selection, get_selection-id}
-use Rattle.erd_normal.proofs.built.BuiltFrom.{get_normal, Builder, BuiltObject, family_name}
+use Rattle.erd_normal.proofs.built.BuiltFrom.{get_normal, Builder, BuiltObject, family_name, no_entry}
 use Rattle.erd_normal.proofs.lists.Matched.{Matched, matched_flat, matched_map, matched_then}
+use Rattle.erd_meaning.specs.code.ChosenKeys.{choice_cmp, choice_of, choice_of_two}
+use Rattle.erd_meaning.proofs.orders.ChoiceOrder.{choice_cmp_exact, choice_cmp_total, key_is_choice}
 
 -- ---- several values put at their names
 
@@ -33,12 +36,8 @@ put_value-other (p ∷ ps) name o names other =
 
 -- ---- the envelope
 
--- what stands at a name; it computes at a literal
-pub get_with_envelope : (name : List ℕ) (ms : Members) → get_member name (with_envelope ms) ≡ put_value envelope_values name (get_member name ms)
-get_with_envelope name ms = get_put_all envelope_values name ms
-
 pub get_with_envelope-other : (name : List ℕ) (ms : Members) → is_envelope_name name ≡ false → get_member name (with_envelope ms) ≡ get_member name ms
-get_with_envelope-other name ms other = get_with_envelope name ms ∙ put_value-other envelope_values name (get_member name ms) refl other
+get_with_envelope-other name ms other = get_put_all envelope_values name ms ∙ put_value-other envelope_values name (get_member name ms) refl other
 
 -- ---- the report that is built: what stands under each name, and its envelope
 
@@ -78,7 +77,7 @@ module _ (π : Preference) (t : Data) (clean : NoneOf (ShapeFault t)) (tree : Is
   class_of_built_report = ap (λ o. option_and_then (class_in_role role.Report) (option_and_then as_str o)) get_report-type ∙ class_of_report t clean
 
   envelope_at : (name : List ℕ) → get name (normal_tree π t) ≡ put_value envelope_values name (get_member name (normal_members (normal_report_value π t) class.ElectionReport members))
-  envelope_at name = ap (get name) built ∙ get_with_envelope name (normal_members (normal_report_value π t) class.ElectionReport members)
+  envelope_at name = ap (get name) built ∙ get_put_all envelope_values name (normal_members (normal_report_value π t) class.ElectionReport members)
 
   -- the report that is built has the canonical envelope
   pub has_canonical_envelope : HasCanonicalEnvelope (normal_tree π t)
@@ -95,10 +94,6 @@ module _ (π : Preference) (t : Data) (clean : NoneOf (ShapeFault t)) (tree : Is
   }
 
 -- ---- arrays that are built
-
-pub no_entry : (d : Data) → is_empty_array d ≡ true → entries_of d ≡ []
-no_entry (array ds) is = nil_from_length (list_of_items ds) ((Decides-eqb (length (list_of_items ds)) 0).0 is)
-no_entry d is = cc
 
 -- the entries of an array that is built from those of another, unless it has none
 entries_of_built : (g : List Data → List Data) → g [] ≡ [] → (o : Option Data) → entries_in (option_and_then (λ d. unless_no_entry d (array_of (g (entries_of d)))) o) ≡ g (entries_in o)
@@ -314,3 +309,89 @@ module _ (π : Preference) (t : Data) (clean : NoneOf (ShapeFault t)) (tree : Is
   objects_matched family.Style k = in_elections (skeleton_of_shape t clean) family.Style (codes "BallotStyle") refl
   objects_matched family.Selection k = cc
   objects_matched f k = in_report f (family_name f) refl refl
+
+-- ---- the lesser of two
+
+module _ {A : Type 0} (cmp : A → A → Ordering) (order : IsTotalOrder cmp) (exact : CmpEqualImpliesEq cmp) where
+  abbrev lesser : A → A → A
+  lesser k l = if is_lt (cmp l k) then l else k
+
+  reversed : (a b : A) (o : Ordering) → cmp a b ≡ o → cmp b a ≡ ordering_reverse o
+  reversed a b o is = order.antisymm b a ∙ ap ordering_reverse is
+
+  either_first : (k l : A) → lesser k l ≡ lesser l k
+  either_first k l = at (cmp l k) refl
+    where
+      at : (o : Ordering) → cmp l k ≡ o → lesser k l ≡ lesser l k
+      at Equal is = rw (is, reversed l k Equal is) (sym (exact l k is))
+      at d is = rw (is, reversed l k d is) refl
+
+  below_both : (a b k : A) → cmp a b ≡ Less → is_lt (cmp b k) ≡ true → is_lt (cmp a k) ≡ true
+  below_both a b k low is = ap is_lt (order.trans a b k low (less (cmp b k) is))
+
+  lesser_swapped : (k a b : A) → lesser (lesser k a) b ≡ lesser (lesser k b) a
+  lesser_swapped k a b = at (is_lt (cmp a k)) (is_lt (cmp b k)) (cmp b a) refl refl refl
+    where
+      at : (p q : Bool) (o : Ordering) → is_lt (cmp a k) ≡ p → is_lt (cmp b k) ≡ q → cmp b a ≡ o → lesser (lesser k a) b ≡ lesser (lesser k b) a
+      at true true Equal a_low b_low is = rw (a_low, b_low, is, reversed b a Equal is) (sym (exact b a is))
+      at true true o a_low b_low is = rw (a_low, b_low, is, reversed b a o is) refl
+      at true false Less a_low b_high is = absurd (true≢false (sym (below_both b a k is a_low) ∙ b_high))
+      at true false o a_low b_high is = rw (b_high, a_low, is) refl
+      at false true Greater a_high b_low is = absurd (true≢false (sym (below_both a b k (reversed b a Greater is) b_low) ∙ a_high))
+      at false true o a_high b_low is = rw (a_high, b_low, reversed b a o is) refl
+      at false false o a_high b_high is = rw (a_high, b_high, a_high) refl
+
+-- ---- the key that identifiers give
+
+module _ (π : Preference) where
+  -- the one to choose of those before and one more
+  abbrev with_one : Option Key → Key → Option Key
+  with_one None k = Some k
+  with_one (Some l) k = Some (choice_of_two π l k)
+
+  with_one_exchanges : (o : Option Key) (k l : Key) → with_one (with_one o k) l ≡ with_one (with_one o l) k
+  with_one_exchanges None k l = ap Some (either_first (choice_cmp π) (choice_cmp_total π) (choice_cmp_exact π) k l)
+  with_one_exchanges (Some j) k l = ap Some (lesser_swapped (choice_cmp π) (choice_cmp_total π) (choice_cmp_exact π) j k l)
+
+  -- the one to choose of those before and those of a list
+  abbrev chosen : List Data → Option Key → Option Key
+  chosen [] o = o
+  chosen (d ∷ ds) o = chosen ds (with_one o (triple_of d))
+
+  chosen_after : (k : Key) (ds : List Data) → chosen ds (Some k) ≡ Some (choice_of π k (map triple_of ds))
+  chosen_after k [] = refl
+  chosen_after k (d ∷ ds) = chosen_after (choice_of_two π k (triple_of d)) ds
+
+  key_is_chosen : (ds : List Data) → key_of_identifiers π ds ≡ chosen ds None
+  key_is_chosen [] = key_is_choice π []
+  key_is_chosen (d ∷ ds) = key_is_choice π (d ∷ ds) ∙ sym (chosen_after (triple_of d) ds)
+
+  chosen-reordered : {ds es : List Data} → IsPermutation ds es → chosen ds ≡ chosen es
+  chosen-reordered h =
+      whole-reordered chosen (λ d f o. f (with_one o (triple_of d))) (λ d ds. refl) (λ d e f. fun_ext (λ o. ap f (with_one_exchanges o (triple_of d) (triple_of e)))) h
+
+  pub key_of_identifiers-reordered : (ds es : List Data) → IsPermutation ds es → key_of_identifiers π ds ≡ key_of_identifiers π es
+  key_of_identifiers-reordered ds es h = key_is_chosen ds ∙ ap (λ f. f None) (chosen-reordered h) ∙ sym (key_is_chosen es)
+
+  pub key_of_identifiers-rising : (cmp : Data → Data → Ordering) (ds : List Data) → key_of_identifiers π (rising_list cmp ds) ≡ key_of_identifiers π ds
+  key_of_identifiers-rising cmp ds = sym (key_of_identifiers-reordered ds (rising_list cmp ds) (reordered_rising cmp ds))
+
+-- ---- keys of what is built
+
+-- each class of a family has identifiers
+pub kind_of_identifiers : (c : Class) (f : Family) → role_of_class c ≡ role.OfFamily f → kind_of_member c (codes "ExternalIdentifier") ≡ kind.Identifiers
+kind_of_identifiers class.ElectionReport f e = cc
+kind_of_identifiers c f e = cc
+
+-- what is built of an object has the key of the object, under each preference
+pub key_of_object : (π ρ : Preference) (t : Data) (f : Family) (c : Class) (d : Data) → IsTree d → class_of_object (role.OfFamily f) d ≡ Some c → key_of ρ (normal_object π t f d) ≡ key_of ρ d
+key_of_object π ρ t f c d tree among =
+    ap (key_of_identifiers ρ)
+    (entries_of_identifiers π t f c d tree among (codes "ExternalIdentifier") refl (kind_of_identifiers c f (class_role (role.OfFamily f) d c among)))
+    ∙ key_of_identifiers-rising ρ compact_cmp (entries_at (codes "ExternalIdentifier") d)
+
+-- and of an election
+pub key_of_election : (π ρ : Preference) (t : Data) → NoneOf (ShapeFault t) → IsTree t → (d : Data) → IsTree d → class_of_object role.Election d ≡ Some class.Election
+    → key_of ρ (normal_election π t d) ≡ key_of ρ d
+key_of_election π ρ t clean whole d tree among =
+    ap (key_of_identifiers ρ) (identifiers_of_election π t clean whole d tree among) ∙ key_of_identifiers-rising ρ compact_cmp (entries_at (codes "ExternalIdentifier") d)

@@ -1,5 +1,5 @@
 -- The tree that is built for an accepted report is its canonical form: no empty array, distinct ids, sets in order.
-use Rattle.erd_normal.proofs.Common.{◌≡◌, suc, Bool, true, false, List, map, length, ◌==◌, Some, refl, ap, ◌∙◌, length-map, Data, array, Items, no_items, item, reason, MemberKind, kind, faultless, wanted_within, Within, ShapeFault, NoneOf, IsTree, list_of_items, entries_of, Asked, asked, Want, Member, Preference, rising_list, compact_cmp, with_rising_text, is_array, is_empty_array, unrepeated, no_strange, no_unknown, length-rising, kind_wanted, HasNoEmptyArray, normal_reference, reference_cmp, normal_selection_reference, array_of, normal_content, normal_nodes, normal_selection, by_key, by_name, normal_object, normal_election, normal_tree, ℕ, ◌⊎◌, sym, subst, inl, inr, Family, family, position_of, IsAccepted, has_keys, key_of, IsBefore, rank_of, Placed, contests, selections_of_contest, objects, id_of, IsBounded, HasDistinctIds, In, In-flat_map_from, In-from_contains, contains_from_In, option_and_then, as_str, Reference, key_named, selection_role, name_of, text_of, Object, stands, keys_referred, Sides, In-flat_map, In-map, In-map_from, [], codes, AllByRecursion, option_cmp, option_map_or, get, role_of_class, Class, class, Role, role, array_from, entries_at, class_of_object, entry_want, is_compared_set, key_cmp, name_cmp, IsStrictlySortedBy, list_of_items-items_of, within-tree, is_simple_class, HasFittingNumbers, no_shape_fault, skeleton_of_shape, election_entries, Skeleton, all_rising, keys_of, RisesAs, AreSetsInOrder, normal_objects, In-all, In-rising, all_from_In, has_float, tree_in_order, IsCanonicalFormOf}
+use Rattle.erd_normal.proofs.Common.{◌≡◌, suc, Bool, true, false, List, map, length, ◌==◌, Some, refl, ap, ◌∙◌, length-map, Data, array, Items, no_items, item, reason, MemberKind, kind, faultless, wanted_within, Within, ShapeFault, NoneOf, IsTree, list_of_items, entries_of, Asked, asked, Want, Member, Preference, rising_list, compact_cmp, with_rising_text, is_array, is_empty_array, unrepeated, no_strange, no_unknown, length-rising, kind_wanted, HasNoEmptyArray, normal_reference, reference_cmp, normal_selection_reference, array_of, normal_content, normal_nodes, normal_selection, by_key, by_name, normal_object, normal_election, normal_tree, ℕ, ◌⊎◌, sym, subst, inl, inr, Family, family, position_of, IsAccepted, has_keys, key_of, IsBefore, rank_of, Placed, contests, selections_of_contest, objects, id_of, IsBounded, HasDistinctIds, In, In-flat_map_from, In-from_contains, contains_from_In, option_and_then, as_str, Reference, key_named, selection_role, name_of, text_of, Object, stands, keys_referred, Sides, In-flat_map, In-map, In-map_from, [], codes, AllByRecursion, option_cmp, option_map_or, get, role_of_class, Class, class, Role, role, array_from, entries_at, class_of_object, entry_want, is_compared_set, key_cmp, name_cmp, IsStrictlySortedBy, list_of_items-items_of, within-tree, is_simple_class, HasFittingNumbers, no_shape_fault, skeleton_of_shape, election_entries, Skeleton, all_rising, keys_of, RisesAs, AreSetsInOrder, normal_objects, In-all, In-rising, all_from_In, has_float, tree_in_order, IsCanonicalFormOf, SaysTheSame}
 use Rattle.erd_normal.proofs.lists.Lists.{as_empty, maps_agree, IsPart, part_has}
 use Rattle.erd_normal.proofs.throughout.ThroughoutMembers.{BuiltAs, from_kept, from_label, from_many, from_identifiers, from_languages, from_ordered, from_content, from_selections, from_keyed, from_elections, is_prefixed, from_identity, from_word, from_whole, built_references, is_apart}
 use Rattle.erd_normal.proofs.throughout.ThroughoutReports.{built_as}
@@ -17,13 +17,13 @@ use Rattle.erd_normal.proofs.same.normal.NewIds.{new_text, old_text, sides, pref
 use Rattle.erd_normal.proofs.same.normal.SaidReports.{selection_said, report_said, normal_tree_says}
 use Rattle.erd_normal.proofs.same.normal.SaidValues.{reference_said}
 use Rattle.erd_normal.proofs.texts.CompactTexts.{within-fitting}
-use Rattle.erd_normal.proofs.built.LeastKeys.{key_of_election, key_of_object}
-use Rattle.erd_normal.proofs.built.BuiltObjects.{election_classed, has_canonical_envelope}
+use Rattle.erd_normal.proofs.built.BuiltObjects.{key_of_election, key_of_object, election_classed, has_canonical_envelope}
 use Rattle.erd_normal.proofs.same.complete.Values.{identifier_simple, language_simple}
 use Rattle.erd_tables.specs.declared.class.Role.TheVariants.{Report}
 use Rattle.erd_check.proofs.ShapedReports.{no_fraction}
 use Rattle.erd_normal.proofs.same.accepted.Accepted.{same_is_accepted}
 use Rattle.erd_normal.proofs.unique.Unique.{unique}
+use Rattle.erd_normal.specs.SameForms.{CanonicalSaysTheSame}
 
 -- ---- no array of the table is empty in the report that is built
 
@@ -358,3 +358,8 @@ module _ (π : Preference) (t : Data) (accepted : IsAccepted π t) (tree : IsTre
 
   pub whole_built : has_float (normal_tree π t) ≡ false
   whole_built = no_fraction (normal_tree π t) (no_shape_fault π (normal_tree π t) form_built.canonical.accepted) (tree_in_order (Object Report) (normal_tree π t) (normal_tree-tree π t tree))
+
+-- canonical forms say what their reports say
+pub form_says : CanonicalSaysTheSame
+form_says π t u given u_tree accepted form =
+    subst (SaysTheSame t) (sym (only_form_built π t accepted given.is_tree given.bounded given.fits u u_tree form)) (normal_tree_says π t accepted given.is_tree given.bounded)

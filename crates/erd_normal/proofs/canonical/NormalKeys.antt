@@ -4,9 +4,8 @@ use Rattle.erd_normal.proofs.meaning.MatchedMeanings.{has_name}
 use Rattle.erd_normal.proofs.texts.CompactTexts.{compact_exact, entry-fitting}
 use Rattle.erd_normal.proofs.lists.Lists.{IsPart, part_distinct, all_map, rank_exact, rank_low}
 use Rattle.erd_normal.proofs.lists.Matched.{Matched, distinct_matched, even_order, matched_back, matched_count, matched_length, matched_within, FoundSelection, owner_found}
-use Rattle.erd_normal.proofs.built.LeastKeys.{key_of_object}
+use Rattle.erd_normal.proofs.built.BuiltObjects.{key_of_object, IsBuilt, objects_matched, values_of, selections_built}
 use Rattle.erd_normal.proofs.built.NormalTrees.{id_of_object, id_of_built_selection}
-use Rattle.erd_normal.proofs.built.BuiltObjects.{IsBuilt, objects_matched, values_of, selections_built}
 use Rattle.erd_normal.proofs.canonical.CanonicalIds.{few_selections, canonical_selection_id_exact}
 
 -- ---- sets of references

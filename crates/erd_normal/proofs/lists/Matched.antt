@@ -1,5 +1,5 @@
 -- Lists that are searched part by part, and lists whose entries are related one by one.
-use Rattle.erd_normal.proofs.Common.{◌≡◌, ℕ, Bool, true, false, cond, List, [], ◌∷◌, map, Some, None, option_map, find, flat_map, sym, refl, ◌∙◌, AllByRecursion, option_map_or, option_or, Data, family, Placed, contests, selections_of_contest, objects, has_id, owner, ⊤, find-Some, option_map-Some, contest_with, selection_with, In, suc, ◌≤◌, ◌||◌, ◌++◌, length, filter, Option, filter_map, option_and_then, is_eq, Ordering, Less, Equal, ap, subst, ap₂, true≢false, arith, false_from_ne_true, on_total, IsTotalOrder, cons_option, list_any, eq_by_cmp, ordering_reverse, all_weakened, rising_unique, IsDistinct, IsStrictlySortedBy, reordered_flat, count-reordered, all-reordered, IsPermutation, IsPermutation-map, IsPermutation-append_left, IsPermutation-append_right, length_permutation, list_any-IsPermutation, IsPermutation-refl, IsPermutation-sym, IsPermutation-trans, along_permutation, In-all, In-map, all_from_In, inl, inr, reordered-In}
+use Rattle.erd_normal.proofs.Common.{◌≡◌, ℕ, Bool, true, false, cond, List, [], ◌∷◌, map, Some, None, option_map, find, flat_map, sym, refl, ◌∙◌, AllByRecursion, option_map_or, option_or, Data, family, Placed, contests, selections_of_contest, objects, has_id, owner, ⊤, find-Some, option_map-Some, contest_with, selection_with, In, suc, ◌≤◌, ◌||◌, ◌++◌, length, filter, Option, filter_map, option_and_then, is_eq, Ordering, Less, Equal, ap, subst, ap₂, true≢false, arith, false_from_ne_true, on_total, IsTotalOrder, cons_option, list_any, eq_by_cmp, ordering_reverse, all_weakened, rising_unique, IsDistinct, IsStrictlySortedBy, reordered_flat, count-reordered, all-reordered, IsPermutation, IsPermutation-map, IsPermutation-append_left, IsPermutation-append_right, length_permutation, list_any-IsPermutation, IsPermutation-refl, IsPermutation-sym, IsPermutation-trans, along_permutation, In-all, In-map, all_from_In, inl, inr, reordered-In, ⊎_elim}
 use Rattle.std.proofs.lemmas.List.Folds.{find-append}
 
 -- ---- lists of which no two entries pass a test, and what is found by a value
@@ -60,6 +60,10 @@ owner_found t id d e =
 pub data Paired {A B : Type 0} (R : A → B → Type 0) : List A → List B → Type 0 where
   none : Paired R [] []
   more : {x : A} {y : B} {xs : List A} {ys : List B} → R x y → Paired R xs ys → Paired R (x ∷ xs) (y ∷ ys)
+
+pub paired_self : {A : Type 0} {R : A → A → Type 0} (xs : List A) → ((x : A) → R x x) → Paired R xs xs
+paired_self [] each = none
+paired_self (x ∷ xs) each = more (each x) (paired_self xs each)
 
 -- ---- lists whose entries are related one by one, but for their order
 
@@ -316,3 +320,12 @@ matched_rising {R = R} cmp order key key' same xs ys rise rise' m =
     (rising_by cmp key' m.middle (subst (IsStrictlySortedBy cmp) (paired_map key key' same m.paired) rise)) (rising_by cmp key' ys rise')
     (λ y h. reordered-In y m.reordered h) (λ y h. reordered-In y (IsPermutation-sym _ _ m.reordered) h))
     m.paired
+
+-- what a list keeps comes from an entry
+pub kept_has : {A K : Type 0} (key : A → Option K) (k : K) (xs : List A) → In k (filter_map key xs) → (x : A) × In x xs × (key x ≡ Some k)
+kept_has key k [] h = elim h [ ]
+kept_has {A} {K} key k (y ∷ ys) h = at (key y) refl h (kept_has key k ys)
+  where
+    at : (o : Option K) → key y ≡ o → In k (cons_option o (filter_map key ys)) → (In k (filter_map key ys) → (x : A) × In x ys × (key x ≡ Some k)) → (x : A) × In x (y ∷ ys) × (key x ≡ Some k)
+    at None is i rest = let r = rest i in (r.0, inr r.1, r.2)
+    at (Some l) is i rest = ⊎_elim (λ e. (y, inl refl, is ∙ ap Some e)) (λ j. let r = rest j in (r.0, inr r.1, r.2)) i

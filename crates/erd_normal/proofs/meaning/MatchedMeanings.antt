@@ -1,5 +1,5 @@
 -- When records and reports mean the same, entry by entry.
-use Rattle.erd_normal.proofs.Common.{◌≡◌, ℕ, Bool, true, false, List, Some, None, Option, option_map, option_and_then, is_eq, Equal, sym, refl, ap, ◌∙◌, ap₂, tied_itself, options_total, option_cmp, Data, Class, family, Role, MemberKind, kind, object_in, ObjectIn, Within, entries_of, class_of_object, asked, Object, no_shape_fault, is_selections, options_exact, equal_names, IsAccepted, Preference, PlainValue, SelectionRecord, MemberValue, a_plain, a_selection_map, Record, NameParts, unless_empty, plain_member, record_with, selection_record, selection_map, member_value, name_in_class, selection_role, name_of, name_cmp, name_cmp_total, by_name, fun_ext, as_str, Family, is_same_json, key_cmp, json_set, key_set, key_named, keys_named, is_some, if◌then◌else◌, codes, bytes_eq, list_all, family_of_class, rows_of_class, kind_of_identity, kind_of_member, class, text_exact, kind_of_class, kind_of_type, IsPermutation, list_any-IsPermutation, reordered_kept, map, find, flat_map, subst, eq_by_cmp, is_envelope_name, role, entries_at, objects_distinct, elections_distinct, no_identity_fault, values-placed_entries, same_meaning, distinct_map, equal_keys, has_keys, key_of, Placed, placed_entries, report_of, elections, objects, meaning, object_record, record_in_election, placed_with_key, records_of, election_records, key_cmp_total, Key, by_key, In}
+use Rattle.erd_normal.proofs.Common.{◌≡◌, ℕ, Bool, true, false, List, Some, None, Option, option_map, option_and_then, is_eq, Equal, sym, refl, ap, ◌∙◌, ap₂, tied_itself, options_total, option_cmp, Data, Class, family, Role, MemberKind, kind, object_in, ObjectIn, Within, entries_of, class_of_object, asked, Object, no_shape_fault, is_selections, options_exact, equal_names, IsAccepted, Preference, PlainValue, SelectionRecord, MemberValue, a_plain, a_selection_map, Record, NameParts, unless_empty, plain_member, record_with, selection_record, selection_map, member_value, name_in_class, selection_role, name_of, name_cmp, name_cmp_total, by_name, fun_ext, as_str, Family, is_same_json, key_cmp, json_set, key_set, key_named, keys_named, is_some, if◌then◌else◌, codes, bytes_eq, list_all, family_of_class, rows_of_class, kind_of_identity, kind_of_member, role_of_class, class, text_exact, kind_of_class, kind_of_type, IsPermutation, list_any-IsPermutation, reordered_kept, map, find, flat_map, subst, eq_by_cmp, is_envelope_name, role, entries_at, objects_distinct, elections_distinct, no_identity_fault, values-placed_entries, same_meaning, distinct_map, equal_keys, has_keys, key_of, Placed, placed_entries, report_of, elections, objects, meaning, object_record, record_in_election, placed_with_key, records_of, election_records, key_cmp_total, Key, by_key, In}
 use Rattle.erd_meaning.proofs.meanings.HeldValues.{Held, held_by, held_in_elections, held_in_none, held_of, held_record, held_values, mapped_then}
 use Rattle.erd_normal.proofs.lists.Matched.{find_values, AtMostOne, Matched, apart_distinct, matched_find, matched_flat, matched_mapped, one_if_apart, said_same}
 
@@ -111,21 +111,18 @@ by_rows P c name lines typed id reference carried = at (bytes_eq name (codes "@t
     at true is = ap (λ n. P (kind_of_member c n)) (text_exact name (codes "@type") is) ∙ ap P (kind_of_type c) ∙ typed
     at false is = kind_of_class P c name is lines id reference carried
 
--- ---- classes that have no ballot's order and no selections
+-- ---- the report and the elections have no ballot's order and no selections of their own
 
-abbrev pub is_flat_class : Class → Bool
-is_flat_class class.ElectionReport = true
-is_flat_class class.Election = true
-is_flat_class class.CandidateSelection = true
-is_flat_class class.BallotMeasureSelection = true
-is_flat_class class.PartySelection = true
-is_flat_class c = false
+abbrev pub is_flat_role : Role → Bool
+is_flat_role role.Report = true
+is_flat_role role.Election = true
+is_flat_role r = false
 
-rows_flat : (c : Class) → is_flat_class c ≡ true → list_all (λ m. is_flat m.kind) (rows_of_class c) ≡ true
+rows_flat : (c : Class) → is_flat_role (role_of_class c) ≡ true → list_all (λ m. is_flat m.kind) (rows_of_class c) ≡ true
 rows_flat class.ElectionReport e = refl
 rows_flat c e = cc
 
-pub kind_is_flat : (c : Class) (name : List ℕ) → is_flat_class c ≡ true → is_flat (kind_of_member c name) ≡ true
+pub kind_is_flat : (c : Class) (name : List ℕ) → is_flat_role (role_of_class c) ≡ true → is_flat (kind_of_member c name) ≡ true
 kind_is_flat c name flat = by_rows is_flat c name (rows_flat c flat) refl (identity_flat c) refl refl
 
 -- ---- the selections of a contest

@@ -1,5 +1,5 @@
 -- The objects of each election in the order of their keys, and the tree that is written of them.
-use Rattle.erd_normal.proofs.Common.{◌≡◌, ℕ, zero, suc, ◌+◌, ◌<◌, ◌≤◌, Bool, true, false, cond, List, [], ◌∷◌, ◌++◌, map, length, if◌then◌else◌, ◌==◌, slice_get, Some, None, codes, filter, Option, option_map, flat_map, option_and_then, bytes_eq, unwrap_or, sym, refl, ap, ◌∙◌, append-nil, arith, ne_eqb, Decides-eqb, length-map, filter-append, slice_get_past, options_total, enumerate_from, option_cmp, option_map_or, Data, Items, no_items, item, Family, family, Step, At, Name, list_of_items, entries_at, IsAccepted, has_keys, key_cmp, Preference, key_of, key_in, rising_keys, Placed, placed_from, placed_entries, report_of, elections, objects, election_of_place, rising_list, key_cmp_total, option_map-Some, skeleton, values-placed_entries, election_entries, Skeleton, by_first, rising_list_map, rising_election_keys, Key, in_order_of_keys, rising_objects, rising_elections, part_at, objects_in_part, by_key, In-filter, in_at, subst, ap₂, array, object, Members, no_members, member, get_member, get, role_of_class, kind_of_member, Class, class, Role, role, MemberKind, kind, entries_in, object_in, ObjectIn, In, Within, IsTree, entries_of, class_of_object, asked, AreMembers, get_member-first, within-tree, get_member-later, Object, no_shape_fault, election_stands, election_object, stands as standing, id_of_key, unless_no_entry, array_of, normal_members, normal_object_with, with_id, normal_selection, by_name, normal_object_value, normal_object, normal_election_value, normal_election, normal_report_value, in_envelope, normal_tree, map_from, written_selection, written_in_contest, written_object_value, written_object, written_objects, written_election_value, written_election, written_elections, written_report_value}
+use Rattle.erd_normal.proofs.Common.{◌≡◌, ℕ, zero, suc, ◌+◌, ◌<◌, ◌≤◌, Bool, true, false, cond, List, [], ◌∷◌, ◌++◌, map, length, if◌then◌else◌, ◌==◌, slice_get, Some, None, codes, filter, Option, option_map, flat_map, option_and_then, bytes_eq, unwrap_or, sym, refl, ap, ◌∙◌, append-nil, arith, ne_eqb, Decides-eqb, length-map, filter-append, slice_get_past, options_total, enumerate_from, option_cmp, option_map_or, Data, Items, no_items, item, Family, family, Step, At, Name, list_of_items, entries_at, IsAccepted, has_keys, key_cmp, Preference, key_of, key_in, rising_keys, Placed, placed_from, placed_entries, report_of, elections, objects, election_of_place, rising_list, key_cmp_total, option_map-Some, skeleton, values-placed_entries, election_entries, Skeleton, by_first, rising_list_map, rising_election_keys, Key, in_order_of_keys, rising_objects, rising_elections, part_at, objects_in_part, by_key, In-filter, in_at, subst, ap₂, array, object, Members, no_members, member, get_member, get, role_of_class, kind_of_member, Class, class, Role, role, MemberKind, kind, entries_in, object_in, ObjectIn, In, Within, IsTree, entries_of, class_of_object, asked, AreMembers, get_member-first, within-tree, get_member-later, Object, no_shape_fault, election_stands, election_object, stands as standing, id_of_key, unless_no_entry, array_of, normal_members, normal_object_with, with_id, normal_selection, by_name, normal_object_value, normal_object, normal_election_value, normal_election, normal_report_value, in_envelope, normal_tree, map_from, written_selection, written_in_contest, written_object_value, written_object, written_objects, written_election_value, written_election, written_elections, written_report_value, view, Judged}
 use Rattle.erd_normal.proofs.built.BuiltFrom.{family_name, contest_of_selections, elections_name, keyed_name, report_objects, Builder}
 use Rattle.erd_text.proofs.StableRising.{map_after}
 use Rattle.erd_normal.proofs.ranks.SelectionRanks.{positions, stands, values_kept, values}
@@ -161,8 +161,10 @@ lent_positions π t f keyed =
     ∙ positions (option_cmp key_cmp) (λ (o : Placed). key_of π o.value) (objects f t)
 
 -- those of the elections
-pub lent_elections : (π : Preference) (t : Data) → map (λ (p : Option Key × ℕ). p.1) (rising_election_keys π t) ≡ map (λ (e : ℕ × Placed). e.0) (rising_elections π t)
-lent_elections π t = positions (option_cmp key_cmp) (λ (o : Placed). key_of π o.value) (elections t)
+pub lent_elections : (r s : Judged) → r ≡ s → map (λ (p : Option Key × ℕ). p.1) (rising_election_keys r.prefer (view r.tree)) ≡ map (λ (e : ℕ × Placed). e.0) (rising_elections s.prefer (view s.tree))
+lent_elections r s same =
+    positions (option_cmp key_cmp) (λ (o : Placed). key_of r.prefer o.value) (elections (view r.tree))
+    ∙ ap (λ (j : Judged). map (λ (e : ℕ × Placed). e.0) (rising_elections j.prefer (view j.tree))) same
 
 -- ---- the tree as it is written is the tree that is built for an accepted report
 

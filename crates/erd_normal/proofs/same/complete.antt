@@ -1,5 +1,4 @@
 -- Accepted reports that mean the same say the same.
-pub mod Sets
 pub mod Values
 pub mod Contents
 pub mod Counterparts

@@ -3,4 +3,3 @@ pub mod NewIds
 pub mod SaidValues
 pub mod SaidReports
 pub mod SameDepths
-pub mod SameForms

@@ -4,9 +4,8 @@ use Rattle.std.proofs.lemmas.Simd.{map-map}
 use Rattle.erd_normal.proofs.lists.Matched.{AtMostOne, Matched, apart_distinct, matched_count, matched_find, matched_mapped, one_if_apart, said_same, matched_rising, Paired, none, more, matched_equal, paired_equal}
 use Rattle.erd_normal.proofs.same.IdsOfObjects.{family_values, object_values, by_one_id, have_one_id, ids_distinct, owner_found, IsId, asked_id, part_at, IsPart}
 use Rattle.erd_normal.proofs.same.Related.{matched_within_both, Stands, entry_stands, member_stands, stands_tree, entries_matched, paired_within_both, entries_paired}
-use Rattle.erd_normal.proofs.same.complete.Counterparts.{SelectionsAlike, alike_by_key, family_matched, name_at, selection_name, selections_matched}
+use Rattle.erd_normal.proofs.same.complete.Counterparts.{SelectionsAlike, alike_by_key, family_matched, name_at, selection_name, selections_matched, MeanOne, entry_key}
 use Rattle.erd_normal.proofs.same.complete.Texts.{Counterpart, by_key, by_name, Couple, couple_back, couple_there, sides}
-use Rattle.erd_normal.proofs.same.complete.Sets.{MeanOne, entry_key}
 use Rattle.erd_normal.proofs.lists.Lists.{is_family, listed_depth}
 use Rattle.erd_normal.proofs.same.complete.Complete.{AloneUnused}
 use Rattle.erd_normal.proofs.same.Lookups.{Aligned, both_there, not_both, lookups, scope_same, steady_same, of_report}

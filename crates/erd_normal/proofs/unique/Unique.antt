@@ -1,7 +1,7 @@
 -- Canonical reports that mean the same are equal, since they say the same.
 use Rattle.erd_normal.proofs.Common.{◌≡◌, ℕ, Bool, true, false, List, [], Some, None, sym, refl, ap, ◌∙◌, subst, Data, array, Family, family, Role, role, MemberKind, kind, Step, list_of_items_exact, position_of, Within-root, wanted_within, unrepeated, within-tree, Within, ShapeFault, NoneOf, entries_of, Asked, asked, asked_at, Want, Member, Object, Reference, no_shape_fault, one_object, has_keys, Preference, Placed, contests, selections_of_contest, objects, IsObject, id_of, key_set, content_of, object_record, keys_named, kind_wanted, IsCanonical, ReferencesAgree, ObjectsAgree, CanonicalIsUnique, MeanAlike, Sides, NamesAgree, HaveSameNames, In-flat_map, In-flat_map_from, In-from_contains, contains_from_In}
 use Rattle.erd_normal.proofs.same.complete.Complete.{all_says, classes_same, members_value, none_aligned, two_say, within_t, within_u}
-use Rattle.erd_normal.proofs.same.complete.Sets.{MeanOne, references_matched, TextsTied}
+use Rattle.erd_normal.proofs.same.complete.Counterparts.{MeanOne, references_matched, TextsTied}
 use Rattle.erd_normal.proofs.unique.SameTrees.{same_equal, entries_equal, sets_equal, ids_alike, none_alone, referring_to_all, closed_sides, one_text}
 use Rattle.erd_normal.proofs.same.complete.Values.{leaves}
 use Rattle.erd_normal.proofs.lists.Matched.{paired_equal}

@@ -1,5 +1,5 @@
 ghost use Rattle.std.specs.Prelude.{◌≡◌, false, IfOk};
-ghost use Rattle.erd_normal.specs.Words.{Data, view, has_float, IsNoDeeper, IsTree, IsCanonicalFormOf, IsCanonicalText};
+ghost use Rattle.erd_normal.specs.Words.{Data, view, has_float, IsNoDeeper, IsShallow, IsTree, IsCanonicalFormOf, IsCanonicalText};
 
 use crate::report::report_text::write_report;
 use crate::writer::{Writer, orders_of};
@@ -25,11 +25,7 @@ use std::alloc::{AllocError, Global};
 pub fn normal_text(alloc: Global, report: &Report) -> Result<Vec<u8>, AllocError>
     ensures { IfOk result (λ text. IsCanonicalText report.now.prefer (view report.now.tree) text.items) }
 {
-    let _accepted = report.tree();
-    let orders = orders_of(alloc, report)?;
-    let mut out = Output::new(alloc);
-    write_report(&Writer::of(alloc, report, &orders), &mut out)?;
-    Ok(out.into_text())
+    text_of(alloc, report)
 }
 
 /// Returns the canonical form of a report: the only canonical tree that means what the report means, under the preference
@@ -50,12 +46,22 @@ pub fn normal_tree(alloc: Global, report: &Report) -> Result<Value, AllocError>
     ensures is_tree { IfOk result (λ tree. IsTree (view tree)) }
     ensures whole { IfOk result (λ tree. has_float (view tree) ≡ false) }
 {
-    // read for `nests`: the text is read back
-    let _tree = report.tree();
-    let text = normal_text(alloc, report)?;
+    let text = text_of(alloc, report)?;
     match Value::from_slice(alloc, &text) {
         Ok(tree) => Ok(tree),
         // the text is JSON, so memory ran out
         Err(_) => Err(AllocError),
     }
+}
+
+/// Returns the text of the canonical form of a report. The report nests no deeper than what can be read back.
+fn text_of(alloc: Global, report: &Report) -> Result<Vec<u8>, AllocError>
+    ensures text { IfOk result (λ text. IsCanonicalText report.now.prefer (view report.now.tree) text.items) }
+    ensures nests { IfOk result (λ _. IsShallow (view report.now.tree)) }
+{
+    let root = report.tree();
+    let orders = orders_of(alloc, report)?;
+    let mut out = Output::new(alloc);
+    write_report(&Writer::of(alloc, report, &orders), root, &mut out)?;
+    Ok(out.into_text())
 }

@@ -1,5 +1,5 @@
-ghost use Rattle.std.specs.Prelude.{◌≡◌, ◌++◌, OnOk};
-ghost use Rattle.erd_normal.specs.Words.{view, value_tokens};
+ghost use Rattle.std.specs.Prelude.{◌≡◌, ◌++◌, false, OnOk};
+ghost use Rattle.erd_normal.specs.Words.{view, has_float, IsAccepted, IsTree, value_tokens};
 ghost use Rattle.erd_normal.specs.code.NormalTree.{normal_tree};
 ghost use Rattle.erd_normal.specs.code.WrittenTree.{written_report_value};
 
@@ -74,11 +74,18 @@ const ENVELOPE: [DueMember<'static>; 7] = [
     },
 ];
 
-/// Writes the canonical form of a report.
-pub(crate) fn write_report(writer: &Writer, out: &mut Output) -> Result<(), AllocError>
+/// Writes the canonical form of a report, whose tree is `root`.
+pub(crate) fn write_report(
+    writer: &Writer,
+    root: &Value,
+    out: &mut Output,
+) -> Result<(), AllocError>
+    requires root { root.now ≡ writer.now.tree }
+    requires accepted { IsAccepted writer.now.prefer (view root.now) }
+    requires is_tree { IsTree (view root.now) }
+    requires whole { has_float (view root.now) ≡ false }
     ensures { OnOk result (out.new ≡ out.old ++ value_tokens (normal_tree writer.now.prefer (view writer.now.tree))) }
 {
-    let root = writer.report().tree();
     let rule = ReportMembers { writer };
     write_object(&rule, Role::Report, &ENVELOPE, root, out)
 }

@@ -1,5 +1,5 @@
 ghost use Rattle.std.specs.Prelude.{◌≡◌, ◌+◌, ◌<◌, ◌^◌, [], codes, length, map, option_map, slice_get, IfOk, option_copied};
-ghost use Rattle.erd_normal.specs.Words.{option_cmp, option_map_or, entries_at, view, IsAccepted, contests, name_cmp, name_of, rising_list, ranked_name};
+ghost use Rattle.erd_normal.specs.Words.{option_cmp, option_map_or, entries_at, view, IsAccepted, IsBounded, contests, name_cmp, name_of, rising_list, ranked_name};
 ghost use Rattle.erd_meaning.specs.code.KeyOrders.{positioned, positions_by};
 ghost use Rattle.erd_normal.specs.code.SelectionOrders.{AreNamedFrom, AreSelectionRanks, lent_name_cmp, name_in, rising_selections};
 
@@ -25,12 +25,11 @@ pub(crate) fn selection_orders(
     report: &Report,
 ) -> Result<SelectionOrders, AllocError>
     requires accepted { IsAccepted report.now.prefer (view report.now.tree) }
+    requires bounded { IsBounded (view report.now.tree) }
     ensures rising { IfOk result (λ orders. map (λ positions. positions.items) orders.rising.items
         ≡ map (λ o. rising_selections report.now.prefer (view report.now.tree) o.value) (contests (view report.now.tree))) }
     ensures ranks { IfOk result (λ orders. AreSelectionRanks report.now.prefer (view report.now.tree) orders.ranks.items) }
 {
-    // read for `bounded`: a machine word counts the selections
-    let _tree = report.tree();
     let count = report.count(Family::Contest);
     let mut rising = Vec::with_capacity(alloc, count)?;
     let mut ranks = Vec::with_capacity(alloc, report.count(Family::Selection))?;

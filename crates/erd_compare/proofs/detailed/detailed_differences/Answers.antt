@@ -23,5 +23,5 @@ both_facts (Err e) P Q R follows p q = tt
 pub returns : goal.returns
 returns c =
     both_facts c.with_selections.result _ _ _
-    (λ found listed told. as_detailed c.of-comparer.result.left c.of-comparer.result.right c.args.left.now c.args.right.now c.args.first c.args.most_bytes c.in_ok-found.found.items found.items
-    c.of-comparer.ensures.left c.of-comparer.ensures.right c.in_ok-found.ensures listed told) c.with_selections.ensures.listed c.with_selections.ensures.told
+    (λ found listed told. as_detailed c.in_ok-comparer.comparer.left c.in_ok-comparer.comparer.right c.args.left.now c.args.right.now c.args.first c.args.most_bytes c.in_ok-found.found.items found.items
+    c.in_ok-comparer.ensures.left c.in_ok-comparer.ensures.right c.in_ok-found.ensures listed told) c.with_selections.ensures.listed c.with_selections.ensures.told

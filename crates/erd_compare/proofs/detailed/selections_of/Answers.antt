@@ -1,8 +1,8 @@
-use Rattle.erd_compare.proofs.Common.{◌≡◌, ℕ, ◌+◌, ◌-◌, true, false, Option, refl, ap, ◌∙◌, subst, rules, arith, option_copied, view, Judged, meaning, Key}
-use Rattle.erd_compare.specs.SelectionDifferences.{is_in_selections, selections_with_key, AreSelectionDifferences}
-use Rattle.erd_compare.specs.code.ContestSelections.{contest_map, size_in}
-use Rattle.erd_compare.proofs.contest_selections.ContestNames.{size_at}
-use Rattle.erd_compare.proofs.contest_selections.ToldBounds.{passed_before, passed_beside, passed_fit, passed_unfit}
+use Rattle.erd_compare.proofs.Common.{◌≡◌, ℕ, ◌+◌, ◌-◌, true, false, Option, option_map, refl, ap, ◌∙◌, subst, rules, arith, IfOk-weaker, option_copied, view, Judged, meaning, Key}
+use Rattle.erd_compare.specs.SelectionDifferences.{is_in_selections, selections_with_key}
+use Rattle.erd_compare.specs.code.ContestSelections.{contest_map, names_in, size_in, PassesInside}
+use Rattle.erd_compare.proofs.contest_selections.ContestNames.{names_at}
+use Rattle.erd_compare.proofs.contest_selections.ToldBounds.{passed_before, passed_beside, passed_inside}
 use Rattle.erd_compare.proofs.detailed.selections_of.Goals as goal
 
 pub returns-then-room-gt0 : goal.returns-then-room-gt0
@@ -26,22 +26,8 @@ at_key : (x a : Judged) (one : Option ℕ) (key found : Option Key) → x ≡ a 
 at_key x a one key found same keys is =
     subst (λ (j : Judged). contest_map j one ≡ selections_with_key (meaning j.prefer (view j.tree)) key) same (is ∙ ap (selections_with_key (meaning x.prefer (view x.tree))) keys)
 
-pub returns-in-None : goal.returns-in-None
-returns-in-None c =
-    let a = c.args.comparer.now.left in
-    let b = c.args.comparer.now.right in
-    let one = c.contest_with_key-contest.result in
-    let other = c.contest_with_key-other_contest.result in
-    let d = c.args.difference.now in
-    let room = c.args.room.now in
-    let inside : is_in_selections d ≡ true = search rules in
-    let left = at_key c.left.result.now a one d.key (option_copied c.as_ref.result) c.left.ensures.same c.as_ref.ensures.value c.contest_with_key-contest.ensures in
-    let right = at_key c.right.result.now b other d.key (option_copied c.as_ref-2.result) c.right.ensures.same c.as_ref-2.ensures.value c.contest_with_key-other_contest.ensures in
-    passed_unfit (meaning a.prefer (view a.tree)) (meaning b.prefer (view b.tree)) d (size_in a one + size_in b other) inside (size_at a b c.left.ensures.comparable c.right.ensures.comparable one other d.key left right)
-    room (record { first = room.first; bytes = c.left_after_both-room.result }) (omega (arith, c.if-room-gt0.false)) refl c.in-None.is c.left_after_both-room.ensures
-
-pub returns-in_ok-selection_differences-in-Some : goal.returns-in_ok-selection_differences-in-Some
-returns-in_ok-selection_differences-in-Some c =
+pub returns : goal.returns
+returns c =
     let a = c.args.comparer.now.left in
     let b = c.args.comparer.now.right in
     let m = meaning a.prefer (view a.tree) in
@@ -49,11 +35,12 @@ returns-in_ok-selection_differences-in-Some c =
     let one = c.contest_with_key-contest.result in
     let other = c.contest_with_key-other_contest.result in
     let d = c.args.difference.now in
-    let room = c.args.room.now in
-    let items = c.in_ok-selection_differences-in-Some.field-0.items in
     let inside : is_in_selections d ≡ true = search rules in
     let left = at_key c.left.result.now a one d.key (option_copied c.as_ref.result) c.left.ensures.same c.as_ref.ensures.value c.contest_with_key-contest.ensures in
     let right = at_key c.right.result.now b other d.key (option_copied c.as_ref-2.result) c.right.ensures.same c.as_ref-2.ensures.value c.contest_with_key-other_contest.ensures in
-    passed_fit m n d (size_in a one + size_in b other) inside (size_at a b c.left.ensures.comparable c.right.ensures.comparable one other d.key left right)
-    room (record { first = room.first; bytes = c.left_after_both-room.result }) c.in-Some.field-0 (omega (arith, c.if-room-gt0.false)) refl c.in-Some.is c.left_after_both-room.ensures items
-    (subst (λ x. AreSelectionDifferences x (selections_with_key n d.key) items) left (subst (λ y. AreSelectionDifferences (contest_map a one) y items) right c.in_ok-selection_differences-in-Some.ensures))
+    IfOk-weaker c.selections_within.result _ _
+    (λ told passes.
+    passed_inside m n d inside (names_in a one) (names_in b other) (names_at a c.left.ensures.comparable one (selections_with_key m d.key) left) (names_at b c.right.ensures.comparable other (selections_with_key n d.key) right)
+    c.args.room.now (record { first = c.args.room.now.first; bytes = c.selections_within.new.room }) (omega (arith, c.if-room-gt0.false)) refl (option_map (λ v. v.items) told)
+    (subst (λ x. PassesInside x (selections_with_key n d.key) (size_in a one + size_in b other) (option_map (λ v. v.items) told) c.args.room.now.bytes c.selections_within.new.room) left
+    (subst (λ y. PassesInside (contest_map a one) y (size_in a one + size_in b other) (option_map (λ v. v.items) told) c.args.room.now.bytes c.selections_within.new.room) right passes))) c.selections_within.ensures

@@ -12,11 +12,11 @@ pub returns : goal.returns
 returns c =
     let a = c.args.left.now in
     let b = c.args.right.now in
-    let x = c.of-comparer.result.left in
-    let y = c.of-comparer.result.right in
+    let x = c.in_ok-comparer.comparer.left in
+    let y = c.in_ok-comparer.comparer.right in
     let are =
     IfOk-weaker c.all_differences.result (λ found. AreDifferences (meaning x.prefer (view x.tree)) (meaning y.prefer (view y.tree)) found.items) (λ found. AreDifferences (meaning a.prefer (view a.tree)) (meaning b.prefer (view b.tree)) found.items)
-    (λ found h. as_compared x y a b found.items c.of-comparer.ensures.left c.of-comparer.ensures.right h) c.all_differences.ensures in
+    (λ found h. as_compared x y a b found.items c.in_ok-comparer.ensures.left c.in_ok-comparer.ensures.right h) c.all_differences.ensures in
     record {
       all = are;
       each = IfOk-weaker c.all_differences.result (λ found. AreDifferences (meaning a.prefer (view a.tree)) (meaning b.prefer (view b.tree)) found.items) _

@@ -1,4 +1,4 @@
-use Rattle.erd_compare.proofs.Common.{◌≡◌, ◌+◌, ◌<◌, ◌≤◌, ◌++◌, length, drop, map, slice_get, Some, None, sym, ap, ◌∙◌, subst, option_copied, array, view}
+use Rattle.erd_compare.proofs.Common.{◌≡◌, ◌+◌, ◌<◌, ◌≤◌, ◌++◌, length, drop, map, Some, None, sym, ap, ◌∙◌, subst, option_copied, array, view}
 use Rattle.serde_json.specs.View.{items_of}
 use Rattle.serde_json.proofs.Views.{view-Array}
 use Rattle.erd_compare.specs.DifferenceLine.{key_as_json}

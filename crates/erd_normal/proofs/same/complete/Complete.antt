@@ -5,10 +5,9 @@ use Rattle.erd_normal.proofs.lists.Matched.{Matched, matched_mapped}
 use Rattle.erd_normal.proofs.same.Lookups.{Aligned, both_there, lacks_none, lacks_one, not_both, asked_of_name}
 use Rattle.erd_normal.proofs.same.Related.{matched_within_both, same_back, turned}
 use Rattle.erd_normal.proofs.same.complete.Contents.{sets_aligned}
-use Rattle.erd_normal.proofs.same.complete.Counterparts.{ElectionsAlike, ObjectsAlike, elections_matched, family_matched, held_matched, selections_matched}
+use Rattle.erd_normal.proofs.same.complete.Counterparts.{ElectionsAlike, ObjectsAlike, elections_matched, family_matched, held_matched, selections_matched, MeanOne}
 use Rattle.erd_normal.proofs.same.complete.Values.{apart_cases, apart_named, is_apart, leaves, leaves_out, left_out, meant_unless_apart, object_says, plain_from_value}
 use Rattle.erd_normal.proofs.same.complete.Texts.{Counterpart, by_key, by_name, ids_stand, sides, texts_tied, Couple, counterpart_back, couple_back, one_counterpart, one_family, back, there}
-use Rattle.erd_normal.proofs.same.complete.Sets.{MeanOne}
 use Rattle.erd_normal.proofs.meaning.MatchedMeanings.{class_of_record, members_in}
 use Rattle.erd_normal.proofs.same.IdsOfObjects.{InElections, InReport}
 use Rattle.erd_normal.proofs.same.InTurn.{CameFrom, reference_came_from, OtherText, id_text, reference_is_id}

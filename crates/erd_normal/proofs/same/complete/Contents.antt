@@ -6,7 +6,7 @@ use Rattle.erd_normal.proofs.lists.Matched.{Matched, matched_back, matched_on, P
 use Rattle.erd_normal.proofs.same.Related.{entries_paired, set_says, list_says}
 use Rattle.erd_normal.proofs.same.Lookups.{Aligned, both_there, not_both, lacks_none as lacks_nothing, lacks_one, merged, AllPlain, is_plain_kind, plain_of_kind}
 use Rattle.erd_normal.proofs.same.Labels.{equal_aligned}
-use Rattle.erd_normal.proofs.same.complete.Sets.{TextsTied}
+use Rattle.erd_normal.proofs.same.complete.Counterparts.{TextsTied}
 
 -- ---- the contests and headers of the ballots of an accepted report: what they refer to, and the arrays inside them
 
@@ -26,23 +26,24 @@ NodeAt t c ms = ObjectAt t (Object role.Content) role.Content c ms
 abbrev pub IsSelected : Data → Data → Type 0
 IsSelected a d = (r : List ℕ) × (d ≡ string r) × (is_selection_in a r ≡ true)
 
+-- one of this class, which names an object of the family under this name
+pub record NamedNode (t : Data) (c : Class) (f : Family) (name : List ℕ) (ms : Members) : Type 0 where
+  pub at : NodeAt t c ms
+  pub id : List ℕ
+  pub named : get_member name ms ≡ Some (string id)
+  pub refers : Within t (asked (Reference f) (string id))
+
 -- a contest on a ballot
 pub record ContestNode (t : Data) (ms : Members) : Type 0 where
-  pub at : NodeAt t class.OrderedContest ms
-  pub id : List ℕ
-  pub named : get_member (codes "ContestId") ms ≡ Some (string id)
-  pub refers : Within t (asked (Reference family.Contest) (string id))
+  pub node : NamedNode t class.OrderedContest family.Contest (codes "ContestId") ms
   pub meant : Data
-  pub is : owner t family.Contest id ≡ Some meant
+  pub is : owner t family.Contest node.id ≡ Some meant
   pub list : MayBeArray (λ ds. Unit {0}) (get_member list_name ms)
   pub chosen : (d : Data) → In d (entries_at list_name (object ms)) → IsSelected meant d
 
 -- a header on a ballot
 pub record HeaderNode (t : Data) (ms : Members) : Type 0 where
-  pub at : NodeAt t class.OrderedHeader ms
-  pub id : List ℕ
-  pub named : get_member (codes "HeaderId") ms ≡ Some (string id)
-  pub refers : Within t (asked (Reference family.Header) (string id))
+  pub node : NamedNode t class.OrderedHeader family.Header (codes "HeaderId") ms
   pub list : MayBeArray (λ ds. Within t (asked (Member kind.Content false) (array ds))) (get_member inner_name ms)
 
 -- what an entry of a ballot's content is
@@ -67,10 +68,7 @@ module _ (π : Preference) (t : Data) (accepted : IsAccepted π t) where
       let c = contest_named π t accepted ms a.inside a.among in
       let named : get_member (codes "ContestId") ms ≡ Some (string c.2.0) = c.1 ∙ ap Some c.2.1 in
       record {
-        at = a;
-        id = c.2.0;
-        named = named;
-        refers = member_at class.OrderedContest ms a (codes "ContestId") refl (string c.2.0) named;
+        node = record { at = a; id = c.2.0; named = named; refers = member_at class.OrderedContest ms a (codes "ContestId") refl (string c.2.0) named };
         meant = c.2.2.0;
         is = c.2.2.1;
         list = array_within (Member kind.Ordered false) array_from (λ ds. Unit {0}) (get_member list_name ms) (λ v e. member_at class.OrderedContest ms a list_name refl v e) (λ ds e. tt);
@@ -84,10 +82,7 @@ module _ (π : Preference) (t : Data) (accepted : IsAccepted π t) where
       let r = named_header (get_member (codes "HeaderId") ms) refl in
       let inside = λ (v : Data) (e : get_member inner_name ms ≡ Some v). member_at class.OrderedHeader ms a inner_name refl v e in
       record {
-        at = a;
-        id = r.0;
-        named = r.1;
-        refers = r.2;
+        node = record { at = a; id = r.0; named = r.1; refers = r.2 };
         list = array_within (Member kind.Content false) array_from (λ ds. Within t (asked (Member kind.Content false) (array ds))) (get_member inner_name ms) inside (λ ds e. inside (array ds) e);
       }
     where
@@ -239,50 +234,47 @@ module _ (π : Preference) (t u : Data) (m : Sides) (accepted : IsAccepted π t)
       plain : AllPlain (want_of_name (in_class c) k)
       plain = subst AllPlain (sym asks) (plain_of_kind (kind_of_member c k) (is_required c k) (rest_plain (kind_of_member c k) rest))
 
+  -- two that name objects with one key, with lists that say the same
+  nodes_alike : (c : Class) (f : Family) (name list : List ℕ) → want_of_name (in_class c) name ≡ Some (Reference f) → has_keys f ≡ true
+      → ((k : List ℕ) → member_want c k ≡ want_of_kind (kind_of_member c k) (is_required c k))
+      → ((k : List ℕ) → bytes_eq k (codes "@type") ≡ false → bytes_eq k name ≡ false → bytes_eq k list ≡ false → is_rest (kind_of_member c k) ≡ true)
+      → (ms ns : Members) (a : NamedNode t c f name ms) (b : NamedNode u c f name ns) → AreMembers ms → AreMembers ns → key_named π t f a.id ≡ key_named π u f b.id
+      → carried_members (Some c) (object ms) ≡ carried_members (Some c) (object ns) → Aligned m (in_class c) list (get_member list ms) (get_member list ns)
+      → Same m (Some (Object role.Content)) (object ms) (object ns)
+  nodes_alike c f name list asks keyed wants rest ms ns a b tree tree' keys others listed =
+      an_object
+      (subst (λ x. SameMembers m (scope.Members role.Content x) ms ns) (sym a.at.among)
+      (merged m (in_class c) ms ns tree tree' (λ k. at k (bytes_eq k (codes "@type")) refl (bytes_eq k name) refl (bytes_eq k list) refl)))
+    where
+      at : (k : List ℕ) (x : Bool) → bytes_eq k (codes "@type") ≡ x → (y : Bool) → bytes_eq k name ≡ y → (z : Bool) → bytes_eq k list ≡ z → Aligned m (in_class c) k (get_member k ms) (get_member k ns)
+      at k true is y its z listed_too = by_name (in_class c) ms ns k (codes "@type") is (types_aligned c ms ns a.at b.at)
+      at k false is true its z listed_too = by_name (in_class c) ms ns k name its (ids_aligned c f name a.id b.id (get_member name ms) (get_member name ns) asks keyed a.named b.named a.refers keys)
+      at k false is false its true listed_too = by_name (in_class c) ms ns k list listed_too listed
+      at k false is false its false other = rest_aligned c ms ns a.at b.at others k (wants k) is (rest k is its other)
+
   -- ---- the list of a contest
 
-  chosen_says : (ms ns : Members) (a : ContestNode t ms) (b : ContestNode u ns) → key_named π t family.Contest a.id ≡ key_named π u family.Contest b.id → (d e : Data) → IsSelected a.meant d → IsSelected b.meant e
+  chosen_says : (ms ns : Members) (a : ContestNode t ms) (b : ContestNode u ns) → key_named π t family.Contest a.node.id ≡ key_named π u family.Contest b.node.id → (d e : Data) → IsSelected a.meant d → IsSelected b.meant e
       → entry_name π t d ≡ entry_name π u e → Same m (Some (Reference family.Selection)) d e
   chosen_says ms ns a b same d e h k named =
-      let key = resolves π t accepted family.Contest a.id refl a.refers in
+      let key = resolves π t accepted family.Contest a.node.id refl a.node.refers in
       let left = sym (ap (option_and_then (key_of π)) a.is) ∙ key.1 in
       let right = sym (ap (option_and_then (key_of π)) b.is) ∙ sym same ∙ key.1 in
       let both : name_named π t h.0 ≡ name_named π u k.0 = sym (ap (entry_name π t) h.1) ∙ named ∙ ap (entry_name π u) k.1 in
       subst (λ x. Same m (Some (Reference family.Selection)) x e) (sym h.1)
       (subst (Same m (Some (Reference family.Selection)) (string h.0)) (sym k.1)
-      (an_id refl (tied.selections a.id b.id a.meant b.meant key.0 h.0 k.0 a.is b.is left right h.2 k.2 both)))
+      (an_id refl (tied.selections a.node.id b.node.id a.meant b.meant key.0 h.0 k.0 a.is b.is left right h.2 k.2 both)))
 
   -- contests that mean the same say the same
   contests_say : (ms ns : Members) → ContestNode t ms → ContestNode u ns → AreMembers ms → AreMembers ns → contest_node π t (object ms) ≡ contest_node π u (object ns) → Same m (Some (Object role.Content)) (object ms) (object ns)
   contests_say ms ns a b tree tree' same =
-      an_object
-      (subst (λ x. SameMembers m (scope.Members role.Content x) ms ns) (sym a.at.among)
-      (merged m (in_class class.OrderedContest) ms ns tree tree' (λ k. at k (bytes_eq k (codes "@type")) refl (bytes_eq k (codes "ContestId")) refl (bytes_eq k list_name) refl)))
+      nodes_alike class.OrderedContest family.Contest (codes "ContestId") list_name refl refl (λ k. refl) contest_rest ms ns a.node b.node tree tree' keys (rw (a.node.at.among, b.node.at.among) at (ap node_others same))
+      (lists_aligned m (in_class class.OrderedContest) list_name kind.Ordered false refl refl (λ ds. Unit {0}) (λ ds. Unit {0}) (get_member list_name ms) (get_member list_name ns) refl a.list b.list
+      (paired_by (Same m (Some (Reference family.Selection))) (entry_name π t) (entry_name π u) (entries_in (get_member list_name ms)) (entries_in (get_member list_name ns))
+      (λ x y i j e. chosen_says ms ns a b keys x y (a.chosen x i) (b.chosen y j) e) (ap node_names same)))
     where
-      keys : key_named π t family.Contest a.id ≡ key_named π u family.Contest b.id
-      keys = rw (a.named, b.named) at (ap node_key same)
-
-      names : map (entry_name π t) (entries_in (get_member list_name ms)) ≡ map (entry_name π u) (entries_in (get_member list_name ns))
-      names = ap node_names same
-
-      others : carried_members (Some class.OrderedContest) (object ms) ≡ carried_members (Some class.OrderedContest) (object ns)
-      others = rw (a.at.among, b.at.among) at (ap node_others same)
-
-      chosen : Paired (Same m (Some (Reference family.Selection))) (entries_in (get_member list_name ms)) (entries_in (get_member list_name ns))
-      chosen =
-          paired_by (Same m (Some (Reference family.Selection))) (entry_name π t) (entry_name π u) (entries_in (get_member list_name ms)) (entries_in (get_member list_name ns))
-          (λ x y i j e. chosen_says ms ns a b keys x y (a.chosen x i) (b.chosen y j) e) names
-
-      at : (k : List ℕ) (x : Bool) → bytes_eq k (codes "@type") ≡ x → (y : Bool) → bytes_eq k (codes "ContestId") ≡ y → (z : Bool) → bytes_eq k list_name ≡ z
-          → Aligned m (in_class class.OrderedContest) k (get_member k ms) (get_member k ns)
-      at k true e y f z g = by_name (in_class class.OrderedContest) ms ns k (codes "@type") e (types_aligned class.OrderedContest ms ns a.at b.at)
-      at k false e true f z g =
-          by_name (in_class class.OrderedContest) ms ns k (codes "ContestId") f
-          (ids_aligned class.OrderedContest family.Contest (codes "ContestId") a.id b.id (get_member (codes "ContestId") ms) (get_member (codes "ContestId") ns) refl refl a.named b.named a.refers keys)
-      at k false e false f true g =
-          by_name (in_class class.OrderedContest) ms ns k list_name g
-          (lists_aligned m (in_class class.OrderedContest) list_name kind.Ordered false refl refl (λ ds. Unit {0}) (λ ds. Unit {0}) (get_member list_name ms) (get_member list_name ns) refl a.list b.list chosen)
-      at k false e false f false g = rest_aligned class.OrderedContest ms ns a.at b.at others k refl e (contest_rest k e f g)
+      keys : key_named π t family.Contest a.node.id ≡ key_named π u family.Contest b.node.id
+      keys = rw (a.node.named, b.node.named) at (ap node_key same)
 
   -- ---- headers
 
@@ -292,24 +284,8 @@ module _ (π : Preference) (t u : Data) (m : Sides) (accepted : IsAccepted π t)
   headers_say : (ms ns : Members) → HeaderNode t ms → HeaderNode u ns → AreMembers ms → AreMembers ns → node_of_header π t ms ≡ node_of_header π u ns
       → Aligned m (in_class class.OrderedHeader) inner_name (get_member inner_name ms) (get_member inner_name ns) → Same m (Some (Object role.Content)) (object ms) (object ns)
   headers_say ms ns a b tree tree' same inside =
-      an_object
-      (subst (λ x. SameMembers m (scope.Members role.Content x) ms ns) (sym a.at.among)
-      (merged m (in_class class.OrderedHeader) ms ns tree tree' (λ k. at k (bytes_eq k (codes "@type")) refl (bytes_eq k (codes "HeaderId")) refl (bytes_eq k inner_name) refl)))
-    where
-      keys : key_named π t family.Header a.id ≡ key_named π u family.Header b.id
-      keys = rw (a.named, b.named) at (ap node_key same)
-
-      others : carried_members (Some class.OrderedHeader) (object ms) ≡ carried_members (Some class.OrderedHeader) (object ns)
-      others = rw (a.at.among, b.at.among) at (ap node_others same)
-
-      at : (k : List ℕ) (x : Bool) → bytes_eq k (codes "@type") ≡ x → (y : Bool) → bytes_eq k (codes "HeaderId") ≡ y → (z : Bool) → bytes_eq k inner_name ≡ z
-          → Aligned m (in_class class.OrderedHeader) k (get_member k ms) (get_member k ns)
-      at k true e y f z g = by_name (in_class class.OrderedHeader) ms ns k (codes "@type") e (types_aligned class.OrderedHeader ms ns a.at b.at)
-      at k false e true f z g =
-          by_name (in_class class.OrderedHeader) ms ns k (codes "HeaderId") f
-          (ids_aligned class.OrderedHeader family.Header (codes "HeaderId") a.id b.id (get_member (codes "HeaderId") ms) (get_member (codes "HeaderId") ns) refl refl a.named b.named a.refers keys)
-      at k false e false f true g = by_name (in_class class.OrderedHeader) ms ns k inner_name g inside
-      at k false e false f false g = rest_aligned class.OrderedHeader ms ns a.at b.at others k refl e (header_rest k e f g)
+      nodes_alike class.OrderedHeader family.Header (codes "HeaderId") inner_name refl refl (λ k. refl) header_rest ms ns a.node b.node tree tree'
+      (rw (a.node.named, b.node.named) at (ap node_key same)) (rw (a.node.at.among, b.node.at.among) at (ap node_others same)) inside
 
   -- ---- contents, headers inside headers included
 
@@ -346,10 +322,10 @@ module _ (π : Preference) (t u : Data) (m : Sides) (accepted : IsAccepted π t)
       (sym (content_inside-get π t ms) ∙ same ∙ content_inside-get π u ns))
 
   node_of-contest : (t : Data) (ms : Members) → ContestNode t ms → node_of π t (object ms) ≡ contest_node π t (object ms)
-  node_of-contest t ms a = rw a.at.among
+  node_of-contest t ms a = rw a.node.at.among
 
   node_of-header : (t : Data) (ms : Members) → HeaderNode t ms → node_of π t (object ms) ≡ node_of_header π t ms
-  node_of-header t ms a = rw a.at.among
+  node_of-header t ms a = rw a.node.at.among
 
   -- a contest or a header
   node_says : (n : ℕ) → Nodes n → (d e : Data) → depth d ≤ suc (suc n) → IsTree d → IsTree e → NodeView t d → NodeView u e → node_of π t d ≡ node_of π u e → Same m (Some (Object role.Content)) d e

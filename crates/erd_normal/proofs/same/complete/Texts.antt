@@ -5,8 +5,7 @@ use Rattle.erd_normal.proofs.canonical.ContestSelections.{one_contest}
 use Rattle.erd_normal.proofs.lists.Lists.{is_family}
 use Rattle.erd_normal.proofs.lists.Matched.{Matched, matched_flat, Paired, none, more}
 use Rattle.erd_normal.proofs.same.Related.{matched_within_both}
-use Rattle.erd_normal.proofs.same.complete.Counterparts.{ObjectsAlike, family_matched, selection_name, selections_matched}
-use Rattle.erd_normal.proofs.same.complete.Sets.{MeanOne, TextsTied}
+use Rattle.erd_normal.proofs.same.complete.Counterparts.{ObjectsAlike, family_matched, selection_name, selections_matched, MeanOne, TextsTied}
 
 -- an object of each report, of one family, with one key; or two selections with one name, of contests with one key
 pub data Counterpart (π : Preference) (t u : Data) (f : Family) (o p : Placed) : Type 0 where

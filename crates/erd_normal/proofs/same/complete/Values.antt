@@ -1,12 +1,12 @@
 -- Members that mean the same say the same, and so do the objects that have them.
 use Rattle.erd_check.specs.Wants.{may_need_entry}
 use Rattle.erd_normal.proofs.Common.{◌&&◌, ◌≡◌, ℕ, suc, Bool, true, false, not, ◌||◌, List, [], length, ◌==◌, Some, None, codes, Option, option_and_then, sym, refl, ap, ◌∙◌, subst, arith, Data, string, array, object, Items, no_items, item, Members, get_member, text_of_class, role_of_class, Class, class, Family, role, reason, MemberKind, kind, array_from, get_member-tree, of_label, faultless, wanted_within, lacks_none, classed, member_within, Classed, Within, is_simple_class, no_strange, no_unknown, is_text, is_array, is_object, is_empty_array, IsTree, AreTrees, AreMembers, list_of_items, class_of_object, want_of_kind, want_of_name, asked, Scope, scope, Want, Member, Object, Reference, no_shape_fault, IsAccepted, has_keys, Preference, Label, untranslated, Content, no_content, PlainValue, a_label, a_json_set, a_key, a_key_set, a_content, label_of, unless_empty, plain_value, Key, Sides, is_array_kind, a_text, an_object, no_entry, Same, SameEntries, SameMembers, IsPermutation, ◌⊎◌, ◌∷◌, is_some, option_map, bytes_eq, inl, inr, ⊎_elim, not-true, and_parts, list_all, list_any, null, family_of_role, family_of_class, rows_of_class, kind_of_member, is_required, family, Role, text_exact, ObjectAt, kind_of_name, want_unless_status, is_report_class, member_want, ClassText, Status, a_json, MemberValue, a_plain, is_in_envelope, plain_member, member_value, In, In-any}
-use Rattle.erd_normal.proofs.lists.Matched.{Matched, matched_none}
+use Rattle.erd_normal.proofs.lists.Matched.{Matched, matched_none, paired_self}
 use Rattle.erd_normal.proofs.same.Related.{entries_paired, set_says, list_says, json_sets_reordered}
 use Rattle.erd_normal.proofs.same.Labels.{Translations, labels_say, plain_self, equal_aligned}
 use Rattle.erd_normal.proofs.same.Lookups.{Aligned, both_there, not_both, lacks_none as lacks_nothing, asked_of_name, merged, AllPlain, is_plain}
 use Rattle.erd_normal.proofs.same.complete.Contents.{left_empty, right_empty, content_says}
-use Rattle.erd_normal.proofs.same.complete.Sets.{entry_key, named_by, paired_self, reference_says, references_matched, values_apart, values_sound, TextsTied}
+use Rattle.erd_normal.proofs.same.complete.Counterparts.{entry_key, named_by, reference_says, references_matched, values_apart, values_sound, TextsTied}
 use Rattle.erd_normal.proofs.built.BuiltFrom.{label_class, status_kind}
 
 -- ---- members that mean the same by themselves say the same

@@ -1,9 +1,9 @@
 -- A report that says the same as an accepted one means the same.
-use Rattle.erd_normal.proofs.Common.{◌≡◌, ℕ, Bool, true, false, List, Some, None, codes, Option, find, option_and_then, is_eq, sym, refl, ap, ◌∙◌, subst, option_cmp, eq_by_cmp, Data, get, role_of_class, kind_of_member, Class, Family, family, Role, role, kind, entries_in, report_class, election_class, Within-root, ShapeFault, NoneOf, IsTree, entries_of, entries_at, Object, no_shape_fault, is_selections, selections_kind, selections_name, selections_family, IsAccepted, has_keys, Preference, a_selection_map, NameParts, objects, meaning, unless_empty, is_in_envelope, plain_member, selection_record, selection_map, member_value, member_of_class, object_record, name_cmp, Sides, SaysTheSame, by_name, fun_ext, ap₂, tied_itself, on_total, options_total, IsDistinct, reason, Step, values-placed_entries, distinct_one, SelectionFault, RepeatsName, contests, selections_of_contest, name_of, name_cmp_total, In, In-from_contains, In-map_from}
+use Rattle.erd_normal.proofs.Common.{◌≡◌, ℕ, Bool, true, false, List, Some, None, codes, Option, find, option_and_then, is_eq, sym, refl, ap, ◌∙◌, subst, option_cmp, eq_by_cmp, Data, get, kind_of_member, Class, Family, family, Role, role, kind, entries_in, Within-root, ShapeFault, NoneOf, IsTree, entries_of, entries_at, Object, no_shape_fault, is_selections, selections_kind, selections_name, selections_family, IsAccepted, has_keys, Preference, a_selection_map, NameParts, objects, meaning, unless_empty, is_in_envelope, plain_member, selection_record, selection_map, member_value, member_of_class, object_record, name_cmp, Sides, SaysTheSame, by_name, fun_ext, ap₂, tied_itself, on_total, options_total, IsDistinct, reason, Step, values-placed_entries, distinct_one, SelectionFault, RepeatsName, contests, selections_of_contest, name_of, name_cmp_total, In, In-from_contains, In-map_from}
 use Rattle.erd_meaning.proofs.meanings.HeldValues.{Held, held_of, held_values}
 use Rattle.erd_normal.specs.MeansTheSame.{SayingTheSameMeansTheSame}
 use Rattle.erd_normal.proofs.lists.Matched.{AtMostOne, Matched, apart_distinct, matched_find, matched_within, one_if_apart, said_same, distinct_matched, even_order, matched_back}
-use Rattle.erd_normal.proofs.meaning.MatchedMeanings.{HeldAlike, MeanOne, held_matched, matched_meaning, is_named, named_tied, plain_members, record_alike, flat_no_selections, is_flat_class, kind_is_flat}
+use Rattle.erd_normal.proofs.meaning.MatchedMeanings.{HeldAlike, MeanOne, held_matched, matched_meaning, is_named, named_tied, plain_members, record_alike, flat_no_selections, is_flat_role, kind_is_flat}
 use Rattle.erd_normal.proofs.same.IdsOfObjects.{family_values, placed_value, outside, in_report, in_election, not_before_itself, value_placed}
 use Rattle.erd_normal.proofs.same.Related.{Related}
 use Rattle.erd_normal.proofs.same.Owners.{elections_matched, related_election_key, related_key, keyed_array, family_matched, selections_matched}
@@ -123,11 +123,11 @@ module _ (m : Sides) (π : Preference) (g : TwoReports m π) where
       record_alike (member_of_class π m.left d) (member_of_class π m.right e) (role.OfFamily f) d e o.class o.left o.right (member_alike f d e k o)
 
   -- the report and the elections have no selections of their own
-  flat_alike : (r : Role) → ((c : Class) → role_of_class c ≡ r → is_flat_class c ≡ true) → (d e : Data) → Related m (Object r) d e → object_record π m.left r d ≡ object_record π m.right r e
+  flat_alike : (r : Role) → is_flat_role r ≡ true → (d e : Data) → Related m (Object r) d e → object_record π m.left r d ≡ object_record π m.right r e
   flat_alike r flat d e k =
       let o : BothObjects m r d e = both_objects m g.left_tree g.right_tree clean r d e k in
       record_alike (member_of_class π m.left d) (member_of_class π m.right e) r d e o.class o.left o.right
-      (λ name. plain_at r d e o name (flat_no_selections (kind_of_member o.class name) (kind_is_flat o.class name (flat o.class o.role))))
+      (λ name. plain_at r d e o name (flat_no_selections (kind_of_member o.class name) (kind_is_flat o.class name (ap is_flat_role o.role ∙ flat))))
 
   -- ---- families
 
@@ -152,20 +152,14 @@ module _ (m : Sides) (π : Preference) (g : TwoReports m π) where
 
   -- ---- the whole
 
-  flat_report : (c : Class) → role_of_class c ≡ role.Report → is_flat_class c ≡ true
-  flat_report c is = ap is_flat_class (report_class c is)
-
-  flat_election : (c : Class) → role_of_class c ≡ role.Election → is_flat_class c ≡ true
-  flat_election c is = ap is_flat_class (election_class c is)
-
   elections_alike : Matched (MeanOne π m.left m.right role.Election) (entries_at (codes "Election") m.left) (entries_at (codes "Election") m.right)
   elections_alike =
       matched_within (MeanOne π m.left m.right role.Election)
-      (λ d e h r. record { keys = related_election_key m g.left_tree g.right_tree clean π d e r; records = flat_alike role.Election flat_election d e r })
+      (λ d e h r. record { keys = related_election_key m g.left_tree g.right_tree clean π d e r; records = flat_alike role.Election refl d e r })
       (elections_matched m g.left_tree g.right_tree clean g.root)
 
   pub meaning_alike : meaning π m.left ≡ meaning π m.right
-  meaning_alike = matched_meaning π m.left m.right g.accepted (flat_alike role.Report flat_report m.left m.right g.root) elections_alike families_alike
+  meaning_alike = matched_meaning π m.left m.right g.accepted (flat_alike role.Report refl m.left m.right g.root) elections_alike families_alike
 
 -- the two reports of functions of texts by which they say the same
 pub two_reports : (π : Preference) (t u : Data) (h : SaysTheSame t u) → IsTree t → IsTree u → IsAccepted π t

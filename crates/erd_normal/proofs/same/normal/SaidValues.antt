@@ -1,8 +1,7 @@
 -- What is built of the value of a member without objects says what the value says, and where nothing is built of it, it is an
 -- empty array.
 use Rattle.erd_normal.proofs.Common.{◌≡◌, ℕ, Bool, true, false, ◌&&◌, List, [], ◌∷◌, map, if◌then◌else◌, Some, None, codes, Option, bytes_eq, Ordering, sym, refl, ap, ◌∙◌, subst, map-id, not-false, Data, string, array, object, Items, no_items, item, Members, put, get_member, kind_of_member, is_required, Class, Family, family, role, reason, MemberKind, kind, text_exact, faultless, wanted_within, within-tree, Within, want_unless_status, is_empty_array, IsTree, list_of_items, entries_of, entries_at, text_of, want_of_kind, is_report_class, member_want, want_of_name, entry_want, is_table_set, asked, Scope, scope, Want, Carried, Member, Object, Reference, Status, no_shape_fault, IsAccepted, Preference, IsBounded, rising_list, compact_cmp, with_rising_text, Sides, is_array_kind, an_empty_array, a_text, an_id, an_object, Same, SameMembers, normal_id, normal_reference, reference_cmp, normal_selection_reference, unless_no_entry, array_of, normal_value, is_array, IsPermutation, items_of, list_of_items-items_of, reordered_rising, a_list, a_set, SameEntries, IsPermutation-sym, In, In-all, inl, inr, reordered-In}
-use Rattle.erd_normal.proofs.built.BuiltFrom.{entries_asked, status_kind, Builder}
-use Rattle.erd_normal.proofs.built.BuiltObjects.{no_entry}
+use Rattle.erd_normal.proofs.built.BuiltFrom.{entries_asked, no_entry, status_kind, Builder}
 use Rattle.erd_normal.proofs.built.NormalTrees.{get_label-other, with_rising_text-tree}
 use Rattle.erd_normal.proofs.same.IdsOfObjects.{Refers, reference_refers, references_refer}
 use Rattle.erd_normal.proofs.throughout.ThroughoutMembers.{BuiltLabel, built_label, is_prefixed, is_plain_kind}

@@ -1,4 +1,4 @@
-use Rattle.erd_compare.proofs.Common.{Option, option_map, option_and_then, sym, ap, ◌∙◌, slice_get, view, family, objects, rules}
+use Rattle.erd_compare.proofs.Common.{rules}
 use Rattle.erd_compare.proofs.contest_selections.PlacedNames.{found_in}
 use Rattle.erd_compare.proofs.inside.named.selection_named.Goals as goal
 

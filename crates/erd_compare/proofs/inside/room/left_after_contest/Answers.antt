@@ -1,4 +1,4 @@
-use Rattle.erd_compare.proofs.Common.{◌≡◌, ℕ, ◌+◌, ◌<◌, ◌≤◌, length, sym, ap, ◌∙◌, subst, arith, family, option_map, Bor}
+use Rattle.erd_compare.proofs.Common.{◌≡◌, ℕ, ◌+◌, ◌<◌, ◌≤◌, sym, ap, ◌∙◌, subst, arith, family, option_map, Bor}
 use Rattle.erd_meaning.specs.NameParts.{NameParts}
 use Rattle.erd_compare.specs.code.ContestSelections.{size_in}
 use Rattle.erd_compare.proofs.contest_selections.AddedNames.{its_name, its_position, next_value}

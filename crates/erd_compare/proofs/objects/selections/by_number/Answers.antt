@@ -52,5 +52,5 @@ overflow_add-start c =
     let counted = subst (λ (x : Judged). c.first_selection-start.result ≡ selections_before (view x.tree) c.args.selections.contest) c.on.ensures.same c.first_selection-start.ensures in
     let o = stands_here j c.args.selections.contest c.first_selection-start.result c.loop-index.index c.args.selections.values.now c.index-values-index.result c.requires counted c.loop-index-test.true c.index-values-index.is in
     let low = slice_get_within (objects family.Selection (view j.tree)) (c.first_selection-start.result + c.loop-index.index) o.0 o.1 in
-    let few = c.on.ensures.bounded.few family.Selection in
+    let few = c.on.ensures.comparable.bounded.few family.Selection in
     omega (arith, low, few)

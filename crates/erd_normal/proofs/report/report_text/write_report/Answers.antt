@@ -1,4 +1,4 @@
-use Rattle.erd_normal.proofs.Common.{◌++◌, ap, ◌∙◌, subst, on_ok_weaker, view, role, IsTree, class_of_object, IsAccepted, Judged, put_in, normal_object_with, envelope_values, value_tokens, written_report_value}
+use Rattle.erd_normal.proofs.Common.{◌++◌, ap, ◌∙◌, subst, on_ok_weaker, view, role, IsTree, class_of_object, IsAccepted, put_in, normal_object_with, envelope_values, value_tokens, written_report_value}
 use Rattle.erd_normal.proofs.ranks.WrittenTrees.{written_is_normal}
 use Rattle.erd_normal.proofs.texts.DueTokens.{put_envelope}
 use Rattle.erd_normal.proofs.report.report_text.write_report.Goals as goal
@@ -6,9 +6,9 @@ use Rattle.erd_normal.proofs.report.report_text.write_report.Goals as goal
 pub returns : goal.returns
 returns c =
     let t = view c.args.writer.now.tree in
-    let is = ap view (c.tree-root.ensures.tree ∙ ap (λ (r : Judged). r.tree) c.report.ensures.same) in
-    let accepted : IsAccepted c.args.writer.now.prefer t = subst (λ (r : Judged). IsAccepted r.prefer t) c.report.ensures.same (subst (IsAccepted c.report.result.now.prefer) is c.tree-root.ensures.accepted) in
-    let tree : IsTree t = subst IsTree is c.tree-root.ensures.is_tree in
+    let is = ap view c.requires.root in
+    let accepted : IsAccepted c.args.writer.now.prefer t = subst (IsAccepted c.args.writer.now.prefer) is c.requires.accepted in
+    let tree : IsTree t = subst IsTree is c.requires.is_tree in
     let same =
     ap (λ x. put_in envelope_values (normal_object_with (written_report_value c.args.writer.now.prefer t) (class_of_object role.Report x) x)) is
     ∙ (put_envelope (normal_object_with (written_report_value c.args.writer.now.prefer t) (class_of_object role.Report t) t)

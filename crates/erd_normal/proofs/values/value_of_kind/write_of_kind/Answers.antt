@@ -23,13 +23,12 @@ returns-in-Ordered c =
     let π = c.args.writer.now.prefer in
     let t = view c.args.writer.now.tree in
     let d = view c.args.value.now in
-    let entries = c.entries_of-in-Ordered.ensures in
     let built : Data = array_of (map (normal_selection_reference π t) (entries_of d)) in
     let value : normal_value π t c.args.kind d ≡ unless_no_entry d built = ap (λ k. normal_value π t k d) c.in-Ordered.is in
     on_ok_weaker c.write_selection_references.result
     (λ written whole v given.
     written
     ∙ ap (λ d. c.args.out.now ++ value_tokens d)
-    (ap array_of (map_after view (normal_selection_reference π t) c.entries_of-in-Ordered.result.now ∙ ap (map (normal_selection_reference π t)) entries)
+    (ap array_of (map_after view (normal_selection_reference π t) c.entries_of-in-Ordered.result.now ∙ ap (map (normal_selection_reference π t)) c.entries_of-in-Ordered.ensures)
     ∙ (given_unless d built v (sym value ∙ given)).1))
     c.write_selection_references.ensures

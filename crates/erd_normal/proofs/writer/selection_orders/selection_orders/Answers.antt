@@ -1,4 +1,4 @@
-use Rattle.erd_normal.proofs.Common.{◌≡◌, ℕ, ◌+◌, ◌<◌, List, [], ◌++◌, map, length, take, replicate, slice_get, Some, option_map, flat_map, sym, ap, ◌∙◌, subst, ap₂, arith, length-map, slice_get-map, AllByRecursion, option_cmp, option_map_or, Data, view, Placed, contests, IsBounded, name_of, name_cmp, positions_by, take-length, at_low, rising_selections, in_at}
+use Rattle.erd_normal.proofs.Common.{◌≡◌, ℕ, ◌+◌, ◌<◌, List, [], ◌++◌, map, length, take, replicate, slice_get, Some, option_map, flat_map, sym, ap, ◌∙◌, subst, ap₂, arith, length-map, slice_get-map, AllByRecursion, option_cmp, option_map_or, Data, view, Placed, contests, name_of, name_cmp, positions_by, take-length, at_low, rising_selections, in_at}
 use Rattle.erd_meaning.specs.Places.{places_put}
 use Rattle.erd_text.proofs.OneByOne.{one_more}
 use Rattle.erd_text.proofs.StableRising.{map_after}
@@ -32,7 +32,7 @@ rising_in_contest-requires c =
     let here = value_there (contest_values t) i d x.here in
     record {
       named = named_in_turn t i c.loop-index.start d c.selections_at-selections.result.now x.low here c.loop-index.invariant.start x.lists c.args.report.now.prefer;
-      few = few_in_turn t i c.loop-index.start d c.selections_at-selections.result.now x.low here c.loop-index.invariant.start x.lists (subst (λ v. IsBounded (view v)) c.tree-tree.ensures.tree c.tree-tree.ensures.bounded);
+      few = few_in_turn t i c.loop-index.start d c.selections_at-selections.result.now x.low here c.loop-index.invariant.start x.lists c.requires.bounded;
     }
 
 pub places_in-requires : goal.places_in-requires
@@ -73,8 +73,7 @@ overflow_add-start c =
     let t = view c.args.report.now.tree in
     let i = c.loop-index.index in
     let x = there t i c.count-count.result (map view c.selections_at-selections.result.now) c.count-count.ensures c.loop-index-test.true c.selections_at-selections.ensures in
-    let few = few_in_turn t i c.loop-index.start x.contest.value c.selections_at-selections.result.now x.low (value_there (contest_values t) i x.contest.value x.here) c.loop-index.invariant.start x.lists
-    (subst (λ v. IsBounded (view v)) c.tree-tree.ensures.tree c.tree-tree.ensures.bounded) in
+    let few = few_in_turn t i c.loop-index.start x.contest.value c.selections_at-selections.result.now x.low (value_there (contest_values t) i x.contest.value x.here) c.loop-index.invariant.start x.lists c.requires.bounded in
     omega (arith, few)
 
 pub returns-clause-rising : goal.returns-clause-rising

@@ -1,6 +1,6 @@
 use Rattle.erd_compare.proofs.Common.{◌≡◌, Bool, true, false, Some, None, Ok, get, option_map, subst, view, names_left, MemberPair, arith}
-use Rattle.erd_compare.proofs.least_difference.NameWalks.{firsts_left}
-use Rattle.erd_compare.proofs.differing.NamePairs.{differs, ended, fewer, passed}
+use Rattle.erd_compare.proofs.differing.NamePairs.{differs, ended, passed}
+use Rattle.erd_compare.proofs.differing.NameWalks.{fewer, firsts_left}
 use Rattle.erd_compare.proofs.objects.differing_names.PairsLeft.next_differing.Goals as goal
 
 pub returns-then-not-same-clause-stand : goal.returns-then-not-same-clause-stand

@@ -1,6 +1,5 @@
 use Rattle.erd_compare.proofs.Common.{refl, sym, ap, subst, view, members_view, names, AreMembersOf}
-use Rattle.erd_compare.proofs.least_difference.NameWalks.{all_members}
-use Rattle.erd_compare.proofs.differing.NamePairs.{all_left}
+use Rattle.erd_compare.proofs.differing.NameWalks.{all_members, both_left}
 use Rattle.erd_compare.proofs.objects.differing_names.PairsLeft.of.Goals as goal
 
 pub returns-clause-stand : goal.returns-clause-stand
@@ -16,5 +15,5 @@ returns-clause-stand c =
 
 pub returns-clause-left : goal.returns-clause-left
 returns-clause-left c =
-    all_left (view c.args.one.now) (view c.args.other.now) (members_view c.in-Some-Some.ones.now.entries) (members_view c.in-Some-Some.others.now.entries) c.requires.one c.requires.other c.in-Some-Some.ensures c.in-Some-Some.ensures'
+    both_left (view c.args.one.now) (view c.args.other.now) (members_view c.in-Some-Some.ones.now.entries) (members_view c.in-Some-Some.others.now.entries) c.requires.one c.requires.other c.in-Some-Some.ensures c.in-Some-Some.ensures'
     _ _ (ap names c.of-ones.ensures) (ap names c.of-others.ensures)

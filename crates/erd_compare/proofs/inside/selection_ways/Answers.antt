@@ -1,8 +1,8 @@
 use Rattle.erd_compare.proofs.Common.{[], sym, subst, Judged}
-use Rattle.erd_compare.specs.code.ContestSelections.{contest_map, names_in_set, AddsNames}
+use Rattle.erd_compare.specs.code.ContestSelections.{contest_map, differences_at, names_in_set, AddsNames}
 use Rattle.erd_compare.proofs.contest_selections.NameSets.{lent, names_rise}
 use Rattle.erd_compare.proofs.contest_selections.SelectionLists.{ArePassed, both_names, next_passed, none_passed}
-use Rattle.erd_compare.proofs.inside.selection_differences.Goals as goal
+use Rattle.erd_compare.proofs.inside.selection_ways.Goals as goal
 
 pub loop-name-init : goal.loop-name-init
 loop-name-init c =
@@ -16,17 +16,11 @@ loop-name-init c =
     let second = names_in_set c.add_names-2.new.names in
     let mine = subst (λ (x : Judged). AddsNames x c.args.contest start first) c.left.ensures.same c.in_ok-add_names.ensures in
     let its = subst (λ (x : Judged). AddsNames x c.args.other_contest first second) c.right.ensures.same c.in_ok-add_names-2.ensures in
-    subst (λ ds. ArePassed m n ds (lent c.into_iter-name-iterator.result)) (sym c.new-found.ensures.items)
+    subst (λ vs. ArePassed m n (differences_at vs) (lent c.into_iter-name-iterator.result)) (sym c.new-found.ensures.items)
     (subst (λ ks. ArePassed m n [] (lent ks)) (sym gives.0)
     (none_passed m n second (names_rise c.add_names-2.new.names.keys gives.4) (both_names a b c.args.contest c.args.other_contest start first second mine its)))
 
 pub loop-name-preserved : goal.loop-name-preserved
 loop-name-preserved c =
     next_passed (contest_map c.args.comparer.now.left c.args.contest) (contest_map c.args.comparer.now.right c.args.other_contest) c.loop-name.found.items _ c.in-Some.name.now c.in-Some.ensures.steps c.loop-name.invariant
-    c.in_ok-ways.ways c.in_ok-ways.ensures c.in_ok-push_named.ensures
-
--- the same, where the ways have names to free
-pub loop-name-preserved-in_ok-push_named : goal.loop-name-preserved-in_ok-push_named
-loop-name-preserved-in_ok-push_named c =
-    next_passed (contest_map c.args.comparer.now.left c.args.contest) (contest_map c.args.comparer.now.right c.args.other_contest) c.loop-name.found.items _ c.in-Some.name.now c.in-Some.ensures.steps c.loop-name.invariant
-    c.in_ok-ways.ways c.in_ok-ways.ensures c.in_ok-push_named.ensures
+    c.in_ok-ways.ways c.in_ok-ways.ensures c.in_ok-push.ensures.items

@@ -1,0 +1,37 @@
+-- The words that the contracts of this crate cite, passed on from one place. Declares nothing.
+pub use Rattle.std.specs.Io.{ReadsAtMost, WritesAtMost}
+pub use Rattle.std.specs.Io.KnownBytes.{Appends, Consumes, IsAtEnd, Keeps, ReadConsumes, WriteAppends}
+pub use Rattle.std.specs.Iterator.Adapters.{IterYieldsInOrder}
+pub use Rattle.std.specs.Slice.Iter.{iter_rest}
+pub use Rattle.serde_json.specs.Data.{string, Data}
+pub use Rattle.serde_json.specs.View.{view}
+pub use Rattle.serde_json.specs.Written.{comma_if, compact_text}
+pub use Rattle.clap.specs.Words.{app_of, first_of, found_of, kind_of, rows_of, rule_of, subcommand_rows_of}
+pub use Rattle.erd_tables.specs.Faults.{fault_line, reason_number, reason_text}
+pub use Rattle.erd_tables.specs.Places.{escaped_byte, escaped_name, pointer_text, step_text}
+pub use Rattle.erd_check.specs.Numbers.{HasFittingNumbers}
+pub use Rattle.erd_check.specs.Trees.{IsShallow}
+pub use Rattle.erd_meaning.specs.Accepted.{IsAccepted}
+pub use Rattle.erd_meaning.specs.Keys.{Preference}
+pub use Rattle.erd_compare.specs.DifferenceLine.{difference_line}
+pub use Rattle.erd_compare.specs.SelectionData.{detailed_data}
+pub use Rattle.erd_canon.specs.Bytes.{IsAcceptedReport, IsTreeOf}
+pub use Rattle.erd_canon.specs.Headline.{Headline}
+pub use Rattle.erd_canon.specs.ByteLaws.{AgreesUnderEach, IsItsOwnForm, OneFormForOneMeaning, SameFormWhenRearranged, TellsWhatIsSaid}
+pub use Rattle.erd_canon.specs.EngineTexts.{comparison_line, lines_of_side, text_of_lines, AreDetailed, IsComparison, IsRefusal}
+pub use Rattle.erd_canon.specs.Refused.{IsSomeReport, RefusedAs, RefusedSide}
+pub use Rattle.erd_canon.specs.Limits.{most_bytes, most_reads}
+pub use Rattle.erd_canon.specs.Reading.{Exceeds}
+pub use Rattle.erd_canon.specs.Run.{comparison_outcome, IsAnswerWritten, IsCheckWritten, IsCompareWritten}
+pub use Rattle.erd_canon.specs.DataValues.{comparison_data, differences_data, fault_data, faults_data, place_data, step_data}
+pub use Rattle.erd_canon.specs.DataAnswers.{listing_outcome, IsCheckedData, IsComparedData, IsDataText, IsListedData}
+pub use Rattle.erd_canon.specs.Pieces.{whole_line, IsCheckLines, IsCheckPiece, IsCompareLines, IsComparePiece, IsFormLines, IsFormPiece, IsFoundLines, IsListLines, IsListPiece, IsPieceData, IsPieceText, TellsNone}
+pub use Rattle.erd_canon.specs.Writing.{IsAnswerPartWritten, IsCheckPartWritten, IsComparePartWritten, IsPartWritten}
+pub use Rattle.erd_canon.specs.Devices.{between, Reader, Writer}
+pub use Rattle.erd_canon.specs.Engines.{IsCanonRun, IsCheckRun, IsCompareRun}
+pub use Rattle.erd_canon.specs.Statuses.{fault_status, fault_words, outcome_status}
+pub use Rattle.erd_canon.specs.Options.{options_in, preference_data}
+pub use Rattle.erd_canon.specs.ExactLines.{words_of, HasPlainWords}
+pub use Rattle.erd_canon.specs.Subcommands.{canon_subcommand, check_subcommand, compare_subcommand, file_rule, prefer_rule, program}
+pub use Rattle.erd_canon.specs.ReadLines.{request_in, subcommand_request, word_for, IsFaultFor, IsLineRead}
+pub use Rattle.erd_canon.specs.LineAnswers.{command_data, request_data, IsAnswerTo, IsLineData}

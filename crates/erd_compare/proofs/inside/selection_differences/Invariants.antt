@@ -1,7 +1,0 @@
-use Rattle.erd_compare.specs.code.ContestSelections.{contest_map}
-use Rattle.erd_compare.proofs.contest_selections.NameSets.{lent}
-use Rattle.erd_compare.proofs.contest_selections.SelectionLists.{ArePassed}
-use Rattle.erd_compare.proofs.inside.selection_differences.Given as goal
-
-abbrev pub invariant-loop-name : goal.invariant-loop-name
-invariant-loop-name l = ArePassed (contest_map l.comparer.left l.contest) (contest_map l.comparer.right l.other_contest) l.found.items (lent l.name-iterator)
