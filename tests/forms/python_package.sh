@@ -7,12 +7,12 @@ set -u
 for package in pytest setuptools wheel venv; do
     /usr/bin/python3 -c "import $package" 2> /dev/null || { echo "skipped the Python package: there is no python3-$package"; counts; exit; }
 done
-packaging/python.sh > "$work/wheels" || { echo "FAILED: no wheel was made"; failed=1; counts; exit; }
+packaging/python.sh > "$work/wheels" || { echo "FAILED  no wheel was made"; failed=1; counts; exit; }
 wheel=$(ls out/python/*"$(uname -m)".whl)
 # pytest and distributed are those of the machine; the package is that of the wheel
 /usr/bin/python3 -m venv --system-site-packages "$work/venv" \
     && "$work/venv/bin/python" -m pip -q install --no-index --no-deps --disable-pip-version-check "$wheel" \
-    || { echo "FAILED: the wheel cannot be installed"; failed=1; counts; exit; }
+    || { echo "FAILED  the wheel cannot be installed"; failed=1; counts; exit; }
 /usr/bin/python3 -c 'import distributed' 2> /dev/null || echo 'skipped the Dask cluster: there is no python3-distributed'
 conformance/make
 ERD_TOP=$PWD PYTHONDONTWRITEBYTECODE=1 "$work/venv/bin/python" -m pytest -q -p no:cacheprovider bindings/python/tests \

@@ -235,12 +235,12 @@ def main():
         for what, failure_of in (('many entries', failure_of_many_entries), ('a long name', failure_of_long_name)):
             why = failure_of(library)
             if why:
-                print(f'FAILED: {what}: {why[:2000]}', '0 passed, 1 failed', sep='\n')
+                print(f'FAILED  {what}: {why[:2000]}', '0 passed, 1 failed', sep='\n')
                 return 1
         for reports, prefer in pairs(bases, count, dice):
             why = tried(library, reports, prefer, dice, seen)
             if why:
-                print(f'FAILED: preference {prefer}:', *reports, why, '0 passed, 1 failed', sep='\n')
+                print(f'FAILED  preference {prefer}:', *reports, why, '0 passed, 1 failed', sep='\n')
                 return 1
     print(', '.join(f'{what} {number}' for what, number in seen.items()))
     print('1 passed, 0 failed')

@@ -73,7 +73,7 @@ def main():
                 passed += 1
                 continue
             failed += 1
-            print(f'FAILED: {name} {why}')
+            print(f'FAILED  {name} {why}')
     print(f'{passed} passed, {failed} failed')
     return int(failed > 0 or passed == 0)
 

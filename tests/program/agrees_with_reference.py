@@ -328,7 +328,7 @@ def differs_at_the_limit(folder):
         programs = [[PROGRAM], [sys.executable, str(ROOT / 'reference' / 'erd_reference.py')]]
         erd, reference = (subprocess.run(program + words, capture_output=True, check=False) for program in programs)
         if (erd.returncode, erd.stdout, erd.stderr) != (reference.returncode, reference.stdout, reference.stderr):
-            print(f'FAILED: {size} bytes:', f'erd: {erd}', f'reference: {reference}', sep='\n')
+            print(f'FAILED  {size} bytes:', f'erd: {erd}', f'reference: {reference}', sep='\n')
             return True
     return False
 
@@ -363,7 +363,7 @@ def main():
             if found != wanted:
                 case = smallest(case, folder)
                 found, wanted = case.answers(folder)
-                print(f'FAILED: {case.command}, preference {case.prefer}:', *case.inputs(), f'erd: {found}', f'reference: {wanted}', sep='\n')
+                print(f'FAILED  {case.command}, preference {case.prefer}:', *case.inputs(), f'erd: {found}', f'reference: {wanted}', sep='\n')
                 print('0 passed, 1 failed')
                 return 1
             statuses[case.command, found[0]] = statuses.get((case.command, found[0]), 0) + 1

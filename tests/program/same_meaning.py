@@ -149,7 +149,7 @@ def main():
     told = {kind: {"the same": 0, "not": 0, "with the right one refused": 0} for kind in PAIRS}
     conformance = list(conformance_failures())
     for name in [name for name, is_wrong in conformance if is_wrong]:
-        print(f"FAILED: the other idea on conformance/{name}")
+        print(f"FAILED  the other idea on conformance/{name}")
     compared = failed = 0
     with tempfile.TemporaryDirectory() as folder:
         for kind, left, right, prefer in pairs(dice, folder):
@@ -159,7 +159,7 @@ def main():
             failure = failure_of(kind, left, right, answer)
             if failure:
                 failed += 1
-                print(f"FAILED: {kind}, preference {prefer}: {answer!r} {failure}", json.dumps(left), json.dumps(right), sep="\n")
+                print(f"FAILED  {kind}, preference {prefer}: {answer!r} {failure}", json.dumps(left), json.dumps(right), sep="\n")
             is_refused = answer.startswith("right: ")
             told[kind]["with the right one refused" if is_refused else "the same" if answer == SAME else "not"] += 1
             compared += not is_refused
