@@ -14,7 +14,7 @@ ghost use Rattle.erd_check.specs.Paths.{steps_of};
 use crate::equality::is_among;
 use crate::path::{Path, push_fault};
 use crate::values::is_empty_array;
-use crate::visitor::{Visit, Visitor};
+use crate::visitor::{Member, Visit, Visitor};
 use crate::want::{Scope, Want};
 use erd_tables::{Fault, MemberKind, Reason, Text, class_in, required};
 use serde_json::{Number, Value};
@@ -36,39 +36,27 @@ impl Visitor for ShapeJudge {
 
     /// Most members are texts of which no more is asked, or arrays of references, of which the shape asks only that they are
     /// texts.
-    fn passes_over(
-        &self,
-        alloc: Global,
-        want: Want,
-        owner: &Value,
-        value: &Value,
-    ) -> Result<bool, AllocError> {
-        match value {
+    fn passes_over(&self, alloc: Global, member: Member) -> Result<bool, AllocError> {
+        let want = member.want;
+        match member.value {
             Value::String(text) => Ok(is_sound_text(want, text.as_str())),
             Value::Array(items) => Ok(is_sound_array(want, items.as_slice())),
             _ => Ok(false),
         }
     }
 
-    fn visit(
-        &self,
-        alloc: Global,
-        visit: Visit,
-        scope: Scope,
-        value: &Value,
-        faults: &mut Vec<Fault>,
-    ) -> Result<(), AllocError> {
-        let want = visit.want;
+    fn visit(&self, alloc: Global, visit: Visit, found: &mut Vec<Fault>) -> Result<(), AllocError> {
+        let Visit { value, want, .. } = visit;
         let path = visit.position.path;
         if !fits(want, value) {
-            push_fault(alloc, path, Reason::WrongKind, faults)?;
+            push_fault(alloc, path, Reason::WrongKind, found)?;
         }
-        push_missing(alloc, scope, value, path, faults)?;
+        push_missing(alloc, visit.scope, value, path, found)?;
         if let Some(reason) = other_reason(want, value) {
-            push_fault(alloc, path, reason, faults)?;
+            push_fault(alloc, path, reason, found)?;
         }
         if is_compared_here(want) && is_among(value, visit.earlier) {
-            push_fault(alloc, path, Reason::Repeated, faults)?;
+            push_fault(alloc, path, Reason::Repeated, found)?;
         }
         Ok(())
     }

@@ -1,8 +1,6 @@
 //! A visitor that finds nothing.
-use crate::visitor::{Visit, Visitor};
-use crate::want::{Scope, Want};
+use crate::visitor::{Member, Visit, Visitor};
 use erd_tables::Fault;
-use serde_json::Value;
 use std::alloc::{AllocError, Global};
 
 /// The visitor that has nothing to tell.
@@ -18,24 +16,11 @@ impl Visitor for Silent {
 
     ghost is_thorough = { λ _. false };
 
-    fn passes_over(
-        &self,
-        alloc: Global,
-        want: Want,
-        owner: &Value,
-        value: &Value,
-    ) -> Result<bool, AllocError> {
+    fn passes_over(&self, alloc: Global, member: Member) -> Result<bool, AllocError> {
         Ok(true)
     }
 
-    fn visit(
-        &self,
-        alloc: Global,
-        visit: Visit,
-        scope: Scope,
-        value: &Value,
-        faults: &mut Vec<Fault>,
-    ) -> Result<(), AllocError> {
+    fn visit(&self, alloc: Global, visit: Visit, found: &mut Vec<Fault>) -> Result<(), AllocError> {
         Ok(())
     }
 }

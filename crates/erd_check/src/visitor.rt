@@ -30,13 +30,28 @@ pub struct Position<'a> {
 /// What a walk knows of a value that it visits.
 #[derive(Clone, Copy)]
 pub struct Visit<'a> {
+    /// The value.
+    pub value: &'a Value,
     /// What the member table asks of the value.
     pub want: Want,
+    /// The scope of the members of the value, as `scope_of` returns it.
+    pub scope: Scope,
     /// Earlier entries of the set, if the value is an entry of a set. One of them is equal to the value if and only if any
     /// earlier entry of the set is. For other values there are none.
     pub earlier: &'a [Value],
     /// Where the value is.
     pub position: Position<'a>,
+}
+
+/// A member that a walk may pass over.
+#[derive(Clone, Copy)]
+pub struct Member<'a> {
+    /// The object that has the member.
+    pub owner: &'a Value,
+    /// The value of the member.
+    pub value: &'a Value,
+    /// What the member table asks of the value.
+    pub want: Want,
 }
 
 /// What a walk over a report does at each value that it visits: it finds the faults of that value.
@@ -52,39 +67,25 @@ pub trait Visitor {
     ghost is_thorough: { Self → Bool };
 
     /// Returns `true` only if the walk may pass over a member: then the visitor has nothing to tell of its value, nor of the
-    /// values inside it. `want` is what is asked of the member, and `owner` is the object that has it.
+    /// values inside it.
     ///
     /// # Errors
     ///
     /// `AllocError` if out of memory.
-    fn passes_over(
-        &self,
-        alloc: Global,
-        want: Want,
-        owner: &Value,
-        value: &Value,
-    ) -> Result<bool, AllocError>
-        ensures silent { IfOk result (λ passes. IsTrue passes → IsSilentMember (tells self.now) (view owner.now) want (view value.now)) }
-        ensures known { IfOk result (λ passes. IsTrue passes → IsKnown (Known self.now) want (view value.now)) }
-        ensures in_order { IfOk result (λ passes. IsTrue passes → IsTrue (is_thorough self.now) → IsInOrder want (view value.now)) };
+    fn passes_over(&self, alloc: Global, member: Member) -> Result<bool, AllocError>
+        ensures silent { IfOk result (λ passes. IsTrue passes → IsSilentMember (tells self.now) (view member.entry.owner.now) member.entry.want (view member.entry.value.now)) }
+        ensures known { IfOk result (λ passes. IsTrue passes → IsKnown (Known self.now) member.entry.want (view member.entry.value.now)) }
+        ensures in_order { IfOk result (λ passes. IsTrue passes → IsTrue (is_thorough self.now) → IsInOrder member.entry.want (view member.entry.value.now)) };
 
-    /// Adds the faults of the value to the end of the list, but not those of the values inside it. `scope` is that
-    /// of the members of the value, as `scope_of` returns it.
+    /// Adds the faults of the value to the end of the list, but not those of the values inside it.
     ///
     /// # Errors
     ///
     /// `AllocError` if out of memory.
-    fn visit(
-        &self,
-        alloc: Global,
-        visit: Visit,
-        scope: Scope,
-        value: &Value,
-        faults: &mut Vec<Fault>,
-    ) -> Result<(), AllocError>
-        requires scope { scope ≡ scope_inside visit.want (view value.now) }
-        ensures told { IfOk result (λ _. faults.new.items ≡ faults.old.items
+    fn visit(&self, alloc: Global, visit: Visit, found: &mut Vec<Fault>) -> Result<(), AllocError>
+        requires scope { visit.scope ≡ scope_inside visit.want (view visit.value.now) }
+        ensures told { IfOk result (λ _. found.new.items ≡ found.old.items
             ++ faults_of (steps_of visit.entry.position.path.now) (tells self.now (view visit.entry.position.outer.now) visit.entry.want
-            (list_any (is_same_json (view value.now)) (map view visit.entry.earlier.now)) (view value.now))) }
-        ensures known { IfOk result (λ _. Known self.now visit.entry.want (view value.now)) };
+            (list_any (is_same_json (view visit.entry.value.now)) (map view visit.entry.earlier.now)) (view visit.entry.value.now))) }
+        ensures known { IfOk result (λ _. Known self.now visit.entry.want (view visit.entry.value.now)) };
 }

@@ -16,7 +16,7 @@ ghost use Rattle.erd_tables.specs.declared.class.Role.TheVariants.{Report};
 use crate::earlier::{earlier_of, equal_entries};
 use crate::path::Path;
 use crate::silent::Silent;
-use crate::visitor::{Position, Visit, Visitor};
+use crate::visitor::{Member, Position, Visit, Visitor};
 use crate::want::{Scope, Want, is_set_wanted, scope_of, want_in, want_of_entry};
 use erd_tables::{Fault, Role};
 use serde_json::{Map, Value};
@@ -49,6 +49,14 @@ pub(crate) struct Findings {
     pub(crate) second: Vec<Fault>,
 }
 
+/// Two visitors that go over a report in one walk.
+#[derive(Drop)]
+struct Visitors<'v, A: Visitor, B: Visitor> {
+    alloc: Global,
+    first: &'v A,
+    second: &'v B,
+}
+
 /// Walks a report with two visitors, and returns the faults that each of them finds. The walk passes over what both pass over.
 pub(crate) fn walk_both<A: Visitor, B: Visitor>(
     alloc: Global,
@@ -61,56 +69,63 @@ pub(crate) fn walk_both<A: Visitor, B: Visitor>(
     ensures known { IfOk result (λ _. IsKnown (A.Known first.now) (Object Report) (view report.now)) }
     ensures in_order { IfOk result (λ _. IsTrue (A.is_thorough first.now) → IsInOrder (Object Report) (view report.now)) }
 {
+    let visitors = Visitors {
+        alloc,
+        first,
+        second,
+    };
     let mut found = Findings {
         first: Vec::new(alloc),
         second: Vec::new(alloc),
     };
-    let visit = Visit {
-        want: Want::Object(Role::Report),
-        earlier: &[],
-        position: Position {
-            path: &Path::Root,
-            owner: report,
-            outer: report,
-        },
+    let want = Want::Object(Role::Report);
+    let position = Position {
+        path: &Path::Root,
+        owner: report,
+        outer: report,
     };
-    walk(alloc, first, second, visit, report, &mut found)?;
+    walk(&visitors, report, want, &[], position, &mut found)?;
     Ok(found)
 }
 
 /// Adds the faults of a value and of the values inside it.
 #[cycle(walk)]
 fn walk<'a, A: Visitor, B: Visitor>(
-    alloc: Global,
-    first: &A,
-    second: &B,
-    visit: Visit<'a>,
+    visitors: &Visitors<A, B>,
     value: &'a Value,
+    want: Want,
+    earlier: &'a [Value],
+    position: Position<'a>,
     found: &mut Findings,
 ) -> Result<(), AllocError>
     ensures first { IfOk result (λ _. found.new.first.items ≡ found.old.first.items
-        ++ told_at (A.tells first.now) (view visit.entry.position.outer.now) (view visit.entry.position.owner.now)
-        (steps_of visit.entry.position.path.now) visit.entry.want
-        (list_any (is_same_json (view value.now)) (map view visit.entry.earlier.now)) (view value.now)) }
+        ++ told_at (A.tells visitors.now.first.now) (view position.entry.outer.now) (view position.entry.owner.now) (steps_of position.entry.path.now)
+        want (list_any (is_same_json (view value.now)) (map view earlier.now)) (view value.now)) }
     ensures second { IfOk result (λ _. found.new.second.items ≡ found.old.second.items
-        ++ told_at (B.tells second.now) (view visit.entry.position.outer.now) (view visit.entry.position.owner.now)
-        (steps_of visit.entry.position.path.now) visit.entry.want
-        (list_any (is_same_json (view value.now)) (map view visit.entry.earlier.now)) (view value.now)) }
-    ensures known { IfOk result (λ _. IsKnown (A.Known first.now) visit.entry.want (view value.now)) }
-    ensures in_order { IfOk result (λ _. IsTrue (A.is_thorough first.now) → IsInOrder visit.entry.want (view value.now)) }
+        ++ told_at (B.tells visitors.now.second.now) (view position.entry.outer.now) (view position.entry.owner.now) (steps_of position.entry.path.now)
+        want (list_any (is_same_json (view value.now)) (map view earlier.now)) (view value.now)) }
+    ensures known { IfOk result (λ _. IsKnown (A.Known visitors.now.first.now) want (view value.now)) }
+    ensures in_order { IfOk result (λ _. IsTrue (A.is_thorough visitors.now.first.now) → IsInOrder want (view value.now)) }
 {
-    let Visit { want, position, .. } = visit;
+    let alloc = visitors.alloc;
     let scope = scope_of(want, value);
-    first.visit(alloc, visit, scope, value, &mut found.first)?;
-    second.visit(alloc, visit, scope, value, &mut found.second)?;
+    let visit = Visit {
+        value,
+        want,
+        scope,
+        earlier,
+        position,
+    };
+    visitors.first.visit(alloc, visit, &mut found.first)?;
+    visitors.second.visit(alloc, visit, &mut found.second)?;
     let inside = Position {
         path: &*position.path,
         owner: &*value,
         outer: &*position.owner,
     };
     match value {
-        Value::Array(items) => walk_items(alloc, first, second, inside, want, items, found),
-        Value::Object(members) => walk_members(alloc, first, second, inside, scope, members, found),
+        Value::Array(items) => walk_items(visitors, inside, want, items, found),
+        Value::Object(members) => walk_members(visitors, inside, scope, members, found),
         Value::Null | Value::Bool(_) | Value::Number(_) | Value::String(_) => Ok(()),
     }
 }
@@ -118,40 +133,34 @@ fn walk<'a, A: Visitor, B: Visitor>(
 /// Adds the faults of the entries of an array. `want` is what is asked of the array, and the path is that of the array.
 #[cycle(walk)]
 fn walk_items<'a, A: Visitor, B: Visitor>(
-    alloc: Global,
-    first: &A,
-    second: &B,
+    visitors: &Visitors<A, B>,
     inside: Position<'a>,
     want: Want,
     items: &'a Vec<Value>,
     found: &mut Findings,
 ) -> Result<(), AllocError>
     ensures first { IfOk result (λ _. found.new.first.items ≡ found.old.first.items
-        ++ option_map_or (λ v. told_of_items (A.tells first.now) (view inside.entry.outer.now) (view inside.entry.owner.now)
+        ++ option_map_or (λ v. told_of_items (A.tells visitors.now.first.now) (view inside.entry.outer.now) (view inside.entry.owner.now)
         (steps_of inside.entry.path.now) v (is_compared_set want) [] (items_view items.now.items)) (entry_want want) []) }
     ensures second { IfOk result (λ _. found.new.second.items ≡ found.old.second.items
-        ++ option_map_or (λ v. told_of_items (B.tells second.now) (view inside.entry.outer.now) (view inside.entry.owner.now)
+        ++ option_map_or (λ v. told_of_items (B.tells visitors.now.second.now) (view inside.entry.outer.now) (view inside.entry.owner.now)
         (steps_of inside.entry.path.now) v (is_compared_set want) [] (items_view items.now.items)) (entry_want want) []) }
-    ensures known { IfOk result (λ _. AreEntriesKnown (A.Known first.now) want (items_view items.now.items)) }
-    ensures in_order { IfOk result (λ _. IsTrue (A.is_thorough first.now) → AreEntriesInOrder want (items_view items.now.items)) }
+    ensures known { IfOk result (λ _. AreEntriesKnown (A.Known visitors.now.first.now) want (items_view items.now.items)) }
+    ensures in_order { IfOk result (λ _. IsTrue (A.is_thorough visitors.now.first.now) → AreEntriesInOrder want (items_view items.now.items)) }
 {
     let Some(entry) = want_of_entry(want) else {
         return Ok(());
     };
     let is_set = is_set_wanted(want);
-    let told = equal_entries(alloc, is_set, &*items)?;
+    let told = equal_entries(visitors.alloc, is_set, &*items)?;
     for (index, item) in items.iter().enumerate() {
         let path = Path::Entry(&*inside.path, index);
-        let visit = Visit {
-            want: entry,
-            earlier: earlier_of(is_set, &*items, &told, index, item),
-            position: Position {
-                path: &path,
-                owner: &*inside.owner,
-                outer: &*inside.outer,
-            },
+        let earlier = earlier_of(is_set, &*items, &told, index, item);
+        let position = Position {
+            path: &path,
+            ..inside
         };
-        walk(alloc, first, second, visit, item, found)?;
+        walk(visitors, item, entry, earlier, position, found)?;
     }
     Ok(())
 }
@@ -159,61 +168,53 @@ fn walk_items<'a, A: Visitor, B: Visitor>(
 /// Adds the faults of the members of an object, which have this scope. The path is that of the object.
 #[cycle(walk)]
 fn walk_members<'a, A: Visitor, B: Visitor>(
-    alloc: Global,
-    first: &A,
-    second: &B,
+    visitors: &Visitors<A, B>,
     inside: Position<'a>,
     scope: Scope,
     members: &'a Map<String, Value>,
     found: &mut Findings,
 ) -> Result<(), AllocError>
     ensures first { IfOk result (λ _. found.new.first.items ≡ found.old.first.items
-        ++ told_of_members (A.tells first.now) (view inside.entry.outer.now) (view inside.entry.owner.now)
+        ++ told_of_members (A.tells visitors.now.first.now) (view inside.entry.outer.now) (view inside.entry.owner.now)
         (steps_of inside.entry.path.now) scope (members_view members.now.entries)) }
     ensures second { IfOk result (λ _. found.new.second.items ≡ found.old.second.items
-        ++ told_of_members (B.tells second.now) (view inside.entry.outer.now) (view inside.entry.owner.now)
+        ++ told_of_members (B.tells visitors.now.second.now) (view inside.entry.outer.now) (view inside.entry.owner.now)
         (steps_of inside.entry.path.now) scope (members_view members.now.entries)) }
-    ensures known { IfOk result (λ _. AreMembersKnown (A.Known first.now) scope (members_view members.now.entries)) }
-    ensures in_order { IfOk result (λ _. IsTrue (A.is_thorough first.now) → AreMembersInOrder scope (members_view members.now.entries)) }
+    ensures known { IfOk result (λ _. AreMembersKnown (A.Known visitors.now.first.now) scope (members_view members.now.entries)) }
+    ensures in_order { IfOk result (λ _. IsTrue (A.is_thorough visitors.now.first.now) → AreMembersInOrder scope (members_view members.now.entries)) }
     ensures sorted { IfOk result (λ _. IsStrictlySortedBy text_cmp (names (members_view members.now.entries))) }
 {
     for (name, member) in members.iter() {
         let Some(want) = want_in(scope, name.as_str()) else {
             continue;
         };
-        if !is_passed_over(alloc, first, second, want, inside.owner, member)? {
+        let inner = Member {
+            owner: inside.owner,
+            value: member,
+            want,
+        };
+        if !are_silent(visitors, inner)? {
             let path = Path::Member(&*inside.path, name.as_str());
-            let visit = Visit {
-                want,
-                earlier: &[],
-                position: Position {
-                    path: &path,
-                    ..inside
-                },
+            let position = Position {
+                path: &path,
+                ..inside
             };
-            walk(alloc, first, second, visit, member, found)?;
+            walk(visitors, member, want, &[], position, found)?;
         }
     }
     Ok(())
 }
 
-/// Returns `true` only if the walk may pass over a member for two visitors.
-fn is_passed_over<A: Visitor, B: Visitor>(
-    alloc: Global,
-    first: &A,
-    second: &B,
-    want: Want,
-    owner: &Value,
-    member: &Value,
+/// Returns `true` only if the walk may pass over a member for both visitors.
+fn are_silent<A: Visitor, B: Visitor>(
+    visitors: &Visitors<A, B>,
+    member: Member,
 ) -> Result<bool, AllocError>
-    ensures first { IfOk result (λ passed. IsTrue passed → IsSilentMember (A.tells first.now) (view owner.now) want (view member.now)) }
-    ensures second { IfOk result (λ passed. IsTrue passed → IsSilentMember (B.tells second.now) (view owner.now) want (view member.now)) }
-    ensures known { IfOk result (λ passed. IsTrue passed → IsKnown (A.Known first.now) want (view member.now)) }
-    ensures in_order { IfOk result (λ passed. IsTrue passed → IsTrue (A.is_thorough first.now) → IsInOrder want (view member.now)) }
+    ensures first { IfOk result (λ passed. IsTrue passed → IsSilentMember (A.tells visitors.now.first.now) (view member.entry.owner.now) member.entry.want (view member.entry.value.now)) }
+    ensures second { IfOk result (λ passed. IsTrue passed → IsSilentMember (B.tells visitors.now.second.now) (view member.entry.owner.now) member.entry.want (view member.entry.value.now)) }
+    ensures known { IfOk result (λ passed. IsTrue passed → IsKnown (A.Known visitors.now.first.now) member.entry.want (view member.entry.value.now)) }
+    ensures in_order { IfOk result (λ passed. IsTrue passed → IsTrue (A.is_thorough visitors.now.first.now) → IsInOrder member.entry.want (view member.entry.value.now)) }
 {
-    if first.passes_over(alloc, want, owner, member)? {
-        second.passes_over(alloc, want, owner, member)
-    } else {
-        Ok(false)
-    }
+    let alloc = visitors.alloc;
+    Ok(visitors.first.passes_over(alloc, member)? && visitors.second.passes_over(alloc, member)?)
 }

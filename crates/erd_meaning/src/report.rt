@@ -133,8 +133,6 @@ impl<'a> Report<'a> {
         ensures fits { HasFittingNumbers (view result.now) }
         ensures bounded { IsBounded (view result.now) }
     {
-        // read for `bounded`: the list of all objects has a length
-        let _count = self.objects().len();
         self.tree
     }
 

@@ -1,5 +1,5 @@
 -- The elections of a report by position: their values, their keys, and which one holds an object.
-use Rattle.erd_meaning.proofs.Common.{◌≡◌, ℕ, zero, suc, ◌+◌, ◌<◌, false, List, [], ◌∷◌, ◌++◌, map, length, replicate, slice_get, Some, None, codes, Option, option_map, flat_map, option_and_then, bytes_eq, is_lt, sym, refl, ap, ◌∙◌, ap₂, arith, map-append, length-map, slice_get-map, map-map, option_cmp, Data, no_items, view, Value, Family, family, Step, At, Name, list_of_items_exact, ShapeFault, NoneOf, entries_at, key_cmp, Preference, key_of, election_rank_of, election_key_in, election_in, Placed, objects, placed_from, placed_entries, elections, election_of_place, rank_in_keys, election_keys, Key}
+use Rattle.erd_meaning.proofs.Common.{◌≡◌, ℕ, ◌<◌, List, [], ◌∷◌, map, length, slice_get, Some, None, codes, Option, option_map, option_and_then, is_lt, sym, refl, ap, ◌∙◌, arith, length-map, slice_get-map, map-map, option_cmp, Data, no_items, view, Value, Family, family, Step, Name, list_of_items_exact, ShapeFault, NoneOf, entries_at, key_cmp, Preference, key_of, election_rank_of, election_key_in, election_in, Placed, objects, placed_from, elections, rank_in_keys, election_keys, Key}
 use Rattle.erd_meaning.specs.code.ObjectWalk.{holder_at}
 use Rattle.erd_meaning.proofs.accepted.Standing.{election_entries, skeleton_of_shape, values-placed_from}
 use Rattle.erd_meaning.proofs.meanings.HeldValues.{mapped_then}

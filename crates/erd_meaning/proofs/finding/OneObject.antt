@@ -190,21 +190,17 @@ those_kept π f t =
 pub those_shown : (π : Preference) (v : Value) (os : List Object) (ns : List NumberedName) (f : Family) → IsResolved π v os ns → those_of f (map shown os) ≡ kept_of π f (objects f (view v))
 those_shown π v os ns f r = ap (those_of f) r.kept ∙ those_kept π f (view v)
 
-pub counted_kept : (π : Preference) (t : Data) (ks : List Kept) (f : Family) → ks ≡ kept_objects π t → length (those_of f ks) ≡ length (objects f t)
-counted_kept π t ks f e = ap (λ js. length (those_of f js)) e ∙ ap length (those_kept π f t) ∙ length-map (objects f t) (λ (o : Placed). kept π f o)
-
 pub counted : (π : Preference) (v : Value) (os : List Object) (ns : List NumberedName) (f : Family) → IsResolved π v os ns → length (those_of f (map shown os)) ≡ length (objects f (view v))
 counted π v os ns f r = ap length (those_shown π v os ns f r) ∙ length-map (objects f (view v)) (λ (o : Placed). kept π f o)
 
--- each family has no more objects than are kept of the whole report
-pub few_objects : (π : Preference) (v : Value) (os : List Object) (ns : List NumberedName) → IsResolved π v os ns → length os < 2 ^ 64 → IsBounded (view v)
-few_objects π v os ns r word = record {
+-- each family has no more objects than the walk over the report meets
+pub few_objects : (π : Preference) (t : Data) → length (all_located π t) < 2 ^ 64 → IsBounded t
+few_objects π t word = record {
   few = λ f.
-      let ks = map shown os in
-      let met : length (those_of f ks) ≡ count_by (is_of_family f) ks = length-filter (is_of_family f) ks in
-      let fewer : count_by (is_of_family f) ks ≤ length ks = count_by-le-length (is_of_family f) ks in
-      let all : length ks ≡ length os = length-map os shown in
-      let of_family : length (those_of f ks) ≡ length (objects f (view v)) = counted π v os ns f r in
+      let all = all_located π t in
+      let met : length (pick f all) ≡ length (objects f t) = ap length (objects_met π f t) ∙ length-map (objects f t) (located_one π f) in
+      let picked : length (pick f all) ≡ count_by (is_of f) all = length-filter (is_of f) all in
+      let fewer : count_by (is_of f) all ≤ length all = count_by-le-length (is_of f) all in
       omega arith;
 }
 

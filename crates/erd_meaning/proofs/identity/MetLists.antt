@@ -3,7 +3,7 @@ use Rattle.erd_meaning.proofs.Common.{◌≡◌, Bool, false, ◌&&◌, ◌||◌
 use Rattle.erd_meaning.proofs.identity.ToldFaults.{told}
 use Rattle.erd_meaning.specs.code.ObjectWalk.{nothing_met}
 use Rattle.erd_meaning.specs.declared.objects.filled.Tables.{Tables}
-use Rattle.erd_meaning.proofs.identity.IdentityFaults.{identity_listed, identity_told}
+use Rattle.erd_meaning.proofs.identity.IdentityFaults.{identity_listed}
 use Rattle.erd_meaning.proofs.identity.ObjectFamilies.{election_keys_met}
 
 -- ---- what has been met

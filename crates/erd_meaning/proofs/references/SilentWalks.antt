@@ -1,9 +1,9 @@
 -- The reasons of a reference, by one look-up of its text; where no reference stands, none is told.
-use Rattle.erd_meaning.proofs.Common.{◌≡◌, ℕ, Bool, true, false, ◌&&◌, ◌||◌, List, [], ◌∷◌, ◌++◌, length, Some, None, codes, Option, option_and_then, bytes_eq, sym, refl, ap, ◌∙◌, ap₂, list_all, list_any, option_map_or, Data, array, object, Items, no_items, item, Members, no_members, member, get, as_str, role_of_class, class_in_role, rows_of_class, is_reference_name, kind_of_identity, kind_of_member, is_required, Class, class, Role, role, MemberKind, kind, Step, At, Name, if_some, kind_of_class, is_same_json, faults_of, Telling, told_at, told_of_items, told_of_members, class_of_object, scope_inside, want_of_kind, is_report_class, member_want, carried_want, want_of_name, entry_want, is_compared_set, Want, Carried, ClassText, Member, Status, leads_to_references, cond_both, not, is_some, is_none, ◌==◌, option_map, option_to_list, and-false, string, family_number, Family, family, Reason, SelectionOfOtherContest, Unresolved, WrongFamily, Reference, number_of_id, is_in_contest, number_among, object_among, Kept, is_known, is_of_others, is_selection_family, is_selection_elsewhere, is_elsewhere, reason_if, id_reasons, reference_reasons_told, arith}
+use Rattle.erd_meaning.proofs.Common.{◌≡◌, ℕ, Bool, true, false, ◌&&◌, ◌||◌, List, [], ◌∷◌, ◌++◌, Some, None, codes, Option, option_and_then, bytes_eq, sym, refl, ap, ◌∙◌, ap₂, list_all, option_map_or, Data, object, Members, get, as_str, role_of_class, class_in_role, rows_of_class, is_reference_name, kind_of_identity, kind_of_member, is_required, Class, class, Role, role, MemberKind, kind, kind_of_class, class_of_object, scope_inside, want_of_kind, is_report_class, member_want, carried_want, want_of_name, entry_want, Want, Carried, ClassText, Member, Status, leads_to_references, cond_both, not, is_some, is_none, ◌==◌, option_map, option_to_list, and-false, string, family_number, Family, family, Reason, SelectionOfOtherContest, Unresolved, WrongFamily, Reference, number_of_id, is_in_contest, number_among, object_among, Kept, is_known, is_of_others, is_selection_family, is_selection_elsewhere, is_elsewhere, reason_if, id_reasons, reference_reasons_told, arith}
 use Rattle.erd_tables.proofs.Roles.{class_in_role_named}
 use Rattle.erd_check.proofs.Silence.{silent_member}
 use Rattle.erd_check.specs.Visits.{IsSilentMember}
-use Rattle.erd_check.specs.declared.want.Scope.{Scope, Scope as scope}
+use Rattle.erd_check.specs.declared.want.Scope.{Scope as scope}
 use Rattle.erd_check.specs.declared.want.Want.TheVariants.{Object}
 use Rattle.std.specs.Bool.{then_some}
 use Rattle.erd_meaning.proofs.finding.Found.{with_id_none, with_id_of_other, with_id_some}

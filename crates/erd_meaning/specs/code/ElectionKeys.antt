@@ -1,9 +1,7 @@
 -- What the program keeps of the elections of a report: their keys.
-use Rattle.std.specs.Prelude.{◌≡◌, ◌+◌, ℕ, List, [], ◌∷◌, ◌++◌, Bool, false, if◌then◌else◌, Option, Some, None, length, replicate}
+use Rattle.std.specs.Prelude.{◌≡◌, List, [], ◌∷◌, ◌++◌, Bool, false, if◌then◌else◌, Option, Some, None}
 use Rattle.std.specs.List.{list_any}
 use Rattle.std.specs.Ordering.{is_eq}
-use Rattle.serde_json.specs.Data.{Data}
-use Rattle.erd_check.specs.Values.{entries_at}
 use Rattle.erd_meaning.specs.Keys.{key_cmp}
 use Rattle.erd_meaning.specs.code.ObjectWalk.{same_key}
 use Rattle.erd_meaning.specs.declared.keys.key.Key.{Key}

@@ -12,6 +12,7 @@ use Rattle.erd_check.specs.Trees.{IsShallow, IsTree}
 use Rattle.erd_meaning.specs.Keys.{Preference}
 use Rattle.erd_meaning.specs.LaterFaults.{IdentityFault, ReferenceFault, SelectionFault}
 use Rattle.erd_meaning.specs.Lookups.{selection_in}
+use Rattle.erd_meaning.specs.Objects.{IsBounded}
 use Rattle.erd_meaning.specs.code.ObjectWalk.{kept_objects}
 use Rattle.erd_meaning.specs.code.SelectionWalk.{NumberedName}
 use Rattle.erd_meaning.specs.code.Shown.{shown}
@@ -41,6 +42,7 @@ pub record IsResolved (π : Preference) (tree : Value) (objects : List Object) (
   pub is_tree : IsTree (view tree)
   pub whole : has_float (view tree) ≡ false
   pub fits : HasFittingNumbers (view tree)
+  pub few : IsBounded (view tree)
   pub identified : IsIdentified π tree
   pub referred : IsReferred tree
   pub told_apart : IsToldApart π tree

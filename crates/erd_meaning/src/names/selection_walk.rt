@@ -1,6 +1,6 @@
 ghost use Rattle.std.specs.Prelude.{◌≡◌, ◌+◌, ◌<◌, ◌^◌, codes, false, length, map, List, IfOk};
-ghost use Rattle.erd_meaning.specs.Words.{view, has_float, steps_of, numbered_selections, numbered_selections_of, placed_entries};
-ghost use Rattle.erd_meaning.specs.code.ObjectWalk.{Kept, kept_objects};
+ghost use Rattle.erd_meaning.specs.Words.{view, has_float, IsBounded, steps_of, numbered_selections, numbered_selections_of, placed_entries};
+ghost use Rattle.erd_meaning.specs.code.ObjectWalk.{Kept};
 ghost use Rattle.erd_meaning.specs.code.RanksAmong.{AllAreRanked, IsRanked, name_among};
 ghost use Rattle.erd_meaning.specs.code.SelectionWalk.{named_all, named_one, numbered_from, with_name};
 ghost use Rattle.erd_meaning.specs.code.Shown.{placed_at, shown};
@@ -14,7 +14,7 @@ use crate::objects::ranked_objects::RankedObjects;
 use erd_check::path::{Path, push_fault};
 use erd_check::values::entries_at;
 use erd_index::SaltedSet;
-use erd_tables::{Family, Fault, Reason};
+use erd_tables::{Fault, Reason};
 use serde_json::Value;
 use std::alloc::{AllocError, Global};
 
@@ -34,15 +34,13 @@ pub(crate) fn meet_selections(
     objects: &RankedObjects,
     walk: &mut SelectionWalk,
 ) -> Result<(), AllocError>
-    requires kept { map shown objects.now ≡ kept_objects keys.now (view report.now) }
+    requires few { IsBounded (view report.now) }
     requires whole { has_float (view report.now) ≡ false }
     requires ranked { AllAreRanked (map shown objects.now) walk.old.names }
     ensures met { IfOk result (λ _. names_met walk.new
         ≡ named_all (name_among keys.now (map shown objects.now)) (names_met walk.old) (numbered_selections (view report.now))) }
     ensures ranked { IfOk result (λ _. AllAreRanked (map shown objects.now) walk.new.names) }
 {
-    // read for its bound: a word counts the contests
-    let _count = objects.table().count(Family::Contest);
     let elections = Path::Member(&Path::Root, "Election");
     let mut number = 0;
     for (index, election) in entries_at(report, "Election").iter().enumerate() {

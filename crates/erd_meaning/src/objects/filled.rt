@@ -1,4 +1,4 @@
-ghost use Rattle.std.specs.Prelude.{◌≡◌, map, IfOk};
+ghost use Rattle.std.specs.Prelude.{◌≡◌, ◌<◌, ◌^◌, length, map, IfOk};
 ghost use Rattle.erd_meaning.specs.code.CollectedWalks.{found};
 ghost use Rattle.erd_meaning.specs.code.ObjectWalk.{met_all, met_one, nothing_met};
 ghost use Rattle.erd_meaning.specs.code.ShownWalks.{met_of};
@@ -26,10 +26,11 @@ pub(crate) fn filled<'a>(
     salt: Salt,
     all: Vec<Found<'a>>,
 ) -> Result<Tables<'a>, AllocError>
-    ensures { IfOk result (λ tables. met_of tables ≡ met_all nothing_met (map found all.entry.items)) }
+    ensures met { IfOk result (λ tables. met_of tables ≡ met_all nothing_met (map found all.entry.items)) }
+    ensures few { IfOk result (λ _. length all.entry.items < 2 ^ 64) }
 {
     let mut tables = Tables {
-        objects: ObjectTable::new(alloc, salt),
+        objects: ObjectTable::with_capacity(alloc, salt, all.len())?,
         elections: ElectionTable::new(alloc, salt),
         faults: Vec::new(alloc),
     };

@@ -78,19 +78,23 @@ impl<'a> Model for ObjectTable<'a> {
 }
 
 impl<'a> ObjectTable<'a> {
-    /// Returns a table without objects.
-    pub(crate) fn new(alloc: Global, salt: Salt) -> ObjectTable<'a>
-        ensures { result ≡ [] }
+    /// Returns a table without objects, with room for as many as are expected.
+    pub(crate) fn with_capacity(
+        alloc: Global,
+        salt: Salt,
+        capacity: usize,
+    ) -> Result<ObjectTable<'a>, AllocError>
+        ensures { IfOk result (λ table. table ≡ []) }
     {
-        ObjectTable {
-            objects: Vec::new(alloc),
+        Ok(ObjectTable {
+            objects: Vec::with_capacity(alloc, capacity)?,
             places: FamilyPlaces::new(alloc),
             contests_before: Vec::new(alloc),
             trails: Trails::new(alloc),
             salt,
             ids: IndexMap::new(alloc),
             keys: IndexMap::new(alloc),
-        }
+        })
     }
 
     /// Adds an object with its key. Returns whether earlier objects have the same key or `@id`.
@@ -129,13 +133,6 @@ impl<'a> ObjectTable<'a> {
     /// Returns the trail of references through the objects of the family.
     pub(crate) fn trail(&self, family: Family) -> &Trail {
         self.trails.of(family)
-    }
-
-    /// Returns the number of objects.
-    pub(crate) fn len(&self) -> usize
-        ensures { result ≡ length self.now }
-    {
-        self.objects.len()
     }
 
     /// Returns the number of objects of the family.

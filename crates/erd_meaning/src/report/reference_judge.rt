@@ -12,9 +12,9 @@ use crate::keys::key_rule::KeyRule;
 use crate::objects::table::ObjectTable;
 use erd_check::joined_walk::{Visited, shape_with};
 use erd_check::path::{Path, push_fault};
-use erd_check::visitor::{Visit, Visitor};
+use erd_check::visitor::{Member, Visit, Visitor};
 use erd_check::walk::walk_report;
-use erd_check::want::{Scope, Want};
+use erd_check::want::Want;
 use erd_check::{CheckError, Shaped, is_among};
 use erd_tables::{Family, Fault, FaultList, MemberKind, Reason, Role};
 use serde_json::Value;
@@ -78,44 +78,34 @@ impl<'b, 'a> Visitor for ReferenceJudge<'b, 'a> {
     ghost is_thorough = { λ _. false };
 
     /// No identifier, no text but a reference, and no carried value has a reference inside.
-    fn passes_over(
-        &self,
-        alloc: Global,
-        want: Want,
-        owner: &Value,
-        value: &Value,
-    ) -> Result<bool, AllocError> {
+    fn passes_over(&self, alloc: Global, member: Member) -> Result<bool, AllocError> {
+        let want = member.want;
         if !may_have_references(want) {
             return Ok(true);
         }
-        match value {
+        match member.value {
             Value::String(text) => Ok(self.is_clear_text(want, text.as_str())),
-            Value::Array(items) => self.is_clear_array(alloc, want, owner, items.as_slice()),
+            Value::Array(items) => {
+                self.is_clear_array(alloc, want, member.owner, items.as_slice())
+            }
             _ => Ok(false),
         }
     }
 
-    fn visit(
-        &self,
-        alloc: Global,
-        visit: Visit,
-        scope: Scope,
-        value: &Value,
-        faults: &mut Vec<Fault>,
-    ) -> Result<(), AllocError> {
+    fn visit(&self, alloc: Global, visit: Visit, found: &mut Vec<Fault>) -> Result<(), AllocError> {
         let Want::Reference(family) = visit.want else {
             return Ok(());
         };
         let position = visit.position;
-        if is_among(value, visit.earlier) {
-            push_fault(alloc, position.path, Reason::Repeated, faults)?;
+        if is_among(visit.value, visit.earlier) {
+            push_fault(alloc, position.path, Reason::Repeated, found)?;
         }
-        match value.as_str() {
+        match visit.value.as_str() {
             Some(id) => push_any(
                 alloc,
                 self.id_reason(family, id, position.outer),
                 position.path,
-                faults,
+                found,
             ),
             None => Ok(()),
         }

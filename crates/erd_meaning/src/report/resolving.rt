@@ -1,5 +1,5 @@
 ghost use Rattle.std.specs.Prelude.{◌≡◌, false, map, option_copied, None, IfOk, IfErr};
-ghost use Rattle.erd_meaning.specs.Words.{view, has_float, RefusedFor, IsFaultless, IsTree, IsAccepted, IsFault, IdentityFault, ReferenceFault, SelectionFault};
+ghost use Rattle.erd_meaning.specs.Words.{view, has_float, IsBounded, RefusedFor, IsFaultless, IsTree, IsAccepted, IsFault, IdentityFault, ReferenceFault, SelectionFault};
 ghost use Rattle.erd_meaning.specs.code.ObjectWalk.{election_keys, kept_objects};
 ghost use Rattle.erd_meaning.specs.code.RanksAmong.{AllAreRanked, names_of};
 ghost use Rattle.erd_meaning.specs.code.Resolved.{AreNames, IsIdentified, IsReferred, IsResolved, IsToldApart};
@@ -89,6 +89,7 @@ pub(crate) fn with_names<'a>(
 ) -> Result<Report<'a>, CheckError>
     requires kept { map shown objects ≡ kept_objects keys.now (view shaped) }
     requires elections { elections ≡ election_keys keys.now (view shaped) }
+    requires few { IsBounded (view shaped) }
     requires identified { IsIdentified keys.now shaped }
     requires referred { IsReferred shaped }
     ensures tree { IfOk result (λ r. r.tree ≡ shaped.entry) }
@@ -149,6 +150,7 @@ pub(crate) fn objects_told_apart<'a>(
     ensures identified { IfOk result (λ _. IsIdentified keys.now tree.now) }
     ensures kept { IfOk result (λ r. map shown r.0 ≡ kept_objects keys.now (view tree.now)) }
     ensures elections { IfOk result (λ r. r.1 ≡ election_keys keys.now (view tree.now)) }
+    ensures few { IfOk result (λ _. IsBounded (view tree.now)) }
     ensures refused { IfErr result (RefusedFor (IdentityFault keys.now (view tree.now))) }
 {
     let found = collected(keys, tree)?;
@@ -189,6 +191,7 @@ fn names_told_apart(
     objects: &RankedObjects,
 ) -> Result<SaltedSet<(usize, RankedName<SelectionName>)>, CheckError>
     requires kept { map shown objects.now ≡ kept_objects keys.now (view tree.now) }
+    requires few { IsBounded (view tree.now) }
     requires identified { IsIdentified keys.now tree.now }
     requires faultless { IsFaultless tree.now }
     requires whole { has_float (view tree.now) ≡ false }

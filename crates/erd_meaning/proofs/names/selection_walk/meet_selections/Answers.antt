@@ -1,5 +1,4 @@
 use Rattle.erd_meaning.proofs.Common.{◌≡◌, List, [], ◌∷◌, map, length, codes, ap, ◌∙◌, arith, view, Contest, Step, Name, contests, name_among, numbered_from, named_all, shown, names_met}
-use Rattle.erd_meaning.proofs.finding.OneObject.{counted_kept}
 use Rattle.erd_meaning.proofs.selections.MetSelections.{all_left, contests_are, contests_from, election_left, none_left, within_all}
 use Rattle.erd_text.proofs.WholeValues.{whole_entry}
 use Rattle.erd_meaning.proofs.names.selection_walk.meet_selections.Goals as goal
@@ -15,12 +14,11 @@ pub meet_contests-requires : goal.meet_contests-requires
 meet_contests-requires c =
     let report = view c.args.report.now in
     let all : length (contests_from elections 0 c.entries_at-election-items.result.now) ≡ length (contests report) = ap length (contests_are report c.entries_at-election-items.result.now c.entries_at-election-items.ensures) in
-    let word : c.count-count.result ≡ length (contests report) =
-    c.count-count.ensures ∙ counted_kept c.args.keys.now report (map shown c.table.result.now) Contest (ap (map shown) c.table.ensures ∙ c.requires.kept) in
+    let word = c.requires.few.few Contest in
     let within = within_all (name_among c.args.keys.now (map shown c.args.objects.now)) elections c.entries_at-election-items.result.now (names_met c.args.walk.now) (names_met c.loop-index.walk)
     c.loop-index.index c.loop-index.number c.election-item.result c.loop-index-test.true c.election-item.is c.loop-index.invariant.0 in
     record {
-      few = omega (arith, all, word, within, c.count-count.auto);
+      few = omega (arith, all, word, within);
       whole = whole_entry (codes "Election") report c.entries_at-election-items.result.now c.loop-index.index c.election-item.result c.requires.whole
           c.entries_at-election-items.ensures c.loop-index-test.true c.election-item.is;
       ranked = c.loop-index.invariant.1;

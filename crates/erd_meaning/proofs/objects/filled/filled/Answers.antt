@@ -10,8 +10,8 @@ use Rattle.erd_meaning.proofs.objects.filled.filled.Goals as goal
 pub loop-one-preserved : goal.loop-one-preserved
 loop-one-preserved c = filled_next (met_of c.loop-one.tables) (met_of c.add.new.self) c.loop-one.yielded c.in-Some.one c.loop-one.invariant c.in_ok-add.ensures
 
-pub returns : goal.returns
-returns c =
+pub returns-clause-met : goal.returns-clause-met
+returns-clause-met c =
     let h = c.into_iter-one-iterator.ensures.into_iter_gives in
     let given = YieldsList-from_vec {s = c.into_iter-one-iterator.result} c.args.all.items h.0 (h.1 ∙ c.args.all.ok.0) in
     let end = YieldsList-end given c.loop-one.yielded c.loop-one.one-iterator c.loop-one.yielded_by c.next.result c.next.new.self c.in-None.is c.next.ensures.steps in

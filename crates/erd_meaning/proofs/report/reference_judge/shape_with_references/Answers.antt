@@ -1,4 +1,4 @@
-use Rattle.erd_meaning.proofs.Common.{◌≡◌, ◌≢◌, [], List, map, length, sym, ap, ◌∙◌, subst, err_from_is_err_and, view, ListsAll, ReferenceFault, told_of_report, Kept, kept_objects, reference_reasons_told, shown}
+use Rattle.erd_meaning.proofs.Common.{◌≡◌, ◌≢◌, [], List, map, length, sym, ap, ◌∙◌, subst, err_from_is_err_and, view, ListsAll, ReferenceFault, told_of_report, Kept, reference_reasons_told, shown}
 use Rattle.erd_check.proofs.Deciding.{none_from_empty}
 use Rattle.erd_meaning.proofs.finding.Found.{own_ids}
 use Rattle.erd_meaning.proofs.references.ReferenceWalks.{references_all}

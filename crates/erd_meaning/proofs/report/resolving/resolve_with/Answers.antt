@@ -1,4 +1,4 @@
-use Rattle.erd_meaning.proofs.Common.{◌≡◌, map, option_copied, subst, err_from_is_err_and, view, Value, RefusedFor, IsFaultless, IsFault, kept_objects, election_keys, IsIdentified, IsReferred, shown}
+use Rattle.erd_meaning.proofs.Common.{◌≡◌, map, option_copied, subst, err_from_is_err_and, view, Value, RefusedFor, IsBounded, IsFaultless, IsFault, kept_objects, election_keys, IsIdentified, IsReferred, shown}
 use Rattle.erd_meaning.proofs.accepted.Standing.{accepted_by_phases}
 use Rattle.erd_meaning.proofs.refused.Refused.{refused_for_identity, refused_for_references, refused_for_selections}
 use Rattle.erd_meaning.proofs.report.resolving.resolve_with.Goals as goal
@@ -45,6 +45,7 @@ with_names-requires c =
     record {
       kept = subst (λ (v : Value). map shown objects ≡ kept_objects π (view v)) c.tree-tree.ensures.tree c.in_ok-objects.ensures.kept;
       elections = subst (λ (v : Value). c.in_ok-objects.elections ≡ election_keys π (view v)) c.tree-tree.ensures.tree c.in_ok-objects.ensures.elections;
+      few = subst (λ (v : Value). IsBounded (view v)) c.tree-tree.ensures.tree c.in_ok-objects.ensures.few;
       identified = subst (λ (v : Value). IsIdentified π v) c.tree-tree.ensures.tree c.in_ok-objects.ensures.identified;
       referred = subst IsReferred c.tree-tree.ensures.tree c.in_ok-check_references.ensures.referred;
     }

@@ -1,4 +1,4 @@
-use Rattle.erd_meaning.proofs.Common.{List, map, sym, ap, ◌∙◌, subst, err_from_is_err_and, view, Value, RefusedFor, SelectionFault, HaveDistinctKeys, kept_objects, IsIdentified, IsReferred, IsToldApart, shown, Object}
+use Rattle.erd_meaning.proofs.Common.{List, map, sym, ap, ◌∙◌, subst, err_from_is_err_and, view, Value, RefusedFor, SelectionFault, IsBounded, HaveDistinctKeys, kept_objects, IsIdentified, IsReferred, IsToldApart, shown, Object}
 use Rattle.erd_meaning.proofs.accepted.DistinctKeys.{kept_distinct}
 use Rattle.erd_meaning.proofs.report.resolving.with_names.Goals as goal
 
@@ -20,6 +20,7 @@ indexed-requires-clause-resolved c = record {
   is_tree = c.tree-tree.ensures.is_tree;
   whole = c.tree-tree.ensures.whole;
   fits = c.tree-tree.ensures.fits;
+  few = subst (λ (v : Value). IsBounded (view v)) (sym c.tree-tree.ensures.tree) c.requires.few;
   identified = subst (λ (v : Value). IsIdentified c.args.keys.now v) (sym c.tree-tree.ensures.tree) c.requires.identified;
   referred = subst IsReferred (sym c.tree-tree.ensures.tree) c.requires.referred;
   told_apart = c.in_ok-names.ensures.told_apart;
