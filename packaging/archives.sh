@@ -1,5 +1,7 @@
 # For the scripts of this folder, after version.sh: archives whose bytes depend on nothing but the files in them. An archive gets
-# its name when it is whole, since another script may read the one before.
+# its name when it is whole, since another script may read the one before. There is a folder to work in, which goes at the end.
+work=$(mktemp -d)
+trap 'rm -rf "$work"' EXIT
 
 # tarball FOLDER FILE: the folder, with its name, as a compressed tar
 tarball() {

@@ -4,9 +4,6 @@ set -eu
 cd "$(dirname "$0")/.."
 . packaging/version.sh
 . packaging/archives.sh
-umask 022
-work=$(mktemp -d)
-trap 'rm -rf "$work"' EXIT
 name=erd-$version-conformance
 mkdir -p out
 conformance/make "$work/$name"

@@ -5,7 +5,6 @@ set -eu
 cd "$(dirname "$0")/.."
 . packaging/version.sh
 . packaging/debian/packages.sh
-umask 022
 work=$(mktemp -d)
 trap 'rm -rf "$work"' EXIT
 root=$work/root

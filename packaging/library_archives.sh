@@ -5,9 +5,6 @@ set -eu
 cd "$(dirname "$0")/.."
 . packaging/version.sh
 . packaging/archives.sh
-umask 022
-work=$(mktemp -d)
-trap 'rm -rf "$work"' EXIT
 mkdir -p out
 
 # gathered FORM NAME: the files of a form in a folder with this name

@@ -5,7 +5,6 @@ set -eu
 cd "$(dirname "$0")/.."
 . packaging/version.sh
 . packaging/debian/packages.sh
-umask 022
 architecture=${1?the architecture, amd64 or arm64}
 case $architecture in
 amd64) processor=x86_64 ;;

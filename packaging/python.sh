@@ -4,7 +4,6 @@
 set -eu
 cd "$(dirname "$0")/.."
 . packaging/version.sh
-umask 022
 work=$(mktemp -d)
 trap 'rm -rf "$work"' EXIT
 wheels=$PWD/out/python

@@ -4,7 +4,6 @@
 set -eu
 cd "$(dirname "$0")/.."
 . packaging/version.sh
-umask 022
 release=out/release
 rm -rf "$release" "$release.new"
 

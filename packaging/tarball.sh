@@ -7,9 +7,6 @@ set -eu
 cd "$(dirname "$0")/.."
 . packaging/version.sh
 . packaging/archives.sh
-umask 022
-work=$(mktemp -d)
-trap 'rm -rf "$work"' EXIT
 processor=${1:-$(uname -m)}
 name=erd-$version-linux-$processor
 

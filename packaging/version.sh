@@ -1,5 +1,6 @@
 # For the scripts of this folder, which run at the top of the repository: the version, its date, and how files are made whose
-# bytes depend on nothing else.
+# bytes depend on nothing else, and which all may read.
+umask 022
 version=$(cat VERSION)
 day=$(sed -n "s/^## $version - //p" CHANGELOG.md)
 if [ -z "$day" ]; then

@@ -1,6 +1,5 @@
 # For the scripts of this folder, which run at the top of the repository: the kit's tools of LLVM, and where things stand.
 . packaging/version.sh
-umask 022
 kit=$(dirname "$(rt doc)")
 made=out/portable
 parts=$made/parts

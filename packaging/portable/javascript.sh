@@ -3,7 +3,6 @@
 set -eu
 cd "$(dirname "$0")/../.."
 . packaging/version.sh
-umask 022
 made=$PWD/out/portable
 command -v npm > /dev/null || { echo "$0: there is no npm: install the package npm" >&2; exit 1; }
 [ -e "$made/erd.wasm" ] || packaging/portable/wasm.sh

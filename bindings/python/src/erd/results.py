@@ -214,8 +214,45 @@ class Canonical:
         return self.accepted
 
 
+class _OfPair:
+    """What the answers for two reports have in common."""
+
+    refused: Optional[str]
+    check: Optional[Check]
+
+    @property
+    def same(self) -> bool:
+        raise NotImplementedError
+
+    @property
+    def _listed(self) -> Tuple[Difference, ...]:
+        raise NotImplementedError
+
+    @property
+    def status(self) -> int:
+        """The exit status of `erd compare`: 0 if same, 2 if a report is not JSON, otherwise 1."""
+        if self.check is not None:
+            return self.check.status
+        return 0 if self.same else 1
+
+    @property
+    def lines(self) -> Tuple[str, ...]:
+        """`same`, or the line of each difference that is listed; of a refused report the lines of `erd compare`."""
+        if self.check is not None:
+            return tuple(f'{self.refused}: {line}' for line in self.check.lines)
+        return ('same',) if self.same else tuple(difference.line for difference in self._listed)
+
+    @property
+    def text(self) -> str:
+        """These lines, each with its line feed."""
+        return ''.join(line + '\n' for line in self.lines)
+
+    def __bool__(self) -> bool:
+        return self.same
+
+
 @dataclass(frozen=True)
-class Comparison:
+class Comparison(_OfPair):
     """Whether two reports mean the same, and if not, where they differ first; or which of them is refused, and why."""
 
     difference: Optional[Difference] = None
@@ -233,30 +270,12 @@ class Comparison:
         return self.difference is None and self.refused is None
 
     @property
-    def status(self) -> int:
-        """The exit status of `erd compare`: 0 if same, 2 if a report is not JSON, otherwise 1."""
-        if self.check is not None:
-            return self.check.status
-        return 0 if self.same else 1
-
-    @property
-    def lines(self) -> Tuple[str, ...]:
-        """The lines that `erd compare` writes, as far as the faults of a refused report are listed."""
-        if self.check is not None:
-            return tuple(f'{self.refused}: {line}' for line in self.check.lines)
-        return ('same',) if self.difference is None else (self.difference.line,)
-
-    @property
-    def text(self) -> str:
-        """These lines, each with its line feed."""
-        return ''.join(line + '\n' for line in self.lines)
-
-    def __bool__(self) -> bool:
-        return self.same
+    def _listed(self) -> Tuple[Difference, ...]:
+        return () if self.difference is None else (self.difference,)
 
 
 @dataclass(frozen=True)
-class Differences:
+class Differences(_OfPair):
     """All differences of two reports; or which of them is refused, and why."""
 
     differences: Tuple[Difference, ...] = ()
@@ -282,26 +301,8 @@ class Differences:
         return self.refused is None and self.all_differences == 0
 
     @property
-    def status(self) -> int:
-        """The exit status of `erd compare`: 0 if same, 2 if a report is not JSON, otherwise 1."""
-        if self.check is not None:
-            return self.check.status
-        return 0 if self.same else 1
-
-    @property
-    def lines(self) -> Tuple[str, ...]:
-        """`same`, or the line of each difference that is listed; of a refused report the lines of `erd compare`."""
-        if self.check is not None:
-            return tuple(f'{self.refused}: {line}' for line in self.check.lines)
-        return ('same',) if self.same else tuple(difference.line for difference in self.differences)
-
-    @property
-    def text(self) -> str:
-        """These lines, each with its line feed."""
-        return ''.join(line + '\n' for line in self.lines)
-
-    def __bool__(self) -> bool:
-        return self.same
+    def _listed(self) -> Tuple[Difference, ...]:
+        return self.differences
 
 
 def fault_of(data: dict) -> Fault:
