@@ -1,5 +1,5 @@
 -- From what the engines promise of their devices to the bytes that these hold, and from an answer to what a call tells of it.
-use Rattle.std.proofs.Common.{◌≡◌, ◌<◌, ◌≢◌, ℕ, List, [], ◌++◌, Option, Some, None, Result, Ok, Err, IfOk, IfErr, refl, sym, subst, ap, ◌∙◌, append-nil, arith}
+use Rattle.std.proofs.Common.{◌≡◌, ◌<◌, Bool, ◌≢◌, ℕ, List, [], ◌++◌, Option, Some, None, Result, Ok, Err, IfOk, IfErr, refl, sym, subst, ap, ◌∙◌, append-nil, arith}
 use Rattle.std.specs.Io.KnownBytes.{Appends}
 use Rattle.erd_meaning.specs.Keys.{Preference}
 use Rattle.erd_canon.specs.Reading.{IsReadWhole}
@@ -10,7 +10,7 @@ use Rattle.erd_canon.specs.Statuses.{outcome_status}
 use Rattle.erd_canon.specs.declared.data.piece.Piece.{Piece}
 use Rattle.erd_canon.specs.declared.data.piece.PieceAnswer.{PieceAnswer}
 use Rattle.erd_canon.specs.declared.data.piece.Told.{Told as PieceTold}
-use Rattle.erd_c.specs.Told.{HasCanonicalText, HasNoText, IsCall, IsPieceCall, IsPieceTold, IsTelling, IsToldNothing, IsToldOf, piece_of}
+use Rattle.erd_c.specs.Told.{HasCanonicalText, HasNoText, IsCall, IsPieceCall, IsPieceTold, IsTelling, IsToldNothing, IsToldOf, IsWrong, piece_of, preference}
 use Rattle.erd_c.specs.declared.told.Told.{Told}
 use Rattle.erd_c.specs.declared.told.Wanted.{Wanted}
 
@@ -46,10 +46,10 @@ status_below Bad = omega arith
 status_below NotJson = omega arith
 
 -- a call whose arguments are right tells its answer, or that memory ran out
-pub call_of : {T F : Type 0} (outcome : T → Outcome) (items : T → List ℕ) (Answers : Outcome → List ℕ → Type 0) (Wrong : Type 0) (r : Result T F) (told : Told) (before after : List ℕ)
-    → ¬ Wrong → IfOk r (λ it. Answers (outcome it) (items it)) → IfOk r (λ it. IsTelling (outcome it) (items it) told before after)
-    → IfErr r (λ _. (told.outcome ≡ 4) × HasNoText told before after) → IsCall Answers Wrong told before after
-call_of outcome items Answers Wrong (Ok it) told before after right answers telling faulty =
+pub call_of : {T F : Type 0} (outcome : T → Outcome) (items : T → List ℕ) (Answers : Preference → Outcome → List ℕ → Type 0) (prefers : Bool) (prefer : List ℕ) (longest : ℕ) (r : Result T F) (told : Told) (before after : List ℕ)
+    → ¬ IsWrong prefers prefer longest → IfOk r (λ it. Answers (preference prefers prefer) (outcome it) (items it)) → IfOk r (λ it. IsTelling (outcome it) (items it) told before after)
+    → IfErr r (λ _. (told.outcome ≡ 4) × HasNoText told before after) → IsCall Answers prefers prefer longest told before after
+call_of outcome items Answers prefers prefer longest (Ok it) told before after right answers telling faulty =
     let low : told.outcome < 3 = omega (arith, telling.status, status_below (outcome it)) in
     record {
       answered = λ _. record { outcome = outcome it; text = items it; answers = answers; telling = telling };
@@ -57,7 +57,7 @@ call_of outcome items Answers Wrong (Ok it) told before after right answers tell
       wrong = (λ is. absurd (omega (arith, is, low)), λ wrong. absurd (right wrong));
       known = omega (arith, low);
     }
-call_of outcome items Answers Wrong (Err fault) told before after right answers telling faulty = record {
+call_of outcome items Answers prefers prefer longest (Err fault) told before after right answers telling faulty = record {
   answered = λ low. absurd (omega (arith, faulty.0, low));
   silent = λ _. faulty.1;
   wrong = (λ is. absurd (omega (arith, is, faulty.0)), λ wrong. absurd (right wrong));
@@ -65,33 +65,16 @@ call_of outcome items Answers Wrong (Err fault) told before after right answers 
 }
 
 -- a call for a piece whose arguments are right tells its answer and of its list, or that memory ran out
-pub piece_call_of : {F : Type 0} (Answers : Piece → Outcome → PieceTold → List ℕ → Type 0) (Wrong : Type 0) (r : Result PieceAnswer F) (wanted asked : Wanted) (told : Told) (before after : List ℕ)
-    → ¬ Wrong → IfOk r (λ it. Answers (piece_of wanted) it.outcome it.told it.text.items)
+pub piece_call_of : {F : Type 0} (Answers : Preference → Piece → Outcome → PieceTold → List ℕ → Type 0) (prefer : List ℕ) (longest : ℕ) (r : Result PieceAnswer F) (wanted asked : Wanted) (told : Told) (before after : List ℕ)
+    → ¬ IsWrong wanted.prefers prefer longest → IfOk r (λ it. Answers (preference wanted.prefers prefer) (piece_of wanted) it.outcome it.told it.text.items)
     → IfOk r (λ it. IsTelling it.outcome it.text.items told before after × IsToldOf it.told wanted asked)
-    → IfErr r (λ _. (told.outcome ≡ 4) × HasNoText told before after × IsToldNothing wanted asked) → IsPieceCall Answers Wrong wanted asked told before after
-piece_call_of Answers Wrong (Ok it) wanted asked told before after right answers telling faulty =
-    let status = telling.0.status in
-    let low : told.outcome < 3 = omega (arith, status, status_below it.outcome) in
-    record {
-      call = record {
-        answered = λ _. record {
-          outcome = it.outcome;
-          text = it.text.items;
-          answers = record { told = it.told; telling = telling.1; answers = answers };
-          telling = telling.0;
-        };
-        silent = λ high. absurd (omega (arith, high, low));
-        wrong = (λ is. absurd (omega (arith, is, low)), λ wrong. absurd (right wrong));
-        known = omega (arith, low);
-      };
-      silent = λ high. absurd (omega (arith, high, low));
-    }
-piece_call_of Answers Wrong (Err fault) wanted asked told before after right answers telling faulty = record {
-  call = record {
-    answered = λ low. absurd (omega (arith, faulty.0, low));
-    silent = λ _. faulty.1;
-    wrong = (λ is. absurd (omega (arith, is, faulty.0)), λ wrong. absurd (right wrong));
-    known = omega (arith, faulty.0);
-  };
+    → IfErr r (λ _. (told.outcome ≡ 4) × HasNoText told before after × IsToldNothing wanted asked) → IsPieceCall Answers prefer longest wanted asked told before after
+piece_call_of {F = F} Answers prefer longest (Ok it) wanted asked told before after right answers telling faulty = record {
+  call = call_of {T = PieceAnswer} {F = F} (λ it. it.outcome) (λ it. it.text.items) (λ π. IsPieceTold (Answers π) wanted asked) wanted.prefers prefer longest (Ok it) told before after right
+      (record { told = it.told; telling = telling.1; answers = answers }) telling.0 faulty;
+  silent = λ high. absurd (omega (arith, telling.0.status, status_below it.outcome, high));
+}
+piece_call_of {F = F} Answers prefer longest (Err fault) wanted asked told before after right answers telling faulty = record {
+  call = call_of {T = PieceAnswer} {F = F} (λ it. it.outcome) (λ it. it.text.items) (λ π. IsPieceTold (Answers π) wanted asked) wanted.prefers prefer longest (Err fault) told before after right answers telling (faulty.0, faulty.1);
   silent = λ _. faulty.2;
 }

@@ -12,12 +12,11 @@ use erd_canon::{
 };
 use std::alloc::Global;
 
+/// The outcome and the text, or why there are none.
+pub(crate) type Answer = Result<(Outcome, Vec<u8>), RunFault>;
+
 /// Checks the bytes of a report. Returns the outcome and the text.
-pub(crate) fn checked(
-    alloc: Global,
-    bytes: &[u8],
-    prefer: Option<&str>,
-) -> Result<(Outcome, Vec<u8>), RunFault>
+pub(crate) fn checked(alloc: Global, bytes: &[u8], prefer: Option<&str>) -> Answer
     ensures { IfOk result (λ answer. IsChecked (option_copied prefer.entry) bytes.now answer.0 answer.1.items) }
 {
     let mut reader = ReadFrom::of(bytes);
@@ -28,11 +27,7 @@ pub(crate) fn checked(
 
 /// Canonicalises the bytes of a report. Returns the outcome and the text: the output for an accepted report, or else the
 /// errors.
-pub(crate) fn canonical(
-    alloc: Global,
-    bytes: &[u8],
-    prefer: Option<&str>,
-) -> Result<(Outcome, Vec<u8>), RunFault>
+pub(crate) fn canonical(alloc: Global, bytes: &[u8], prefer: Option<&str>) -> Answer
     ensures { IfOk result (λ answer. HasCanonicalText (option_copied prefer.entry) bytes.now answer.0 answer.1.items) }
 {
     let mut reader = ReadFrom::of(bytes);
@@ -46,12 +41,7 @@ pub(crate) fn canonical(
 }
 
 /// Compares the bytes of two reports. Returns the outcome and the text.
-pub(crate) fn compared(
-    alloc: Global,
-    left: &[u8],
-    right: &[u8],
-    prefer: Option<&str>,
-) -> Result<(Outcome, Vec<u8>), RunFault>
+pub(crate) fn compared(alloc: Global, left: &[u8], right: &[u8], prefer: Option<&str>) -> Answer
     ensures { IfOk result (λ answer. IsCompared (option_copied prefer.entry) left.now right.now answer.0 answer.1.items) }
 {
     let mut left = ReadFrom::of(left);
@@ -62,11 +52,7 @@ pub(crate) fn compared(
 }
 
 /// Checks the bytes of a report. Returns the outcome and the JSON text.
-pub(crate) fn checked_data(
-    alloc: Global,
-    bytes: &[u8],
-    prefer: Option<&str>,
-) -> Result<(Outcome, Vec<u8>), RunFault>
+pub(crate) fn checked_data(alloc: Global, bytes: &[u8], prefer: Option<&str>) -> Answer
     ensures { IfOk result (λ answer. IsCheckedData (option_copied prefer.entry) bytes.now answer.0 answer.1.items) }
 {
     let answer = check_data_with(alloc, bytes, prefer)?;
@@ -79,7 +65,7 @@ pub(crate) fn compared_data(
     left: &[u8],
     right: &[u8],
     prefer: Option<&str>,
-) -> Result<(Outcome, Vec<u8>), RunFault>
+) -> Answer
     ensures { IfOk result (λ answer. IsComparedData (option_copied prefer.entry) left.now right.now answer.0 answer.1.items) }
 {
     let answer = compare_data_with(alloc, left, right, prefer)?;

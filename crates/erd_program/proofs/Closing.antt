@@ -1,32 +1,45 @@
 -- What was done with files, from the lists of closed files before they were opened.
-use Rattle.std.proofs.Common.{◌≡◌, ◌++◌, ◌∷◌, ◌∙◌, [], ℕ, List, ap, ap₂, append_assoc, subst}
-use Rattle.erd_canon.specs.Devices.{BeforeAfter, between}
+use Rattle.std.proofs.Common.{◌≡◌, ◌++◌, ◌∷◌, ◌∙◌, [], ℕ, List, Result, refl, ap, ap₂, append_assoc, codes, subst}
+use Rattle.erd_canon.specs.Devices.{BeforeAfter, Writer, between}
 use Rattle.erd_canon.specs.declared.commands.request.Options.{Options}
-use Rattle.erd_program.specs.Files.{AreFilesCompared, IsFileCanonicalised, IsFileChecked}
+use Rattle.erd_canon.specs.declared.engines.outcome.Outcome.{Outcome}
+use Rattle.erd_canon.specs.declared.engines.outcome.RunFault.{RunFault}
+use Rattle.erd_program.specs.declared.files.WorldFault.{WorldFault}
+use Rattle.erd_program.specs.declared.world.World.{World}
+use Rattle.erd_program.specs.Files.{AreFilesCompared, IsCompareAnswer, IsFileDone, IsRefused}
+use Rattle.erd_program.specs.Messages.{IsSaid, world_status, world_text}
+use Rattle.erd_program.specs.Program.{AreFilesOpened}
 use Rattle.erd_program.specs.World.{Outside}
 
 -- two entries, one after the other
 pub twice : {A : Type 0} (a b c : List A) (x y : A) → b ≡ a ++ x ∷ [] → c ≡ b ++ y ∷ [] → c ≡ a ++ x ∷ y ∷ []
 twice a b c x y p q = q ∙ (ap (λ l. l ++ y ∷ []) p ∙ append_assoc a (x ∷ []) (y ∷ []))
 
--- what opening two files gave
-pub both_opened : {R : Type 0} (a b : List (List ℕ × R)) (left right : List ℕ) (x y u v : R) → b ≡ a ++ (left, x) ∷ (right, y) ∷ [] → x ≡ u → y ≡ v
-    → b ≡ a ++ (left, u) ∷ (right, v) ∷ []
-both_opened a b left right x y u v p is_u is_v = p ∙ ap₂ (λ x y. a ++ (left, x) ∷ (right, y) ∷ []) is_u is_v
+-- a file that cannot be opened
+pub not_opened : {O E : Type 0} {errors : Writer E} {fault : WorldFault} {status : ℕ} {out : O} {err : BeforeAfter E} → status ≡ world_status fault
+    → ((words : List ℕ) → codes "cannot open\n" ≡ words ++ 10 ∷ [] → IsSaid errors (world_text words fault) err) → IsRefused errors (codes "cannot open") fault status (between out out) err
+not_opened status said = record { status_is = status; said = said (codes "cannot open") refl; quiet = refl }
 
--- beside which file another one was opened
-pub one_beside : {R : Type 0} (a b : List (List ℕ × R)) (name : List ℕ) (x u : R) → b ≡ a ++ (name, x) ∷ [] → x ≡ u → b ≡ a ++ (name, u) ∷ []
-one_beside a b name x u p is_u = p ∙ ap (λ x. a ++ (name, x) ∷ []) is_u
-
-pub checked_from : {F File I O E : Type 0} {known : Outside F File I O E} {options : Options} {name : List ℕ} {file : File} {status : ℕ} {a b c : List (List ℕ × File)} {out : BeforeAfter O} {err : BeforeAfter E}
-    → b ≡ a → IsFileChecked known options name file status (between b c) out err → IsFileChecked known options name file status (between a c) out err
-checked_from {known = known} {options} {name} {file} {status} {c = c} {out} {err} e is = subst (λ closed. IsFileChecked known options name file status (between closed c) out err) e is
-
-pub canonicalised_from : {F File I O E : Type 0} {known : Outside F File I O E} {options : Options} {name : List ℕ} {file : File} {status : ℕ} {a b c : List (List ℕ × File)} {out : BeforeAfter O} {err : BeforeAfter E}
-    → b ≡ a → IsFileCanonicalised known options name file status (between b c) out err → IsFileCanonicalised known options name file status (between a c) out err
-canonicalised_from {known = known} {options} {name} {file} {status} {c = c} {out} {err} e is = subst (λ closed. IsFileCanonicalised known options name file status (between closed c) out err) e is
+pub done_from : {F File I O E : Type 0} {known : Outside F File I O E} {Run : Outside F File I O E → Result Outcome RunFault → BeforeAfter File → BeforeAfter O → BeforeAfter E → Type 0} {name : List ℕ} {file : File} {status : ℕ} {a b c : List (List ℕ × File)} {out : BeforeAfter O} {err : BeforeAfter E}
+    → b ≡ a → IsFileDone known Run name file status (between b c) out err → IsFileDone known Run name file status (between a c) out err
+done_from {known = known} {Run} {name} {file} {status} {c = c} {out} {err} e is = subst (λ closed. IsFileDone known Run name file status (between closed c) out err) e is
 
 pub compared_from : {F File I O E : Type 0} {known : Outside F File I O E} {options : Options} {left_name right_name : List ℕ} {left right : File} {status : ℕ} {a b c : List (List ℕ × File)} {out : BeforeAfter O} {err : BeforeAfter E}
     → b ≡ a → AreFilesCompared known options left_name right_name left right status (between b c) out err → AreFilesCompared known options left_name right_name left right status (between a c) out err
 compared_from {known = known} {options} {left_name} {right_name} {left} {right} {status} {c = c} {out} {err} e is =
     subst (λ closed. AreFilesCompared known options left_name right_name left right status (between closed c) out err) e is
+
+-- from what opening both files gave, and what was done with them after that
+pub after_opening : {F File I O E : Type 0} {known : Outside F File I O E} {left right : List ℕ} {options : Options} {status : ℕ} {old new : World F I O E} {x y u v : Result File WorldFault} (files : F)
+    → known.opened files ≡ known.opened old.files ++ (left, x) ∷ (right, y) ∷ [] → known.beside files ≡ known.beside old.files ++ (right, x) ∷ [] → x ≡ u → y ≡ v
+    → known.opened new.files ≡ known.opened files → known.beside new.files ≡ known.beside files → new.input ≡ old.input
+    → IsCompareAnswer known options left right u v status (between (known.closed old.files) (known.closed new.files)) (between old.out new.out) (between old.err new.err)
+    → AreFilesOpened known left right options status (between old new)
+after_opening {known = known} {left} {right} {old = old} {u = u} {v} files opened beside is_u is_v same_opened same_beside input answer = record {
+  left_given = u;
+  right_given = v;
+  input = input;
+  opened = same_opened ∙ opened ∙ ap₂ (λ x y. known.opened old.files ++ (left, x) ∷ (right, y) ∷ []) is_u is_v;
+  beside = same_beside ∙ beside ∙ ap (λ x. known.beside old.files ++ (right, x) ∷ []) is_u;
+  answer = answer;
+}

@@ -25,24 +25,23 @@ pub record IsInputCanonicalised {F File I O E : Type 0} (known : Outside F File 
   pub status_is : status ≡ run_status answer
   pub told : IsTold known.err answer (between err_left err.after)
 
--- The file was canonicalised as the options say, and closed as the engine left it. The program ended with the answer.
-pub record IsFileCanonicalised {F File I O E : Type 0} (known : Outside F File I O E) (options : Options) (name : List ℕ) (file : File) (status : ℕ) (closed : BeforeAfter (List (List ℕ × File))) (out : BeforeAfter O) (err : BeforeAfter E) : Type 0 where
+-- The engine checked the file as the options say.
+abbrev pub IsFileChecked : {F File I O E : Type 0} → Options → Outside F File I O E → Result Outcome RunFault → BeforeAfter File → BeforeAfter O → BeforeAfter E → Type 0
+IsFileChecked options known answer file out err = IsCheckRun known.file known.out options.prefer answer file out × (err.after ≡ err.before)
+
+-- The engine canonicalised the file as the options say.
+abbrev pub IsFileCanonicalised : {F File I O E : Type 0} → Options → Outside F File I O E → Result Outcome RunFault → BeforeAfter File → BeforeAfter O → BeforeAfter E → Type 0
+IsFileCanonicalised options known answer file out err = IsCanonRun known.file known.out known.err options.prefer answer file out err
+
+-- The engine ran on the file, and the file was closed as the engine left it. The program ended with the answer.
+pub record IsFileDone {F File I O E : Type 0} (known : Outside F File I O E) (Run : Outside F File I O E → Result Outcome RunFault → BeforeAfter File → BeforeAfter O → BeforeAfter E → Type 0) (name : List ℕ) (file : File) (status : ℕ) (closed : BeforeAfter (List (List ℕ × File))) (out : BeforeAfter O) (err : BeforeAfter E) : Type 0 where
   pub answer : Result Outcome RunFault
   pub file_left : File
   pub err_left : E
-  pub run : IsCanonRun known.file known.out known.err options.prefer answer (between file file_left) out (between err.before err_left)
+  pub run : Run known answer (between file file_left) out (between err.before err_left)
   pub is_closed : closed.after ≡ closed.before ++ (name, file_left) ∷ []
   pub status_is : status ≡ run_status answer
   pub told : IsTold known.err answer (between err_left err.after)
-
--- The file was checked as the options say, and closed as the engine left it. The program ended with the answer.
-pub record IsFileChecked {F File I O E : Type 0} (known : Outside F File I O E) (options : Options) (name : List ℕ) (file : File) (status : ℕ) (closed : BeforeAfter (List (List ℕ × File))) (out : BeforeAfter O) (err : BeforeAfter E) : Type 0 where
-  pub answer : Result Outcome RunFault
-  pub file_left : File
-  pub run : IsCheckRun known.file known.out options.prefer answer (between file file_left) out
-  pub is_closed : closed.after ≡ closed.before ++ (name, file_left) ∷ []
-  pub status_is : status ≡ run_status answer
-  pub told : IsTold known.err answer err
 
 -- The two files were compared as the options say, and closed as the engine left them. The program ended with the answer.
 pub record AreFilesCompared {F File I O E : Type 0} (known : Outside F File I O E) (options : Options) (left_name right_name : List ℕ) (left right : File) (status : ℕ) (closed : BeforeAfter (List (List ℕ × File))) (out : BeforeAfter O) (err : BeforeAfter E) : Type 0 where
@@ -54,16 +53,10 @@ pub record AreFilesCompared {F File I O E : Type 0} (known : Outside F File I O 
   pub status_is : status ≡ run_status answer
   pub told : IsTold known.err answer err
 
--- What is done for `check`, by what opening the file gave.
-abbrev pub IsCheckAnswer : {F File I O E : Type 0} → Outside F File I O E → Options → List ℕ → Result File WorldFault → ℕ → BeforeAfter (List (List ℕ × File)) → BeforeAfter O → BeforeAfter E → Type 0
-IsCheckAnswer known options name (Ok file) status closed out err = IsFileChecked known options name file status closed out err
-IsCheckAnswer known options name (Err fault) status closed out err =
-    (closed.after ≡ closed.before) × IsRefused known.err (codes "cannot open") fault status out err
-
--- What is done for `canon`, by what opening the file gave.
-abbrev pub IsCanonAnswer : {F File I O E : Type 0} → Outside F File I O E → Options → List ℕ → Result File WorldFault → ℕ → BeforeAfter (List (List ℕ × File)) → BeforeAfter O → BeforeAfter E → Type 0
-IsCanonAnswer known options name (Ok file) status closed out err = IsFileCanonicalised known options name file status closed out err
-IsCanonAnswer known options name (Err fault) status closed out err =
+-- What is done for `check` and `canon`, by what opening the file gave.
+abbrev pub IsFileAnswer : {F File I O E : Type 0} → Outside F File I O E → (Outside F File I O E → Result Outcome RunFault → BeforeAfter File → BeforeAfter O → BeforeAfter E → Type 0) → List ℕ → Result File WorldFault → ℕ → BeforeAfter (List (List ℕ × File)) → BeforeAfter O → BeforeAfter E → Type 0
+IsFileAnswer known Run name (Ok file) status closed out err = IsFileDone known Run name file status closed out err
+IsFileAnswer known Run name (Err fault) status closed out err =
     (closed.after ≡ closed.before) × IsRefused known.err (codes "cannot open") fault status out err
 
 -- What is done for `compare`, by what opening the left file and then the right one gave. If one of them could not be

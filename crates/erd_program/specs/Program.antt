@@ -2,17 +2,20 @@
 use Rattle.std.specs.Prelude.{◌≡◌, ◌⊎◌, ◌++◌, ◌∷◌, [], ℕ, true, false, List, Result, Ok, Err, codes}
 use Rattle.std.specs.Io.KnownBytes.{Appends}
 use Rattle.erd_canon.specs.Devices.{BeforeAfter, Writer, between}
+use Rattle.erd_canon.specs.declared.commands.request.Options.{Options}
 use Rattle.erd_canon.specs.declared.commands.request.Request.{Request}
 use Rattle.erd_canon.specs.declared.commands.request.Request.TheVariants.{Filter, Check, Canon, Compare}
 use Rattle.erd_canon.specs.declared.commands.request.LineFault.{LineFault}
 use Rattle.erd_canon.specs.declared.commands.request.LineFault.TheVariants as line
+use Rattle.erd_canon.specs.declared.engines.outcome.Outcome.{Outcome}
+use Rattle.erd_canon.specs.declared.engines.outcome.RunFault.{RunFault}
 use Rattle.erd_canon.specs.declared.engines.outcome.RunFault.TheVariants as run
 use Rattle.erd_canon.specs.ReadLines.{IsLineRead, IsReadExactly}
 use Rattle.erd_canon.specs.Writing.{IsPartWritten}
 use Rattle.erd_program.specs.declared.files.WorldFault.{WorldFault}
 use Rattle.erd_program.specs.declared.files.WorldFault.TheVariants.{Memory}
 use Rattle.erd_program.specs.declared.world.World.{World}
-use Rattle.erd_program.specs.Files.{IsCanonAnswer, IsCheckAnswer, IsCompareAnswer, IsInputCanonicalised, IsRefused}
+use Rattle.erd_program.specs.Files.{IsCompareAnswer, IsFileAnswer, IsFileCanonicalised, IsFileChecked, IsInputCanonicalised, IsRefused}
 use Rattle.erd_program.specs.Messages.{IsSaid, fault_text}
 use Rattle.erd_program.specs.World.{Outside}
 
@@ -24,31 +27,33 @@ LeavesInput world = world.after.input ≡ world.before.input
 abbrev pub LeavesFiles : {F I O E : Type 0} → BeforeAfter (World F I O E) → Type 0
 LeavesFiles world = world.after.files ≡ world.before.files
 
--- The program did what the request asks for. For `compare`, the left file was opened first, and it was still as opening it gave
--- it when the right file was opened: neither was read before both were opened.
+-- The file was opened, and standard input was left alone. The engine ran on the file if there is one.
+pub record IsFileOpened {F File I O E : Type 0} (known : Outside F File I O E) (Run : Outside F File I O E → Result Outcome RunFault → BeforeAfter File → BeforeAfter O → BeforeAfter E → Type 0) (name : List ℕ) (status : ℕ) (world : BeforeAfter (World F I O E)) : Type 0 where
+  pub given : Result File WorldFault
+  pub input : LeavesInput world
+  pub opened : known.opened world.after.files ≡ known.opened world.before.files ++ (name, given) ∷ []
+  pub answer : IsFileAnswer known Run name given status (between (known.closed world.before.files) (known.closed world.after.files))
+      (between world.before.out world.after.out) (between world.before.err world.after.err)
+
+-- The left file was opened first, and it was still as opening it gave it when the right file was opened: neither was read before
+-- both were opened. Standard input was left alone. The files were compared if there are both.
+pub record AreFilesOpened {F File I O E : Type 0} (known : Outside F File I O E) (left right : List ℕ) (options : Options) (status : ℕ) (world : BeforeAfter (World F I O E)) : Type 0 where
+  pub left_given : Result File WorldFault
+  pub right_given : Result File WorldFault
+  pub input : LeavesInput world
+  pub opened : known.opened world.after.files ≡ known.opened world.before.files ++ (left, left_given) ∷ (right, right_given) ∷ []
+  pub beside : known.beside world.after.files ≡ known.beside world.before.files ++ (right, left_given) ∷ []
+  pub answer : IsCompareAnswer known options left right left_given right_given status (between (known.closed world.before.files) (known.closed world.after.files))
+      (between world.before.out world.after.out) (between world.before.err world.after.err)
+
+-- The program did what the request asks for.
 abbrev pub IsDone : {F File I O E : Type 0} → Outside F File I O E → Request → ℕ → BeforeAfter (World F I O E) → Type 0
 IsDone known Filter status world =
     LeavesFiles world
     × IsInputCanonicalised known status (between world.before.input world.after.input) (between world.before.out world.after.out) (between world.before.err world.after.err)
-IsDone {File = File} known (Check name options) status world =
-    LeavesInput world
-    × ((given : Result File WorldFault)
-    × (known.opened world.after.files ≡ known.opened world.before.files ++ (name, given) ∷ [])
-    × IsCheckAnswer known options name given status (between (known.closed world.before.files) (known.closed world.after.files))
-    (between world.before.out world.after.out) (between world.before.err world.after.err))
-IsDone {File = File} known (Canon name options) status world =
-    LeavesInput world
-    × ((given : Result File WorldFault)
-    × (known.opened world.after.files ≡ known.opened world.before.files ++ (name, given) ∷ [])
-    × IsCanonAnswer known options name given status (between (known.closed world.before.files) (known.closed world.after.files))
-    (between world.before.out world.after.out) (between world.before.err world.after.err))
-IsDone {File = File} known (Compare left right options) status world =
-    LeavesInput world
-    × ((a : Result File WorldFault) × (b : Result File WorldFault)
-    × (known.opened world.after.files ≡ known.opened world.before.files ++ (left, a) ∷ (right, b) ∷ [])
-    × (known.beside world.after.files ≡ known.beside world.before.files ++ (right, a) ∷ [])
-    × IsCompareAnswer known options left right a b status (between (known.closed world.before.files) (known.closed world.after.files))
-    (between world.before.out world.after.out) (between world.before.err world.after.err))
+IsDone known (Check name options) status world = IsFileOpened known (IsFileChecked options) name status world
+IsDone known (Canon name options) status world = IsFileOpened known (IsFileCanonicalised options) name status world
+IsDone known (Compare left right options) status world = AreFilesOpened known left right options status world
 
 -- The text of the help was written and flushed, with status 0. Or else that failed: a first part of it was written, and
 -- `write failed` to standard error, with status 3.

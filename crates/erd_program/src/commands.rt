@@ -1,20 +1,28 @@
-ghost use Rattle.std.specs.Prelude.{◌≡◌, ◌++◌, ◌∷◌, [], Result, IfOk, false};
+ghost use Rattle.std.specs.Prelude.{◌≡◌, ◌++◌, ◌∷◌, [], IfOk, false};
 ghost use Rattle.erd_canon.specs.Devices.{between};
-ghost use Rattle.erd_program.specs.declared.files.WorldFault.{WorldFault};
-ghost use Rattle.erd_program.specs.Files.{AreFilesCompared, IsCanonAnswer, IsCheckAnswer, IsCompareAnswer, IsFileCanonicalised, IsFileChecked, IsInputCanonicalised};
+ghost use Rattle.erd_program.specs.Files.{AreFilesCompared, IsFileDone, IsInputCanonicalised};
+ghost use Rattle.erd_program.specs.Program.{AreFilesOpened, IsFileOpened};
 ghost use Rattle.erd_program.specs.World.{outside};
+ghost use Rattle.erd_program.specs.code.Commands.{StreamsWork, run_of};
 
 use crate::files::{Files, WorldFault};
 use crate::messages::{ended, refused};
 use crate::world::World;
 use erd_canon::{
-    Disposal, FileName, Options, Sink, Source, run_canon_disposing, run_check_disposing,
-    run_compare_disposing,
+    Disposal, FileName, Options, Outcome, RunFault, Sink, Source, run_canon_disposing,
+    run_check_disposing, run_compare_disposing,
 };
 use std::alloc::Global;
 
 // The line for a file that cannot be opened.
 const CANNOT_OPEN: &str = "cannot open\n";
+
+/// A command that names one file.
+#[derive(Clone, Copy)]
+pub(crate) enum FileCommand {
+    Check,
+    Canon,
+}
 
 /// Writes the canonical form of standard input, with no preference.
 pub(crate) fn filter<F: Files, I: Source, O: Sink, E: Sink, D: Disposal>(
@@ -22,9 +30,7 @@ pub(crate) fn filter<F: Files, I: Source, O: Sink, E: Sink, D: Disposal>(
     world: &mut World<F, I, O, E>,
     disposal: &D,
 ) -> u8
-    requires input_works { I.reader.has_failed world.old.input ≡ false }
-    requires out_works { O.writer.has_failed world.old.out ≡ false }
-    requires err_works { E.writer.has_failed world.old.err ≡ false }
+    requires works { StreamsWork I.reader O.writer E.writer world.old.input world.old.out world.old.err }
     ensures files { world.new.files ≡ world.old.files }
     ensures done { IsInputCanonicalised (outside F.opened F.beside F.closed F.File.reader I.reader O.writer E.writer)
         result (between world.old.input world.new.input) (between world.old.out world.new.out)
@@ -41,105 +47,78 @@ pub(crate) fn filter<F: Files, I: Source, O: Sink, E: Sink, D: Disposal>(
     ended(answer, &mut world.err)
 }
 
-/// Opens the file and checks it as the options say.
-pub(crate) fn check<F: Files, I: Source, O: Sink, E: Sink, D: Disposal>(
+/// Opens the file and carries out the command on it, as the options say.
+pub(crate) fn one_file<F: Files, I: Source, O: Sink, E: Sink, D: Disposal>(
     alloc: Global,
     world: &mut World<F, I, O, E>,
     name: &FileName,
+    command: FileCommand,
     options: &Options,
     disposal: &D,
 ) -> u8
-    requires out_works { O.writer.has_failed world.old.out ≡ false }
-    requires err_works { E.writer.has_failed world.old.err ≡ false }
-    ensures input { world.new.input ≡ world.old.input }
-    ensures done { (given : Result F.File WorldFault)
-        × (F.opened world.new.files ≡ F.opened world.old.files ++ (name.now, given) ∷ [])
-        × IsCheckAnswer (outside F.opened F.beside F.closed F.File.reader I.reader O.writer E.writer)
-        options.now name.now given result (between (F.closed world.old.files) (F.closed world.new.files))
-        (between world.old.out world.new.out) (between world.old.err world.new.err) }
+    requires works { StreamsWork I.reader O.writer E.writer world.old.input world.old.out world.old.err }
+    ensures { IsFileOpened (outside F.opened F.beside F.closed F.File.reader I.reader O.writer E.writer)
+        (run_of command options.now) name.now result (between world.old world.new) }
 {
     match world.files.open(name) {
-        Ok(file) => check_file(alloc, world, name, file, options, disposal),
+        Ok(file) => open_file(alloc, world, (name, file), command, options, disposal),
         Err(fault) => refused(fault, CANNOT_OPEN, &mut world.err),
     }
 }
 
-// Checks the open file and closes it.
-fn check_file<F: Files, I: Source, O: Sink, E: Sink, D: Disposal>(
+// Carries out the command on the open file and closes it. The file comes with its name.
+fn open_file<F: Files, I: Source, O: Sink, E: Sink, D: Disposal>(
     alloc: Global,
     world: &mut World<F, I, O, E>,
-    name: &FileName,
-    mut file: F::File,
+    named: (&FileName, F::File),
+    command: FileCommand,
     options: &Options,
     disposal: &D,
 ) -> u8
-    requires file_works { F.File.reader.has_failed file ≡ false }
-    requires out_works { O.writer.has_failed world.old.out ≡ false }
-    requires err_works { E.writer.has_failed world.old.err ≡ false }
+    requires file_works { F.File.reader.has_failed named.1 ≡ false }
+    requires works { StreamsWork I.reader O.writer E.writer world.old.input world.old.out world.old.err }
     ensures input { world.new.input ≡ world.old.input }
     ensures opened { F.opened world.new.files ≡ F.opened world.old.files }
-    ensures done { IsFileChecked (outside F.opened F.beside F.closed F.File.reader I.reader O.writer E.writer)
-        options.now name.now file result (between (F.closed world.old.files) (F.closed world.new.files))
+    ensures done { IsFileDone (outside F.opened F.beside F.closed F.File.reader I.reader O.writer E.writer)
+        (run_of command options.now) named.entry.0.now named.entry.1 result (between (F.closed world.old.files) (F.closed world.new.files))
         (between world.old.out world.new.out) (between world.old.err world.new.err) }
 {
-    let prefer = options.prefer.text();
-    let answer = run_check_disposing(alloc, &mut file, &mut world.out, prefer, disposal);
+    let (name, mut file) = named;
+    let answer = run(alloc, world, &mut file, command, options, disposal);
     world.files.close(name, file);
     ended(answer, &mut world.err)
 }
 
-/// Opens the file and writes its canonical form as the options say.
-pub(crate) fn canon<F: Files, I: Source, O: Sink, E: Sink, D: Disposal>(
+// Runs the engine on the file.
+fn run<F: Files, I: Source, O: Sink, E: Sink, D: Disposal>(
     alloc: Global,
     world: &mut World<F, I, O, E>,
-    name: &FileName,
+    file: &mut F::File,
+    command: FileCommand,
     options: &Options,
     disposal: &D,
-) -> u8
-    requires out_works { O.writer.has_failed world.old.out ≡ false }
-    requires err_works { E.writer.has_failed world.old.err ≡ false }
+) -> Result<Outcome, RunFault>
+    requires file_works { F.File.reader.has_failed file.old ≡ false }
+    requires works { StreamsWork I.reader O.writer E.writer world.old.input world.old.out world.old.err }
     ensures input { world.new.input ≡ world.old.input }
-    ensures done { (given : Result F.File WorldFault)
-        × (F.opened world.new.files ≡ F.opened world.old.files ++ (name.now, given) ∷ [])
-        × IsCanonAnswer (outside F.opened F.beside F.closed F.File.reader I.reader O.writer E.writer)
-        options.now name.now given result (between (F.closed world.old.files) (F.closed world.new.files))
-        (between world.old.out world.new.out) (between world.old.err world.new.err) }
+    ensures files { world.new.files ≡ world.old.files }
+    ensures done { run_of command options.now (outside F.opened F.beside F.closed F.File.reader I.reader O.writer E.writer)
+        result (between file.old file.new) (between world.old.out world.new.out) (between world.old.err world.new.err) }
 {
-    match world.files.open(name) {
-        Ok(file) => canon_file(alloc, world, name, file, options, disposal),
-        Err(fault) => refused(fault, CANNOT_OPEN, &mut world.err),
+    let prefer = options.prefer.text();
+    match command {
+        FileCommand::Check => run_check_disposing(alloc, file, &mut world.out, prefer, disposal),
+        FileCommand::Canon => {
+            run_canon_disposing(
+                alloc,
+                file,
+                &mut world.out,
+                &mut world.err,
+                prefer,
+                disposal,
+            )
+        }
     }
-}
-
-// Writes the canonical form of the open file and closes it.
-fn canon_file<F: Files, I: Source, O: Sink, E: Sink, D: Disposal>(
-    alloc: Global,
-    world: &mut World<F, I, O, E>,
-    name: &FileName,
-    mut file: F::File,
-    options: &Options,
-    disposal: &D,
-) -> u8
-    requires file_works { F.File.reader.has_failed file ≡ false }
-    requires out_works { O.writer.has_failed world.old.out ≡ false }
-    requires err_works { E.writer.has_failed world.old.err ≡ false }
-    ensures input { world.new.input ≡ world.old.input }
-    ensures opened { F.opened world.new.files ≡ F.opened world.old.files }
-    ensures done { IsFileCanonicalised (outside F.opened F.beside F.closed F.File.reader I.reader O.writer E.writer)
-        options.now name.now file result (between (F.closed world.old.files) (F.closed world.new.files))
-        (between world.old.out world.new.out) (between world.old.err world.new.err) }
-{
-    let prefer = options.prefer.text();
-    let answer = run_canon_disposing(
-        alloc,
-        &mut file,
-        &mut world.out,
-        &mut world.err,
-        prefer,
-        disposal,
-    );
-    world.files.close(name, file);
-    ended(answer, &mut world.err)
 }
 
 /// Opens both files and then compares them as the options say.
@@ -151,15 +130,9 @@ pub(crate) fn compare<F: Files, I: Source, O: Sink, E: Sink, D: Disposal>(
     options: &Options,
     disposal: &D,
 ) -> u8
-    requires out_works { O.writer.has_failed world.old.out ≡ false }
-    requires err_works { E.writer.has_failed world.old.err ≡ false }
-    ensures input { world.new.input ≡ world.old.input }
-    ensures done { (a b : Result F.File WorldFault)
-        × (F.opened world.new.files ≡ F.opened world.old.files ++ (left.now, a) ∷ (right.now, b) ∷ [])
-        × (F.beside world.new.files ≡ F.beside world.old.files ++ (right.now, a) ∷ [])
-        × IsCompareAnswer (outside F.opened F.beside F.closed F.File.reader I.reader O.writer E.writer)
-        options.now left.now right.now a b result (between (F.closed world.old.files)
-        (F.closed world.new.files)) (between world.old.out world.new.out) (between world.old.err world.new.err) }
+    requires works { StreamsWork I.reader O.writer E.writer world.old.input world.old.out world.old.err }
+    ensures { AreFilesOpened (outside F.opened F.beside F.closed F.File.reader I.reader O.writer E.writer)
+        left.now right.now options.now result (between world.old world.new) }
 {
     let (left_file, right_file) = open_both(&mut world.files, left, right);
     match (left_file, right_file) {
@@ -213,8 +186,7 @@ fn compare_files<F: Files, I: Source, O: Sink, E: Sink, D: Disposal>(
 ) -> u8
     requires left_works { F.File.reader.has_failed left.1 ≡ false }
     requires right_works { F.File.reader.has_failed right.1 ≡ false }
-    requires out_works { O.writer.has_failed world.old.out ≡ false }
-    requires err_works { E.writer.has_failed world.old.err ≡ false }
+    requires works { StreamsWork I.reader O.writer E.writer world.old.input world.old.out world.old.err }
     ensures input { world.new.input ≡ world.old.input }
     ensures opened { F.opened world.new.files ≡ F.opened world.old.files }
     ensures beside { F.beside world.new.files ≡ F.beside world.old.files }

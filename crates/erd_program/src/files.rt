@@ -2,7 +2,7 @@ ghost use Rattle.std.specs.Prelude.{◌≡◌, ℕ, List, [], ◌∷◌, ◌++�
 ghost use Rattle.erd_program.specs.declared.files.WorldFault.{WorldFault};
 ghost use Rattle.erd_program.specs.Messages.{world_status};
 
-use erd_canon::{FileName, Source};
+use erd_canon::{FileName, RunFault, Source};
 use std::alloc::AllocError;
 use std::io;
 
@@ -13,18 +13,6 @@ pub enum WorldFault {
     Refused,
     /// Out of memory.
     Memory,
-}
-
-impl WorldFault {
-    /// Returns the exit status of the program for this fault: 3 if the system refused, 4 if out of memory.
-    pub fn status(&self) -> u8
-        ensures { result ≡ world_status self.now }
-    {
-        match self {
-            WorldFault::Refused => 3,
-            WorldFault::Memory => 4,
-        }
-    }
 }
 
 impl From<AllocError> for WorldFault {
@@ -50,6 +38,18 @@ impl From<io::Error> for WorldFault {
         match error.kind() {
             io::ErrorKind::OutOfMemory => WorldFault::Memory,
             _ => WorldFault::Refused,
+        }
+    }
+}
+
+impl WorldFault {
+    /// Returns the exit status of the program for this fault: 3 if the system refused, 4 if out of memory.
+    pub fn status(&self) -> u8
+        ensures { result ≡ world_status self.now }
+    {
+        match self {
+            WorldFault::Refused => 3,
+            WorldFault::Memory => RunFault::Memory.status(),
         }
     }
 }

@@ -45,7 +45,7 @@ pub(crate) fn refused<E: Sink>(fault: WorldFault, line: &str, err: &mut E) -> u8
 
 /// Returns the line that says why a run ended early, with its line feed.
 pub(crate) fn line_of(fault: RunFault) -> &'static str
-    ensures { result.now ≡ fault_text fault }
+    ensures line { result.now ≡ fault_text fault }
 {
     match fault {
         RunFault::TooLong => "too long\n",

@@ -5,8 +5,9 @@ ghost use Rattle.erd_canon.specs.Writing.{IsPartWritten};
 ghost use Rattle.erd_program.specs.Messages.{IsSaid};
 ghost use Rattle.erd_program.specs.Program.{AreWordsAnswered, IsDone, IsHelped, IsLineRefused, IsProgramRun, words_given};
 ghost use Rattle.erd_program.specs.World.{outside};
+ghost use Rattle.erd_program.specs.code.Commands.{StreamsWork};
 
-use crate::commands::{canon, check, compare, filter};
+use crate::commands::{FileCommand, compare, filter, one_file};
 use crate::files::{Files, WorldFault};
 use crate::messages::{ended, refused, say};
 use crate::world::World;
@@ -48,9 +49,7 @@ fn answered<F: Files, I: Source, O: Sink, E: Sink, D: Disposal>(
     world: &mut World<F, I, O, E>,
     disposal: &D,
 ) -> u8
-    requires input_works { I.reader.has_failed world.old.input ≡ false }
-    requires out_works { O.writer.has_failed world.old.out ≡ false }
-    requires err_works { E.writer.has_failed world.old.err ≡ false }
+    requires works { StreamsWork I.reader O.writer E.writer world.old.input world.old.out world.old.err }
     ensures { AreWordsAnswered (outside F.opened F.beside F.closed F.File.reader I.reader O.writer E.writer)
         (map string_bytes words.now) result (between world.old world.new) }
 {
@@ -67,16 +66,18 @@ fn done<F: Files, I: Source, O: Sink, E: Sink, D: Disposal>(
     request: &Request,
     disposal: &D,
 ) -> u8
-    requires input_works { I.reader.has_failed world.old.input ≡ false }
-    requires out_works { O.writer.has_failed world.old.out ≡ false }
-    requires err_works { E.writer.has_failed world.old.err ≡ false }
+    requires works { StreamsWork I.reader O.writer E.writer world.old.input world.old.out world.old.err }
     ensures { IsDone (outside F.opened F.beside F.closed F.File.reader I.reader O.writer E.writer)
         request.now result (between world.old world.new) }
 {
     match request {
         Request::Filter => filter(alloc, world, disposal),
-        Request::Check(name, options) => check(alloc, world, name, options, disposal),
-        Request::Canon(name, options) => canon(alloc, world, name, options, disposal),
+        Request::Check(name, options) => {
+            one_file(alloc, world, name, FileCommand::Check, options, disposal)
+        }
+        Request::Canon(name, options) => {
+            one_file(alloc, world, name, FileCommand::Canon, options, disposal)
+        }
         Request::Compare(left, right, options) => {
             compare(alloc, world, left, right, options, disposal)
         }
