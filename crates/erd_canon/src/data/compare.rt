@@ -1,6 +1,6 @@
 ghost use Rattle.std.specs.Prelude.{◌≡◌, string_bytes, IfOk, None, option_copied};
 ghost use Rattle.erd_canon.specs.Words.{IsComparedData, IsDataText, comparison_data, comparison_outcome};
-ghost use Rattle.erd_canon.specs.code.RefusalData.{IsSideAnswer};
+ghost use Rattle.erd_canon.specs.code.RefusalData.{AnswersData, NamesSide, TellsRefusalAs, TellsSideAs};
 
 use crate::bytes::comparison::compare_bytes_with;
 use crate::bytes::refusal::{Refusal, Side};
@@ -54,9 +54,7 @@ pub fn compare_data_with(
 {
     match compare_bytes_with(alloc, left, right, prefer) {
         Ok(found) => compared(alloc, &found),
-        Err(Side::Left(refusal)) => refused_side(alloc, "left", &refusal),
-        Err(Side::Right(refusal)) => refused_side(alloc, "right", &refusal),
-        Err(Side::Memory) => Err(AllocError),
+        Err(side) => refused_side(alloc, &side),
     }
 }
 
@@ -78,12 +76,19 @@ pub(crate) fn compared(alloc: Global, found: &Option<Difference>) -> Result<Answ
 }
 
 /// Returns the answer if the report on one side is refused.
-pub(crate) fn refused_side(
-    alloc: Global,
-    side: &str,
-    refusal: &Refusal,
-) -> Result<Answer, AllocError>
-    ensures { IfOk result (λ answer. IsSideAnswer side.now refusal.now answer.outcome (string_bytes answer.text)) }
+pub(crate) fn refused_side(alloc: Global, side: &Side) -> Result<Answer, AllocError>
+    ensures { IfOk result (λ answer. AnswersData (TellsSideAs (TellsRefusalAs answer.outcome) side.now) (string_bytes answer.text)) }
+{
+    match side {
+        Side::Left(refusal) => named(alloc, "left", refusal),
+        Side::Right(refusal) => named(alloc, "right", refusal),
+        Side::Memory => Err(AllocError),
+    }
+}
+
+/// Returns the answer that names a side and says why its report is refused.
+fn named(alloc: Global, side: &str, refusal: &Refusal) -> Result<Answer, AllocError>
+    ensures { IfOk result (λ answer. AnswersData (NamesSide side.now (TellsRefusalAs answer.outcome refusal.now)) (string_bytes answer.text)) }
 {
     let mut text = String::from_str(alloc, "{\"faults\":")?;
     let outcome = push_refusal(alloc, refusal, &mut text)?;

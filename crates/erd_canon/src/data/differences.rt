@@ -2,7 +2,6 @@ ghost use Rattle.std.specs.Prelude.{◌≡◌, ◌++◌, string_bytes, IfOk, Non
 ghost use Rattle.erd_canon.specs.Words.{compact_text, IsDataText, IsListedData, listing_outcome, differences_data};
 
 use crate::bytes::differences::differences_of;
-use crate::bytes::refusal::Side;
 use crate::data::check::Answer;
 use crate::data::compare::refused_side;
 use crate::data::listed::push_entry;
@@ -58,9 +57,7 @@ pub fn differences_data_with(
 {
     match differences_of(alloc, left, right, prefer, 0, usize::MAX) {
         Ok(found) => listed(alloc, &found),
-        Err(Side::Left(refusal)) => refused_side(alloc, "left", &refusal),
-        Err(Side::Right(refusal)) => refused_side(alloc, "right", &refusal),
-        Err(Side::Memory) => Err(AllocError),
+        Err(side) => refused_side(alloc, &side),
     }
 }
 

@@ -1,7 +1,7 @@
-use Rattle.erd_canon.proofs.Common.{string_bytes, option_copied, sym, subst, IfOk-weaker, RefusedSide}
+use Rattle.erd_canon.proofs.Common.{string_bytes, option_copied, sym, subst, IfOk-weaker}
 use Rattle.erd_canon.specs.DataAnswers.{any_size}
 use Rattle.erd_canon.specs.EngineTexts.{AreDetailed}
-use Rattle.erd_canon.proofs.runs.Listings.{both_facts, both_listed, left_refused, right_refused}
+use Rattle.erd_canon.proofs.runs.Listings.{both_facts, both_listed, sides_refused}
 use Rattle.erd_canon.proofs.data.differences.differences_data_with.Goals as goal
 
 pub returns-in-Ok : goal.returns-in-Ok
@@ -11,16 +11,7 @@ returns-in-Ok c =
     (subst (AreDetailed (option_copied c.args.prefer) c.args.left.now c.args.right.now 0 any_size) (sym c.deref.ensures.value) c.in-Ok.ensures.ok) outcome text)
     c.listed.ensures.outcome c.listed.ensures.text
 
-pub returns-in-Err-Left : goal.returns-in-Err-Left
-returns-in-Err-Left c =
-    let refused = subst (RefusedSide (option_copied c.args.prefer) c.args.left.now c.args.right.now) c.in-Err-Left.field-0-is c.in-Err-Left.ensures.refused in
+pub returns-in-Err : goal.returns-in-Err
+returns-in-Err c =
     IfOk-weaker c.refused_side.result _ _
-    (λ answer a. left_refused (option_copied c.args.prefer) c.args.left.now c.args.right.now c.in-Err-Left.refusal answer.outcome (string_bytes answer.text) refused a)
-    c.refused_side.ensures
-
-pub returns-in-Err-Right : goal.returns-in-Err-Right
-returns-in-Err-Right c =
-    let refused = subst (RefusedSide (option_copied c.args.prefer) c.args.left.now c.args.right.now) c.in-Err-Right.field-0-is c.in-Err-Right.ensures.refused in
-    IfOk-weaker c.refused_side-in-Err-Right.result _ _
-    (λ answer a. right_refused (option_copied c.args.prefer) c.args.left.now c.args.right.now c.in-Err-Right.refusal answer.outcome (string_bytes answer.text) refused.0 refused.1 a)
-    c.refused_side-in-Err-Right.ensures
+    (λ answer a. (sides_refused (option_copied c.args.prefer) c.args.left.now c.args.right.now c.in-Err.side answer.outcome (string_bytes answer.text) c.in-Err.ensures.refused a).1) c.refused_side.ensures
