@@ -34,7 +34,8 @@ pub use devices::read_from::ReadFrom;
 pub use devices::sink::{Sink, write_out};
 pub use devices::source::{Failed, MOST_BYTES, Source};
 pub use devices::write_to::WriteTo;
-pub use engines::canon::{run_canon, run_canon_disposing, run_canon_with};
-pub use engines::check::{run_check, run_check_disposing, run_check_with};
-pub use engines::compare::{run_compare, run_compare_disposing, run_compare_with};
 pub use engines::outcome::{Outcome, RunFault};
+pub use engines::runs::{
+    run_canon, run_canon_disposing, run_canon_with, run_check, run_check_disposing, run_check_with,
+    run_compare, run_compare_disposing, run_compare_with,
+};

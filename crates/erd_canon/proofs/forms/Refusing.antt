@@ -35,5 +35,9 @@ of_side π left right one other (side.Right refused) Tells IsTold Both follows i
 of_side π left right one other side.Memory Tells IsTold Both follows is told = absurd told
 
 -- bytes of an accepted tree are an accepted report, under each equal preference and for each equal tree
-pub as_report : (π ρ : Preference) (b : List ℕ) (t r : Data) → ρ ≡ π → r ≡ t → IsTreeOf b t → IsAccepted π t → IsAcceptedReport ρ b r
+as_report : (π ρ : Preference) (b : List ℕ) (t r : Data) → ρ ≡ π → r ≡ t → IsTreeOf b t → IsAccepted π t → IsAcceptedReport ρ b r
 as_report π ρ b t r p e read accepted = subst (λ (σ : Preference). IsAcceptedReport σ b r) (sym p) (subst (IsAcceptedReport π b) (sym e) (record { read = read; accepted = accepted }))
+
+-- what holds of the bytes of an accepted report holds of the bytes of its tree
+pub of_report : (π ρ : Preference) (t r : Data) (P : Preference → List ℕ → Type 0) → ρ ≡ π → r ≡ t → IsAccepted π t → ((b : List ℕ) → IsAcceptedReport ρ b r → P ρ b) → (b : List ℕ) → IsTreeOf b t → P π b
+of_report π ρ t r P p e accepted holds b read = subst (λ (σ : Preference). P σ b) p (holds b (as_report π ρ b t r p e read accepted))
