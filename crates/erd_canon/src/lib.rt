@@ -19,8 +19,7 @@ pub use commands::prefer::Prefer;
 pub use commands::request::{FileName, LineFault, Options, Request};
 pub use commands::words::command_line;
 pub use data::check::{Answer, check_data, check_data_with};
-pub use data::compare::{compare_data, compare_data_with};
-pub use data::differences::{differences_data, differences_data_with};
+pub use data::compare::{compare_data, compare_data_with, differences_data, differences_data_with};
 pub use data::line::{LineAnswer, command_line_data};
 pub use data::piece::{Piece, PieceAnswer, Told};
 pub use data::pieces::{

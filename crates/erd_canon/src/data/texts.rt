@@ -10,7 +10,7 @@ use crate::bytes::canonical::canonical_with;
 use crate::bytes::comparison::compare_bytes_with;
 use crate::bytes::differences::differences_of;
 use crate::bytes::refusal::{Refusal, Side};
-use crate::data::differences::outcome_of;
+use crate::data::compare::outcome_of;
 use crate::data::listed::push_entries;
 use crate::data::notation::Notation;
 use crate::data::piece::{Piece, PieceAnswer, Told};

@@ -2,7 +2,7 @@ use Rattle.erd_canon.proofs.Common.{string_bytes, option_copied, sym, subst, IfO
 use Rattle.erd_canon.specs.DataAnswers.{any_size}
 use Rattle.erd_canon.specs.EngineTexts.{AreDetailed}
 use Rattle.erd_canon.proofs.runs.Listings.{both_facts, both_listed, sides_refused}
-use Rattle.erd_canon.proofs.data.differences.differences_data_with.Goals as goal
+use Rattle.erd_canon.proofs.data.compare.differences_data_with.Goals as goal
 
 pub returns-in-Ok : goal.returns-in-Ok
 returns-in-Ok c =
