@@ -32,7 +32,7 @@ pub use Rattle.erd_canon.specs.Run.{IsChecked, IsAnswered, IsSideRefused, IsComp
 pub use Rattle.erd_canon.specs.Subcommands.{program}
 pub use Rattle.erd_canon.specs.Writing.{IsPartWritten}
 pub use Rattle.erd_canon.specs.code.Pending.{IsFrontMoved, IsMoved}
-pub use Rattle.erd_canon.specs.code.RefusalData.{TellsRefusalAs, AppendsRefusal, IsRefusalAnswer, IsSideAnswer}
+pub use Rattle.erd_canon.specs.code.RefusalData.{TellsRefusalAs, AppendsData, AnswersData, NamesSide, TellsSideAs}
 pub use Rattle.erd_canon.specs.declared.bytes.refusal.Refusal.{Refusal, Refusal as refusal}
 pub use Rattle.erd_canon.specs.declared.engines.outcome.Outcome.{Outcome}
 pub use Rattle.erd_canon.specs.declared.engines.outcome.Outcome.TheVariants.{Bad, Good, NotJson}

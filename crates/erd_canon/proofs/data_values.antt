@@ -3,6 +3,6 @@ pub mod DetailedTrees  -- the values of differences with what differs inside sel
 pub mod DataTexts
 pub mod Fronts  -- the front of a list that a piece shows
 pub mod FrontLaws  -- that a list has one front and one piece
-pub mod LineTexts  -- the text of a request
+pub mod LineTexts  -- the object of a request
 pub mod PieceTexts  -- the answers that have a piece of a list
 pub mod PieceLines  -- the answers that have a piece of a list as lines

@@ -2,7 +2,6 @@
 
 pub(crate) mod check;
 pub(crate) mod compare;
-pub(crate) mod differences;
 mod fault_texts;
 mod fault_values;
 pub(crate) mod line;

@@ -19,8 +19,7 @@ pub use commands::prefer::Prefer;
 pub use commands::request::{FileName, LineFault, Options, Request};
 pub use commands::words::command_line;
 pub use data::check::{Answer, check_data, check_data_with};
-pub use data::compare::{compare_data, compare_data_with};
-pub use data::differences::{differences_data, differences_data_with};
+pub use data::compare::{compare_data, compare_data_with, differences_data, differences_data_with};
 pub use data::line::{LineAnswer, command_line_data};
 pub use data::piece::{Piece, PieceAnswer, Told};
 pub use data::pieces::{
@@ -34,7 +33,8 @@ pub use devices::read_from::ReadFrom;
 pub use devices::sink::{Sink, write_out};
 pub use devices::source::{Failed, MOST_BYTES, Source};
 pub use devices::write_to::WriteTo;
-pub use engines::canon::{run_canon, run_canon_disposing, run_canon_with};
-pub use engines::check::{run_check, run_check_disposing, run_check_with};
-pub use engines::compare::{run_compare, run_compare_disposing, run_compare_with};
 pub use engines::outcome::{Outcome, RunFault};
+pub use engines::runs::{
+    run_canon, run_canon_disposing, run_canon_with, run_check, run_check_disposing, run_check_with,
+    run_compare, run_compare_disposing, run_compare_with,
+};

@@ -1,5 +1,5 @@
 -- The values that calls answer as data are trees, nest little, and have no number that is not whole.
-use Rattle.erd_canon.proofs.Common.{◌≡◌, ℕ, ◌≤◌, false, List, [], ◌∷◌, map, Some, None, Option, sym, refl, subst, arith, Data, depth, items_depth, items_of, has_float, items_have_float, Reason, reason, IsTree, AreTrees, Fault, Difference, step_data, fault_data, faults_data, refused_data, TellsRefusalAs, Refusal, refusal, Outcome, Bad, NotJson}
+use Rattle.erd_canon.proofs.Common.{◌≡◌, ℕ, ◌≤◌, false, List, [], ◌∷◌, map, Some, None, Option, sym, refl, subst, arith, Data, depth, items_depth, items_of, has_float, items_have_float, Reason, reason, IsTree, AreTrees, Fault, Difference, step_data, fault_data, faults_data, TellsRefusalAs, Refusal, refusal, Outcome, Bad, NotJson}
 use Rattle.erd_tables.specs.declared.place.Step.{Step}
 use Rattle.erd_tables.specs.declared.place.Step.TheVariants.{Name, At}
 use Rattle.erd_meaning.specs.declared.keys.key.Key.{Key}
@@ -26,9 +26,6 @@ faults_tree : (faults : List Fault) → AreTrees (items_of (map fault_data fault
 faults_tree [] = tt
 faults_tree (f ∷ faults) = (fault_tree f, faults_tree faults)
 
-pub refused_tree : (side : List ℕ) (why : Data) → IsTree why → IsTree (refused_data side why)
-refused_tree side why tree = (refl, tree, (tt, tt, tt))
-
 -- ---- depths
 
 steps_depth : (steps : List Step) → items_depth (items_of (map step_data steps)) ≤ 0
@@ -47,9 +44,6 @@ faults_depth : (faults : List Fault) → items_depth (items_of (map fault_data f
 faults_depth [] = omega arith
 faults_depth (f ∷ faults) = omega (arith, fault_depth f, faults_depth faults)
 
-pub refused_depth : (side : List ℕ) (why : Data) → depth why ≤ 3 → depth (refused_data side why) ≤ 4
-refused_depth side why low = omega arith
-
 -- ---- no number that is not whole
 
 steps_whole : (steps : List Step) → items_have_float (items_of (map step_data steps)) ≡ false
@@ -66,16 +60,19 @@ fault_whole f = at f.reason (steps_whole f.place)
 
 -- ---- refusals and differences
 
+-- a value that can stand in an answer
+abbrev pub IsLowTree : Data → Type 0
+IsLowTree d = IsTree d × (depth d ≤ 7)
+
 -- the array of faults
-pub faults_value : (faults : List Fault) → IsTree (faults_data faults) × (depth (faults_data faults) ≤ 3)
+pub faults_value : (faults : List Fault) → IsLowTree (faults_data faults)
 faults_value faults = (faults_tree faults, omega (arith, faults_depth faults))
 
 -- what is told of a refusal
-pub refusal_value : (refused : Refusal) (outcome : Outcome) (value : Data) → TellsRefusalAs refused outcome value → IsTree value × (depth value ≤ 3)
-refusal_value (refusal.Faults faults) Bad value is =
-    subst (λ d. IsTree d × (depth d ≤ 3)) (sym is) (faults_value faults)
-refusal_value refusal.NotJson NotJson value is = subst (λ d. IsTree d × (depth d ≤ 3)) (sym is) (tt, omega arith)
-refusal_value refused outcome value is = absurd is
+pub refusal_value : (outcome : Outcome) (refused : Refusal) (value : Data) → TellsRefusalAs outcome refused value → IsLowTree value
+refusal_value Bad (refusal.Faults faults) value is = subst IsLowTree (sym is) (faults_value faults)
+refusal_value NotJson refusal.NotJson value is = subst IsLowTree (sym is) (tt, omega arith)
+refusal_value outcome refused value is = absurd is
 
 difference_at : (p : Part) (k : Option Key) (h : How) → let d = difference_data (record { part = p; key = k; how = h }) in (depth d ≤ 2) × (has_float d ≡ false)
 difference_at p None OnlyLeft = (omega arith, refl)

@@ -1,8 +1,8 @@
 -- The front of a list that a piece shows: what it is, and how a walk along the list reaches it entry by entry.
-use Rattle.erd_canon.proofs.Common.{◌≡◌, ℕ, zero, suc, ◌+◌, ◌-◌, ◌<◌, ◌≤◌, Bool, true, false, ◌⊎◌, List, [], ◌∷◌, ◌++◌, map, length, take, drop, nat_lt, sym, refl, ap, ◌∙◌, subst, inl, inr, append_assoc, append-nil, arith, lt-ltb, fold, Data, array, items_of, comma_if, compact_text, items_text, HasFittingNumbers, ItemsHaveFittingNumbers}
+use Rattle.erd_canon.proofs.Common.{◌≡◌, ℕ, zero, suc, ◌+◌, ◌-◌, ◌<◌, ◌≤◌, Bool, true, false, ◌⊎◌, List, [], ◌∷◌, ◌++◌, map, length, take, drop, nat_lt, sym, refl, ap, ◌∙◌, subst, inl, inr, append_assoc, append-nil, arith, lt-ltb, fold, Data, array, items_of, comma_if, compact_text, items_text, HasFittingNumbers, ItemsHaveFittingNumbers, AppendsData}
 use Rattle.std.proofs.Common.{sum, le-ltb}
-use Rattle.erd_canon.specs.Pieces.{IsFront}
-use Rattle.erd_canon.specs.code.Fronts.{AllHave, AppendsEntries, AppendsPiece, IsReached, ahead, front, joined_text}
+use Rattle.erd_canon.specs.Pieces.{IsFront, IsPieceData}
+use Rattle.erd_canon.specs.code.Fronts.{AllHave, AppendsEntries, IsReached, ahead, front, joined_text}
 use Rattle.erd_canon.specs.declared.data.piece.Piece.{Piece}
 use Rattle.erd_canon.specs.declared.data.piece.Told.{Told}
 
@@ -163,10 +163,10 @@ items_fit value_of (x ∷ xs) fit = (fit.0, items_fit value_of xs fit.1)
 -- the entries of a piece between brackets
 pub in_brackets : {A : Type 0} (value_of : A → Data) (piece : Piece) (entries : List A) (told : Told) (before first second after : List ℕ) → first ≡ before ++ 91 ∷ []
     → AppendsEntries (λ x. length (compact_text (value_of x))) (λ later x. comma_if later ++ compact_text (value_of x)) (λ x. HasFittingNumbers (value_of x)) piece entries told first second
-    → after ≡ second ++ 93 ∷ [] → AppendsPiece value_of piece entries told before after
+    → after ≡ second ++ 93 ∷ [] → AppendsData (IsPieceData value_of piece entries told) before after
 in_brackets value_of piece entries told before first second after opened a closed = record {
   value = array (items_of (map value_of a.shown));
-  is_piece = record { shown = a.shown; is_piece = a.is_piece; is_array = refl };
+  says = record { shown = a.shown; is_piece = a.is_piece; is_array = refl };
   fits = items_fit value_of a.shown a.fits;
   wrote = closed ∙ ap (λ t. t ++ 93 ∷ []) (a.wrote ∙ ap (λ t. t ++ entries_text) opened) ∙ append_assoc (before ++ 91 ∷ []) entries_text (93 ∷ []) ∙ append_assoc before (91 ∷ []) (entries_text ++ 93 ∷ [])
       ∙ ap (λ t. before ++ 91 ∷ t) (joined_items value_of false a.shown);

@@ -1,13 +1,11 @@
--- The text of the object of a request is read back, and what words are answered with.
-use Rattle.erd_canon.proofs.Common.{◌≡◌, ℕ, ◌≤◌, Bool, false, ◌||◌, List, Some, None, Option, Result, IsUtf8, sym, refl, ap, subst, arith, Data, depth, read, max_depth, has_float, compact_text, IsLineRead}
-use Rattle.erd_canon.specs.DataAnswers.{IsDataText}
+-- The object of a request nests little, and what words are answered with.
+use Rattle.erd_canon.proofs.Common.{◌≡◌, ℕ, ◌≤◌, Bool, false, ◌||◌, List, Some, None, Option, Result, sym, refl, ap, subst, arith, depth, has_float, IsLineRead}
 use Rattle.erd_canon.specs.LineAnswers.{IsAnswerTo, IsLineData, request_data}
 use Rattle.erd_canon.specs.Options.{preference_data}
 use Rattle.erd_canon.specs.ReadLines.{IsReadExactly}
 use Rattle.erd_canon.specs.declared.commands.request.LineFault.{LineFault}
 use Rattle.erd_canon.specs.declared.commands.request.Request.{Request}
 use Rattle.erd_canon.specs.declared.commands.request.Request.TheVariants.{Filter, Check, Canon, Compare}
-use Rattle.erd_canon.proofs.data_values.DataTexts.{value_text}
 
 -- a preference does not nest, and has no number
 preference_flat : (prefer : Option (List ℕ)) → (depth (preference_data prefer) ≤ 0) × (has_float (preference_data prefer) ≡ false)
@@ -19,17 +17,11 @@ last_has_float : (prefer : Option (List ℕ)) → (has_float (preference_data pr
 last_has_float prefer = ap (λ (b : Bool). b || false) (preference_flat prefer).1
 
 -- the object of a request nests little, and has no number
-request_value : (r : Request) → (depth (request_data r) ≤ 2) × (has_float (request_data r) ≡ false)
+pub request_value : (r : Request) → (depth (request_data r) ≤ 2) × (has_float (request_data r) ≡ false)
 request_value Filter = (omega arith, refl)
 request_value (Check file options) = (omega (arith, (preference_flat options.prefer).0), last_has_float options.prefer)
 request_value (Canon file options) = (omega (arith, (preference_flat options.prefer).0), last_has_float options.prefer)
 request_value (Compare left right options) = (omega (arith, (preference_flat options.prefer).0), last_has_float options.prefer)
-
--- the text of a request
-pub request_text : (text : List ℕ) (r : Request) (v : Data) → v ≡ request_data r → (has_float v ≡ false → text ≡ compact_text v) → (depth v ≤ max_depth → read text ≡ Some v) → IsUtf8 text
-    → IsDataText text (request_data r)
-request_text text r v same written read_back utf8 =
-    let known = request_value r in value_text text v (request_data r) utf8 same known.1 (omega (arith, known.0)) written read_back
 
 -- the answer to what was read from the words
 pub line_data : (words : List (List ℕ)) (found line : Result Request LineFault) (status : Option ℕ) (text : List ℕ) → found ≡ line → IsReadExactly words found → IsLineRead words found

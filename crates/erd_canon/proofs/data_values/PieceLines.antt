@@ -1,5 +1,5 @@
 -- The answers that have a piece of a list as lines.
-use Rattle.erd_canon.proofs.Common.{◌≡◌, ℕ, zero, suc, ◌<◌, ◌≤◌, Bool, true, false, List, [], ◌∷◌, ◌++◌, map, take, drop, codes, sym, refl, ap, ◌∙◌, subst, inl, inr, Preference, IsSomeReport, RefusedAs, Refusal, refusal, Outcome, Bad, Good, NotJson, lines_of_side, text_of_lines}
+use Rattle.erd_canon.proofs.Common.{◌≡◌, ℕ, zero, suc, ◌<◌, ◌≤◌, Bool, true, false, List, [], ◌∷◌, ◌++◌, map, take, drop, codes, sym, refl, ap, ◌∙◌, subst, inl, inr, Preference, IsSomeReport, RefusedAs, RefusedSide, Refusal, refusal, Outcome, Bad, Good, NotJson, lines_of_side, text_of_lines}
 use Rattle.std.proofs.Common.{◌==◌, length, sum, true≢false}
 use Rattle.erd_meaning.proofs.Common.{length-map, map-append}
 use Rattle.erd_compare.specs.DifferenceLine.{difference_line}
@@ -8,8 +8,11 @@ use Rattle.erd_canon.specs.DataAnswers.{listing_outcome}
 use Rattle.erd_canon.specs.EngineTexts.{AreDetailed}
 use Rattle.erd_canon.specs.Pieces.{IsCheckLines, IsCompareLines, IsFormLines, IsFoundLines, IsFront, IsListLines, IsPieceLines, IsRefusalLines, TellsNone, whole_line}
 use Rattle.erd_canon.specs.code.Fronts.{AppendsEntries, TellsLinesAs, joined_text}
+use Rattle.erd_canon.specs.code.SideRefusals.{OnSide}
+use Rattle.erd_canon.specs.declared.bytes.refusal.Side.{Side}
 use Rattle.erd_canon.specs.declared.data.piece.Piece.{Piece}
 use Rattle.erd_canon.specs.declared.data.piece.Told.{Told}
+use Rattle.erd_canon.proofs.forms.Refusing.{of_side}
 
 -- ---- the texts
 
@@ -70,38 +73,34 @@ module _ {A B : Type 0} (f : A → B) where
 
 -- ---- the answers
 
-pub why_lines : (π : Preference) (side bytes : List ℕ) (refused : Refusal) (piece : Piece) (outcome : Outcome) (told : Told) (text : List ℕ) → RefusedAs π bytes refused
-    → TellsLinesAs side refused piece outcome told text → IsRefusalLines π side bytes piece outcome told text
-why_lines π side bytes (refusal.Faults faults) piece Bad told text (is, none) tells = (faults, is, tells)
-why_lines π side bytes refusal.NotJson piece NotJson told text not tells = (not, tells.0, tells.1)
-why_lines π side bytes refused piece outcome told text is tells = absurd tells
+why_lines : (π : Preference) (piece : Piece) (outcome : Outcome) (told : Told) (text words bytes : List ℕ) (refused : Refusal) → RefusedAs π bytes refused
+    → TellsLinesAs piece outcome told text words refused → IsRefusalLines π words bytes piece outcome told text
+why_lines π piece Bad told text words bytes (refusal.Faults faults) (is, none) tells = (faults, is, tells)
+why_lines π piece NotJson told text words bytes refusal.NotJson not tells = (not, tells.0, tells.1)
+why_lines π piece outcome told text words bytes refused is tells = absurd tells
 
 -- a check, or a canonical form, of refused bytes
-pub check_lines : (π : Preference) (bytes : List ℕ) (piece : Piece) (outcome : Outcome) (told : Told) (text : List ℕ) → IsRefusalLines π [] bytes piece outcome told text
-    → IsCheckLines π bytes piece outcome told text
-check_lines π bytes piece Good told text is = absurd is
-check_lines π bytes piece outcome told text is = is
-
-pub form_lines : (π : Preference) (bytes : List ℕ) (piece : Piece) (outcome : Outcome) (told : Told) (text : List ℕ) → IsRefusalLines π [] bytes piece outcome told text
-    → IsFormLines π bytes piece outcome told text
-form_lines π bytes piece Good told text is = absurd is
-form_lines π bytes piece outcome told text is = is
+pub lines_refused : (π : Preference) (bytes : List ℕ) (refused : Refusal) (piece : Piece) (outcome : Outcome) (told : Told) (text : List ℕ) → RefusedAs π bytes refused
+    → TellsLinesAs piece outcome told text [] refused → IsCheckLines π bytes piece outcome told text × IsFormLines π bytes piece outcome told text
+lines_refused π bytes refused piece outcome told text is tells = at outcome (why_lines π piece outcome told text [] bytes refused is tells)
+  where
+    at : (o : Outcome) → IsRefusalLines π [] bytes piece o told text → IsCheckLines π bytes piece o told text × IsFormLines π bytes piece o told text
+    at Good why = absurd why
+    at o why = (why, why)
 
 -- a check of an accepted report
 pub check_line : (π : Preference) (bytes : List ℕ) (piece : Piece) (outcome : Outcome) (told : Told) (text : List ℕ) → IsSomeReport π bytes → outcome ≡ Good
     → text ≡ text_of_lines (codes "accepted" ∷ []) → TellsNone told → IsCheckLines π bytes piece outcome told text
 check_line π bytes piece outcome told text accepted good is none = subst (λ o. IsCheckLines π bytes piece o told text) (sym good) (accepted, is, none)
 
--- a comparison, or a list of differences, of which the bytes of one side are refused
-pub left_lines : (π : Preference) (left right : List ℕ) (refused : Refusal) (piece : Piece) (outcome : Outcome) (told : Told) (text : List ℕ) → RefusedAs π left refused
-    → TellsLinesAs (codes "left: ") refused piece outcome told text → IsCompareLines π left right piece outcome told text × IsListLines π left right piece outcome told text
-left_lines π left right refused piece outcome told text is tells =
-    let why = why_lines π (codes "left: ") left refused piece outcome told text is tells in (inl why, inl why)
-
-pub right_lines : (π : Preference) (left right : List ℕ) (refused : Refusal) (piece : Piece) (outcome : Outcome) (told : Told) (text : List ℕ) → IsSomeReport π left → RefusedAs π right refused
-    → TellsLinesAs (codes "right: ") refused piece outcome told text → IsCompareLines π left right piece outcome told text × IsListLines π left right piece outcome told text
-right_lines π left right refused piece outcome told text accepted is tells =
-    let why = why_lines π (codes "right: ") right refused piece outcome told text is tells in (inr (inl (accepted, why)), inr (inl (accepted, why)))
+-- a comparison, or a list of differences, of which one side is refused
+pub sides_refused : (π : Preference) (left right : List ℕ) (s : Side) (piece : Piece) (outcome : Outcome) (told : Told) (text : List ℕ) → RefusedSide π left right s
+    → OnSide (codes "left: ") (codes "right: ") (TellsLinesAs piece outcome told text) s → IsCompareLines π left right piece outcome told text × IsListLines π left right piece outcome told text
+sides_refused π left right s piece outcome told text is tells =
+    let whys = λ (Both : Type 0).
+    of_side π left right (codes "left: ") (codes "right: ") s (TellsLinesAs piece outcome told text) (λ words bytes. IsRefusalLines π words bytes piece outcome told text) Both
+    (why_lines π piece outcome told text) is tells in
+    (whys _, whys _)
 
 -- the lines of all differences, or `same`
 pub found_lines : (piece : Piece) (found : List DetailedDifference) (told : Told) (text : List ℕ) {empty : Bool} → empty ≡ false → empty ≡ (length found == 0) → IsPieceLines difference_line [] piece (map (λ d. d.difference) found) told text

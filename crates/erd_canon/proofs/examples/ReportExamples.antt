@@ -32,14 +32,9 @@ canonical_bytes = record {
 -- canonical bytes are their own
 own_form : IsCanonicalBytes None one_unit_canonical one_unit_canonical
 unfolding serde_json_on_literals digits
-own_form = record {
-  report = tree_of one_unit_canonical;
-  is_accepted = canonical_accepted;
-  tree = tree_of one_unit_canonical;
-  is_canonical = record { canonical = form_of_one_unit.canonical; same = refl };
-  written = refl;
-  reads_back = tree_of_canonical;
-}
+own_form =
+    let form = tree_of one_unit_canonical in
+    record { report = form; is_accepted = canonical_accepted; tree = form; is_canonical = record { canonical = form_of_one_unit.canonical; same = refl }; written = refl; reads_back = tree_of_canonical }
 
 checked : IsCheckText None one_unit (codes "accepted\n")
 checked = inl (tree_of one_unit, accepted, refl)

@@ -1,6 +1,13 @@
 -- How a struct whose only field owns nothing is made.
-use Rattle.erd_canon.proofs.Common.{List, [], ◌∷◌, refl, RattleType, Valss, nothing, vstruct, vnil, vcons, Val, Ura, ‵, ◌$◌, step, move, fjoin, fpack, feq_i, Goal, Item, Step, Logic}
+use Rattle.erd_canon.proofs.Common.{List, [], ◌∷◌, refl, RattleType, Args, a_type, layouts, param, Tuple, Valss, nothing, vstruct, vnil, vcons, Val, Ura, ‵, ◌$◌, step, move, fjoin, fpack, feq_i, Goal, Item, Step, Logic}
 use denote.Struct.Struct.{Struct, within}
+
+-- the layouts of the parameters of a log, and its pairs
+abbrev pub args : RattleType → RattleType → Args
+args A B = layouts (a_type ∷ a_type ∷ []) (A, (B, tt))
+
+abbrev pub pair : RattleType → RattleType → RattleType
+pair A B = Tuple (param 0 A ∷ param 1 B ∷ [])
 
 -- a struct by its fields alone
 abbrev plainly : List RattleType → RattleType

@@ -1,5 +1,7 @@
 -- What checking and canonicalising write is what they are to write.
-use Rattle.erd_canon.proofs.Common.{◌≡◌, ℕ, List, [], ◌∷◌, map, OnOk, codes, Option, sym, refl, subst, inl, inr, Preference, ◌≢◌, IfOk, Ok, Err, Result, Fault, IsErrAnd, Appends, fault_line, text_of_lines, IsCheckText, IsCanonicalOutput, IsCanonicalErrors, IsRefusedReport, IsReadWhole, IsChecked, IsAnswered, IsAnswerWritten, IsCheckWritten, IsToldCheck, IsToldRun, Outcome, Bad, Good, NotJson, RunFault}
+use Rattle.erd_canon.proofs.Common.{◌≡◌, ℕ, List, [], ◌∷◌, map, OnOk, codes, Option, sym, refl, subst, inl, inr, Preference, ◌≢◌, IfOk, Ok, Err, Result, Fault, IsErrAnd, Appends, fault_line, text_of_lines, IsRefusal, IsSomeReport, IsCheckText, IsCanonicalOutput, IsCanonicalErrors, IsRefusedReport, IsReadWhole, IsChecked, IsAnswered, IsAnswerWritten, IsCheckWritten, IsToldCheck, IsToldRun, Outcome, Bad, Good, NotJson, RunFault}
+use Rattle.erd_canon.specs.Run.{IsAcceptedInput, IsRefusedInput}
+use Rattle.erd_canon.specs.Writing.{IsAnswerPartWritten, IsBrokenCheck, IsBrokenRun, IsCheckPartWritten}
 use Rattle.erd_canon.specs.declared.engines.outcome.RunFault.TheVariants.{Write}
 use Rattle.erd_canon.proofs.forms.Refusing.{refused_is_none}
 
@@ -69,3 +71,21 @@ check_faults_written π bytes text faults (Err fault) out_before out_after refus
 pub not_of_fault : (r : Result Outcome RunFault) (fault : RunFault) → IsErrAnd r (λ found. found ≡ fault) → fault ≢ Write → r ≡ Err Write → ⊥
 not_of_fault (Ok outcome) fault is other e = absurd is
 not_of_fault (Err found) fault is other e = other cc
+
+-- a first part of the text of a check, or of the texts of a run, of bytes that were read
+pub broken_check : {π : Preference} {limit : ℕ} {bytes : List ℕ} {before after out_before out_after : Option (List ℕ)} {Fails : Type 0} → IsReadWhole limit before after bytes
+    → (Fails → IsCheckPartWritten π bytes out_before out_after) → Fails → IsBrokenCheck π limit before after out_before out_after
+broken_check {bytes = bytes} whole written fails = record { input = bytes; whole = whole; written = written fails }
+
+pub broken_run : {π : Preference} {limit : ℕ} {bytes : List ℕ} {before after out_before out_after err_before err_after : Option (List ℕ)} {Fails : Type 0} → IsReadWhole limit before after bytes
+    → (Fails → IsAnswerPartWritten π bytes out_before out_after err_before err_after) → Fails → IsBrokenRun π limit before after out_before out_after err_before err_after
+broken_run {bytes = bytes} whole written fails = record { input = bytes; whole = whole; written = written fails }
+
+-- a report that was read is accepted, or refused
+pub accepted_input : {limit : ℕ} {bytes : List ℕ} {before after : Option (List ℕ)} {Fails Early : Type 0} (π : Preference) → IsReadWhole limit before after bytes → (Fails → Early → IsSomeReport π bytes)
+    → Fails → Early → IsAcceptedInput π limit before after
+accepted_input {bytes = bytes} π whole accepted fails early = record { input = bytes; whole = whole; accepted = accepted fails early }
+
+pub refused_input : {limit : ℕ} {bytes : List ℕ} {before after : Option (List ℕ)} {Fails Early : Type 0} (π : Preference) → IsReadWhole limit before after bytes
+    → (Fails → Early → (lines : List (List ℕ)) × IsRefusal π bytes lines) → Fails → Early → IsRefusedInput π limit before after
+refused_input {bytes = bytes} π whole refused fails early = let why = refused fails early in record { input = bytes; lines = why.0; whole = whole; refused = why.1 }

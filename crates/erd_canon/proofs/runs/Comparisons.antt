@@ -1,7 +1,7 @@
 -- What a comparison of two accepted reports answers, and what is written of it.
 use Rattle.erd_canon.proofs.Common.{◌≡◌, ℕ, List, [], ◌∷◌, map, OnOk, Some, codes, Option, refl, subst, inl, inr, Data, IsAccepted, Preference, meaning, IfOk, Ok, Err, Result, IsDifference, Appends, fault_line, Difference, IsTreeOf, text_of_lines, IsRefusal, lines_of_side, IsCompareText, IsComparison, IsReadWhole, IsSomeReport, RefusedAs, IsSideRefused, IsCompared, IsCompareWritten, IsToldCompare, Refusal, refusal, Outcome, Bad, Good, NotJson, RunFault}
 use Rattle.erd_compare.specs.DifferenceLine.{difference_line}
-use Rattle.erd_canon.specs.Writing.{IsComparePartWritten}
+use Rattle.erd_canon.specs.Writing.{IsBrokenCompare, IsComparePartWritten}
 use Rattle.erd_canon.specs.code.SideRefusals.{IsRefusalPartWritten, IsRefusalWritten, TellsRefusal}
 
 -- the first difference of the meanings of two trees that bytes are
@@ -102,3 +102,9 @@ told_of_compare π limit (Ok outcome) left right left_before left_after right_be
   wrote = written.wrote;
 }
 told_of_compare π limit (Err fault) left right left_before left_after right_before right_after out_before out_after left_whole right_whole written = tt
+
+-- a first part of the text of a comparison of bytes that were read
+pub broken_compare : {π : Preference} {limit : ℕ} {left right : List ℕ} {left_before left_after right_before right_after out_before out_after : Option (List ℕ)} {Fails : Type 0}
+    → IsReadWhole limit left_before left_after left → IsReadWhole limit right_before right_after right → (Fails → IsComparePartWritten π left right out_before out_after)
+    → Fails → IsBrokenCompare π limit left_before left_after right_before right_after out_before out_after
+broken_compare {left = left} {right = right} left_whole right_whole written fails = record { left = left; right = right; left_whole = left_whole; right_whole = right_whole; written = written fails }

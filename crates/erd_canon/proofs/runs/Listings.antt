@@ -1,12 +1,14 @@
 -- What a list of the differences of two accepted reports answers.
-use Rattle.erd_canon.proofs.Common.{◌≡◌, ℕ, ◌≤◌, Result, Ok, Err, IfOk, List, [], ◌∷◌, subst, refl, inl, inr, arith, codes, Data, IsAccepted, Preference, meaning, IsTreeOf, IsSomeReport, RefusedAs, IsSideAnswer, Refusal, Outcome, IsUtf8, compact_text, IsTree, depth, items_depth, HasFittingNumbers, ItemsHaveFittingNumbers, Option, Some, None, items_of, map, AreTrees, max_depth}
+use Rattle.erd_canon.proofs.Common.{◌≡◌, ℕ, ◌≤◌, Result, Ok, Err, IfOk, List, [], ◌∷◌, subst, refl, inr, arith, Data, IsAccepted, Preference, meaning, IsTreeOf, RefusedSide, TellsRefusalAs, TellsSideAs, AnswersData, Outcome, IsUtf8, compact_text, IsTree, depth, items_depth, HasFittingNumbers, ItemsHaveFittingNumbers, Option, Some, None, items_of, map, AreTrees, max_depth}
 use Rattle.erd_compare.specs.SelectionData.{detailed_data}
 use Rattle.erd_compare.specs.SelectionDifferences.{AreDetailedDifferences}
 use Rattle.erd_compare.specs.declared.detailed.DetailedDifference.{DetailedDifference}
-use Rattle.erd_canon.specs.DataAnswers.{IsDataText, IsListedData, any_size, listing_outcome}
-use Rattle.erd_canon.specs.DataValues.{differences_data, refused_data}
+use Rattle.erd_canon.specs.DataAnswers.{IsComparedData, IsDataText, IsListedData, IsRefusalData, any_size, listing_outcome}
+use Rattle.erd_canon.specs.DataValues.{differences_data}
 use Rattle.erd_canon.specs.EngineTexts.{AreDetailed}
-use Rattle.erd_canon.proofs.data_values.DataTexts.{data_text, refusal_data}
+use Rattle.erd_canon.specs.declared.bytes.refusal.Side.{Side}
+use Rattle.erd_canon.proofs.data_values.DataTexts.{data_text, refusal_data, side_data}
+use Rattle.erd_canon.proofs.data_values.DataTrees.{IsLowTree}
 use Rattle.erd_canon.proofs.data_values.DetailedTrees.{detailed_value}
 
 -- the differences of the meanings of two trees that bytes are
@@ -34,26 +36,20 @@ low : (ds : List DetailedDifference) → items_depth (items_of (map detailed_dat
 low [] = omega arith
 low (d ∷ ds) = let here = (detailed_value d).low in omega (arith, here, low ds)
 
+pub differences_value : (ds : List DetailedDifference) → IsLowTree (differences_data ds)
+differences_value ds = (trees ds, omega (arith, low ds))
+
 pub list_text : (text : List ℕ) (ds : List DetailedDifference) → IsUtf8 text → text ≡ compact_text (differences_data ds) → IsDataText text (differences_data ds)
 list_text text ds utf8 is = data_text text (differences_data ds) utf8 is (trees ds) (fitting ds) (omega (arith, low ds))
 
 -- ---- the answers
 
-pub left_refused : (π : Preference) (left right : List ℕ) (refused : Refusal) (outcome : Outcome) (text : List ℕ) → RefusedAs π left refused → IsSideAnswer (codes "left") refused outcome text
-    → IsListedData π left right outcome text
-left_refused π left right refused outcome text is a = record {
-  value = refused_data (codes "left") a.why;
-  listed = inl (a.why, refusal_data π left refused outcome a.why is a.tells, refl);
-  is_text = a.is_text;
-}
-
-pub right_refused : (π : Preference) (left right : List ℕ) (refused : Refusal) (outcome : Outcome) (text : List ℕ) → IsSomeReport π left → RefusedAs π right refused
-    → IsSideAnswer (codes "right") refused outcome text → IsListedData π left right outcome text
-right_refused π left right refused outcome text accepted is a = record {
-  value = refused_data (codes "right") a.why;
-  listed = inr (inl (accepted, (a.why, refusal_data π right refused outcome a.why is a.tells, refl)));
-  is_text = a.is_text;
-}
+-- if a report is refused
+pub sides_refused : (π : Preference) (left right : List ℕ) (s : Side) (outcome : Outcome) (text : List ℕ) → RefusedSide π left right s → AnswersData (TellsSideAs (TellsRefusalAs outcome) s) text
+    → IsComparedData π left right outcome text × IsListedData π left right outcome text
+sides_refused π left right s outcome text is a =
+    let names = λ (Both : Type 0). side_data (TellsRefusalAs outcome) (λ bytes. IsRefusalData π bytes outcome) π left right s a.value Both (λ bytes. refusal_data π bytes outcome) is a.says in
+    (record { value = a.value; compared = names _; is_text = a.is_text }, record { value = a.value; listed = names _; is_text = a.is_text })
 
 pub both_listed : (π : Preference) (left right text : List ℕ) (outcome : Outcome) (ds : List DetailedDifference) → AreDetailed π left right 0 any_size ds → outcome ≡ listing_outcome ds → IsDataText text (differences_data ds)
     → IsListedData π left right outcome text

@@ -4,8 +4,7 @@ use Rattle.serde_json.specs.Data.{Data, string}
 use Rattle.serde_json.specs.Written.{comma_if, compact_text}
 use Rattle.erd_tables.specs.Faults.{fault_line}
 use Rattle.erd_check.specs.Numbers.{HasFittingNumbers}
-use Rattle.erd_canon.specs.DataAnswers.{IsDataText}
-use Rattle.erd_canon.specs.DataValues.{fault_data, refused_data}
+use Rattle.erd_canon.specs.DataValues.{fault_data}
 use Rattle.erd_canon.specs.EngineTexts.{lines_of_side, text_of_lines}
 use Rattle.erd_canon.specs.Pieces.{IsPiece, IsPieceData, IsPieceLines, TellsNone, whole_line}
 use Rattle.erd_canon.specs.declared.engines.outcome.Outcome.{Outcome}
@@ -67,40 +66,14 @@ abbrev pub FitsIn : {A : Type 0} → Notation → (A → Data) → A → Type 0
 FitsIn notation.Json value_of = λ x. HasFittingNumbers (value_of x)
 FitsIn (notation.Lines side) value_of = λ x. Unit {0}
 
--- The text of the array of the entries of a piece was appended. Each number in it fits 64 bits.
-pub record AppendsPiece {A : Type 0} (value_of : A → Data) (piece : Piece) (entries : List A) (told : Told) (before after : List ℕ) : Type 0 where
-  pub value : Data
-  pub is_piece : IsPieceData value_of piece entries told value
-  pub fits : HasFittingNumbers value
-  pub wrote : after ≡ before ++ compact_text value
-
 -- The value says why bytes are refused, with a piece of the faults, and this is the outcome. Running out of memory has no value.
-abbrev pub TellsPieceAs : Refusal → Piece → Outcome → Told → Data → Type 0
-TellsPieceAs (refusal.Faults faults) piece Bad told value = IsPieceData fault_data piece faults told value
-TellsPieceAs refusal.NotJson piece NotJson told value = (value ≡ string (codes "not JSON")) × TellsNone told
-TellsPieceAs refused piece outcome told value = ⊥
-
--- The text of the value that says why bytes are refused was appended. Each number in it fits 64 bits.
-pub record AppendsRefusalPiece (refused : Refusal) (piece : Piece) (outcome : Outcome) (told : Told) (before after : List ℕ) : Type 0 where
-  pub value : Data
-  pub tells : TellsPieceAs refused piece outcome told value
-  pub fits : HasFittingNumbers value
-  pub wrote : after ≡ before ++ compact_text value
-
--- The text is that of the value that says why bytes are refused, with this outcome.
-pub record IsRefusalPieceAnswer (refused : Refusal) (piece : Piece) (outcome : Outcome) (told : Told) (text : List ℕ) : Type 0 where
-  pub why : Data
-  pub tells : TellsPieceAs refused piece outcome told why
-  pub is_text : IsDataText text why
-
--- The text is that of the object that names the side and says why its bytes are refused, with this outcome.
-pub record IsSidePieceAnswer (side : List ℕ) (refused : Refusal) (piece : Piece) (outcome : Outcome) (told : Told) (text : List ℕ) : Type 0 where
-  pub why : Data
-  pub tells : TellsPieceAs refused piece outcome told why
-  pub is_text : IsDataText text (refused_data side why)
+abbrev pub TellsPieceAs : Piece → Outcome → Told → Refusal → Data → Type 0
+TellsPieceAs piece Bad told (refusal.Faults faults) value = IsPieceData fault_data piece faults told value
+TellsPieceAs piece NotJson told refusal.NotJson value = (value ≡ string (codes "not JSON")) × TellsNone told
+TellsPieceAs piece outcome told refused value = ⊥
 
 -- The lines say why bytes are refused, each with these words in front, and this is the outcome. Running out of memory has none.
-abbrev pub TellsLinesAs : List ℕ → Refusal → Piece → Outcome → Told → List ℕ → Type 0
-TellsLinesAs side (refusal.Faults faults) piece Bad told text = IsPieceLines fault_line side piece faults told text
-TellsLinesAs side refusal.NotJson piece NotJson told text = (text ≡ text_of_lines (lines_of_side side (codes "not JSON" ∷ []))) × TellsNone told
-TellsLinesAs side refused piece outcome told text = ⊥
+abbrev pub TellsLinesAs : Piece → Outcome → Told → List ℕ → List ℕ → Refusal → Type 0
+TellsLinesAs piece Bad told text side (refusal.Faults faults) = IsPieceLines fault_line side piece faults told text
+TellsLinesAs piece NotJson told text side refusal.NotJson = (text ≡ text_of_lines (lines_of_side side (codes "not JSON" ∷ []))) × TellsNone told
+TellsLinesAs piece outcome told text side refused = ⊥

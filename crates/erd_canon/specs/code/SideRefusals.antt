@@ -1,4 +1,4 @@
--- What is written about a refusal on one of two sides.
+-- What is told of a refusal on one of two sides.
 use Rattle.std.specs.Prelude.{◌≡◌, ℕ, List, [], ◌∷◌, map, codes, Option}
 use Rattle.std.specs.Io.KnownBytes.{Appends}
 use Rattle.erd_tables.specs.Faults.{fault_line}
@@ -8,6 +8,14 @@ use Rattle.erd_canon.specs.EngineTexts.{lines_of_side, text_of_lines}
 use Rattle.erd_canon.specs.Writing.{IsPartWritten}
 use Rattle.erd_canon.specs.declared.bytes.refusal.Refusal.{Refusal}
 use Rattle.erd_canon.specs.declared.bytes.refusal.Refusal.TheVariants as refusal
+use Rattle.erd_canon.specs.declared.bytes.refusal.Side.{Side}
+use Rattle.erd_canon.specs.declared.bytes.refusal.Side.TheVariants as side
+
+-- `Tells` holds of the words for the side that is refused, and of why it is. If both sides are accepted, there is none.
+abbrev pub OnSide : List ℕ → List ℕ → (List ℕ → Refusal → Type 0) → Side → Type 0
+OnSide left right Tells (side.Left refused) = Tells left refused
+OnSide left right Tells (side.Right refused) = Tells right refused
+OnSide left right Tells side.Memory = ⊥
 
 -- The text is what is written about a refusal on one side, and this is its outcome. Running out of memory has no such text.
 abbrev pub TellsRefusal : List ℕ → Refusal → Outcome → List ℕ → Type 0

@@ -1,6 +1,6 @@
 ghost use Rattle.std.specs.Prelude.{◌≡◌, [], string_bytes, IfOk, None, option_copied};
 ghost use Rattle.erd_canon.specs.Words.{IsCheckedData, IsDataText, faults_data};
-ghost use Rattle.erd_canon.specs.code.RefusalData.{IsRefusalAnswer};
+ghost use Rattle.erd_canon.specs.code.RefusalData.{AnswersData, TellsRefusalAs};
 
 use crate::bytes::acceptance::check_bytes_with;
 use crate::bytes::refusal::Refusal;
@@ -78,7 +78,7 @@ pub(crate) fn accepted(alloc: Global) -> Result<Answer, AllocError>
 
 /// Returns the answer for a report that is refused.
 fn refused(alloc: Global, refusal: &Refusal) -> Result<Answer, AllocError>
-    ensures { IfOk result (λ answer. IsRefusalAnswer refusal.now answer.outcome (string_bytes answer.text)) }
+    ensures { IfOk result (λ answer. AnswersData (TellsRefusalAs answer.outcome refusal.now) (string_bytes answer.text)) }
 {
     let mut text = String::new(alloc);
     let outcome = push_refusal(alloc, refusal, &mut text)?;

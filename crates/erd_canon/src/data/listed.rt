@@ -1,6 +1,7 @@
 ghost use Rattle.std.specs.Prelude.{ℕ, List, ◌≡◌, ◌∷◌, ◌++◌, length, string_bytes, IfOk, OnOk};
-ghost use Rattle.erd_canon.specs.Words.{iter_rest, IterYieldsInOrder, Data, comma_if, compact_text, HasFittingNumbers, difference_line, detailed_data, fault_line, fault_data, whole_line};
-ghost use Rattle.erd_canon.specs.code.Fronts.{AppendsEntries, AppendsPiece, FitsIn, IsReached, size_in, text_in};
+ghost use Rattle.erd_canon.specs.Words.{iter_rest, IterYieldsInOrder, Data, comma_if, compact_text, HasFittingNumbers, difference_line, detailed_data, fault_line, fault_data, whole_line, IsPieceData};
+ghost use Rattle.erd_canon.specs.code.Fronts.{AppendsEntries, FitsIn, IsReached, size_in, text_in};
+ghost use Rattle.erd_canon.specs.code.RefusalData.{AppendsData};
 
 use crate::data::fault_values::fault_value;
 use crate::data::notation::Notation;
@@ -63,7 +64,7 @@ pub(crate) fn push_piece<T: Listed>(
     text: &mut String,
 ) -> Result<usize, AllocError>
     requires { IterYieldsInOrder T }
-    ensures { IfOk result (λ count. AppendsPiece T.value piece.now (iter_rest entries.entry) (record { count = count; all = length (iter_rest entries.entry) }) (string_bytes text.old) (string_bytes text.new)) }
+    ensures { IfOk result (λ count. AppendsData (IsPieceData T.value piece.now (iter_rest entries.entry) (record { count = count; all = length (iter_rest entries.entry) })) (string_bytes text.old) (string_bytes text.new)) }
 {
     text.push('[')?;
     let count = push_entries(alloc, &Notation::Json, entries, piece, text)?;

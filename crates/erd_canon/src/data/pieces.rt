@@ -1,6 +1,7 @@
 ghost use Rattle.std.specs.Prelude.{◌≡◌, string_bytes, IfOk, option_copied};
 ghost use Rattle.erd_canon.specs.Words.{listing_outcome, detailed_data, IsCheckPiece, IsComparePiece, IsFormPiece, IsListPiece, IsPieceData, IsPieceText};
-ghost use Rattle.erd_canon.specs.code.Fronts.{AppendsRefusalPiece, IsRefusalPieceAnswer, IsSidePieceAnswer};
+ghost use Rattle.erd_canon.specs.code.Fronts.{TellsPieceAs};
+ghost use Rattle.erd_canon.specs.code.RefusalData.{AnswersData, AppendsData, NamesSide, TellsSideAs};
 
 use crate::bytes::acceptance::check_bytes_with;
 use crate::bytes::canonical::canonical_with;
@@ -8,8 +9,7 @@ use crate::bytes::comparison::compare_bytes_with;
 use crate::bytes::differences::differences_of;
 use crate::bytes::refusal::{Refusal, Side};
 use crate::data::check::accepted;
-use crate::data::compare::compared;
-use crate::data::differences::outcome_of;
+use crate::data::compare::{compared, outcome_of};
 use crate::data::listed::push_piece;
 use crate::data::piece::{Piece, PieceAnswer, Told};
 use crate::data::refusals::push_string;
@@ -111,9 +111,7 @@ pub fn compare_data_piece(
 {
     match compare_bytes_with(alloc, left, right, prefer) {
         Ok(found) => Ok(PieceAnswer::without_list(compared(alloc, &found)?)),
-        Err(Side::Left(refusal)) => refused_side(alloc, "left", &refusal, piece),
-        Err(Side::Right(refusal)) => refused_side(alloc, "right", &refusal, piece),
-        Err(Side::Memory) => Err(AllocError),
+        Err(side) => refused_side(alloc, &side, piece),
     }
 }
 
@@ -148,9 +146,7 @@ pub fn differences_data_piece(
 {
     match differences_of(alloc, left, right, prefer, piece.first, piece.enough_bytes) {
         Ok(found) => listed(alloc, &found, piece),
-        Err(Side::Left(refusal)) => refused_side(alloc, "left", &refusal, piece),
-        Err(Side::Right(refusal)) => refused_side(alloc, "right", &refusal, piece),
-        Err(Side::Memory) => Err(AllocError),
+        Err(side) => refused_side(alloc, &side, piece),
     }
 }
 
@@ -177,7 +173,7 @@ fn listed(
 
 /// Returns the answer for a report that is refused.
 fn refused(alloc: Global, refusal: &Refusal, piece: &Piece) -> Result<PieceAnswer, AllocError>
-    ensures { IfOk result (λ answer. IsRefusalPieceAnswer refusal.now piece.now answer.outcome answer.told answer.text.items) }
+    ensures { IfOk result (λ answer. AnswersData (TellsPieceAs piece.now answer.outcome answer.told refusal.now) answer.text.items) }
 {
     let mut text = String::new(alloc);
     let (outcome, told) = push_refusal_piece(alloc, refusal, piece, &mut text)?;
@@ -189,13 +185,24 @@ fn refused(alloc: Global, refusal: &Refusal, piece: &Piece) -> Result<PieceAnswe
 }
 
 /// Returns the answer if the report on one side is refused.
-fn refused_side(
+fn refused_side(alloc: Global, side: &Side, piece: &Piece) -> Result<PieceAnswer, AllocError>
+    ensures { IfOk result (λ answer. AnswersData (TellsSideAs (TellsPieceAs piece.now answer.outcome answer.told) side.now) answer.text.items) }
+{
+    match side {
+        Side::Left(refusal) => named(alloc, "left", refusal, piece),
+        Side::Right(refusal) => named(alloc, "right", refusal, piece),
+        Side::Memory => Err(AllocError),
+    }
+}
+
+/// Returns the answer that names a side and says why its report is refused.
+fn named(
     alloc: Global,
     side: &str,
     refusal: &Refusal,
     piece: &Piece,
 ) -> Result<PieceAnswer, AllocError>
-    ensures { IfOk result (λ answer. IsSidePieceAnswer side.now refusal.now piece.now answer.outcome answer.told answer.text.items) }
+    ensures { IfOk result (λ answer. AnswersData (NamesSide side.now (TellsPieceAs piece.now answer.outcome answer.told refusal.now)) answer.text.items) }
 {
     let mut text = String::from_str(alloc, "{\"faults\":")?;
     let (outcome, told) = push_refusal_piece(alloc, refusal, piece, &mut text)?;
@@ -217,7 +224,7 @@ fn push_refusal_piece(
     piece: &Piece,
     text: &mut String,
 ) -> Result<(Outcome, Told), AllocError>
-    ensures { IfOk result (λ it. AppendsRefusalPiece refusal.now piece.now it.0 it.1 (string_bytes text.old) (string_bytes text.new)) }
+    ensures { IfOk result (λ it. AppendsData (TellsPieceAs piece.now it.0 it.1 refusal.now) (string_bytes text.old) (string_bytes text.new)) }
 {
     match refusal {
         Refusal::Faults(faults) => {

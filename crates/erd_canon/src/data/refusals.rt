@@ -1,6 +1,6 @@
 ghost use Rattle.std.specs.Prelude.{◌≡◌, ◌++◌, string_bytes, codes, IfOk};
 ghost use Rattle.erd_canon.specs.Words.{string, compact_text};
-ghost use Rattle.erd_canon.specs.code.RefusalData.{AppendsRefusal};
+ghost use Rattle.erd_canon.specs.code.RefusalData.{AppendsData, TellsRefusalAs};
 
 use crate::bytes::refusal::Refusal;
 use crate::data::fault_texts::push_faults;
@@ -14,7 +14,7 @@ pub(crate) fn push_refusal(
     refusal: &Refusal,
     text: &mut String,
 ) -> Result<Outcome, AllocError>
-    ensures { IfOk result (λ outcome. AppendsRefusal refusal.now outcome (string_bytes text.old) (string_bytes text.new)) }
+    ensures { IfOk result (λ outcome. AppendsData (TellsRefusalAs outcome refusal.now) (string_bytes text.old) (string_bytes text.new)) }
 {
     match refusal {
         Refusal::Faults(faults) => {

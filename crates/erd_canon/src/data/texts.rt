@@ -1,15 +1,16 @@
 //! The calls that answer with a piece of a list as lines, as the engines write them.
 
-ghost use Rattle.std.specs.Prelude.{◌≡◌, [], ◌∷◌, map, IfOk, option_copied};
+ghost use Rattle.std.specs.Prelude.{◌≡◌, [], ◌∷◌, map, codes, IfOk, option_copied};
 ghost use Rattle.erd_canon.specs.Words.{listing_outcome, comparison_line, lines_of_side, text_of_lines, IsCheckLines, IsCompareLines, IsFormLines, IsFoundLines, IsListLines, TellsNone, comparison_outcome};
 ghost use Rattle.erd_canon.specs.code.Fronts.{TellsLinesAs};
+ghost use Rattle.erd_canon.specs.code.SideRefusals.{OnSide};
 
 use crate::bytes::acceptance::check_bytes_with;
 use crate::bytes::canonical::canonical_with;
 use crate::bytes::comparison::compare_bytes_with;
 use crate::bytes::differences::differences_of;
 use crate::bytes::refusal::{Refusal, Side};
-use crate::data::differences::outcome_of;
+use crate::data::compare::outcome_of;
 use crate::data::listed::push_entries;
 use crate::data::notation::Notation;
 use crate::data::piece::{Piece, PieceAnswer, Told};
@@ -111,9 +112,7 @@ pub fn compare_text_piece(
 {
     match compare_bytes_with(alloc, left, right, prefer) {
         Ok(found) => compared(alloc, &found),
-        Err(Side::Left(refusal)) => refused(alloc, "left: ", &refusal, piece),
-        Err(Side::Right(refusal)) => refused(alloc, "right: ", &refusal, piece),
-        Err(Side::Memory) => Err(AllocError),
+        Err(side) => refused_side(alloc, &side, piece),
     }
 }
 
@@ -147,9 +146,7 @@ pub fn differences_text_piece(
     // no line tells what differs inside selections
     match differences_of(alloc, left, right, prefer, usize::MAX, 0) {
         Ok(found) => listed(alloc, &found, piece),
-        Err(Side::Left(refusal)) => refused(alloc, "left: ", &refusal, piece),
-        Err(Side::Right(refusal)) => refused(alloc, "right: ", &refusal, piece),
-        Err(Side::Memory) => Err(AllocError),
+        Err(side) => refused_side(alloc, &side, piece),
     }
 }
 
@@ -192,6 +189,17 @@ fn listed(
     })
 }
 
+/// Returns the answer if the report on one side is refused.
+fn refused_side(alloc: Global, side: &Side, piece: &Piece) -> Result<PieceAnswer, AllocError>
+    ensures { IfOk result (λ answer. OnSide (codes "left: ") (codes "right: ") (TellsLinesAs piece.now answer.outcome answer.told answer.text.items) side.now) }
+{
+    match side {
+        Side::Left(refusal) => refused(alloc, "left: ", refusal, piece),
+        Side::Right(refusal) => refused(alloc, "right: ", refusal, piece),
+        Side::Memory => Err(AllocError),
+    }
+}
+
 /// Returns the answer for a report that is refused. Each line has these words in front.
 fn refused(
     alloc: Global,
@@ -199,7 +207,7 @@ fn refused(
     refusal: &Refusal,
     piece: &Piece,
 ) -> Result<PieceAnswer, AllocError>
-    ensures { IfOk result (λ answer. TellsLinesAs side.now refusal.now piece.now answer.outcome answer.told answer.text.items) }
+    ensures { IfOk result (λ answer. TellsLinesAs piece.now answer.outcome answer.told answer.text.items side.now refusal.now) }
 {
     match refusal {
         Refusal::Faults(faults) => {

@@ -1,11 +1,14 @@
-ghost use Rattle.std.specs.Prelude.{◌≡◌, ◌⊎◌, ◌<◌, [], map, length, false, true, IfErr, IfOk, OnOk, OnErr};
-ghost use Rattle.erd_canon.specs.Words.{fault_line, lines_of_side, text_of_lines, Appends, IsPartWritten};
+ghost use Rattle.std.specs.Prelude.{◌≡◌, ◌⊎◌, ◌<◌, [], ◌∷◌, map, length, false, true, Err, IfErr, IfOk, OnOk, OnErr};
+ghost use Rattle.erd_canon.specs.Words.{difference_line, fault_line, lines_of_side, text_of_lines, Appends, IsPartWritten};
+ghost use Rattle.erd_canon.specs.code.SideRefusals.{IsRefusalPartWritten, IsRefusalWritten};
 
+use crate::bytes::refusal::Refusal;
 use crate::devices::sink::{Sink, write_out};
-use crate::engines::lines::{write_fault_lines, write_lines};
+use crate::engines::lines::{line_of_side, write_fault_lines, write_lines};
 use crate::engines::outcome::{Outcome, RunFault};
+use erd_compare::Difference;
 use erd_tables::FaultList;
-use std::alloc::Global;
+use std::alloc::{AllocError, Global};
 
 /// Writes the text, then flushes, and returns the outcome.
 pub(crate) fn write_one<O: Sink>(
@@ -129,4 +132,38 @@ pub(crate) fn write_both<O: Sink, E: Sink>(
     out.flush().map_err(|_| RunFault::Write)?;
     err.flush().map_err(|_| RunFault::Write)?;
     Ok(outcome)
+}
+
+/// Writes why the report on one side is refused.
+pub(crate) fn write_refusal<O: Sink>(
+    alloc: Global,
+    side: &[u8],
+    refusal: &Refusal,
+    out: &mut O,
+) -> Result<Outcome, RunFault>
+    requires { O.writer.has_failed out.old ≡ false }
+    ensures written { IfOk result (λ outcome. IsRefusalWritten side.now refusal.now outcome (O.writer.contents out.old) (O.writer.contents out.new)) }
+    ensures flushed { OnOk result (O.writer.is_flushed out.new ≡ true) }
+    ensures works { OnOk result (O.writer.has_failed out.new ≡ false) }
+    ensures memory { result ≡ Err RunFault.Memory → out.new ≡ out.old }
+    ensures broken { result ≡ Err RunFault.Write → IsRefusalPartWritten side.now refusal.now (O.writer.contents out.old) (O.writer.contents out.new) }
+    ensures write { result ≡ Err RunFault.Write → O.writer.has_failed out.new ≡ true }
+    ensures faults { IfErr result (λ fault. (fault ≡ RunFault.Memory) ⊎ (fault ≡ RunFault.Write)) }
+{
+    match refusal {
+        Refusal::Faults(faults) => write_side_faults(alloc, out, side, faults),
+        Refusal::NotJson => {
+            let text = line_of_side(alloc, side, b"not JSON")?;
+            write_one(out, Outcome::NotJson, text.as_slice())
+        }
+        Refusal::Memory => Err(RunFault::Memory),
+    }
+}
+
+/// Returns the line of a difference, ended by one line feed.
+pub(crate) fn difference_text(alloc: Global, difference: &Difference) -> Result<Vec<u8>, AllocError>
+    ensures { IfOk result (λ text. text.items ≡ text_of_lines (difference_line difference.now ∷ [])) }
+{
+    let line = difference.line(alloc)?;
+    line_of_side(alloc, &[], line.as_bytes())
 }

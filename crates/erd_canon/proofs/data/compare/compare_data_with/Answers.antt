@@ -1,6 +1,6 @@
-use Rattle.erd_canon.proofs.Common.{string_bytes, option_copied, subst, IfOk-weaker, RefusedSide}
-use Rattle.erd_canon.proofs.data_values.DataTexts.{both_compared, left_refused, right_refused}
-use Rattle.erd_canon.proofs.runs.Listings.{both_facts}
+use Rattle.erd_canon.proofs.Common.{string_bytes, option_copied, IfOk-weaker}
+use Rattle.erd_canon.proofs.data_values.DataTexts.{both_compared}
+use Rattle.erd_canon.proofs.runs.Listings.{both_facts, sides_refused}
 use Rattle.erd_canon.proofs.data.compare.compare_data_with.Goals as goal
 
 pub returns-in-Ok : goal.returns-in-Ok
@@ -9,16 +9,7 @@ returns-in-Ok c =
     (λ answer outcome text. both_compared (option_copied c.args.prefer) c.args.left.now c.args.right.now (string_bytes answer.text) answer.outcome c.in-Ok.found c.in-Ok.ensures.ok outcome text)
     c.compared.ensures.outcome c.compared.ensures.text
 
-pub returns-in-Err-Left : goal.returns-in-Err-Left
-returns-in-Err-Left c =
-    let refused = subst (RefusedSide (option_copied c.args.prefer) c.args.left.now c.args.right.now) c.in-Err-Left.field-0-is c.in-Err-Left.ensures.refused in
+pub returns-in-Err : goal.returns-in-Err
+returns-in-Err c =
     IfOk-weaker c.refused_side.result _ _
-    (λ answer a. left_refused (option_copied c.args.prefer) c.args.left.now c.args.right.now c.in-Err-Left.refusal answer.outcome (string_bytes answer.text) refused a)
-    c.refused_side.ensures
-
-pub returns-in-Err-Right : goal.returns-in-Err-Right
-returns-in-Err-Right c =
-    let refused = subst (RefusedSide (option_copied c.args.prefer) c.args.left.now c.args.right.now) c.in-Err-Right.field-0-is c.in-Err-Right.ensures.refused in
-    IfOk-weaker c.refused_side-in-Err-Right.result _ _
-    (λ answer a. right_refused (option_copied c.args.prefer) c.args.left.now c.args.right.now c.in-Err-Right.refusal answer.outcome (string_bytes answer.text) refused.0 refused.1 a)
-    c.refused_side-in-Err-Right.ensures
+    (λ answer a. (sides_refused (option_copied c.args.prefer) c.args.left.now c.args.right.now c.in-Err.side answer.outcome (string_bytes answer.text) c.in-Err.ensures.refused a).0) c.refused_side.ensures

@@ -1,10 +1,8 @@
 use Rattle.erd_canon.proofs.Common.{option_copied, IfOk-weaker}
-use Rattle.erd_canon.proofs.data_values.PieceLines.{check_lines, why_lines}
+use Rattle.erd_canon.proofs.data_values.PieceLines.{lines_refused}
 use Rattle.erd_canon.proofs.data.texts.check_text_piece.Goals as goal
 
 pub returns-in-Err : goal.returns-in-Err
 returns-in-Err c =
     IfOk-weaker c.refused.result _ _
-    (λ answer a. check_lines (option_copied c.args.prefer) c.args.bytes.now c.args.piece.now answer.outcome answer.told answer.text.items
-    (why_lines (option_copied c.args.prefer) _ c.args.bytes.now c.in-Err.refusal c.args.piece.now answer.outcome answer.told answer.text.items c.in-Err.ensures.refused a))
-    c.refused.ensures
+    (λ answer a. (lines_refused (option_copied c.args.prefer) c.args.bytes.now c.in-Err.refusal c.args.piece.now answer.outcome answer.told answer.text.items c.in-Err.ensures.refused a).0) c.refused.ensures

@@ -1,10 +1,10 @@
 -- The log with one more pair is picked. The function reads no parameter, and makes a struct whose only field owns nothing.
-use Rattle.erd_canon.proofs.Common.{List, [], ◌∷◌, ◌++◌, refl, RattleType, owns, owned, nothing, vptr, Val, Ura, ‵, raw, ◌⊛◌, prop, !, ◌$◌, move, keep, split, fsplit, fjoin, feq_l, regoal, suffices, done, qed, ◌∵◌, Logic, Fn, Args, a_type, inst_fn, SProp, ent, Memory, Routine, Calls, Loops, WpFn, Tables, Fun, WpFn-mono, agg, enter, returns, and_then, no_more, alloc_all, pass_all, free_all, look_at, get, sets, Is, param, layouts, plain, types_at, makes, Tuple, Clauses, Ended, closing, alive, Meets, triple_of, entered, says, Stays, stay_dropped, walk_of, ends_at, walk_Meets, Goes-dropped}
+use Rattle.erd_canon.proofs.Common.{List, [], ◌∷◌, ◌++◌, refl, RattleType, owns, owned, nothing, vptr, Val, Ura, ‵, raw, ◌⊛◌, prop, !, ◌$◌, move, keep, split, fsplit, fjoin, feq_l, regoal, suffices, done, qed, ◌∵◌, Logic, Fn, inst_fn, SProp, ent, Memory, Routine, Calls, Loops, WpFn, Tables, Fun, WpFn-mono, agg, enter, returns, and_then, no_more, alloc_all, pass_all, free_all, look_at, get, sets, Is, param, plain, types_at, makes, Clauses, Ended, closing, alive, Meets, triple_of, entered, says, Stays, stay_dropped, walk_of, ends_at, walk_Meets, Goes-dropped}
 use contract.Running.{tables, tables_of}
 use types.Kit.{drop}
 use denote.Exit.{yes}
 use denote.Builtin.{RefOf}
-use Rattle.erd_canon.proofs.logs.Made.{none, one, one_made}
+use Rattle.erd_canon.proofs.logs.Made.{args, none, one, one_made, pair}
 use Rattle.erd_canon.specs.contracts.devices.log.Log.and.Key.{name as #self}
 use Rattle.std.specs.contracts.marker.PhantomData as Mark
 use Rattle.erd_canon.specs.contracts.devices.log.Log as Log
@@ -13,14 +13,8 @@ use Rattle.erd_canon.proofs.devices.log.Log.and.Statement as stated
 use Rattle.erd_canon.proofs.devices.log.Log.and.Code as code
 
 module _ (A B : RattleType) where
-  abbrev args : Args
-  args = layouts (a_type ∷ a_type ∷ []) (A, (B, tt))
-
-  abbrev pair : RattleType
-  pair = Tuple (param 0 A ∷ param 1 B ∷ [])
-
   abbrev function : Fn
-  function = inst_fn args code.function
+  function = inst_fn (args A B) code.function
 
   abbrev ended : Ended
   ended = F.ended A B
@@ -41,16 +35,13 @@ module _ (A B : RattleType) where
       abbrev Post : Val → SProp 𝓤
       Post = (walk_of 𝓛 ended stayed held).post z
 
-      abbrev toks : SProp 𝓤
-      toks = alive 𝓛 ended.signature z.0.0 z.0.1
-
       walks : ent 𝓤 ((walk_of 𝓛 ended stayed held).pre z) (WpFn 𝓤 H C Λ function ((walk_of 𝓛 ended stayed held).args z) Post)
       walks =
           let a = z.0.3 in
           let vss = z.0.4 in
           let made : (Log.the_row (param 0 A) (param 1 B)).Denot =
           record { of = record {}; items = a.0.now.items ++ (a.1.0.now, a.1.1.0.now) ∷ [] } in
-          qed 𝓛 ((raw toks ⊛ ‵ (owns (types_at ended.signature.params z.0.0) a vss)) ∷ raw ((held z.0.0 a).requires z.1) ∷ []) ∵
+          qed 𝓛 ((raw (alive 𝓛 ended.signature z.0.0 z.0.1) ⊛ ‵ (owns (types_at ended.signature.params z.0.0) a vss)) ∷ raw ((held z.0.0 a).requires z.1) ∷ []) ∵
           keep ! (0 ∷ []) $ split ! $ move ! (1 ∷ []) $
           fsplit ! $ fsplit ! $ feq_l ! (λ is₀. drop ! $ fsplit ! $ fsplit ! $ feq_l ! (λ is₁. drop ! $ fsplit ! $ fsplit ! $ feq_l ! (λ is₂. drop ! $ drop ! $
           let p = vptr a.0.ref_ptr.0 a.0.ref_ptr.1 in
@@ -62,8 +53,8 @@ module _ (A B : RattleType) where
           enter ! C Λ function (p ∷ q ∷ r ∷ []) Post $ alloc_all ! (λ l. pass_all ! refl ((tt, tt), ((tt, tt), ((tt, tt), tt))) $
           sets ! (agg ! (no_more !)) refl (tt, tt) $
           sets ! (agg ! (and_then ! (get ! refl) (no_more !))) refl (tt, (tt, tt)) $
-          nothing ! $ owned ! (Mark.the_row pair) (Is (Mark.the_row pair)) (makes (Mark.the_type pair) tt 𝓛) (record {}) (none ∷ []) (tt, (refl, tt)) $
-          one_made ! (Mark.the_row pair) (record {}) none $ fjoin ! $
+          nothing ! $ owned ! (Mark.the_row (pair A B)) (Is (Mark.the_row (pair A B))) (makes (Mark.the_type (pair A B)) tt 𝓛) (record {}) (none ∷ []) (tt, (refl, tt)) $
+          one_made ! (Mark.the_row (pair A B)) (record {}) none $ fjoin ! $
           returns ! (look_at ! 0 refl) $ free_all ! refl $
           suffices ! _ (ends_at 𝓛 ended stayed held z (one none) made (tt, (tt, (tt, tt))) (tt, (tt, (tt, tt)))) $ says ! refl $
           nothing ! $ nothing ! $ fjoin ! $ nothing ! $ fjoin ! $ nothing ! $ fjoin ! $ move ! (2 ∷ 0 ∷ 1 ∷ []) $ done !))))

@@ -1,6 +1,6 @@
 use Rattle.erd_canon.proofs.Common.{map, option_copied, refl, subst, fault_line, text_of_lines, RefusedAs, Bad, Good, NotJson}
 use Rattle.erd_canon.proofs.runs.CheckTexts.{check_faults_written}
-use Rattle.erd_canon.proofs.engines.check.write_checked.Goals as goal
+use Rattle.erd_canon.proofs.engines.runs.write_checked.Goals as goal
 
 pub returns-in-Err-Faults-clause-written : goal.returns-in-Err-Faults-clause-written
 returns-in-Err-Faults-clause-written g c =

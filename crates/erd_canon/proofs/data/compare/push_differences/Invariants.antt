@@ -2,7 +2,7 @@ use Rattle.erd_canon.proofs.Common.{◌≡◌, ◌++◌, map, string_bytes, item
 use Rattle.std.proofs.Common.{drop}
 use Rattle.erd_compare.specs.SelectionData.{detailed_data}
 use Rattle.erd_canon.specs.DataValues.{differences_data}
-use Rattle.erd_canon.proofs.data.differences.push_differences.Given as goal
+use Rattle.erd_canon.proofs.data.compare.push_differences.Given as goal
 
 -- with those that are left, all are appended
 abbrev pub invariant-loop-difference : goal.invariant-loop-difference

@@ -1,6 +1,6 @@
 use Rattle.erd_canon.proofs.Common.{[], ◌∷◌, map, codes, option_copied, sym, refl, subst, inl, inr, fault_line, IsCanonicalBytes, text_of_lines, RefusedAs, Bad, Good, NotJson}
 use Rattle.erd_canon.proofs.runs.CheckTexts.{faults_written}
-use Rattle.erd_canon.proofs.engines.canon.write_answer.Goals as goal
+use Rattle.erd_canon.proofs.engines.runs.write_answer.Goals as goal
 
 pub returns-in-Err-Faults-clause-written : goal.returns-in-Err-Faults-clause-written
 returns-in-Err-Faults-clause-written g c =

@@ -1,7 +1,7 @@
 use Rattle.erd_canon.proofs.Common.{string_bytes, ap, ◌∙◌, IsUtf8-string_bytes, compact_text, ◌++◌}
 use Rattle.erd_canon.specs.DataValues.{differences_data}
 use Rattle.erd_canon.proofs.runs.Listings.{list_text}
-use Rattle.erd_canon.proofs.data.differences.listed.Goals as goal
+use Rattle.erd_canon.proofs.data.compare.listed.Goals as goal
 
 pub returns-clause-text : goal.returns-clause-text
 returns-clause-text c =

@@ -1,9 +1,0 @@
-use Rattle.erd_canon.proofs.Common.{string_bytes, IsUtf8-string_bytes}
-use Rattle.erd_canon.proofs.data_values.DataTexts.{side_answer}
-use Rattle.erd_canon.proofs.data.compare.refused_side.Goals as goal
-
-pub returns : goal.returns
-returns c =
-    side_answer c.args.side.now c.args.refusal.now c.in_ok-outcome.outcome (string_bytes c.in_ok-text.text) (string_bytes c.push_refusal.new.text) (string_bytes c.push_str.new.self)
-    (string_bytes c.push_string.new.text) (string_bytes c.push_str-2.new.self) c.in_ok-outcome.ensures c.in_ok-text.ensures.ok c.in_ok-push_str.ensures.bytes
-    c.in_ok-push_string.ensures c.in_ok-push_str-2.ensures.bytes (IsUtf8-string_bytes c.push_str-2.new.self)
