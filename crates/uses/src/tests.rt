@@ -40,11 +40,6 @@ fn same(alloc: Global, left: &str, right: &str) -> Result<bool, Refusal> {
 #[test]
 fn same_bytes(rt: HostRuntime) -> Result<(), Fail> {
     assert!(rt; same(rt.alloc(), REPORT, OTHER_SPELLING)?);
-    Ok(())
-}
-
-#[test]
-fn other_bytes(rt: HostRuntime) -> Result<(), Fail> {
     assert!(rt; !same(rt.alloc(), REPORT, OTHER_NAME)?);
     Ok(())
 }
@@ -54,13 +49,8 @@ fn has_faults(alloc: Global, report: &str, wanted: &str) -> Result<bool, Trouble
 }
 
 #[test]
-fn lines_of_no_faults(rt: HostRuntime) -> Result<(), Fail> {
-    assert!(rt; has_faults(rt.alloc(), REPORT, "")?);
-    Ok(())
-}
-
-#[test]
 fn lines_of_faults(rt: HostRuntime) -> Result<(), Fail> {
+    assert!(rt; has_faults(rt.alloc(), REPORT, "")?);
     let wanted = ": missing member Election\n: missing member Status\n";
     assert!(rt; has_faults(rt.alloc(), BARE, wanted)?);
     Ok(())
@@ -72,13 +62,8 @@ fn differs(alloc: Global, right: &str, wanted: Option<&str>) -> Result<bool, Tro
 }
 
 #[test]
-fn lines_of_no_differences(rt: HostRuntime) -> Result<(), Fail> {
-    assert!(rt; differs(rt.alloc(), OTHER_SPELLING, None)?);
-    Ok(())
-}
-
-#[test]
 fn lines_of_differences(rt: HostRuntime) -> Result<(), Fail> {
+    assert!(rt; differs(rt.alloc(), OTHER_SPELLING, None)?);
     let wanted = Some("election: member \"Name\"");
     assert!(rt; differs(rt.alloc(), OTHER_NAME, wanted)?);
     Ok(())

@@ -1,8 +1,10 @@
 //! Rows of canonical forms.
-use crate::tests::edits::Base;
-use crate::tests::rows::{Row, Told};
+use crate::tests::edits::{BALLOT, BALLOT_FORM, Base, UNIT_FORM, UNIT_REPORT, VENDOR_BALLOT};
+use crate::tests::rows::{Row, Told, all_hold};
 use crate::tests::vectors::{CANONICAL_UNIT, UNIT};
 use Told::Form;
+use std::alloc::Global;
+use std::test::Fail;
 
 // The units K to A, and their canonical forms A to K: the tenth `@id` comes after the second, although its text is less.
 const ELEVEN_UNITS: &str =
@@ -11,34 +13,17 @@ const ELEVEN_UNITS: &str =
 const ELEVEN_CANONICAL_UNITS: &str =
     r#"{"@id":"gp1","@type":"%ReportingUnit",#A&,"Type":"county"},{"@id":"gp2","@type":"%ReportingUnit",#B&,"Type":"county"},{"@id":"gp3","@type":"%ReportingUnit",#C&,"Type":"county"},{"@id":"gp4","@type":"%ReportingUnit",#D&,"Type":"county"},{"@id":"gp5","@type":"%ReportingUnit",#E&,"Type":"county"},{"@id":"gp6","@type":"%ReportingUnit",#F&,"Type":"county"},{"@id":"gp7","@type":"%ReportingUnit",#G&,"Type":"county"},{"@id":"gp8","@type":"%ReportingUnit",#H&,"Type":"county"},{"@id":"gp9","@type":"%ReportingUnit",#I&,"Type":"county"},{"@id":"gp10","@type":"%ReportingUnit",#J&,"Type":"county"},{"@id":"gp11","@type":"%ReportingUnit",#K&,"Type":"county"}"#;
 
-pub const OF_FORMS: &[Row] = &[
-    (
-        "one_unit",
-        None,
-        (Base::OneUnit, &[]),
-        Form((Base::OneUnitCanonical, &[])),
-    ),
-    (
-        "two_vendors",
-        None,
-        (Base::SmallBallot, &[]),
-        Form((Base::SmallBallotCanonical, &[])),
-    ),
-    (
-        "two_vendors",
-        None,
-        (Base::OtherVendor, &[]),
-        Form((Base::SmallBallotCanonical, &[])),
-    ),
+const ROWS: &[Row] = &[
+    ("one_unit", UNIT_REPORT, Form(UNIT_FORM)),
+    ("two_vendors", BALLOT, Form(BALLOT_FORM)),
+    ("two_vendors", VENDOR_BALLOT, Form(BALLOT_FORM)),
     (
         "envelope_and_member_order",
-        None,
         (Base::OtherEnvelope, &[]),
-        Form((Base::SmallBallotCanonical, &[])),
+        Form(BALLOT_FORM),
     ),
     (
         "reference_and_text_order",
-        None,
         (
             Base::SmallBallot,
             &[
@@ -49,11 +34,10 @@ pub const OF_FORMS: &[Row] = &[
                 ),
             ],
         ),
-        Form((Base::SmallBallotCanonical, &[])),
+        Form(BALLOT_FORM),
     ),
     (
         "eleven_units",
-        None,
         (
             Base::OneUnit,
             &[
@@ -75,24 +59,17 @@ pub const OF_FORMS: &[Row] = &[
             ],
         )),
     ),
+    ("outside_members", BALLOT_FORM, Form(BALLOT_FORM)),
     (
         "outside_members",
-        None,
-        (Base::SmallBallotCanonical, &[]),
-        Form((Base::SmallBallotCanonical, &[])),
-    ),
-    (
-        "outside_members",
-        None,
         (
             Base::SmallBallot,
             &[(r#""@id":"a9","#, r#""@id":"a9","VoteCounts":[],"#)],
         ),
-        Form((Base::SmallBallotCanonical, &[])),
+        Form(BALLOT_FORM),
     ),
     (
         "self_composing_unit",
-        None,
         (
             Base::OneUnit,
             &[(
@@ -105,15 +82,9 @@ pub const OF_FORMS: &[Row] = &[
             &[("#U1&", r#""ComposingGpUnitIds":["gp1"],#U1&"#)],
         )),
     ),
-    (
-        "canonical_of_canonical",
-        None,
-        (Base::OneUnitCanonical, &[]),
-        Form((Base::OneUnitCanonical, &[])),
-    ),
+    ("canonical_of_canonical", UNIT_FORM, Form(UNIT_FORM)),
     (
         "ids_that_look_canonical",
-        None,
         (
             Base::OneUnit,
             &[
@@ -134,7 +105,6 @@ pub const OF_FORMS: &[Row] = &[
     ),
     (
         "empty_id",
-        None,
         (
             Base::OneUnit,
             &[
@@ -142,11 +112,10 @@ pub const OF_FORMS: &[Row] = &[
                 (r#""ElectionScopeId":"u7""#, r#""ElectionScopeId":"""#),
             ],
         ),
-        Form((Base::OneUnitCanonical, &[])),
+        Form(UNIT_FORM),
     ),
     (
         "carried_text_that_equals_an_id",
-        None,
         (Base::OneUnit, &[("{", r#"{"Note":"u7","#)]),
         Form((
             Base::OneUnitCanonical,
@@ -155,7 +124,6 @@ pub const OF_FORMS: &[Row] = &[
     ),
     (
         "carried_text_that_equals_an_id",
-        None,
         (
             Base::OneUnit,
             &[
@@ -171,7 +139,6 @@ pub const OF_FORMS: &[Row] = &[
     ),
     (
         "carried_lists",
-        None,
         (
             Base::OneUnit,
             &[(
@@ -188,3 +155,8 @@ pub const OF_FORMS: &[Row] = &[
         )),
     ),
 ];
+
+// Tries each row of this name, or each row where there is no name.
+pub fn hold(alloc: Global, name: Option<&str>) -> Result<(), Fail> {
+    all_hold(alloc, None, ROWS, name)
+}

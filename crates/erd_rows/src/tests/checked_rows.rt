@@ -1,45 +1,52 @@
 //! Rows of the first phase: faults of the shape, and what is no JSON.
 use crate::tests::answers::{ACCEPTED, NOT_JSON};
-use crate::tests::edits::Base;
-use crate::tests::rows::{Row, Told};
+use crate::tests::edits::{Base, Edited};
+use crate::tests::rows::{Row, Told, all_hold};
 use crate::tests::vectors::{ELECTION, THREE_SHAPE_FAULT_EDITS, THREE_SHAPE_FAULT_LINES};
 use Told::Lines;
+use std::alloc::Global;
+use std::test::Fail;
 
-pub const OF_THE_SHAPE: &[Row] = &[
-    ("not_json", None, (Base::Text(""), &[]), Lines(NOT_JSON)),
+// The greatest number and the least, and those next to them.
+const GREATEST: Edited = (Base::OneUnit, &[("{", r#"{"Big":18446744073709551615,"#)]);
+
+const TOO_GREAT: Edited = (Base::OneUnit, &[("{", r#"{"Big":18446744073709551616,"#)]);
+
+const LEAST: Edited = (Base::OneUnit, &[("{", r#"{"Big":-9223372036854775808,"#)]);
+
+const TOO_LITTLE: Edited = (Base::OneUnit, &[("{", r#"{"Big":-9223372036854775809,"#)]);
+
+const NOT_WHOLE: Told = Lines("/Big: not a whole number\n");
+
+const ROWS: &[Row] = &[
+    ("not_json", (Base::Text(""), &[]), Lines(NOT_JSON)),
     (
         "not_json",
-        None,
         (Base::OneUnit, &[(r#""u7"}]}"#, r#""u7"}]"#)]),
         Lines(NOT_JSON),
     ),
     (
         "more_than_a_report",
-        None,
         (Base::OneUnit, &[(r#""u7"}]}"#, r#""u7"}]}}"#)]),
         Lines(NOT_JSON),
     ),
     (
         "more_than_a_report",
-        None,
         (Base::OneUnit, &[(r#"{"@type""#, "\u{feff}{\"@type\"")]),
         Lines(NOT_JSON),
     ),
     (
         "more_than_a_report",
-        None,
         (Base::OneUnit, &[(r#""u7"}]}"#, "\"u7\"}]}\n")]),
         Lines(ACCEPTED),
     ),
     (
         "three_shape_faults",
-        None,
         (Base::SmallBallot, THREE_SHAPE_FAULT_EDITS),
         Lines(THREE_SHAPE_FAULT_LINES),
     ),
     (
         "outside_members",
-        None,
         (
             Base::SmallBallot,
             &[(r#""@id":"a9","#, r#""@id":"a9","VoteCounts":[{}],"#)],
@@ -48,49 +55,41 @@ pub const OF_THE_SHAPE: &[Row] = &[
     ),
     (
         "outside_members",
-        None,
         (Base::OneUnit, &[("{", r#"{"a/b~c":1.5,"#)]),
         Lines("/a~1b~0c: not a whole number\n"),
     ),
     (
         "root_kinds",
-        None,
         (Base::Text("[]"), &[]),
         Lines(": wrong kind\n"),
     ),
     (
         "root_kinds",
-        None,
         (Base::Text("{}"), &[]),
         Lines(": missing member @type\n"),
     ),
     (
         "root_kinds",
-        None,
         (Base::Text(r#"{"@type":"%ElectionReport"}"#), &[]),
         Lines(": missing member Election\n: missing member Status\n"),
     ),
     (
         "reporting_device",
-        None,
         (Base::OneUnit, &[("%ReportingUnit", "%ReportingDevice")]),
         Lines("/GpUnit/0/@type: wrong class\n"),
     ),
     (
         "status_and_election_count",
-        None,
         (Base::OneUnit, &[("pre-election", "certified")]),
         Lines("/Status: not pre-election\n"),
     ),
     (
         "status_and_election_count",
-        None,
         (Base::OneUnit, &[(ELECTION, "")]),
         Lines("/Election: wrong number of elections\n"),
     ),
     (
         "empty_and_repeated",
-        None,
         (
             Base::SmallBallot,
             &[(r#""GpUnitIds":["a2"]"#, r#""GpUnitIds":[]"#)],
@@ -99,7 +98,6 @@ pub const OF_THE_SHAPE: &[Row] = &[
     ),
     (
         "empty_and_repeated",
-        None,
         (
             Base::SmallBallot,
             &[(r#""GpUnitIds":["a2"]"#, r#""GpUnitIds":["a2","a2"]"#)],
@@ -108,7 +106,6 @@ pub const OF_THE_SHAPE: &[Row] = &[
     ),
     (
         "empty_and_repeated",
-        None,
         (
             Base::OneUnit,
             &[(
@@ -120,13 +117,11 @@ pub const OF_THE_SHAPE: &[Row] = &[
     ),
     (
         "identity_where_none_belongs",
-        None,
         (Base::OneUnit, &[("{", r#"{"FooId":"u7","#)]),
         Lines("/FooId: unknown reference\n"),
     ),
     (
         "identity_where_none_belongs",
-        None,
         (
             Base::OneUnit,
             &[(
@@ -138,7 +133,6 @@ pub const OF_THE_SHAPE: &[Row] = &[
     ),
     (
         "identity_where_none_belongs",
-        None,
         (
             Base::OneUnit,
             &[(
@@ -150,7 +144,6 @@ pub const OF_THE_SHAPE: &[Row] = &[
     ),
     (
         "carried_identity",
-        None,
         (
             Base::OneUnit,
             &[(
@@ -162,13 +155,11 @@ pub const OF_THE_SHAPE: &[Row] = &[
     ),
     (
         "required_members",
-        None,
         (Base::OneUnit, &[(r#","Value":"U1""#, "")]),
         Lines("/GpUnit/0/ExternalIdentifier/0: missing member Value\n"),
     ),
     (
         "required_members",
-        None,
         (
             Base::OneUnit,
             &[(
@@ -180,40 +171,18 @@ pub const OF_THE_SHAPE: &[Row] = &[
     ),
     (
         "whole_numbers",
-        None,
         (
             Base::SmallBallot,
             &[(r#""VotesAllowed":1"#, r#""VotesAllowed":1.5"#)],
         ),
         Lines("/Election/0/Contest/0/VotesAllowed: not a whole number\n"),
     ),
-    (
-        "largest_numbers",
-        None,
-        (Base::OneUnit, &[("{", r#"{"Big":18446744073709551615,"#)]),
-        Lines(ACCEPTED),
-    ),
-    (
-        "largest_numbers",
-        None,
-        (Base::OneUnit, &[("{", r#"{"Big":18446744073709551616,"#)]),
-        Lines("/Big: not a whole number\n"),
-    ),
-    (
-        "largest_numbers",
-        None,
-        (Base::OneUnit, &[("{", r#"{"Big":-9223372036854775808,"#)]),
-        Lines(ACCEPTED),
-    ),
-    (
-        "largest_numbers",
-        None,
-        (Base::OneUnit, &[("{", r#"{"Big":-9223372036854775809,"#)]),
-        Lines("/Big: not a whole number\n"),
-    ),
+    ("largest_numbers", GREATEST, Lines(ACCEPTED)),
+    ("largest_numbers", TOO_GREAT, NOT_WHOLE),
+    ("largest_numbers", LEAST, Lines(ACCEPTED)),
+    ("largest_numbers", TOO_LITTLE, NOT_WHOLE),
     (
         "deepest_nesting",
-        None,
         (
             Base::OneUnit,
             &[(
@@ -225,7 +194,6 @@ pub const OF_THE_SHAPE: &[Row] = &[
     ),
     (
         "deepest_nesting",
-        None,
         (
             Base::OneUnit,
             &[(
@@ -236,3 +204,8 @@ pub const OF_THE_SHAPE: &[Row] = &[
         Lines(NOT_JSON),
     ),
 ];
+
+// Tries each row of this name, or each row where there is no name.
+pub fn hold(alloc: Global, name: Option<&str>) -> Result<(), Fail> {
+    all_hold(alloc, None, ROWS, name)
+}

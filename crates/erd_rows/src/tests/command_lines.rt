@@ -5,168 +5,143 @@ use erd_canon::{LineFault, Options, Request, command_line};
 use std::alloc::{AllocError, Global};
 use std::test::Fail;
 
-// Words after the name of the program, and the request or the kind of text that they give. A request has the names of files
-// in brackets, and then the preference.
-type Line = (&'static [&'static str], &'static str);
+// The words of a line with `|` between them, and the request or the kind of text that they give. A request has the names of
+// files in brackets, and then the preference.
+type Line = (&'static str, &'static str);
 
 const REQUESTS: &[Line] = &[
-    (&[], "filter"),
-    (&["check", "a"], "check [a]"),
-    (&["canon", "a"], "canon [a]"),
-    (&["compare", "a", "b"], "compare [a] [b]"),
-    (&["compare", "a", "a"], "compare [a] [a]"),
-    (&["nosuch"], "usage"),
-    (&["check"], "usage"),
-    (&["compare", "a"], "usage"),
-    (&["--help"], "help"),
+    ("erd", "filter"),
+    ("erd|check|a", "check [a]"),
+    ("erd|canon|a", "canon [a]"),
+    ("erd|compare|a|b", "compare [a] [b]"),
+    ("erd|compare|a|a", "compare [a] [a]"),
+    ("erd|nosuch", "usage"),
+    ("erd|check", "usage"),
+    ("erd|compare|a", "usage"),
+    ("erd|--help", "help"),
+    ("erd|check|--prefer|fips|a", "check [a] under [fips]"),
+    ("erd|canon|--prefer|fips|a", "canon [a] under [fips]"),
     (
-        &["check", "--prefer", "fips", "a"],
-        "check [a] under [fips]",
-    ),
-    (
-        &["canon", "--prefer", "fips", "a"],
-        "canon [a] under [fips]",
-    ),
-    (
-        &["compare", "--prefer", "fips", "a", "b"],
+        "erd|compare|--prefer|fips|a|b",
         "compare [a] [b] under [fips]",
     ),
-    (
-        &["compare", "--prefer", "a", "a", "a"],
-        "compare [a] [a] under [a]",
-    ),
+    ("erd|compare|--prefer|a|a|a", "compare [a] [a] under [a]"),
 ];
 
 // The name of a file is any text that is not empty and does not begin with a hyphen. After `--` it may begin with one.
 const NAMES_OF_FILES: &[Line] = &[
-    (&["check", "two words"], "check [two words]"),
-    (&["check", " "], "check [ ]"),
-    (&["check", "a\nb"], "check [a\nb]"),
-    (&["canon", "Wähler/北京.json"], "canon [Wähler/北京.json]"),
-    (&["canon", "\u{1F5F3}"], "canon [\u{1F5F3}]"),
-    (&["check", "help"], "check [help]"),
-    (&["check", "check"], "check [check]"),
-    (
-        &["compare", "compare", "canon"],
-        "compare [compare] [canon]",
-    ),
-    (&["check", "a=b"], "check [a=b]"),
-    (&["check", "a--"], "check [a--]"),
-    (
-        &["compare", "a -h", "/dev/stdin"],
-        "compare [a -h] [/dev/stdin]",
-    ),
-    (&["check", "--", "-a"], "check [-a]"),
-    (&["canon", "--", "--help"], "canon [--help]"),
-    (&["compare", "--", "-a", "-b"], "compare [-a] [-b]"),
-    (&["compare", "a", "--", "-b"], "compare [a] [-b]"),
-    (&["check", "--", "a"], "check [a]"),
-    (&["check", "--", "--"], "check [--]"),
-    (&["check", "-a"], "usage"),
+    ("erd|check|two words", "check [two words]"),
+    ("erd|check| ", "check [ ]"),
+    ("erd|check|a\nb", "check [a\nb]"),
+    ("erd|canon|Wähler/北京.json", "canon [Wähler/北京.json]"),
+    ("erd|canon|\u{1F5F3}", "canon [\u{1F5F3}]"),
+    ("erd|check|help", "check [help]"),
+    ("erd|check|check", "check [check]"),
+    ("erd|compare|compare|canon", "compare [compare] [canon]"),
+    ("erd|check|a=b", "check [a=b]"),
+    ("erd|check|a--", "check [a--]"),
+    ("erd|compare|a -h|/dev/stdin", "compare [a -h] [/dev/stdin]"),
+    ("erd|check|--|-a", "check [-a]"),
+    ("erd|canon|--|--help", "canon [--help]"),
+    ("erd|compare|--|-a|-b", "compare [-a] [-b]"),
+    ("erd|compare|a|--|-b", "compare [a] [-b]"),
+    ("erd|check|--|a", "check [a]"),
+    ("erd|check|--|--", "check [--]"),
+    ("erd|check|-a", "usage"),
 ];
 
 const HELP_AND_USAGE: &[Line] = &[
-    (&["-h"], "help"),
-    (&["help"], "help"),
-    (&["help", "check"], "help"),
-    (&["help", "canon"], "help"),
-    (&["help", "compare"], "help"),
-    (&["check", "--help"], "help"),
-    (&["canon", "-h"], "help"),
-    (&["compare", "a", "--help"], "help"),
-    (&["Check", "a"], "usage"),
-    (&["canon"], "usage"),
-    (&["compare"], "usage"),
-    (&["check", "a", "b"], "usage"),
-    (&["canon", "a", "b"], "usage"),
-    (&["compare", "a", "b", "c"], "usage"),
-    (&["--check", "a"], "usage"),
-    (&["--version"], "usage"),
-    (&["help", "nosuch"], "usage"),
+    ("erd|-h", "help"),
+    ("erd|help", "help"),
+    ("erd|help|check", "help"),
+    ("erd|help|canon", "help"),
+    ("erd|help|compare", "help"),
+    ("erd|check|--help", "help"),
+    ("erd|canon|-h", "help"),
+    ("erd|compare|a|--help", "help"),
+    ("erd|Check|a", "usage"),
+    ("erd|canon", "usage"),
+    ("erd|compare", "usage"),
+    ("erd|check|a|b", "usage"),
+    ("erd|canon|a|b", "usage"),
+    ("erd|compare|a|b|c", "usage"),
+    ("erd|--check|a", "usage"),
+    ("erd|--version", "usage"),
+    ("erd|help|nosuch", "usage"),
 ];
 
 // A type is any text that is not empty and does not begin with a hyphen. In the place of a file name or a type, the words of
 // the option are ordinary names, except for a word that begins with hyphens.
 const PREFERENCES: &[Line] = &[
-    (&["check", "prefer"], "check [prefer]"),
-    (&["canon", "TYPE"], "canon [TYPE]"),
-    (&["compare", "prefer", "fips"], "compare [prefer] [fips]"),
+    ("erd|check|prefer", "check [prefer]"),
+    ("erd|canon|TYPE", "canon [TYPE]"),
+    ("erd|compare|prefer|fips", "compare [prefer] [fips]"),
     (
-        &["check", "--prefer", "prefer", "prefer"],
+        "erd|check|--prefer|prefer|prefer",
         "check [prefer] under [prefer]",
     ),
     (
-        &["compare", "--prefer", "LEFT", "RIGHT", "TYPE"],
+        "erd|compare|--prefer|LEFT|RIGHT|TYPE",
         "compare [RIGHT] [TYPE] under [LEFT]",
     ),
-    (&["check", "--", "--prefer"], "check [--prefer]"),
+    ("erd|check|--|--prefer", "check [--prefer]"),
+    ("erd|compare|--|--prefer|fips", "compare [--prefer] [fips]"),
     (
-        &["compare", "--", "--prefer", "fips"],
-        "compare [--prefer] [fips]",
-    ),
-    (
-        &["check", "--prefer", "check", "canon"],
+        "erd|check|--prefer|check|canon",
         "check [canon] under [check]",
     ),
     (
-        &["canon", "--prefer", "compare", "check"],
+        "erd|canon|--prefer|compare|check",
         "canon [check] under [compare]",
     ),
     (
-        &["compare", "--prefer", "canon", "compare", "check"],
+        "erd|compare|--prefer|canon|compare|check",
         "compare [compare] [check] under [canon]",
     ),
+    ("erd|check|--prefer|help|help", "check [help] under [help]"),
     (
-        &["check", "--prefer", "help", "help"],
-        "check [help] under [help]",
-    ),
-    (
-        &["check", "--prefer", "two words", "a"],
+        "erd|check|--prefer|two words|a",
         "check [a] under [two words]",
     ),
-    (&["canon", "--prefer", " ", "a"], "canon [a] under [ ]"),
+    ("erd|canon|--prefer| |a", "canon [a] under [ ]"),
     (
-        &["canon", "--prefer", " --prefer x", "a"],
+        "erd|canon|--prefer| --prefer x|a",
         "canon [a] under [ --prefer x]",
     ),
+    ("erd|check|--prefer|a\nb|a", "check [a] under [a\nb]"),
     (
-        &["check", "--prefer", "a\nb", "a"],
-        "check [a] under [a\nb]",
-    ),
-    (
-        &["check", "--prefer", "Gemeindeschlüssel", "Wähler"],
+        "erd|check|--prefer|Gemeindeschlüssel|Wähler",
         "check [Wähler] under [Gemeindeschlüssel]",
     ),
     (
-        &["compare", "--prefer", "北京\u{1F5F3}", "a", "b"],
+        "erd|compare|--prefer|北京\u{1F5F3}|a|b",
         "compare [a] [b] under [北京\u{1F5F3}]",
     ),
-    (&["check", "--prefer", "a=b", "c"], "check [c] under [a=b]"),
+    ("erd|check|--prefer|a=b|c", "check [c] under [a=b]"),
     (
-        &["check", "--prefer", "local-level-", "c"],
+        "erd|check|--prefer|local-level-|c",
         "check [c] under [local-level-]",
     ),
-    (&["check", "--prefer"], "usage"),
-    (&["check", "--prefer", "a"], "usage"),
-    (&["canon", "--prefer", "a"], "usage"),
-    (&["compare", "--prefer", "a", "b"], "usage"),
-    (&["check", "a", "--prefer"], "usage"),
-    (&["check", "--prefer", "", "a"], "usage"),
-    (&["canon", "--prefer", "", "a"], "usage"),
-    (&["compare", "--prefer", "", "a", "b"], "usage"),
-    (&["--prefer", "fips"], "usage"),
-    (&["--prefer", "fips", "check", "a"], "usage"),
-    (&["--prefer"], "usage"),
+    ("erd|check|--prefer", "usage"),
+    ("erd|check|--prefer|a", "usage"),
+    ("erd|canon|--prefer|a", "usage"),
+    ("erd|compare|--prefer|a|b", "usage"),
+    ("erd|check|a|--prefer", "usage"),
+    ("erd|check|--prefer||a", "usage"),
+    ("erd|canon|--prefer||a", "usage"),
+    ("erd|compare|--prefer||a|b", "usage"),
+    ("erd|--prefer|fips", "usage"),
+    ("erd|--prefer|fips|check|a", "usage"),
+    ("erd|--prefer", "usage"),
 ];
 
-// The words, with the program's name before them.
-fn line_of(alloc: Global, words: &[&str]) -> Result<Vec<String>, AllocError> {
-    let mut line = Vec::new(alloc);
-    line.push(String::from_str(alloc, "erd")?)?;
-    for word in words {
-        line.push(String::from_str(alloc, word)?)?;
+// The words of the line.
+fn words_of(alloc: Global, line: &str) -> Result<Vec<String>, AllocError> {
+    let mut words = Vec::new(alloc);
+    for word in line.split('|') {
+        words.push(String::from_str(alloc, word)?)?;
     }
-    Ok(line)
+    Ok(words)
 }
 
 // The preference in brackets, or the empty text if there is none.
@@ -197,16 +172,16 @@ fn told(alloc: Global, request: &Request) -> Result<String, AllocError> {
     }
 }
 
-// The request of these words.
-fn request(alloc: Global, words: &[&str]) -> Result<Request, LineFault> {
-    match line_of(alloc, words) {
-        Ok(line) => command_line(alloc, line.as_slice()),
+// The request of this line.
+fn request(alloc: Global, line: &str) -> Result<Request, LineFault> {
+    match words_of(alloc, line) {
+        Ok(words) => command_line(alloc, words.as_slice()),
         Err(_) => Err(LineFault::Memory),
     }
 }
 
-fn answer(alloc: Global, words: &[&str]) -> Result<String, AllocError> {
-    match request(alloc, words) {
+fn answer(alloc: Global, line: &str) -> Result<String, AllocError> {
+    match request(alloc, line) {
         Ok(request) => told(alloc, &request),
         Err(LineFault::Help(_)) => String::from_str(alloc, "help"),
         Err(LineFault::Usage(_)) => String::from_str(alloc, "usage"),
@@ -214,16 +189,16 @@ fn answer(alloc: Global, words: &[&str]) -> Result<String, AllocError> {
     }
 }
 
-fn has_answer(alloc: Global, words: &[&str], wanted: &str) -> Answer {
-    match answer(alloc, words) {
+fn has_answer(alloc: Global, line: &str, wanted: &str) -> Answer {
+    match answer(alloc, line) {
         Ok(text) => right_if(text.as_str() == wanted),
         Err(_) => Answer::WantsMemory,
     }
 }
 
 fn all_are(alloc: Global, lines: &[Line]) -> Result<(), Fail> {
-    for (words, wanted) in lines {
-        each_refused(alloc, wanted, |alloc| has_answer(alloc, words, wanted))?;
+    for (line, wanted) in lines {
+        each_refused(alloc, line, |alloc| has_answer(alloc, line, wanted))?;
     }
     Ok(())
 }
@@ -259,30 +234,30 @@ fn command_lines(rt: HostRuntime) -> Result<(), Fail> {
     of_preferences(alloc)
 }
 
-// Words that ask for help or are wrong, and parts of the text about them.
-type Parts = (&'static [&'static str], &'static [&'static str]);
+// A line that asks for help or is wrong, and parts of the text about it.
+type Parts = (&'static str, &'static [&'static str]);
 
 const TEXTS: &[Parts] = &[
-    (&["--help"], OF_THE_PROGRAM),
-    (&["help"], OF_THE_PROGRAM),
-    (&["help", "check"], OF_CHECK),
-    (&["check", "--help"], OF_CHECK),
-    (&["help", "canon"], OF_CANON),
-    (&["help", "compare"], OF_COMPARE),
+    ("erd|--help", OF_THE_PROGRAM),
+    ("erd|help", OF_THE_PROGRAM),
+    ("erd|help|check", OF_CHECK),
+    ("erd|check|--help", OF_CHECK),
+    ("erd|help|canon", OF_CANON),
+    ("erd|help|compare", OF_COMPARE),
     (
-        &["nosuch"],
+        "erd|nosuch",
         &["error: ", "'nosuch'", "Usage: erd [COMMAND]\n"],
     ),
     (
-        &["check"],
+        "erd|check",
         &["error: ", "<FILE>", "Usage: erd check <FILE>\n"],
     ),
     (
-        &["compare", "a"],
+        "erd|compare|a",
         &["error: ", "<RIGHT>", "Usage: erd compare <LEFT> <RIGHT>\n"],
     ),
     (
-        &["canon", "a", "b"],
+        "erd|canon|a|b",
         &["error: ", "'b'", "Usage: erd canon [OPTIONS] <FILE>\n"],
     ),
 ];
@@ -331,8 +306,8 @@ fn has_parts(text: &str, parts: &[&str]) -> Answer {
     right_if(text.ends_with("\n") && !text.ends_with("\n\n"))
 }
 
-fn is_told(alloc: Global, words: &[&str], parts: &[&str]) -> Answer {
-    match request(alloc, words) {
+fn is_told(alloc: Global, line: &str, parts: &[&str]) -> Answer {
+    match request(alloc, line) {
         Err(LineFault::Help(text)) => has_parts(text.as_str(), parts),
         Err(LineFault::Usage(text)) => has_parts(text.as_str(), parts),
         Err(LineFault::Memory) => Answer::WantsMemory,
@@ -341,12 +316,8 @@ fn is_told(alloc: Global, words: &[&str], parts: &[&str]) -> Answer {
 }
 
 fn all_are_told(alloc: Global, texts: &[Parts]) -> Result<(), Fail> {
-    for (words, parts) in texts {
-        each_refused(
-            alloc,
-            "help and usage",
-            |alloc| is_told(alloc, words, parts),
-        )?;
+    for (line, parts) in texts {
+        each_refused(alloc, line, |alloc| is_told(alloc, line, parts))?;
     }
     Ok(())
 }

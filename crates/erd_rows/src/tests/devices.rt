@@ -8,7 +8,7 @@ use crate::tests::vectors::{
     THREE_SHAPE_FAULT_LINES,
 };
 use crate::tests::writers::{ExpectedWriter, FailingWriter, FullWriter};
-use erd_canon::{MOST_BYTES, Outcome, RunFault, Sink, Source};
+use erd_canon::{MOST_BYTES, Outcome, RunFault, Sink, Source, WriteTo};
 use std::alloc::Global;
 use std::process::Abort;
 use std::test::Fail;
@@ -99,17 +99,19 @@ fn check_reads(alloc: Global, report: &str, good_reads: usize) -> bool {
         && run.out.writer.is_whole()
 }
 
-fn reads(rt: &impl Abort, alloc: Global, report: &str, form: &str) {
-    for good_reads in 0..reads_of(report).saturating_add(1) {
-        assert!(rt;
-            canon_reads(alloc, report, form, good_reads),
-            "canon at {good_reads}"
-        );
-        assert!(rt;
-            check_reads(alloc, report, good_reads),
-            "check at {good_reads}"
-        );
+// A run is right for each number of good calls, up to the number of all.
+fn at_each<F: Fn(usize) -> bool>(rt: &impl Abort, name: &str, all: usize, is_right: F)
+    requires { F.IsAlwaysCallable is_right }
+{
+    for good in 0..all.saturating_add(1) {
+        assert!(rt; is_right(good), "{name} at {good}");
     }
+}
+
+fn reads(rt: &impl Abort, alloc: Global, report: &str, form: &str) {
+    let all = reads_of(report);
+    at_each(rt, "canon", all, |it| canon_reads(alloc, report, form, it));
+    at_each(rt, "check", all, |it| check_reads(alloc, report, it));
 }
 
 // A failure at each read, also at the one that would have reached the end.
@@ -144,131 +146,102 @@ fn right_reads(alloc: Global, good_reads: usize) -> bool {
 
 #[test]
 fn each_read_of_compare_fails(rt: HostRuntime) {
+    let (alloc, length) = (rt.alloc(), SMALL_BALLOT.len());
+    at_each(&rt, "left", length, |it| left_reads(alloc, it));
     let all = reads_of(SMALL_BALLOT);
-    for good_reads in 0..all {
-        assert!(rt; left_reads(rt.alloc(), good_reads), "left at {good_reads}");
-        assert!(rt;
-            right_reads(rt.alloc(), good_reads),
-            "right at {good_reads}"
-        );
+    at_each(&rt, "right", all, |it| right_reads(alloc, it));
+}
+
+// How a run ends that writes a text of this length, and whose write after this many writes fails.
+#[derive(Clone, Copy)]
+struct Writes {
+    good: usize,
+    all: usize,
+    outcome: Outcome,
+}
+
+impl Writes {
+    // No write fails.
+    fn of(all: usize, outcome: Outcome) -> Writes {
+        Writes {
+            good: all,
+            all,
+            outcome,
+        }
     }
-    assert!(rt; right_reads(rt.alloc(), all));
-}
 
-// Whether the writer took as many bytes as it could, was not used again, and was flushed only after the last one.
-fn is_used_rightly(writer: &FailingWriter, good_writes: usize, all: usize) -> bool {
-    writer.taken == good_writes
-        && writer.writes == good_writes.saturating_add(1).min(all)
-        && writer.flushes == if good_writes == all { 1 } else { 0 }
-}
-
-// What a run should answer if the write after this many writes fails, of a text of this length.
-fn at_write(outcome: Outcome, good_writes: usize, all: usize) -> Result<Outcome, RunFault> {
-    if good_writes == all {
-        Ok(outcome)
-    } else {
-        Err(RunFault::Write)
+    // Whether the run answered so. Its writer took as many bytes as it could, was not used again, and was flushed only after the
+    // last one.
+    fn ended(self, answer: Result<Outcome, RunFault>, out: &WriteTo<FailingWriter>) -> bool {
+        let is_whole = self.good == self.all;
+        let wanted = if is_whole {
+            Ok(self.outcome)
+        } else {
+            Err(RunFault::Write)
+        };
+        answer == wanted
+            && out.failed() != is_whole
+            && out.writer.taken == self.good
+            && out.writer.writes == self.good.saturating_add(1).min(self.all)
+            && out.writer.flushes == if is_whole { 1 } else { 0 }
     }
 }
 
-fn canon_writes(alloc: Global, good_writes: usize, all: usize) -> bool {
-    let wanted = at_write(Outcome::Good, good_writes, all);
-    let out = FailingWriter::after(good_writes);
-    let run = canon_run(
-        alloc,
-        PLAIN,
-        ONE_UNIT.as_bytes(),
-        out,
-        FailingWriter::after(0),
-    );
-    run.answer == wanted
-        && run.out.failed() == wanted.is_err()
-        && is_used_rightly(&run.out.writer, good_writes, all)
+fn canon_writes(alloc: Global, one: &[u8], writes: Writes) -> bool {
+    let (out, err) = (FailingWriter::after(writes.good), FailingWriter::after(0));
+    let run = canon_run(alloc, PLAIN, one, out, err);
+    writes.ended(run.answer, &run.out)
 }
 
 // Nothing is flushed before the fault lines are written.
-fn error_writes(alloc: Global, refused: &str, good_writes: usize, all: usize) -> bool {
-    let err = FailingWriter::after(good_writes);
-    let run = canon_run(
-        alloc,
-        PLAIN,
-        refused.as_bytes(),
-        FailingWriter::after(0),
-        err,
-    );
-    run.answer == at_write(Outcome::Bad, good_writes, all)
-        && is_used_rightly(&run.err.writer, good_writes, all)
+fn error_writes(alloc: Global, refused: &[u8], writes: Writes) -> bool {
+    let (out, err) = (FailingWriter::after(0), FailingWriter::after(writes.good));
+    let run = canon_run(alloc, PLAIN, refused, out, err);
+    writes.ended(run.answer, &run.err)
         && run.out.writer.flushes == run.err.writer.flushes
         && run.out.writer.writes == 0
 }
 
-fn check_writes(alloc: Global, refused: &str, good_writes: usize, all: usize) -> bool {
-    let wanted = at_write(Outcome::Bad, good_writes, all);
-    let run = check_run(
-        alloc,
-        PLAIN,
-        refused.as_bytes(),
-        FailingWriter::after(good_writes),
+fn check_writes(alloc: Global, refused: &[u8], writes: Writes) -> bool {
+    let run = check_run(alloc, PLAIN, refused, FailingWriter::after(writes.good));
+    writes.ended(run.answer, &run.out)
+}
+
+fn compare_writes(alloc: Global, refused: &[u8], writes: Writes) -> bool {
+    let (other, out) = (SMALL_BALLOT.as_bytes(), FailingWriter::after(writes.good));
+    let run = compare_run(alloc, PLAIN, refused, other, out);
+    writes.ended(run.answer, &run.out)
+}
+
+// A run is right for each number of good writes, up to the number of all.
+fn at_each_write<F: Fn(Writes) -> bool>(rt: &impl Abort, name: &str, whole: Writes, is_right: F)
+    requires { F.IsAlwaysCallable is_right }
+{
+    at_each(
+        rt,
+        name,
+        whole.all,
+        |good| is_right(Writes { good, ..whole }),
     );
-    run.answer == wanted
-        && run.out.failed() == wanted.is_err()
-        && is_used_rightly(&run.out.writer, good_writes, all)
 }
 
-fn compare_writes(alloc: Global, refused: &str, good_writes: usize, all: usize) -> bool {
-    let out = FailingWriter::after(good_writes);
-    let run = compare_run(
-        alloc,
-        PLAIN,
-        refused.as_bytes(),
-        SMALL_BALLOT.as_bytes(),
-        out,
-    );
-    run.answer == at_write(Outcome::Bad, good_writes, all)
-        && is_used_rightly(&run.out.writer, good_writes, all)
-}
-
-fn writes_of_form(rt: &impl Abort, alloc: Global, all: usize) {
-    for good_writes in 0..all.saturating_add(1) {
-        assert!(rt;
-            canon_writes(alloc, good_writes, all),
-            "canon at {good_writes}"
-        );
-    }
-}
-
-fn writes_of_faults(rt: &impl Abort, alloc: Global, refused: &str, all: usize) {
-    for good_writes in 0..all.saturating_add(1) {
-        assert!(rt;
-            check_writes(alloc, refused, good_writes, all),
-            "check at {good_writes}"
-        );
-        assert!(rt;
-            error_writes(alloc, refused, good_writes, all),
-            "err at {good_writes}"
-        );
-    }
-}
-
-fn writes_beside(rt: &impl Abort, alloc: Global, refused: &str, all: usize) {
-    for good_writes in 0..all.saturating_add(1) {
-        assert!(rt;
-            compare_writes(alloc, refused, good_writes, all),
-            "compare at {good_writes}"
-        );
-    }
+fn writes_of_faults(rt: &impl Abort, alloc: Global, refused: &[u8]) {
+    let whole = Writes::of(THREE_SHAPE_FAULT_LINES.len(), Outcome::Bad);
+    at_each_write(rt, "check", whole, |it| check_writes(alloc, refused, it));
+    at_each_write(rt, "err", whole, |it| error_writes(alloc, refused, it));
+    // Three lines, each after `left: `.
+    let whole = Writes::of(whole.all.saturating_add(18), Outcome::Bad);
+    at_each_write(rt, "beside", whole, |it| compare_writes(alloc, refused, it));
 }
 
 // A failure at each write of one byte.
 #[test]
 fn each_write_fails(rt: HostRuntime) -> Result<(), Fail> {
-    let alloc = rt.alloc();
-    writes_of_form(&rt, alloc, ONE_UNIT_CANONICAL.len());
+    let (alloc, one) = (rt.alloc(), ONE_UNIT.as_bytes());
+    let whole = Writes::of(ONE_UNIT_CANONICAL.len(), Outcome::Good);
+    at_each_write(&rt, "canon", whole, |it| canon_writes(alloc, one, it));
     let refused = made(alloc, (Base::SmallBallot, THREE_SHAPE_FAULT_EDITS))?;
-    let all = THREE_SHAPE_FAULT_LINES.len();
-    writes_of_faults(&rt, alloc, refused.as_str(), all);
-    // Three lines, each after `left: `.
-    writes_beside(&rt, alloc, refused.as_str(), all.saturating_add(18));
+    writes_of_faults(&rt, alloc, refused.as_bytes());
     Ok(())
 }
 

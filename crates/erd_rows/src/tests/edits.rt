@@ -44,9 +44,26 @@ pub fn value_of(alloc: Global, text: &str) -> Result<Value, Fail> {
 // A text, and edits of it.
 pub type Edited = (Base, &'static [Edit]);
 
+// Texts without edits.
+pub const UNIT_REPORT: Edited = (Base::OneUnit, &[]);
+
+pub const UNIT_FORM: Edited = (Base::OneUnitCanonical, &[]);
+
+pub const BALLOT: Edited = (Base::SmallBallot, &[]);
+
+pub const BALLOT_FORM: Edited = (Base::SmallBallotCanonical, &[]);
+
+pub const VENDOR_BALLOT: Edited = (Base::OtherVendor, &[]);
+
+// The text with its edits.
+pub fn made(alloc: Global, (base, edits): (Base, &[Edit])) -> Result<String, Fail> {
+    let text = spelled(alloc, base.text())?;
+    changed(alloc, text.as_str(), edits)
+}
+
 // The text with the first `from` of each edit replaced, one edit after another.
-pub fn made(alloc: Global, (base, edits): Edited) -> Result<String, Fail> {
-    let mut whole = spelled(alloc, base.text())?;
+pub fn changed(alloc: Global, text: &str, edits: &[Edit]) -> Result<String, Fail> {
+    let mut whole = String::from_str(alloc, text)?;
     for (from, to) in edits {
         let from = spelled(alloc, from)?;
         let to = spelled(alloc, to)?;

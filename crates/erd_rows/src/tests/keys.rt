@@ -12,185 +12,124 @@ use std::alloc::{AllocError, Global};
 use std::process::Abort;
 use std::test::Fail;
 
-// An identifier: `Type`, `OtherType` (empty if absent) and `Value`.
-pub type Identifier<'a> = (&'a str, &'a str, &'a str);
+// The `Type`, `OtherType` (empty if absent) and `Value` of an identifier that is written with `/` between them.
+pub fn texts_of(identifier: &str) -> (&str, &str, &str) {
+    let (kind, rest) = identifier.split_once('/').unwrap_or((identifier, ""));
+    let (other, value) = rest.split_once('/').unwrap_or((rest, ""));
+    (kind, other, value)
+}
 
-// Identifiers of one unit, and its key under each preference. The order of the identifiers has no meaning.
-type Keyed = (
-    &'static [Identifier<'static>],
-    &'static [(Option<&'static str>, Identifier<'static>)],
-);
+// A key, and the preferences under which a unit has it.
+type Preferred = (&'static str, &'static [Option<&'static str>]);
+
+// Identifiers of one unit, and its keys. The order of the identifiers has no meaning.
+type Keyed = (&'static [&'static str], &'static [Preferred]);
 
 const KEYS: &[Keyed] = &[
     // The least identifier.
     (
-        &[("local-level", "", "U1"), ("fips", "", "20")],
+        &["local-level//U1", "fips//20"],
         &[
-            (None, ("fips", "", "20")),
-            (Some("nosuch"), ("fips", "", "20")),
-            (Some("fips"), ("fips", "", "20")),
-            (Some("local-level"), ("local-level", "", "U1")),
+            ("fips//20", &[None, Some("nosuch"), Some("fips")]),
+            ("local-level//U1", &[Some("local-level")]),
         ],
     ),
     // An absent `OtherType` and an empty one give one key.
-    (
-        &[("other", "", "X"), ("other", "EMPTY", "X")],
-        &[(None, ("other", "", "X"))],
-    ),
+    (&["other//X", "other/EMPTY/X"], &[("other//X", &[None])]),
     // By `Type`, then by `OtherType`, then by `Value`, each by its bytes.
+    (&["fips//20", "local-level//1"], &[("fips//20", &[None])]),
+    (&["other/a/2", "other/b/1"], &[("other/a/2", &[None])]),
+    (&["t//U10", "t//U9"], &[("t//U10", &[None])]),
+    (&["t//U", "t//U1"], &[("t//U", &[None])]),
     (
-        &[("fips", "", "20"), ("local-level", "", "1")],
-        &[(None, ("fips", "", "20"))],
-    ),
-    (
-        &[("other", "a", "2"), ("other", "b", "1")],
-        &[(None, ("other", "a", "2"))],
-    ),
-    (
-        &[("t", "", "U10"), ("t", "", "U9")],
-        &[(None, ("t", "", "U10"))],
-    ),
-    (
-        &[("t", "", "U"), ("t", "", "U1")],
-        &[(None, ("t", "", "U"))],
-    ),
-    (
-        &[("t", "", "\\uffff"), ("t", "", "\\ud800\\udc00")],
-        &[(None, ("t", "", "\u{ffff}"))],
+        &["t//\\uffff", "t//\\ud800\\udc00"],
+        &[("t//\u{ffff}", &[None])],
     ),
     // The least identifier of the preferred type, by all three texts.
     (
+        &["local-level//U9", "fips//5", "local-level//U10"],
         &[
-            ("local-level", "", "U9"),
-            ("fips", "", "5"),
-            ("local-level", "", "U10"),
-        ],
-        &[
-            (None, ("fips", "", "5")),
-            (Some("fips"), ("fips", "", "5")),
-            (Some("local-level"), ("local-level", "", "U10")),
-            (Some("nosuch"), ("fips", "", "5")),
+            ("fips//5", &[None, Some("fips"), Some("nosuch")]),
+            ("local-level//U10", &[Some("local-level")]),
         ],
     ),
     (
+        &["local-level/a/1", "fips/z/5", "local-level//2"],
         &[
-            ("local-level", "a", "1"),
-            ("fips", "z", "5"),
-            ("local-level", "", "2"),
-        ],
-        &[
-            (None, ("fips", "z", "5")),
-            (Some("local-level"), ("local-level", "", "2")),
+            ("fips/z/5", &[None]),
+            ("local-level//2", &[Some("local-level")]),
         ],
     ),
     // `OtherType` helps to decide which preferred identifier is the least, but not which ones are preferred.
     (
+        &["other/map/1", "fips//3", "other/deed/9"],
         &[
-            ("other", "map", "1"),
-            ("fips", "", "3"),
-            ("other", "deed", "9"),
-        ],
-        &[
-            (None, ("fips", "", "3")),
-            (Some("other"), ("other", "deed", "9")),
-            (Some("map"), ("fips", "", "3")),
-            (Some("deed"), ("fips", "", "3")),
+            ("fips//3", &[None, Some("map"), Some("deed")]),
+            ("other/deed/9", &[Some("other")]),
         ],
     ),
     (
+        &["other/map/1", "fips/map/3", "other//9"],
         &[
-            ("other", "map", "1"),
-            ("fips", "map", "3"),
-            ("other", "", "9"),
-        ],
-        &[
-            (None, ("fips", "map", "3")),
-            (Some("other"), ("other", "", "9")),
-            (Some("map"), ("fips", "map", "3")),
+            ("fips/map/3", &[None, Some("map")]),
+            ("other//9", &[Some("other")]),
         ],
     ),
     // The empty preference is a preference. It prefers identifiers with an empty `Type`, which are the least of all.
     (
-        &[("a", "", "1"), ("", "z", "9"), ("", "z", "8")],
-        &[
-            (None, ("", "z", "8")),
-            (Some(""), ("", "z", "8")),
-            (Some("a"), ("a", "", "1")),
-        ],
+        &["a//1", "/z/9", "/z/8"],
+        &[("/z/8", &[None, Some("")]), ("a//1", &[Some("a")])],
     ),
     (
-        &[("b", "", "1"), ("a", "x", "3"), ("a", "y", "2")],
-        &[
-            (None, ("a", "x", "3")),
-            (Some(""), ("a", "x", "3")),
-            (Some("b"), ("b", "", "1")),
-        ],
+        &["b//1", "a/x/3", "a/y/2"],
+        &[("a/x/3", &[None, Some("")]), ("b//1", &[Some("b")])],
     ),
     // A type is preferred only if its text equals the preferred one. A part of it or a similar text does not count.
     (
-        &[("fips", "", "1"), ("Fips", "", "2"), ("fips2", "", "0")],
+        &["fips//1", "Fips//2", "fips2//0"],
         &[
-            (None, ("Fips", "", "2")),
-            (Some("fips"), ("fips", "", "1")),
-            (Some("fips2"), ("fips2", "", "0")),
-            (Some("Fips"), ("Fips", "", "2")),
-            (Some("FIPS"), ("Fips", "", "2")),
-            (Some("fip"), ("Fips", "", "2")),
-            (Some("fips "), ("Fips", "", "2")),
+            (
+                "Fips//2",
+                &[None, Some("Fips"), Some("FIPS"), Some("fip"), Some("fips ")],
+            ),
+            ("fips//1", &[Some("fips")]),
+            ("fips2//0", &[Some("fips2")]),
         ],
     ),
     // Texts are compared by their bytes as read: without Unicode normalisation, and whatever escapes they were written with.
     (
-        &[("\u{e9}", "", "1"), ("z", "", "2"), ("e\u{301}", "", "3")],
+        &["\u{e9}//1", "z//2", "e\u{301}//3"],
         &[
-            (None, ("e\u{301}", "", "3")),
-            (Some("\u{e9}"), ("\u{e9}", "", "1")),
-            (Some("e\u{301}"), ("e\u{301}", "", "3")),
-            (Some("e"), ("e\u{301}", "", "3")),
-            (Some("z"), ("z", "", "2")),
+            ("e\u{301}//3", &[None, Some("e\u{301}"), Some("e")]),
+            ("\u{e9}//1", &[Some("\u{e9}")]),
+            ("z//2", &[Some("z")]),
         ],
     ),
     (
+        &["\\u00e9//1", "a//2", "\\ud800\\udc00//3"],
         &[
-            ("\\u00e9", "", "1"),
-            ("a", "", "2"),
-            ("\\ud800\\udc00", "", "3"),
-        ],
-        &[
-            (None, ("a", "", "2")),
-            (Some("\u{e9}"), ("\u{e9}", "", "1")),
-            (Some("\u{10000}"), ("\u{10000}", "", "3")),
-            (Some("\u{10001}"), ("a", "", "2")),
-            (Some("\\u00e9"), ("a", "", "2")),
+            ("a//2", &[None, Some("\u{10001}"), Some("\\u00e9")]),
+            ("\u{e9}//1", &[Some("\u{e9}")]),
+            ("\u{10000}//3", &[Some("\u{10000}")]),
         ],
     ),
     // U+FFFF comes before U+10000, also among preferred identifiers.
     (
-        &[
-            ("\u{e9}", "", "\u{10000}"),
-            ("a", "", "2"),
-            ("\u{e9}", "", "\u{ffff}"),
-        ],
-        &[
-            (None, ("a", "", "2")),
-            (Some("\u{e9}"), ("\u{e9}", "", "\u{ffff}")),
-        ],
+        &["\u{e9}//\u{10000}", "a//2", "\u{e9}//\u{ffff}"],
+        &[("a//2", &[None]), ("\u{e9}//\u{ffff}", &[Some("\u{e9}")])],
     ),
 ];
 
 // The identifiers in this order, as a member of a report. A position past the last one is left out.
-fn identifiers(
-    alloc: Global,
-    entries: &[Identifier],
-    order: &[usize],
-) -> Result<String, AllocError> {
+fn identifiers(alloc: Global, entries: &[&str], order: &[usize]) -> Result<String, AllocError> {
     let mut array = String::from_str(alloc, "\"ExternalIdentifier\":[")?;
     let empty = array.len();
     for position in order {
-        if let Some((kind, other, value)) = entries.get(*position) {
+        if let Some(identifier) = entries.get(*position) {
             if array.len() > empty {
                 array.push(',')?;
             }
+            let (kind, other, value) = texts_of(identifier);
             let other = other_type(alloc, other)?;
             let entry = format!(in alloc;
                 "{{\"@type\":\"ElectionResults.ExternalIdentifier\",{other}\"Type\":\"{kind}\",\"Value\":\"{value}\"}}"
@@ -212,10 +151,11 @@ fn other_type(alloc: Global, value: &str) -> Result<String, AllocError> {
 }
 
 // Whether the unit at this position has this key, and the key finds it.
-fn has_key(report: &Report, index: usize, (kind, other, value): Identifier) -> bool {
+fn has_key(report: &Report, index: usize, identifier: &str) -> bool {
     let Some(key) = report.key_at(Family::Unit, index) else {
         return false;
     };
+    let (kind, other, value) = texts_of(identifier);
     key.kind.as_str() == kind
         && key.other.as_str() == other
         && key.value.as_str() == value
@@ -227,7 +167,7 @@ fn keys_are(
     alloc: Global,
     report: &str,
     prefer: Option<&str>,
-    wanted: &[Identifier],
+    wanted: &[&str],
 ) -> Result<bool, Fail> {
     let asked = Asked {
         report: report.as_bytes(),
@@ -239,7 +179,7 @@ fn keys_are(
         let answer = on_report(
             alloc,
             &asked,
-            |report| right_if(has_key(report, index, *key)),
+            |report| right_if(has_key(report, index, key)),
         )?;
         if answer != Answer::Right {
             return Ok(false);
@@ -249,14 +189,12 @@ fn keys_are(
 }
 
 // Whether the unit of a report has its key under each preference.
-fn unit_is_keyed(
-    alloc: Global,
-    report: &str,
-    wanted: &[(Option<&str>, Identifier)],
-) -> Result<bool, Fail> {
-    for (prefer, key) in wanted {
-        if !keys_are(alloc, report, *prefer, &[*key])? {
-            return Ok(false);
+fn unit_is_keyed(alloc: Global, report: &str, wanted: &[Preferred]) -> Result<bool, Fail> {
+    for (key, preferences) in wanted {
+        for prefer in preferences.iter() {
+            if !keys_are(alloc, report, *prefer, &[*key])? {
+                return Ok(false);
+            }
         }
     }
     Ok(true)
@@ -297,12 +235,12 @@ fn keys_of_units(rt: HostRuntime) -> Result<(), Fail> {
     all_are_keyed(&rt, rt.alloc(), KEYS, &ORDERS)
 }
 
-const BY_FIPS: &[Identifier] = &[("fips", "", "20"), ("fips", "", "10")];
+const BY_FIPS: &[&str] = &["fips//20", "fips//10"];
 
-const BY_LOCAL: &[Identifier] = &[("local-level", "", "U1"), ("local-level", "", "U2")];
+const BY_LOCAL: &[&str] = &["local-level//U1", "local-level//U2"];
 
 // The keys of two units with two identifiers each, under each preference.
-const KEYS_OF_TWO: &[(Option<&str>, &[Identifier])] = &[
+const KEYS_OF_TWO: &[(Option<&str>, &[&str])] = &[
     (None, BY_FIPS),
     (Some("nosuch"), BY_FIPS),
     (Some("fips"), BY_FIPS),
@@ -313,7 +251,7 @@ fn units_are_keyed(
     rt: &impl Abort,
     alloc: Global,
     report: &str,
-    table: &[(Option<&str>, &[Identifier])],
+    table: &[(Option<&str>, &[&str])],
 ) -> Result<(), Fail> {
     for (prefer, wanted) in table {
         assert!(rt; keys_are(alloc, report, *prefer, wanted)?);
@@ -328,8 +266,9 @@ fn keys_of_two_units(rt: HostRuntime) -> Result<(), Fail> {
     units_are_keyed(&rt, alloc, report.as_str(), KEYS_OF_TWO)
 }
 
-// The key made of these three texts.
-pub fn key(alloc: Global, kind: &str, other: &str, value: &str) -> Result<Key, AllocError> {
+// The key of this identifier.
+pub fn key(alloc: Global, identifier: &str) -> Result<Key, AllocError> {
+    let (kind, other, value) = texts_of(identifier);
     let kind = Text::of(String::from_str(alloc, kind)?);
     let other = Text::of(String::from_str(alloc, other)?);
     let value = Text::of(String::from_str(alloc, value)?);

@@ -1,18 +1,19 @@
 //! Rows of the later phases: faults of identity, of references and of the names of selections.
 use crate::tests::answers::ACCEPTED;
 use crate::tests::edits::Base;
-use crate::tests::rows::{Row, Told};
+use crate::tests::rows::{Row, Told, all_hold};
 use crate::tests::vectors::UNIT;
 use Told::Lines;
+use std::alloc::Global;
+use std::test::Fail;
 
 const WRITE_IN: &str = r#"{"@id":"a11","@type":"%CandidateSelection","IsWriteIn":true}"#;
 
 const SELECTION_IDS: &str = r#"["a10","a9","a11"]"#;
 
-pub const OF_LATER_PHASES: &[Row] = &[
+const ROWS: &[Row] = &[
     (
         "twin_unit_key",
-        None,
         (
             Base::OneUnit,
             &[(
@@ -24,7 +25,6 @@ pub const OF_LATER_PHASES: &[Row] = &[
     ),
     (
         "twin_unit_key",
-        None,
         (
             Base::OneUnit,
             &[(
@@ -36,7 +36,6 @@ pub const OF_LATER_PHASES: &[Row] = &[
     ),
     (
         "other_type",
-        None,
         (
             Base::OneUnit,
             &[(
@@ -48,7 +47,6 @@ pub const OF_LATER_PHASES: &[Row] = &[
     ),
     (
         "other_type",
-        None,
         (
             Base::OneUnit,
             &[(
@@ -60,13 +58,11 @@ pub const OF_LATER_PHASES: &[Row] = &[
     ),
     (
         "no_identifier_and_double_id",
-        None,
         (Base::OneUnit, &[(r#"#U1&"#, r#""ExternalIdentifier":[]"#)]),
         Lines("/GpUnit/0: no external identifier\n"),
     ),
     (
         "no_identifier_and_double_id",
-        None,
         (
             Base::OneUnit,
             &[(
@@ -78,7 +74,6 @@ pub const OF_LATER_PHASES: &[Row] = &[
     ),
     (
         "wrong_and_unresolved_reference",
-        None,
         (
             Base::SmallBallot,
             &[
@@ -95,7 +90,6 @@ pub const OF_LATER_PHASES: &[Row] = &[
     ),
     (
         "authority_ids",
-        None,
         (
             Base::OneUnit,
             &[(r#""@id":"u7","#, r#""@id":"u7","AuthorityIds":["u7","x"],"#)],
@@ -106,7 +100,6 @@ pub const OF_LATER_PHASES: &[Row] = &[
     ),
     (
         "mutual_composition",
-        None,
         (
             Base::OneUnit,
             &[(
@@ -118,7 +111,6 @@ pub const OF_LATER_PHASES: &[Row] = &[
     ),
     (
         "unknown_contest_alone",
-        None,
         (
             Base::SmallBallot,
             &[(r#""ContestId":"a8""#, r#""ContestId":"x9""#)],
@@ -129,7 +121,6 @@ pub const OF_LATER_PHASES: &[Row] = &[
     ),
     (
         "candidate_among_selections",
-        None,
         (Base::SmallBallot, &[(SELECTION_IDS, r#"["a5"]"#)]),
         Lines(
             "/Election/0/BallotStyle/0/OrderedContent/0/OrderedContent/0/OrderedContestSelectionIds/0: reference to another family\n",
@@ -137,19 +128,16 @@ pub const OF_LATER_PHASES: &[Row] = &[
     ),
     (
         "repeated_and_empty_selection_ids",
-        None,
         (Base::SmallBallot, &[(SELECTION_IDS, r#"["a9","a9"]"#)]),
         Lines(ACCEPTED),
     ),
     (
         "repeated_and_empty_selection_ids",
-        None,
         (Base::SmallBallot, &[(SELECTION_IDS, r#"[]"#)]),
         Lines(ACCEPTED),
     ),
     (
         "selection_of_other_contest",
-        None,
         (
             Base::SmallBallot,
             &[(SELECTION_IDS, r#"["a13","a9","a11"]"#)],
@@ -160,7 +148,6 @@ pub const OF_LATER_PHASES: &[Row] = &[
     ),
     (
         "write_in_lines",
-        None,
         (
             Base::SmallBallot,
             &[(
@@ -172,7 +159,6 @@ pub const OF_LATER_PHASES: &[Row] = &[
     ),
     (
         "write_in_lines",
-        None,
         (
             Base::SmallBallot,
             &[(
@@ -184,7 +170,6 @@ pub const OF_LATER_PHASES: &[Row] = &[
     ),
     (
         "write_in_lines",
-        None,
         (
             Base::SmallBallot,
             &[(
@@ -195,3 +180,8 @@ pub const OF_LATER_PHASES: &[Row] = &[
         Lines(ACCEPTED),
     ),
 ];
+
+// Tries each row of this name, or each row where there is no name.
+pub fn hold(alloc: Global, name: Option<&str>) -> Result<(), Fail> {
+    all_hold(alloc, None, ROWS, name)
+}

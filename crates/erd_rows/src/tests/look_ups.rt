@@ -1,9 +1,9 @@
 //! Look-ups in reports.
 use crate::tests::answers::{Answer, right_if};
 use crate::tests::edits::{Base, made};
-use crate::tests::election_rows::CONTESTS;
+use crate::tests::election_rows::WITH_CONTESTS;
 use crate::tests::names::on_text;
-use crate::tests::vectors::{ELECTION, SMALL_BALLOT};
+use crate::tests::vectors::SMALL_BALLOT;
 use erd_meaning::{Key, Report};
 use erd_tables::Family;
 use serde_json::Value;
@@ -220,7 +220,7 @@ const HELD_BY_TWO: &[Held] = &[
 #[test]
 fn contests_of_two_elections(rt: HostRuntime) -> Result<(), Fail> {
     let alloc = rt.alloc();
-    let text = made(alloc, (Base::OneUnit, &[(ELECTION, CONTESTS)]))?;
+    let text = made(alloc, WITH_CONTESTS)?;
     assert!(rt; elections_are(alloc, text.as_str(), &["E2", "E1"], HELD_BY_TWO)?);
     Ok(())
 }

@@ -1,6 +1,6 @@
 //! The names of selections: their order, and the selections that they find.
 use crate::tests::answers::{Answer, right_if};
-use crate::tests::edits::{Base, Edited, made};
+use crate::tests::edits::{BALLOT, BALLOT_FORM, Base, Edit, Edited, VENDOR_BALLOT, made};
 use crate::tests::orders::numbers_in_order;
 use crate::tests::report_calls::{Asked, on_report};
 use crate::tests::runs::PLAIN;
@@ -22,93 +22,10 @@ const ANSWER: &str = r#""Selection":"No"}"#;
 // The names are ordered by the names of their classes, then by their keys, then by whether they are write-in lines. Labels
 // that are texts come before labels with translations.
 const NAMES: &[(Edited, Ranked)] = &[
-    (
-        (Base::SmallBallot, &[]),
-        &[(0, 3), (0, 4), (0, 2), (1, 1), (1, 0)],
-    ),
-    (
-        (Base::SmallBallotCanonical, &[]),
-        &[(0, 2), (0, 3), (0, 4), (1, 0), (1, 1)],
-    ),
-    (
-        (Base::OtherVendor, &[]),
-        &[(0, 0), (0, 1), (1, 2), (1, 4), (1, 3)],
-    ),
-    // Write-in lines are distinguished by `SequenceOrder`, or by identifiers.
-    (
-        (
-            Base::SmallBallot,
-            &[(
-                WRITE_IN,
-                r#""IsWriteIn":true,"SequenceOrder":1},{"@id":"a15","@type":"%CandidateSelection","IsWriteIn":true,"SequenceOrder":2}"#,
-            )],
-        ),
-        &[(0, 4), (0, 5), (0, 2), (0, 3), (1, 1), (1, 0)],
-    ),
-    (
-        (
-            Base::SmallBallot,
-            &[(
-                WRITE_IN,
-                r#""IsWriteIn":true,#W1&},{"@id":"a15","@type":"%CandidateSelection","IsWriteIn":true,#W2&}"#,
-            )],
-        ),
-        &[(0, 4), (0, 5), (0, 2), (0, 3), (1, 1), (1, 0)],
-    ),
-    (
-        (
-            Base::SmallBallot,
-            &[(
-                WRITE_IN,
-                r#""IsWriteIn":true},{"@id":"a15","@type":"%CandidateSelection","IsWriteIn":true,"SequenceOrder":-7}"#,
-            )],
-        ),
-        &[(0, 4), (0, 5), (0, 2), (0, 3), (1, 1), (1, 0)],
-    ),
-    // A selection that is no write-in line comes before one that is.
-    (
-        (
-            Base::SmallBallot,
-            &[(
-                WRITE_IN,
-                r#""IsWriteIn":true},{"@id":"a15","@type":"%CandidateSelection"}"#,
-            )],
-        ),
-        &[(0, 4), (0, 5), (0, 3), (0, 2), (1, 1), (1, 0)],
-    ),
-    // Two contests may each have a selection with the same name. It is found in both.
-    (
-        (
-            Base::SmallBallot,
-            &[(
-                ANSWER,
-                r#""Selection":"No"},{"@id":"a15","@type":"%CandidateSelection","IsWriteIn":true}"#,
-            )],
-        ),
-        &[(0, 3), (0, 4), (0, 2), (1, 1), (1, 0), (1, 2)],
-    ),
-    // A shorter list of candidates comes before its continuations.
-    (
-        (
-            Base::SmallBallot,
-            &[(
-                WRITE_IN,
-                r#""IsWriteIn":true},{"@id":"a15","@type":"%CandidateSelection","CandidateIds":["a5"]}"#,
-            )],
-        ),
-        &[(0, 4), (0, 5), (0, 2), (0, 3), (1, 1), (1, 0)],
-    ),
-    // The class is compared before the keys: a party and a candidate have one key, or two.
-    (
-        (
-            Base::SmallBallot,
-            &[(
-                WRITE_IN,
-                r#""IsWriteIn":true},{"@id":"a15","@type":"%PartySelection","PartyIds":["a3"]}"#,
-            )],
-        ),
-        &[(0, 3), (0, 4), (0, 2), (0, 5), (1, 1), (1, 0)],
-    ),
+    (BALLOT, &[(0, 3), (0, 4), (0, 2), (1, 1), (1, 0)]),
+    (BALLOT_FORM, &[(0, 2), (0, 3), (0, 4), (1, 0), (1, 1)]),
+    (VENDOR_BALLOT, &[(0, 0), (0, 1), (1, 2), (1, 4), (1, 3)]),
+    // A party and a candidate with one key.
     (
         (
             Base::SmallBallot,
@@ -150,15 +67,41 @@ const NAMES: &[(Edited, Ranked)] = &[
         ),
         &[(0, 3), (0, 4), (0, 2), (1, 1), (1, 0), (2, 0)],
     ),
+];
+
+// What stands for the write-in line of the small ballot.
+const BY_WRITE_INS: &[(&str, Ranked)] = &[
+    // Write-in lines are distinguished by `SequenceOrder`, or by identifiers.
+    (
+        r#""IsWriteIn":true,"SequenceOrder":1},{"@id":"a15","@type":"%CandidateSelection","IsWriteIn":true,"SequenceOrder":2}"#,
+        &[(0, 4), (0, 5), (0, 2), (0, 3), (1, 1), (1, 0)],
+    ),
+    (
+        r#""IsWriteIn":true,#W1&},{"@id":"a15","@type":"%CandidateSelection","IsWriteIn":true,#W2&}"#,
+        &[(0, 4), (0, 5), (0, 2), (0, 3), (1, 1), (1, 0)],
+    ),
+    (
+        r#""IsWriteIn":true},{"@id":"a15","@type":"%CandidateSelection","IsWriteIn":true,"SequenceOrder":-7}"#,
+        &[(0, 4), (0, 5), (0, 2), (0, 3), (1, 1), (1, 0)],
+    ),
+    // A selection that is no write-in line comes before one that is.
+    (
+        r#""IsWriteIn":true},{"@id":"a15","@type":"%CandidateSelection"}"#,
+        &[(0, 4), (0, 5), (0, 3), (0, 2), (1, 1), (1, 0)],
+    ),
+    // A shorter list of candidates comes before its continuations.
+    (
+        r#""IsWriteIn":true},{"@id":"a15","@type":"%CandidateSelection","CandidateIds":["a5"]}"#,
+        &[(0, 4), (0, 5), (0, 2), (0, 3), (1, 1), (1, 0)],
+    ),
+    // The class is compared before the keys, which a party and a candidate may share.
+    (
+        r#""IsWriteIn":true},{"@id":"a15","@type":"%PartySelection","PartyIds":["a3"]}"#,
+        &[(0, 3), (0, 4), (0, 2), (0, 5), (1, 1), (1, 0)],
+    ),
     // An absent number comes first. Numbers are ordered by value.
     (
-        (
-            Base::SmallBallot,
-            &[(
-                WRITE_IN,
-                r#""IsWriteIn":true},{"@id":"a15","@type":"%CandidateSelection","IsWriteIn":true,"SequenceOrder":10},{"@id":"a18","@type":"%CandidateSelection","IsWriteIn":true,"SequenceOrder":2},{"@id":"a19","@type":"%CandidateSelection","IsWriteIn":true,"SequenceOrder":-1},{"@id":"a20","@type":"%CandidateSelection","IsWriteIn":true,"SequenceOrder":18446744073709551615},{"@id":"a21","@type":"%CandidateSelection","IsWriteIn":true,"SequenceOrder":-9223372036854775808}"#,
-            )],
-        ),
+        r#""IsWriteIn":true},{"@id":"a15","@type":"%CandidateSelection","IsWriteIn":true,"SequenceOrder":10},{"@id":"a18","@type":"%CandidateSelection","IsWriteIn":true,"SequenceOrder":2},{"@id":"a19","@type":"%CandidateSelection","IsWriteIn":true,"SequenceOrder":-1},{"@id":"a20","@type":"%CandidateSelection","IsWriteIn":true,"SequenceOrder":18446744073709551615},{"@id":"a21","@type":"%CandidateSelection","IsWriteIn":true,"SequenceOrder":-9223372036854775808}"#,
         &[
             (0, 8),
             (0, 9),
@@ -172,38 +115,29 @@ const NAMES: &[(Edited, Ranked)] = &[
             (1, 0),
         ],
     ),
+];
+
+// What stands for an answer of its measure.
+const BY_ANSWERS: &[(&str, Ranked)] = &[
+    // Two contests may each have a selection with the same name. It is found in both.
+    (
+        r#""Selection":"No"},{"@id":"a15","@type":"%CandidateSelection","IsWriteIn":true}"#,
+        &[(0, 3), (0, 4), (0, 2), (1, 1), (1, 0), (1, 2)],
+    ),
     // A label as a text and the same label as one translation are different. Labels with translations are ordered by their
     // bytes.
     (
-        (
-            Base::SmallBallot,
-            &[(
-                ANSWER,
-                r#""Selection":"No"},{"@id":"a15","@type":"%BallotMeasureSelection","Selection":"Yes"},{"@id":"a18","@type":"%BallotMeasureSelection","Selection":{"@type":"%InternationalizedText","Text":[{"@type":"%LanguageString","Language":"en","Content":"Yes"}]}}"#,
-            )],
-        ),
+        r#""Selection":"No"},{"@id":"a15","@type":"%BallotMeasureSelection","Selection":"Yes"},{"@id":"a18","@type":"%BallotMeasureSelection","Selection":{"@type":"%InternationalizedText","Text":[{"@type":"%LanguageString","Language":"en","Content":"Yes"}]}}"#,
         &[(0, 5), (0, 6), (0, 4), (1, 2), (1, 0), (1, 1), (1, 3)],
     ),
     // The carried members of a label are part of it. So are those of a translation.
     (
-        (
-            Base::SmallBallot,
-            &[(
-                ANSWER,
-                r#""Selection":"No"},{"@id":"a15","@type":"%BallotMeasureSelection","Selection":{"@type":"%InternationalizedText","Note":[2],"Text":[{"@type":"%LanguageString","Language":"en","Content":"Yes"},{"@type":"%LanguageString","Language":"es","Content":"Si"}]}},{"@id":"a18","@type":"%BallotMeasureSelection","Selection":{"@type":"%InternationalizedText","Text":[{"@type":"%LanguageString","Language":"en","Content":"Yes"},{"@type":"%LanguageString","Language":"es","Content":"Si","Accent":false}]}}"#,
-            )],
-        ),
+        r#""Selection":"No"},{"@id":"a15","@type":"%BallotMeasureSelection","Selection":{"@type":"%InternationalizedText","Note":[2],"Text":[{"@type":"%LanguageString","Language":"en","Content":"Yes"},{"@type":"%LanguageString","Language":"es","Content":"Si"}]}},{"@id":"a18","@type":"%BallotMeasureSelection","Selection":{"@type":"%InternationalizedText","Text":[{"@type":"%LanguageString","Language":"en","Content":"Yes"},{"@type":"%LanguageString","Language":"es","Content":"Si","Accent":false}]}}"#,
         &[(0, 5), (0, 6), (0, 4), (1, 3), (1, 0), (1, 1), (1, 2)],
     ),
     // An absent identifier comes first. If there are several, the least one counts.
     (
-        (
-            Base::SmallBallot,
-            &[(
-                ANSWER,
-                r#""Selection":"No"},{"@id":"a15","@type":"%BallotMeasureSelection","Selection":"No",#W1&},{"@id":"a18","@type":"%BallotMeasureSelection","Selection":"No","ExternalIdentifier":[{"@type":"%ExternalIdentifier","Type":"local-level","Value":"W1"},{"@type":"%ExternalIdentifier","Type":"fips","Value":"20"}]}"#,
-            )],
-        ),
+        r#""Selection":"No"},{"@id":"a15","@type":"%BallotMeasureSelection","Selection":"No",#W1&},{"@id":"a18","@type":"%BallotMeasureSelection","Selection":"No","ExternalIdentifier":[{"@type":"%ExternalIdentifier","Type":"local-level","Value":"W1"},{"@type":"%ExternalIdentifier","Type":"fips","Value":"20"}]}"#,
         &[(0, 5), (0, 6), (0, 4), (1, 3), (1, 0), (1, 2), (1, 1)],
     ),
 ];
@@ -285,8 +219,8 @@ pub fn on_text<F: FnOnce(&Report) -> Answer>(
     on_report(alloc, &asked, then)
 }
 
-fn is_ranked_so(alloc: Global, (report, ranked): (Edited, Ranked)) -> Result<bool, Fail> {
-    let report = made(alloc, report)?;
+fn is_ranked_so(alloc: Global, base: Base, edits: &[Edit], ranked: Ranked) -> Result<bool, Fail> {
+    let report = made(alloc, (base, edits))?;
     let answer = on_text(
         alloc,
         report.as_str(),
@@ -296,8 +230,27 @@ fn is_ranked_so(alloc: Global, (report, ranked): (Edited, Ranked)) -> Result<boo
 }
 
 fn all_are_ranked(rt: &impl Abort, alloc: Global, table: &[(Edited, Ranked)]) -> Result<(), Fail> {
-    for (index, row) in table.iter().enumerate() {
-        assert!(rt; is_ranked_so(alloc, *row)?, "report {index}");
+    for (index, ((base, edits), ranked)) in table.iter().enumerate() {
+        assert!(rt;
+            is_ranked_so(alloc, *base, edits, ranked)?,
+            "report {index}"
+        );
+    }
+    Ok(())
+}
+
+// The small ballot with this text replaced by those of the table.
+fn all_are_ranked_with(
+    rt: &impl Abort,
+    alloc: Global,
+    from: &'static str,
+    table: &[(&'static str, Ranked)],
+) -> Result<(), Fail> {
+    for (to, ranked) in table {
+        assert!(rt;
+            is_ranked_so(alloc, Base::SmallBallot, &[(from, *to)], ranked)?,
+            "{to}"
+        );
     }
     Ok(())
 }
@@ -305,6 +258,16 @@ fn all_are_ranked(rt: &impl Abort, alloc: Global, table: &[(Edited, Ranked)]) ->
 #[test]
 fn names_of_selections(rt: HostRuntime) -> Result<(), Fail> {
     all_are_ranked(&rt, rt.alloc(), NAMES)
+}
+
+#[test]
+fn names_of_write_ins(rt: HostRuntime) -> Result<(), Fail> {
+    all_are_ranked_with(&rt, rt.alloc(), WRITE_IN, BY_WRITE_INS)
+}
+
+#[test]
+fn names_of_answers(rt: HostRuntime) -> Result<(), Fail> {
+    all_are_ranked_with(&rt, rt.alloc(), ANSWER, BY_ANSWERS)
 }
 
 // The names of the selections with their positions.

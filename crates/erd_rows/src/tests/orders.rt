@@ -1,6 +1,6 @@
 //! The order of keys and of compact texts.
 use crate::tests::edits::value_of;
-use crate::tests::keys::{Identifier, key};
+use crate::tests::keys::key;
 use erd_meaning::Key;
 use erd_normal::{CompactText, SetOrder, in_order};
 use std::alloc::{AllocError, Global};
@@ -20,37 +20,30 @@ pub fn numbers_in_order<K: SetOrder + Drop>(
 }
 
 // A copy of the key of this identifier.
-fn copied_key(alloc: Global, (kind, other, value): Identifier) -> Result<Key, AllocError> {
-    key(alloc, kind, other, value)?.try_clone(alloc)
+fn copied_key(alloc: Global, identifier: &str) -> Result<Key, AllocError> {
+    key(alloc, identifier)?.try_clone(alloc)
 }
 
 // These keys with their positions.
-fn numbered_keys(alloc: Global, keys: &[Identifier]) -> Result<Vec<(Key, usize)>, AllocError> {
+fn numbered_keys(alloc: Global, keys: &[&str]) -> Result<Vec<(Key, usize)>, AllocError> {
     let mut pairs = Vec::new(alloc);
     for (index, identifier) in keys.iter().enumerate() {
-        pairs.push((copied_key(alloc, *identifier)?, index))?;
+        pairs.push((copied_key(alloc, identifier)?, index))?;
     }
     Ok(pairs)
 }
 
 // The positions of these keys in their order.
-fn positions_in_order(alloc: Global, keys: &[Identifier]) -> Result<Vec<usize>, AllocError> {
+fn positions_in_order(alloc: Global, keys: &[&str]) -> Result<Vec<usize>, AllocError> {
     numbers_in_order(alloc, numbered_keys(alloc, keys)?)
 }
 
 // Keys, and their positions in their order.
-const ORDERED: &[(&[Identifier], &[usize])] = &[
-    (&[("b", "", "1"), ("a", "", "2")], &[1, 0]),
+const ORDERED: &[(&[&str], &[usize])] = &[
+    (&["b//1", "a//2"], &[1, 0]),
     (
         &[
-            ("b", "", "9"),
-            ("a", "x", "1"),
-            ("b", "", "10"),
-            ("a", "", "2"),
-            ("a", "x", "1"),
-            ("", "z", "3"),
-            ("a", "x", ""),
-            ("a", "x", "1"),
+            "b//9", "a/x/1", "b//10", "a//2", "a/x/1", "/z/3", "a/x/", "a/x/1",
         ],
         &[5, 3, 6, 1, 4, 7, 2, 0],
     ),
@@ -60,7 +53,7 @@ const ORDERED: &[(&[Identifier], &[usize])] = &[
 fn all_are_ordered(
     rt: &impl Abort,
     alloc: Global,
-    table: &[(&[Identifier], &[usize])],
+    table: &[(&[&str], &[usize])],
 ) -> Result<(), Fail> {
     for (keys, wanted) in table {
         let found = positions_in_order(alloc, keys)?;

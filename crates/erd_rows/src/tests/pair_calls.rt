@@ -4,6 +4,7 @@ ghost use Rattle.serde_json.specs.View.{view};
 ghost use Rattle.erd_check.specs.Trees.{IsShallow};
 
 use crate::tests::answers::{Answer, SAME, outcome_of, refused, right_if, run_answer};
+use crate::tests::refusing::each_refused;
 use crate::tests::report_calls::{form_of, tree_of};
 use crate::tests::runs::{Under, compare_run};
 use crate::tests::writers::ExpectedWriter;
@@ -13,6 +14,7 @@ use erd_compare::{Difference, first_difference};
 use erd_meaning::{Report, resolve_with};
 use serde_json::Value;
 use std::alloc::Global;
+use std::test::Fail;
 
 // Two reports, and what is told of them.
 #[derive(Clone, Copy)]
@@ -22,30 +24,6 @@ pub struct Compared<'a> {
     // `same`, the line of their first difference, or the lines of the one that is refused, each with a line feed.
     pub lines: &'a str,
     pub under: Under<'a>,
-}
-
-#[derive(Clone, Copy)]
-pub enum PairCall {
-    CompareBytes,
-    RunCompare,
-    FirstDifference,
-    Canonical,
-}
-
-pub const PAIR_CALLS: [PairCall; 4] = [
-    PairCall::CompareBytes,
-    PairCall::RunCompare,
-    PairCall::FirstDifference,
-    PairCall::Canonical,
-];
-
-pub fn pair_answer(alloc: Global, call: PairCall, asked: &Compared) -> Answer {
-    match call {
-        PairCall::CompareBytes => by_compare_bytes(alloc, asked),
-        PairCall::RunCompare => by_run_compare(alloc, asked),
-        PairCall::FirstDifference => by_first_difference(alloc, asked),
-        PairCall::Canonical => by_forms(alloc, asked),
-    }
 }
 
 // Whether this is the line of the difference, or there is none and the reports are the same.
@@ -148,4 +126,12 @@ fn of_reports(alloc: Global, left: &Report, right: &Report, wanted: &str) -> Ans
         Ok(found) => told(alloc, found.as_ref(), wanted),
         Err(_) => Answer::WantsMemory,
     }
+}
+
+// Tries each call, with each of its requests for memory refused.
+pub fn each_pair_call(alloc: Global, name: &str, asked: &Compared) -> Result<(), Fail> {
+    each_refused(alloc, name, |alloc| by_compare_bytes(alloc, asked))?;
+    each_refused(alloc, name, |alloc| by_run_compare(alloc, asked))?;
+    each_refused(alloc, name, |alloc| by_first_difference(alloc, asked))?;
+    each_refused(alloc, name, |alloc| by_forms(alloc, asked))
 }

@@ -64,7 +64,7 @@ fn refused_keys(rt: HostRuntime) -> Result<(), Fail> {
         alloc,
         r#"{"ExternalIdentifier":[{"Type":"b","OtherType":"","Value":"1"}]}"#,
     )?;
-    let wanted = key(alloc, "b", "", "1")?;
+    let wanted = key(alloc, "b//1")?;
     refused_key(alloc, &object, &wanted)
 }
 
@@ -98,8 +98,8 @@ fn are_sorted(alloc: Global, low: &Key, high: &Key) -> Answer {
 #[test]
 fn refused_order(rt: HostRuntime) -> Result<(), Fail> {
     let alloc = rt.alloc();
-    let low = key(alloc, "a", "", "2")?;
-    let high = key(alloc, "b", "", "1")?;
+    let low = key(alloc, "a//2")?;
+    let high = key(alloc, "b//1")?;
     refused_orders(alloc, &low, &high)
 }
 

@@ -1,13 +1,13 @@
 //! Rows under a preferred type of identifier.
 use crate::tests::answers::{ACCEPTED, SAME};
-use crate::tests::edits::{Base, Edit};
-use crate::tests::rows::{Row, Told};
+use crate::tests::edits::{
+    BALLOT, BALLOT_FORM, Base, Edit, Edited, UNIT_FORM, UNIT_REPORT, VENDOR_BALLOT,
+};
+use crate::tests::rows::{Preferred, Told, all_hold_under};
 use crate::tests::vectors::{CANONICAL_UNIT, LOCAL, UNIT};
-use Told::{Beside, Form, Lines};
-
-const FIPS: Option<&str> = Some("fips");
-
-const EMPTY: Option<&str> = Some("");
+use Told::{Beside, Changed, Form, Lines};
+use std::alloc::Global;
+use std::test::Fail;
 
 // Two units with two identifiers each. The second has the lesser one of the type `fips`.
 pub const TWO_UNITS: &str =
@@ -26,126 +26,84 @@ const BY_LOCAL_LEVEL: &[Edit] = &[(
     r#"{"@id":"gp1","@type":"%ReportingUnit","ExternalIdentifier":[{"@type":"%ExternalIdentifier","Type":"fips","Value":"20"},{"@type":"%ExternalIdentifier","Type":"local-level","Value":"U1"}],"Type":"county"},{"@id":"gp2","@type":"%ReportingUnit","ExternalIdentifier":[{"@type":"%ExternalIdentifier","Type":"fips","Value":"10"},{"@type":"%ExternalIdentifier","Type":"local-level","Value":"U2"}],"Type":"county"}"#,
 )];
 
-pub const OF_PREFERENCES: &[Row] = &[
+// The report with these units, and with one identifier changed.
+const BOTH: Edited = (Base::OneUnit, &[(UNIT, TWO_UNITS)]);
+
+const ONE_LOCAL_LEVEL: Edited = (
+    Base::OneUnit,
+    &[(UNIT, TWO_UNITS), (r#""Value":"U2""#, r#""Value":"U1""#)],
+);
+
+const ONE_FIPS: Edited = (
+    Base::OneUnit,
+    &[(UNIT, TWO_UNITS), (r#""Value":"10""#, r#""Value":"20""#)],
+);
+
+const FIRST_IS_A_STATE: &[Edit] = &[(r#""Type":"county""#, r#""Type":"state""#)];
+
+const USED_TWICE: Told = Lines("/GpUnit/1: identifier used twice\n");
+
+const ROWS: &[Preferred] = &[
     (
-        "form_of_two_units_without_a_preferred_type",
         None,
-        (Base::OneUnit, &[(UNIT, TWO_UNITS)]),
-        Form((Base::OneUnitCanonical, BY_FIPS)),
+        &[
+            ("two_units", BOTH, Form((Base::OneUnitCanonical, BY_FIPS))),
+            (
+                "two_units",
+                BOTH,
+                Changed(
+                    FIRST_IS_A_STATE,
+                    "unit [\"fips\",\"\",\"20\"]: member \"Type\"\n",
+                ),
+            ),
+            ("one_local_level", ONE_LOCAL_LEVEL, Lines(ACCEPTED)),
+            ("one_fips", ONE_FIPS, USED_TWICE),
+        ],
     ),
     (
-        "form_of_two_units_without_a_preferred_type",
         Some("nosuch"),
-        (Base::OneUnit, &[(UNIT, TWO_UNITS)]),
-        Form((Base::OneUnitCanonical, BY_FIPS)),
+        &[("two_units", BOTH, Form((Base::OneUnitCanonical, BY_FIPS)))],
     ),
     (
-        "form_of_two_units_by_local_level",
         LOCAL,
-        (Base::OneUnit, &[(UNIT, TWO_UNITS)]),
-        Form((Base::OneUnitCanonical, BY_LOCAL_LEVEL)),
-    ),
-    (
-        "first_difference_of_two_units",
-        None,
-        (Base::OneUnit, &[(UNIT, TWO_UNITS)]),
-        Beside(
+        &[
             (
-                Base::OneUnit,
-                &[
-                    (UNIT, TWO_UNITS),
-                    (r#""Type":"county""#, r#""Type":"state""#),
-                ],
+                "two_units",
+                BOTH,
+                Form((Base::OneUnitCanonical, BY_LOCAL_LEVEL)),
             ),
-            "unit [\"fips\",\"\",\"20\"]: member \"Type\"\n",
-        ),
-    ),
-    (
-        "first_difference_of_two_units",
-        LOCAL,
-        (Base::OneUnit, &[(UNIT, TWO_UNITS)]),
-        Beside(
             (
-                Base::OneUnit,
-                &[
-                    (UNIT, TWO_UNITS),
-                    (r#""Type":"county""#, r#""Type":"state""#),
-                ],
+                "two_units",
+                BOTH,
+                Changed(
+                    FIRST_IS_A_STATE,
+                    "unit [\"local-level\",\"\",\"U1\"]: member \"Type\"\n",
+                ),
             ),
-            "unit [\"local-level\",\"\",\"U1\"]: member \"Type\"\n",
-        ),
+            ("one_local_level", ONE_LOCAL_LEVEL, USED_TWICE),
+            ("one_fips", ONE_FIPS, Lines(ACCEPTED)),
+        ],
     ),
     (
-        "units_with_one_local_level",
-        None,
-        (
-            Base::OneUnit,
-            &[(UNIT, TWO_UNITS), (r#""Value":"U2""#, r#""Value":"U1""#)],
-        ),
-        Lines(ACCEPTED),
-    ),
-    (
-        "units_with_one_local_level",
-        LOCAL,
-        (
-            Base::OneUnit,
-            &[(UNIT, TWO_UNITS), (r#""Value":"U2""#, r#""Value":"U1""#)],
-        ),
-        Lines("/GpUnit/1: identifier used twice\n"),
-    ),
-    (
-        "units_with_one_fips",
-        None,
-        (
-            Base::OneUnit,
-            &[(UNIT, TWO_UNITS), (r#""Value":"10""#, r#""Value":"20""#)],
-        ),
-        Lines("/GpUnit/1: identifier used twice\n"),
-    ),
-    (
-        "units_with_one_fips",
-        LOCAL,
-        (
-            Base::OneUnit,
-            &[(UNIT, TWO_UNITS), (r#""Value":"10""#, r#""Value":"20""#)],
-        ),
-        Lines(ACCEPTED),
-    ),
-    (
-        "two_units_by_fips",
-        FIPS,
-        (Base::OneUnit, &[(UNIT, TWO_UNITS)]),
-        Lines(ACCEPTED),
-    ),
-    (
-        "two_units_by_fips",
-        FIPS,
-        (Base::OneUnit, &[(UNIT, TWO_UNITS)]),
-        Beside((Base::OneUnit, &[(UNIT, TWO_UNITS)]), SAME),
+        Some("fips"),
+        &[
+            ("two_units", BOTH, Lines(ACCEPTED)),
+            ("two_units", BOTH, Beside(BOTH, SAME)),
+        ],
     ),
     // The empty preference is a preference. It changes no byte of a report whose identifiers have one type.
     (
-        "reports_of_one_type",
-        EMPTY,
-        (Base::OneUnit, &[]),
-        Form((Base::OneUnitCanonical, &[])),
-    ),
-    (
-        "reports_of_one_type",
-        EMPTY,
-        (Base::SmallBallot, &[]),
-        Form((Base::SmallBallotCanonical, &[])),
-    ),
-    (
-        "reports_of_one_type",
-        EMPTY,
-        (Base::OtherVendor, &[]),
-        Form((Base::SmallBallotCanonical, &[])),
-    ),
-    (
-        "reports_of_one_type",
-        EMPTY,
-        (Base::SmallBallot, &[]),
-        Beside((Base::OtherVendor, &[]), SAME),
+        Some(""),
+        &[
+            ("reports_of_one_type", UNIT_REPORT, Form(UNIT_FORM)),
+            ("reports_of_one_type", BALLOT, Form(BALLOT_FORM)),
+            ("reports_of_one_type", VENDOR_BALLOT, Form(BALLOT_FORM)),
+            ("reports_of_one_type", BALLOT, Beside(VENDOR_BALLOT, SAME)),
+        ],
     ),
 ];
+
+// Tries each row of this name, or each row where there is no name.
+pub fn hold(alloc: Global, name: Option<&str>) -> Result<(), Fail> {
+    all_hold_under(alloc, ROWS, name)
+}

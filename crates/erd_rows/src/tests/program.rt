@@ -68,10 +68,16 @@ fn answer(alloc: Global, line: &str, whole: &Ended) -> Answer {
 }
 
 // Runs each line, with memory and with each request for memory refused in turn.
-fn all_end_so(alloc: Global, rows: &[Row]) -> Result<(), Fail> {
+fn all_are<F: Fn(&Ended, u8, &str, &str) -> bool>(
+    alloc: Global,
+    rows: &[Row],
+    is_so: F,
+) -> Result<(), Fail>
+    requires { F.IsAlwaysCallable is_so }
+{
     for (line, status, out, err) in rows {
         let found = run(alloc, Ok(line), GOOD);
-        if !is(&found, *status, out, err) {
+        if !is_so(&found, *status, out, err) {
             return Err(Fail::from(format!(in alloc; "at {line}")?));
         }
         each_refused(alloc, line, |alloc| answer(alloc, line, &found))?;
@@ -81,7 +87,7 @@ fn all_end_so(alloc: Global, rows: &[Row]) -> Result<(), Fail> {
 
 #[test]
 fn refused_rows(rt: HostRuntime) -> Result<(), Fail> {
-    all_end_so(rt.alloc(), ROWS)
+    all_are(rt.alloc(), ROWS, is)
 }
 
 // A line that asks for help or is wrong, the status that it ends with, and how what it writes to standard output and to standard
@@ -98,21 +104,14 @@ fn begins(text: &[u8], wanted: &str) -> bool {
     text.starts_with(wanted.as_bytes()) && text.is_empty() == wanted.is_empty()
 }
 
-fn all_begin_so(alloc: Global, rows: &[Row]) -> Result<(), Fail> {
-    for (line, status, out, err) in rows {
-        let found = run(alloc, Ok(line), GOOD);
-        let is_so = begins(found.out.text(), out) && begins(found.err.text(), err);
-        if found.status != *status || !is_so {
-            return Err(Fail::from(format!(in alloc; "at {line}")?));
-        }
-        each_refused(alloc, line, |alloc| answer(alloc, line, &found))?;
-    }
-    Ok(())
+// Whether the run ended with this status, and its texts begin so.
+fn begins_so(found: &Ended, status: u8, out: &str, err: &str) -> bool {
+    found.status == status && begins(found.out.text(), out) && begins(found.err.text(), err)
 }
 
 #[test]
 fn refused_help_and_usage(rt: HostRuntime) -> Result<(), Fail> {
-    all_begin_so(rt.alloc(), HELP_AND_USAGE)
+    all_are(rt.alloc(), HELP_AND_USAGE, begins_so)
 }
 
 // The system does not give the arguments.

@@ -6,6 +6,7 @@ ghost use Rattle.erd_check.specs.Trees.{IsShallow};
 use crate::tests::answers::{
     ACCEPTED, Answer, has_text, outcome_of, refused, right_if, run_answer,
 };
+use crate::tests::refusing::each_refused;
 use crate::tests::runs::{Under, canon_run, check_run};
 use crate::tests::writers::ExpectedWriter;
 use erd_canon::{Refusal, canonical, canonical_with, check_bytes, check_bytes_with};
@@ -15,6 +16,7 @@ use erd_normal::{normal_text, normal_tree};
 use erd_tables::Family;
 use serde_json::Value;
 use std::alloc::Global;
+use std::test::Fail;
 
 // A report, and what is told of it.
 #[derive(Clone, Copy)]
@@ -27,37 +29,7 @@ pub struct Asked<'a> {
     pub under: Under<'a>,
 }
 
-#[derive(Clone, Copy)]
-pub enum ReportCall {
-    CheckBytes,
-    RunCheck,
-    Canonical,
-    RunCanon,
-    Faults,
-    Resolve,
-}
-
-pub const REPORT_CALLS: [ReportCall; 6] = [
-    ReportCall::CheckBytes,
-    ReportCall::RunCheck,
-    ReportCall::Canonical,
-    ReportCall::RunCanon,
-    ReportCall::Faults,
-    ReportCall::Resolve,
-];
-
-pub fn report_answer(alloc: Global, call: ReportCall, asked: &Asked) -> Answer {
-    match call {
-        ReportCall::CheckBytes => by_check_bytes(alloc, asked),
-        ReportCall::RunCheck => by_run_check(alloc, asked),
-        ReportCall::Canonical => by_canonical(alloc, asked),
-        ReportCall::RunCanon => by_run_canon(alloc, asked),
-        ReportCall::Faults => by_faults(alloc, asked),
-        ReportCall::Resolve => by_resolve(alloc, asked),
-    }
-}
-
-fn by_check_bytes(alloc: Global, asked: &Asked) -> Answer {
+pub fn by_check_bytes(alloc: Global, asked: &Asked) -> Answer {
     let found = if asked.under.takes_preference {
         check_bytes_with(alloc, asked.report, asked.under.prefer)
     } else {
@@ -202,4 +174,14 @@ fn copies(alloc: Global, report: &Report) -> Answer {
         }
     }
     Answer::Right
+}
+
+// Tries each call, with each of its requests for memory refused.
+pub fn each_report_call(alloc: Global, name: &str, asked: &Asked) -> Result<(), Fail> {
+    each_refused(alloc, name, |alloc| by_check_bytes(alloc, asked))?;
+    each_refused(alloc, name, |alloc| by_run_check(alloc, asked))?;
+    each_refused(alloc, name, |alloc| by_canonical(alloc, asked))?;
+    each_refused(alloc, name, |alloc| by_run_canon(alloc, asked))?;
+    each_refused(alloc, name, |alloc| by_faults(alloc, asked))?;
+    each_refused(alloc, name, |alloc| by_resolve(alloc, asked))
 }

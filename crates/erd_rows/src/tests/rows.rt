@@ -1,16 +1,18 @@
 //! Rows: a report or two, and what is told of them. Each call that tells it is tried, with each of its requests for memory
 //! refused where `tests/program/refusals.sh` runs it.
 use crate::tests::answers::{ACCEPTED, SAME};
-use crate::tests::edits::{Edited, made};
-use crate::tests::pair_calls::{Compared, PAIR_CALLS, pair_answer};
-use crate::tests::refusing::each_refused;
-use crate::tests::report_calls::{Asked, REPORT_CALLS, report_answer};
-use crate::tests::runs::Under;
+use crate::tests::edits::{Edit, Edited, changed, made};
+use crate::tests::pair_calls::{Compared, each_pair_call};
+use crate::tests::report_calls::{Asked, each_report_call};
+use crate::tests::runs::{PLAIN, Under};
 use std::alloc::{AllocError, Global};
 use std::test::Fail;
 
-// The name of the row, the preference, the report, and what is told of it.
-pub type Row = (&'static str, Option<&'static str>, Edited, Told);
+// The name of the row, the report, and what is told of it.
+pub type Row = (&'static str, Edited, Told);
+
+// A preference, and the rows under it.
+pub type Preferred = (Option<&'static str>, &'static [Row]);
 
 // What is told of a report.
 #[derive(Clone, Copy)]
@@ -21,6 +23,8 @@ pub enum Told {
     Form(Edited),
     // Compared with this report on the right, the line: `same`, the first difference, or why one is refused.
     Beside(Edited, &'static str),
+    // Compared with itself after these edits on the right, the line.
+    Changed(&'static [Edit], &'static str),
 }
 
 // The calls that take a preference are made, with this one.
@@ -32,28 +36,45 @@ pub fn taking(prefer: Option<&str>) -> Under {
 }
 
 // Tries each call on each row of this name, or on each row where there is no name.
-pub fn all_hold(alloc: Global, rows: &[Row], name: Option<&str>) -> Result<(), Fail> {
+pub fn all_hold(
+    alloc: Global,
+    prefer: Option<&str>,
+    rows: &[Row],
+    name: Option<&str>,
+) -> Result<(), Fail> {
     for row in rows {
         if name.is_none() || name == Some(row.0) {
-            holds(alloc, row)?;
+            holds(alloc, prefer, row)?;
         }
     }
     Ok(())
 }
 
-fn holds(alloc: Global, row: &Row) -> Result<(), Fail> {
-    let (name, prefer, report, told) = row;
+// The same for rows under several preferences.
+pub fn all_hold_under(alloc: Global, tables: &[Preferred], name: Option<&str>) -> Result<(), Fail> {
+    for (prefer, rows) in tables {
+        all_hold(alloc, *prefer, rows, name)?;
+    }
+    Ok(())
+}
+
+fn holds(alloc: Global, prefer: Option<&str>, row: &Row) -> Result<(), Fail> {
+    let (name, report, told) = row;
     let report = made(alloc, *report)?;
     let report = report.as_str();
     match told {
-        Told::Lines(lines) => lines_are(alloc, name, *prefer, report, lines),
+        Told::Lines(lines) => lines_are(alloc, name, prefer, report, lines),
         Told::Form(form) => {
             let form = made(alloc, *form)?;
-            form_is(alloc, name, *prefer, report, form.as_str())
+            form_is(alloc, name, prefer, report, form.as_str())
         }
         Told::Beside(right, lines) => {
             let right = made(alloc, *right)?;
-            lines_beside(alloc, name, *prefer, (report, right.as_str()), lines)
+            lines_beside(alloc, name, prefer, (report, right.as_str()), lines)
+        }
+        Told::Changed(edits, lines) => {
+            let right = changed(alloc, report, edits)?;
+            lines_beside(alloc, name, prefer, (report, right.as_str()), lines)
         }
     }
 }
@@ -94,21 +115,22 @@ pub fn form_is<'a>(
     Ok(())
 }
 
-// Tries each call on one report. Without a preference, these are also the calls that take none.
-pub fn tell(alloc: Global, name: &str, asked: Asked) -> Result<(), Fail> {
-    for takes_preference in [true, false] {
-        if takes_preference || asked.under.prefer.is_none() {
-            let under = Under {
-                takes_preference,
-                ..asked.under
-            };
-            let asked = Asked { under, ..asked };
-            for call in REPORT_CALLS {
-                each_refused(alloc, name, |alloc| report_answer(alloc, call, &asked))?;
-            }
-        }
+// Hands the calls on under the preference, and where there is none, also those that take none.
+fn under_each<F: Fn(Under) -> Result<(), Fail>>(under: Under, then: F) -> Result<(), Fail>
+    requires { F.IsAlwaysCallable then }
+{
+    then(under)?;
+    if under.prefer.is_none() {
+        then(PLAIN)?;
     }
     Ok(())
+}
+
+// Tries each call on one report. Without a preference, these are also the calls that take none.
+pub fn tell(alloc: Global, name: &str, asked: Asked) -> Result<(), Fail> {
+    under_each(asked.under, |under| {
+        each_report_call(alloc, name, &Asked { under, ..asked })
+    })
 }
 
 // Two reports have this line, and the line with the sides exchanged if they are.
@@ -141,19 +163,9 @@ fn lines_beside(
 
 // Tries each call on two reports. Without a preference, these are also the calls that take none.
 pub fn tell_beside(alloc: Global, name: &str, asked: Compared) -> Result<(), Fail> {
-    for takes_preference in [true, false] {
-        if takes_preference || asked.under.prefer.is_none() {
-            let under = Under {
-                takes_preference,
-                ..asked.under
-            };
-            let asked = Compared { under, ..asked };
-            for call in PAIR_CALLS {
-                each_refused(alloc, name, |alloc| pair_answer(alloc, call, &asked))?;
-            }
-        }
-    }
-    Ok(())
+    under_each(asked.under, |under| {
+        each_pair_call(alloc, name, &Compared { under, ..asked })
+    })
 }
 
 // The line with left and right exchanged. Empty for the lines of a report that is refused.

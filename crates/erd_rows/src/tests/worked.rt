@@ -1,53 +1,25 @@
 //! The worked rows, by their tables, and rows that are made here. Some are tried with each request for memory refused.
 use crate::tests::answers::{Answer, NOT_JSON};
-use crate::tests::canonical_rows::OF_FORMS;
-use crate::tests::checked_rows::OF_THE_SHAPE;
-use crate::tests::compared_rows::OF_DIFFERENCES;
 use crate::tests::edits::{Base, edited, made, spelled};
-use crate::tests::election_rows::OF_ELECTIONS;
-use crate::tests::later_rows::OF_LATER_PHASES;
-use crate::tests::preferred_rows::OF_PREFERENCES;
-use crate::tests::report_calls::{Asked, ReportCall, report_answer};
-use crate::tests::rows::{all_hold, form_is, is_itself, taking, tell};
+use crate::tests::report_calls::{Asked, by_check_bytes};
+use crate::tests::rows::{form_is, is_itself, taking, tell};
 use crate::tests::runs::PLAIN;
 use crate::tests::vectors::{ONE_UNIT, SMALL_BALLOT, SMALL_BALLOT_CANONICAL};
+use crate::tests::{
+    canonical_rows, checked_rows, compared_rows, election_rows, later_rows, preferred_rows,
+};
 use std::alloc::{AllocError, Global};
 use std::process::Abort;
 use std::test::Fail;
 
-// Each table has a function of its own, so that what is proved of one does not hold the rows of another.
-fn of_the_shape(alloc: Global, name: Option<&str>) -> Result<(), Fail> {
-    all_hold(alloc, OF_THE_SHAPE, name)
-}
-
-fn of_later_phases(alloc: Global, name: Option<&str>) -> Result<(), Fail> {
-    all_hold(alloc, OF_LATER_PHASES, name)
-}
-
-fn of_forms(alloc: Global, name: Option<&str>) -> Result<(), Fail> {
-    all_hold(alloc, OF_FORMS, name)
-}
-
-fn of_differences(alloc: Global, name: Option<&str>) -> Result<(), Fail> {
-    all_hold(alloc, OF_DIFFERENCES, name)
-}
-
-fn of_preferences(alloc: Global, name: Option<&str>) -> Result<(), Fail> {
-    all_hold(alloc, OF_PREFERENCES, name)
-}
-
-fn of_elections(alloc: Global, name: Option<&str>) -> Result<(), Fail> {
-    all_hold(alloc, OF_ELECTIONS, name)
-}
-
 // Tries each call on each row of this name, or on each row where there is no name.
 fn of_each_table(alloc: Global, name: Option<&str>) -> Result<(), Fail> {
-    of_the_shape(alloc, name)?;
-    of_later_phases(alloc, name)?;
-    of_forms(alloc, name)?;
-    of_differences(alloc, name)?;
-    of_preferences(alloc, name)?;
-    of_elections(alloc, name)
+    checked_rows::hold(alloc, name)?;
+    later_rows::hold(alloc, name)?;
+    canonical_rows::hold(alloc, name)?;
+    compared_rows::hold(alloc, name)?;
+    preferred_rows::hold(alloc, name)?;
+    election_rows::hold(alloc, name)
 }
 
 #[test]
@@ -90,7 +62,7 @@ fn refused_difference(rt: HostRuntime) -> Result<(), Fail> {
 
 #[test]
 fn refused_preferences(rt: HostRuntime) -> Result<(), Fail> {
-    of_preferences(rt.alloc(), None)
+    preferred_rows::hold(rt.alloc(), None)
 }
 
 #[test]
@@ -122,7 +94,7 @@ fn is_no_json(alloc: Global, report: &[u8]) -> bool {
         form: "",
         under: PLAIN,
     };
-    report_answer(alloc, ReportCall::CheckBytes, &asked) == Answer::Right
+    by_check_bytes(alloc, &asked) == Answer::Right
 }
 
 fn cuts(rt: &impl Abort, alloc: Global, report: &[u8]) -> Result<(), Fail> {
@@ -226,35 +198,28 @@ fn every_order_of_candidates_and_selections(rt: HostRuntime) -> Result<(), Fail>
     orders_of_candidates(alloc, SMALL_BALLOT, own.as_str())
 }
 
-// Two thousand units, each after a comma. The j-th has the value N and 10,000 - j.
-fn many_units(alloc: Global) -> Result<String, Fail> {
-    let mut units = String::new(alloc);
+// Two thousand texts one after another, the j-th of which this is of j.
+fn many<F: Fn(usize) -> Result<String, AllocError>>(
+    alloc: Global,
+    text: F,
+) -> Result<String, AllocError>
+    requires { F.IsAlwaysCallable text }
+{
+    let mut whole = String::new(alloc);
     for number in 1..2001usize {
-        let value = 10_000 - number;
-        let unit = format!(in alloc;
-            ",{{\"@id\":\"w{number}\",\"@type\":\"%ReportingUnit\",\"Type\":\"county\",#N{value}&}}"
-        )?;
-        units.push_str(unit.as_str())?;
+        whole.push_str(text(number)?.as_str())?;
     }
-    Ok(spelled(alloc, units.as_str())?)
+    spelled(alloc, whole.as_str())
 }
 
-// The canonical form of these units, each before a comma.
-fn many_forms(alloc: Global) -> Result<String, Fail> {
-    let mut forms = String::new(alloc);
-    for number in 1..2001usize {
-        let value = 7_999 + number;
-        let form = format!(in alloc;
-            "{{\"@id\":\"gp{number}\",\"@type\":\"%ReportingUnit\",#N{value}&,\"Type\":\"county\"}},"
-        )?;
-        forms.push_str(form.as_str())?;
-    }
-    Ok(spelled(alloc, forms.as_str())?)
-}
-
-// The report of one unit with two thousand units more.
+// The report of one unit with two thousand units more. The j-th has the value N and 10,000 - j.
 fn of_many_units(alloc: Global) -> Result<String, Fail> {
-    let units = many_units(alloc)?;
+    let units = many(alloc, |number| {
+        let value = 10_000usize.saturating_sub(number);
+        format!(in alloc;
+            ",{{\"@id\":\"w{number}\",\"@type\":\"%ReportingUnit\",\"Type\":\"county\",#N{value}&}}"
+        )
+    })?;
     let report = edited(
         alloc,
         ONE_UNIT,
@@ -265,7 +230,12 @@ fn of_many_units(alloc: Global) -> Result<String, Fail> {
 }
 
 fn form_of_many_units(alloc: Global) -> Result<String, Fail> {
-    let forms = many_forms(alloc)?;
+    let forms = many(alloc, |number| {
+        let value = number.saturating_add(7_999);
+        format!(in alloc;
+            "{{\"@id\":\"gp{number}\",\"@type\":\"%ReportingUnit\",#N{value}&,\"Type\":\"county\"}},"
+        )
+    })?;
     let last = made(
         alloc,
         (

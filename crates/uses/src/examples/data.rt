@@ -4,7 +4,7 @@ use erd_canon::{
     check_data, check_data_with, compare_bytes, compare_data, compare_data_with, differences_data,
     differences_data_with,
 };
-use erd_compare::{DetailedDifference, Difference};
+use erd_compare::DetailedDifference;
 use std::alloc::Global;
 use std::process::Abort;
 use std::test::Fail;
@@ -22,15 +22,7 @@ fn faults(rt: HostRuntime) -> Result<(), Fail> {
 }
 
 #[test]
-fn no_faults(rt: HostRuntime) -> Result<(), Fail> {
-    let (alloc, one) = (rt.alloc(), REPORT.as_bytes());
-    let answer = check_data_with(alloc, one, Some("fips"))?;
-    assert_eq!(rt; answer.text.as_str(), "[]");
-    Ok(())
-}
-
-#[test]
-fn difference(rt: HostRuntime) -> Result<(), Fail> {
+fn differences(rt: HostRuntime) -> Result<(), Fail> {
     let alloc = rt.alloc();
     let (one, other) = (REPORT.as_bytes(), OTHER_NAME.as_bytes());
     let answer = compare_data(alloc, one, other)?;
@@ -38,21 +30,6 @@ fn difference(rt: HostRuntime) -> Result<(), Fail> {
         answer.text.as_str(),
         r#"{"how":"member","key":null,"member":"Name","part":"election"}"#
     );
-    Ok(())
-}
-
-#[test]
-fn no_difference(rt: HostRuntime) -> Result<(), Fail> {
-    let (alloc, one) = (rt.alloc(), REPORT.as_bytes());
-    let answer = compare_data_with(alloc, one, one, Some("fips"))?;
-    assert_eq!(rt; answer.text.as_str(), "null");
-    Ok(())
-}
-
-#[test]
-fn all_differences(rt: HostRuntime) -> Result<(), Fail> {
-    let alloc = rt.alloc();
-    let (one, other) = (REPORT.as_bytes(), OTHER_NAME.as_bytes());
     let answer = differences_data(alloc, one, other)?;
     assert_eq!(rt;
         answer.text.as_str(),
@@ -62,39 +39,29 @@ fn all_differences(rt: HostRuntime) -> Result<(), Fail> {
 }
 
 #[test]
-fn no_differences(rt: HostRuntime) -> Result<(), Fail> {
+fn nothing_under_a_preference(rt: HostRuntime) -> Result<(), Fail> {
     let (alloc, one) = (rt.alloc(), REPORT.as_bytes());
+    let answer = check_data_with(alloc, one, Some("fips"))?;
+    assert_eq!(rt; answer.text.as_str(), "[]");
+    let answer = compare_data_with(alloc, one, one, Some("fips"))?;
+    assert_eq!(rt; answer.text.as_str(), "null");
     let answer = differences_data_with(alloc, one, one, Some("fips"))?;
     assert_eq!(rt; answer.text.as_str(), "[]");
     Ok(())
 }
 
-fn value_of_difference(
+// The text of the JSON value of a difference, alone and among all.
+fn texts_of_values(
     rt: &impl Abort,
     alloc: Global,
-    difference: &Difference,
+    detailed: &DetailedDifference,
 ) -> Result<(), Fail> {
+    let difference = &detailed.difference;
     let text = difference.to_value(alloc)?.to_string(alloc)?;
     assert_eq!(rt;
         text.as_str(),
         r#"{"how":"member","key":null,"member":"Name","part":"election"}"#
     );
-    Ok(())
-}
-
-#[test]
-fn value(rt: HostRuntime) -> Result<(), Fail> {
-    let alloc = rt.alloc();
-    let (one, other) = (REPORT.as_bytes(), OTHER_NAME.as_bytes());
-    let difference = compare_bytes(alloc, one, other)?.ok_or("no difference")?;
-    value_of_difference(&rt, alloc, &difference)
-}
-
-fn value_of_detailed(
-    rt: &impl Abort,
-    alloc: Global,
-    detailed: &DetailedDifference,
-) -> Result<(), Fail> {
     let text = detailed.to_value(alloc)?.to_string(alloc)?;
     assert_eq!(rt;
         text.as_str(),
@@ -104,13 +71,12 @@ fn value_of_detailed(
 }
 
 #[test]
-fn detailed_value(rt: HostRuntime) -> Result<(), Fail> {
-    let alloc = rt.alloc();
-    let (one, other) = (REPORT.as_bytes(), OTHER_NAME.as_bytes());
+fn values(rt: HostRuntime) -> Result<(), Fail> {
+    let (alloc, one, other) = (rt.alloc(), REPORT.as_bytes(), OTHER_NAME.as_bytes());
     let difference = compare_bytes(alloc, one, other)?.ok_or("no difference")?;
     let detailed = DetailedDifference {
         difference,
         selections: None,
     };
-    value_of_detailed(&rt, alloc, &detailed)
+    texts_of_values(&rt, alloc, &detailed)
 }

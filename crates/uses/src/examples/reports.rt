@@ -220,14 +220,6 @@ fn write_in_line(
 ) -> Result<(), Fail> {
     let (_, write_in) = report.ranked_name_at(1).ok_or("no write-in line")?;
     assert_eq!(rt; write_in.compare(ranked), Ordering::Less);
-    name_of_line(rt, report, write_in)
-}
-
-fn name_of_line(
-    rt: &impl Abort,
-    report: &Report,
-    write_in: &RankedName<SelectionName>,
-) -> Result<(), Fail> {
     let (_, name) = report.selection_at(1).ok_or("no write-in line")?;
     assert!(rt; write_in.name() == name);
     Ok(())

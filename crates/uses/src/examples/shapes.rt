@@ -34,14 +34,6 @@ fn equal_values(rt: HostRuntime) -> Result<(), Fail> {
     let one = Value::from_str(alloc, r#"{"a":1,"b":2}"#)?;
     let other = Value::from_str(alloc, r#"{"b":2,"a":1}"#)?;
     assert!(rt; same_json(&one, &other));
-    Ok(())
-}
-
-#[test]
-fn sets(rt: HostRuntime) -> Result<(), Fail> {
-    let alloc = rt.alloc();
-    let one = Value::from_str(alloc, r#"{"a":1,"b":2}"#)?;
-    let other = Value::from_str(alloc, r#"{"b":2,"a":1}"#)?;
     let mut set = ValueSet::new(alloc);
     assert!(rt; !set.has(&one));
     set.insert(&one)?;
