@@ -1,8 +1,8 @@
 -- The names of the selections of a contest are added to a set, from the first selection on.
-use Rattle.erd_compare.proofs.Common.{◌≡◌, ℕ, zero, suc, ◌+◌, ◌<◌, ◌≤◌, map, List, [], ◌∷◌, ◌++◌, length, take, slice_get, Some, None, codes, Option, option_map, sym, refl, ap, ◌∙◌, subst, arith, slice_get_within, get_or_from_slice_get, Bor, all_weakened, length-map, Data, Value, view, selections_before, family, entries_at, Judged, Placed, objects, name_of, take_more, take_all, Stands}
+use Rattle.erd_compare.proofs.Common.{[], ◌≡◌, ℕ, zero, suc, ◌+◌, ◌<◌, map, List, ◌∷◌, ◌++◌, length, take, slice_get, Some, None, codes, Option, option_map, sym, refl, ap, ◌∙◌, subst, arith, slice_get_within, get_or_from_slice_get, Bor, all_weakened, length-map, Data, Value, view, selections_before, family, entries_at, Judged, Placed, objects, name_of, take_more, Stands}
 use Rattle.erd_meaning.proofs.selections.ContestSelections.{all_both}
 use Rattle.erd_meaning.specs.NameParts.{NameParts}
-use Rattle.erd_compare.specs.code.ContestSelections.{AddsNames, AreNamesAmong, selection_values}
+use Rattle.erd_compare.specs.code.ContestSelections.{AreNamesAmong, selection_values}
 use Rattle.std.specs.BTreeSet.{insert_key}
 use Rattle.erd_compare.proofs.contest_selections.NameSets.{inserted_kept, inserted_there, lent, lent_cmp}
 use Rattle.erd_compare.proofs.contest_selections.PlacedNames.{name_here, object_here, values_of}
@@ -21,16 +21,6 @@ module _ (a : Judged) (c : ℕ) where
       at : (o : Option Placed) → Some v ≡ option_map (λ (o : Placed). o.value) o → values_of o ≡ entries_at (codes "ContestSelection") v
       at None e = cc
       at (Some o) e = let same : v ≡ o.value = cc in ap (entries_at (codes "ContestSelection")) (sym same)
-
-  pub no_values : (names : List NameParts) → None ≡ option_map (λ (o : Placed). o.value) (slice_get (objects family.Contest (view a.tree)) c) → AreNamesAmong a names (selection_values a c)
-  no_values names is = at (slice_get (objects family.Contest (view a.tree)) c) is
-    where
-      at : (o : Option Placed) → None ≡ option_map (λ (o : Placed). o.value) o → AreNamesAmong a names (values_of o)
-      at None e = tt
-      at (Some o) e = cc
-
-  pub none_added : (before : List (Bor NameParts)) → AreAddedUpTo a c before before 0
-  none_added before = record { kept = λ n s. s; among = tt }
 
   more_among : (names more : List NameParts) → ((n : NameParts) → Stands n names → Stands n more) → (ds : List Data) → AreNamesAmong a names ds → AreNamesAmong a more ds
   more_among names more on ds h = all_weakened (λ d. (n : NameParts) → name_of a.prefer (view a.tree) d ≡ Some n → Stands n names) (λ d. (n : NameParts) → name_of a.prefer (view a.tree) d ≡ Some n → Stands n more) ds (λ d named n e. on n (named n e)) h
@@ -56,10 +46,6 @@ module _ (a : Judged) (c : ℕ) where
     pub none_named : name_of a.prefer (view a.tree) d ≡ None → AreAddedUpTo a c before after (i + 1)
     none_named nameless = record { kept = h.kept; among = one_longer (lent after) h.among (λ n e. let clash : None ≡ Some n = sym nameless ∙ e in cc) }
 
-  -- all of them
-  pub all_added : (before after : List (Bor NameParts)) (i : ℕ) → length (selection_values a c) ≤ i → AreAddedUpTo a c before after i → AddsNames a (Some c) (lent before) (lent after)
-  all_added before after i end h = (h.kept, subst (AreNamesAmong a (lent after)) (take_all i (selection_values a c) end) h.among)
-
 -- ---- in the code
 
 pub some_at : {A : Type 0} (xs : List A) (i : ℕ) → i < length xs → (x : A) × (slice_get xs i ≡ Some x)
@@ -68,7 +54,7 @@ some_at (x ∷ xs) zero low = (x, refl)
 some_at (x ∷ xs) (suc i) low = some_at xs i (omega arith)
 
 -- the next selection of a contest
-pub next_value : (a : Judged) (c : ℕ) (v : Data) → Some v ≡ option_map (λ (o : Placed). o.value) (slice_get (objects family.Contest (view a.tree)) c) → (vs : List Value) → map view vs ≡ entries_at (codes "ContestSelection") v
+next_value : (a : Judged) (c : ℕ) (v : Data) → Some v ≡ option_map (λ (o : Placed). o.value) (slice_get (objects family.Contest (view a.tree)) c) → (vs : List Value) → map view vs ≡ entries_at (codes "ContestSelection") v
     → (i : ℕ) → i < length vs → (d : Data) × (slice_get (selection_values a c) i ≡ Some d)
 next_value a c v is vs entries i low =
     let same : length (selection_values a c) ≡ length vs = ap length (values_there a c v is ∙ sym entries) ∙ length-map vs view in
@@ -81,10 +67,17 @@ name_read (Some n) (Some s) c e = let pair : ◌≡◌ {A = ℕ × NameParts} (s
 name_read None (Some s) c e = cc
 name_read (Some n) None c e = cc
 
-pub its_name : (a : Judged) (c start : ℕ) → start ≡ selections_before (view a.tree) c → (i : ℕ) (d : Data) → slice_get (selection_values a c) i ≡ Some d → (found : Option (ℕ × Bor NameParts))
-    → option_map {U = ℕ × NameParts} (λ (s : ℕ × Bor NameParts). (s.0, s.1.now)) found ≡ selection_in a.prefer (view a.tree) (start + i) → name_of a.prefer (view a.tree) d ≡ option_map (λ (s : ℕ × Bor NameParts). s.1.now) found
-its_name a c start counted i d here found is = name_read (name_of a.prefer (view a.tree) d) found c (is ∙ name_here a c start counted i d here)
+-- as the code finds it: at one of the positions of the report, and with its name
+module _ (a : Judged) (c : ℕ) (v : Data) (is : Some v ≡ option_map (λ (o : Placed). o.value) (slice_get (objects family.Contest (view a.tree)) c)) (vs : List Value) (entries : map view vs ≡ entries_at (codes "ContestSelection") v) (i : ℕ) (low : i < length vs)
+    (start : ℕ) (counted : start ≡ selections_before (view a.tree) c) where
+  pub next_position : start + i < length (objects family.Selection (view a.tree))
+  next_position =
+      let here = next_value a c v is vs entries i low in
+      let o = object_here a c start counted i here.0 here.1 in
+      slice_get_within (objects family.Selection (view a.tree)) (start + i) o.0 o.1
 
--- its position is one of the report's
-pub its_position : (a : Judged) (c start : ℕ) → start ≡ selections_before (view a.tree) c → (i : ℕ) (d : Data) → slice_get (selection_values a c) i ≡ Some d → start + i < length (objects family.Selection (view a.tree))
-its_position a c start counted i d here = let o = object_here a c start counted i d here in slice_get_within (objects family.Selection (view a.tree)) (start + i) o.0 o.1
+  pub next_named : (found : Option (ℕ × Bor NameParts)) → option_map {U = ℕ × NameParts} (λ (s : ℕ × Bor NameParts). (s.0, s.1.now)) found ≡ selection_in a.prefer (view a.tree) (start + i)
+      → (d : Data) × (slice_get (selection_values a c) i ≡ Some d) × (name_of a.prefer (view a.tree) d ≡ option_map (λ (s : ℕ × Bor NameParts). s.1.now) found)
+  next_named found is_found =
+      let here = next_value a c v is vs entries i low in
+      (here.0, here.1, name_read (name_of a.prefer (view a.tree) here.0) found c (is_found ∙ name_here a c start counted i here.0 here.1))

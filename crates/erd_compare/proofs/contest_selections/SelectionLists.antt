@@ -1,10 +1,8 @@
 -- The differences at the names of selections, one name after another in rising order, are all differences of two contests.
-use Rattle.erd_compare.proofs.Common.{◌≡◌, ◌⊎◌, ℕ, ◌+◌, true, List, [], ◌∷◌, ◌++◌, map, drop, slice_get, Some, None, Option, Less, sym, refl, ap, ◌∙◌, subst, inl, inr, tied_itself, append-nil, Bor, AllByRecursion, In, In-map, In-map_from, In-all, ordering_then, SelectionRecord, How, Member, AgreeBut, DifferIn, Stands, hows_of, AreWays, Ways, Judged, NameParts}
+use Rattle.erd_compare.proofs.Common.{[], ◌≡◌, ◌⊎◌, ℕ, ◌+◌, true, List, ◌∷◌, ◌++◌, map, drop, Some, None, Option, Less, sym, refl, ap, ◌∙◌, subst, inl, inr, tied_itself, append-nil, Bor, AllByRecursion, In, In-map, In-map_from, In-all, ordering_then, SelectionRecord, How, Member, AgreeBut, DifferIn, Stands, hows_of, AreWays, Ways, Judged, NameParts}
 use Rattle.std.proofs.lemmas.Grind.{flat_map-append}
-use Rattle.std.proofs.lemmas.List.{append_assoc}
 use Rattle.std.specs.List.Sorted.{IsStrictlySortedBy}
 use Rattle.erd_check.proofs.Order.{In-append, all_from_In, sorted_append, sorted_map}
-use Rattle.erd_check.proofs.Positions.{left_there}
 use Rattle.erd_meaning.proofs.selections.ContestSelections.{all_both}
 use Rattle.erd_meaning.specs.SelectionNames.{name_cmp}
 use Rattle.erd_meaning.specs.code.Orders.{name_cmp_total}
@@ -154,27 +152,8 @@ in_members name ss = map (the_difference name) (map Member (map (λ s. s.now) ss
 abbrev pub in_members_from : NameParts → ℕ → List (Bor (List ℕ)) → List SelectionDifference
 in_members_from name i ss = in_members name (drop i ss)
 
-pub one_member : (name : NameParts) (ss : List (Bor (List ℕ))) (i : ℕ) (s : Bor (List ℕ)) (before after whole : List SelectionDifference) → slice_get ss i ≡ Some s → before ++ in_members_from name i ss ≡ whole
-    → after ≡ before ++ the_difference name (Member s.now) ∷ [] → after ++ in_members_from name (i + 1) ss ≡ whole
-one_member name ss i s before after whole here known is =
-    ap (λ ds. ds ++ in_members_from name (i + 1) ss) is
-    ∙ (append_assoc before (the_difference name (Member s.now) ∷ []) (in_members_from name (i + 1) ss)
-    ∙ (ap (λ xs. before ++ in_members name xs) (sym (left_there ss i s here)) ∙ known))
-
-pub no_member : (name : NameParts) (ss : List (Bor (List ℕ))) (i : ℕ) (before whole : List SelectionDifference) → drop i ss ≡ [] → before ++ in_members_from name i ss ≡ whole → before ≡ whole
-no_member name ss i before whole none known = sym (append-nil before) ∙ (ap (λ xs. before ++ in_members name xs) (sym none) ∙ known)
-
 -- ---- the differences at all names
 
 -- those from a position on
 abbrev pub differences_from : ℕ → List NamedWays → List SelectionDifference
 differences_from i vs = differences_at (drop i vs)
-
-pub one_name : (vs : List NamedWays) (i : ℕ) (v : NamedWays) (before after whole : List SelectionDifference) → slice_get vs i ≡ Some v → before ++ differences_from i vs ≡ whole
-    → after ≡ before ++ differences_named v.name.now v.ways → after ++ differences_from (i + 1) vs ≡ whole
-one_name vs i v before after whole here known is =
-    ap (λ ds. ds ++ differences_from (i + 1) vs) is
-    ∙ (append_assoc before (differences_named v.name.now v.ways) (differences_from (i + 1) vs) ∙ (ap (λ xs. before ++ differences_at xs) (sym (left_there vs i v here)) ∙ known))
-
-pub no_name : (vs : List NamedWays) (i : ℕ) (before whole : List SelectionDifference) → drop i vs ≡ [] → before ++ differences_from i vs ≡ whole → before ≡ whole
-no_name vs i before whole none known = sym (append-nil before) ∙ (ap (λ xs. before ++ differences_at xs) (sym none) ∙ known)

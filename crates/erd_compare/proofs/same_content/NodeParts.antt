@@ -1,5 +1,5 @@
 -- What a node of a ballot's order is, by its class, and what stands inside it.
-use Rattle.erd_compare.proofs.Common.{◌≡◌, ℕ, zero, suc, ◌<◌, ◌≤◌, Bool, true, false, List, [], ◌∷◌, length, get_or, Some, codes, Option, sym, refl, ap, ◌∙◌, arith, Data, object, get, view, items_view, Value, Judged, Preference, depth, members_depth, items_depth, get_member-depth, class_of_node, is_header_class, node_of, Decides}
+use Rattle.erd_compare.proofs.Common.{[], ◌≡◌, ℕ, zero, suc, ◌<◌, ◌≤◌, Bool, true, false, List, ◌∷◌, length, get_or, Some, codes, Option, sym, refl, ap, ◌∙◌, arith, Data, object, get, view, items_view, Value, Judged, Preference, depth, members_depth, items_depth, get_member-depth, class_of_node, is_header_class, node_of, Node, Decides}
 use Rattle.erd_compare.proofs.same_values.EqualOptions.{decides_as}
 use Rattle.erd_meaning.proofs.meanings.InnerContent.{content_at, content_inside-get}
 use Rattle.erd_meaning.specs.Records.{contest_node, header_node}
@@ -19,7 +19,7 @@ within_decides a b d e answer left right h = decides_as refl (within_get a.prefe
 -- ---- headers and contests
 
 -- a node whose class is that of a header
-pub node_header : (π : Preference) (t d : Data) → is_header_class (class_of_node d) ≡ true → node_of π t d ≡ header_node π t d (content_within π t d)
+node_header : (π : Preference) (t d : Data) → is_header_class (class_of_node d) ≡ true → node_of π t d ≡ header_node π t d (content_within π t d)
 node_header π t (object ms) e = rw e
 node_header π t d e = cc
 
@@ -27,6 +27,19 @@ node_header π t d e = cc
 pub node_contest : (π : Preference) (t d : Data) → is_header_class (class_of_node d) ≡ false → node_of π t d ≡ contest_node π t d
 node_contest π t (object ms) e = rw e
 node_contest π t d e = refl
+
+-- what a node means, by whether it is a header
+abbrev pub node_if : Judged → Data → Bool → Node
+node_if a d true = header_node a.prefer (view a.tree) d (content_within a.prefer (view a.tree) d)
+node_if a d false = contest_node a.prefer (view a.tree) d
+
+node_is : (a : Judged) (d : Data) (header : Bool) → header ≡ is_header_class (class_of_node d) → node_of a.prefer (view a.tree) d ≡ node_if a d header
+node_is a d true e = node_header a.prefer (view a.tree) d (sym e)
+node_is a d false e = node_contest a.prefer (view a.tree) d (sym e)
+
+pub nodes_decide : (a b : Judged) (d e : Data) {answer : Bool} (p q : Bool) → p ≡ is_header_class (class_of_node d) → q ≡ is_header_class (class_of_node e)
+    → Decides answer (node_if a d p) (node_if b e q) → Decides answer (node_of a.prefer (view a.tree) d) (node_of b.prefer (view b.tree) e)
+nodes_decide a b d e p q left right h = decides_as refl (sym (node_is a d p left)) (sym (node_is b e q right)) h
 
 -- ---- depths
 

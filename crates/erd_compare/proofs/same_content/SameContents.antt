@@ -1,5 +1,5 @@
 -- When two orders of a ballot are the same: node by node, and each node part by part.
-use Rattle.erd_compare.proofs.Common.{◌≡◌, suc, Bool, true, false, List, [], ◌∷◌, map, length, ◌==◌, Option, sym, refl, ap, ◌∙◌, ap₂, arith, Decides-eqb, Data, array, Items, no_items, item, view, Value, list_of_items, entries_of, Preference, Content, no_content, first_node, Node, a_contest, a_header, NameParts, content_of, JsonMap, nodes_of, node_of, Key, Decides}
+use Rattle.erd_compare.proofs.Common.{[], ◌≡◌, suc, Bool, true, false, List, ◌∷◌, map, length, ◌==◌, Option, sym, refl, ap, ◌∙◌, ap₂, true≢false, arith, Decides-eqb, Data, array, Items, no_items, item, view, Value, list_of_items, entries_of, Preference, Content, no_content, first_node, Node, a_contest, a_header, NameParts, content_of, JsonMap, nodes_of, node_of, Key, Decides}
 use Rattle.std.proofs.lemmas.Simd.{map-map}
 
 -- ---- content as a list of nodes
@@ -28,21 +28,23 @@ same-nodes π ρ t u ds es e = cc
 
 -- ---- nodes by their parts
 
--- contests are the same exactly if their parts are
-pub contest-Decides : (answer : Bool) (k l : Option Key) (xs ys : List (Option NameParts)) (m n : JsonMap)
-    → (answer ≡ true → (k ≡ l) × (m ≡ n) × (xs ≡ ys)) → (k ≡ l → m ≡ n → xs ≡ ys → answer ≡ true) → Decides answer (a_contest k xs m) (a_contest l ys n)
-contest-Decides answer k l xs ys m n to from = (
-  λ h. let parts = to h in ap (λ x. a_contest x xs m) parts.0 ∙ (ap (λ x. a_contest l x m) parts.2 ∙ ap (λ x. a_contest l ys x) parts.1),
-  λ same. let key : k ≡ l = cc in let others : m ≡ n = cc in let names : xs ≡ ys = cc in from key others names,
-)
+-- contests are the same exactly if what they mean outside and their names are
+pub contest-Decides : {p q : Bool} {k l : Option Key} {m n : JsonMap} {xs ys : List (Option NameParts)}
+    → Decides {A = Option Key × JsonMap} p (k, m) (l, n) → p ≡ true → Decides q xs ys → Decides q (a_contest k xs m) (a_contest l ys n)
+contest-Decides outside held names =
+    (λ e. ap₂ (λ (o : Option Key × JsonMap) (zs : List (Option NameParts)). a_contest o.0 zs o.1) (outside.0 held) (names.0 e), λ same. names.1 (cc))
 
--- headers are the same exactly if their parts are
-pub header-Decides : (answer : Bool) (k l : Option Key) (x y : Content) (m n : JsonMap)
-    → (answer ≡ true → (k ≡ l) × (m ≡ n) × (x ≡ y)) → (k ≡ l → m ≡ n → x ≡ y → answer ≡ true) → Decides answer (a_header k x m) (a_header l y n)
-header-Decides answer k l x y m n to from = (
-  λ h. let parts = to h in ap (λ z. a_header z x m) parts.0 ∙ (ap (λ z. a_header l z m) parts.2 ∙ ap (λ z. a_header l y z) parts.1),
-  λ same. let key : k ≡ l = cc in let others : m ≡ n = cc in let inside : x ≡ y = cc in from key others inside,
-)
+pub contest-differs : {p : Bool} {k l : Option Key} {m n : JsonMap} {xs ys : List (Option NameParts)} → Decides {A = Option Key × JsonMap} p (k, m) (l, n) → p ≡ false → Decides p (a_contest k xs m) (a_contest l ys n)
+contest-differs {k = k} {l = l} {m = m} {n = n} outside failed =
+    (λ e. absurd (true≢false (sym e ∙ failed)), λ same. let key : k ≡ l = cc in let others : m ≡ n = cc in outside.1 (ap₂ (λ (x : Option Key) (y : JsonMap). (x, y)) key others))
+
+-- headers are the same exactly if what they mean outside and inside is
+pub header-Decides : {p q : Bool} {k l : Option Key} {m n : JsonMap} {x y : Content} → Decides {A = Option Key × JsonMap} p (k, m) (l, n) → p ≡ true → Decides q x y → Decides q (a_header k x m) (a_header l y n)
+header-Decides outside held inside = (λ e. ap₂ (λ (o : Option Key × JsonMap) (z : Content). a_header o.0 z o.1) (outside.0 held) (inside.0 e), λ same. inside.1 (cc))
+
+pub header-differs : {p : Bool} {k l : Option Key} {m n : JsonMap} {x y : Content} → Decides {A = Option Key × JsonMap} p (k, m) (l, n) → p ≡ false → Decides p (a_header k x m) (a_header l y n)
+header-differs {k = k} {l = l} {m = m} {n = n} outside failed =
+    (λ e. absurd (true≢false (sym e ∙ failed)), λ same. let key : k ≡ l = cc in let others : m ≡ n = cc in outside.1 (ap₂ (λ (x : Option Key) (y : JsonMap). (x, y)) key others))
 
 -- no contest is a header
 pub contest-header : {k l : Option Key} {xs : List (Option NameParts)} {y : Content} {m n : JsonMap} → Decides false (a_contest k xs m) (a_header l y n)

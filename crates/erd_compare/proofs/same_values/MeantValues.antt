@@ -1,7 +1,8 @@
 -- A value that means something by itself means what its kind says.
-use Rattle.erd_compare.proofs.Common.{◌≡◌, ℕ, Bool, true, false, cond, List, [], ◌∷◌, is_some, IfOk, Some, codes, Result, bytes_eq, unwrap_or, sym, refl, ap, and_parts, IfOk-weaker, list_all, Data, array, no_items, item, family_of_class, is_reference_name, kind_of_identity, kind_of_member, Class, class, MemberKind, kind, has_keys, Preference, plain_value, kind_in_rows, kind_of_unlisted, unless_empty, NamesKeys, Decides, means_nothing, meant_value}
+use Rattle.erd_compare.proofs.Common.{[], ◌≡◌, ℕ, Bool, true, false, cond, List, ◌∷◌, is_some, IfOk, Some, codes, Option, Result, bytes_eq, unwrap_or, sym, refl, ap, ◌∙◌, and_parts, IfOk-weaker, list_all, Data, array, no_items, item, family_of_class, is_reference_name, kind_of_identity, kind_of_member, Class, class, MemberKind, kind, has_keys, Preference, plain_value, kind_in_rows, kind_of_unlisted, unless_empty, Judged, view, NamesKeys, Decides, means_nothing, meant_value, plain_found}
 use Rattle.erd_tables.specs.Rows.{Row, rows_of_class}
 use Rattle.erd_check.specs.Faults.{is_empty_array}
+use Rattle.erd_meaning.specs.Records.{is_in_envelope}
 use Rattle.erd_compare.proofs.same_values.EqualOptions.{decides_as}
 
 -- ---- a reference of the table names objects that have keys: none names a selection
@@ -63,9 +64,13 @@ plain_meant π t k d e = cc
 some-Decides : {A : Type 0} (answer : Bool) (a b : A) → Decides answer a b → Decides answer (Some a) (Some b)
 some-Decides answer a b h = (λ is. ap Some (h.0 is), λ same. let one : a ≡ b = cc in h.1 one)
 
--- two values that mean something mean the same exactly if they do as values of their kind
-pub meant-Decide : {E : Type 0} (π ρ : Preference) (t u : Data) (k : MemberKind) (d e : Data) (r : Result Bool E) → means_nothing k d ≡ false → means_nothing k e ≡ false
-    → IfOk r (λ answer. Decides answer (meant_value π t k d) (meant_value ρ u k e)) → IfOk r (λ answer. Decides answer (plain_value π t k d) (plain_value ρ u k e))
-meant-Decide π ρ t u k d e r one other h =
-    IfOk-weaker r (λ answer. Decides answer (meant_value π t k d) (meant_value ρ u k e)) (λ answer. Decides answer (plain_value π t k d) (plain_value ρ u k e))
-    (λ answer is. decides_as refl (sym (plain_meant π t k d one)) (sym (plain_meant ρ u k e other)) (some-Decides answer (meant_value π t k d) (meant_value ρ u k e) is)) h
+-- two members outside the envelope whose values mean something mean the same exactly if they do as values of their kind
+pub meant-Decide : {E : Type 0} (a b : Judged) (c : Class) (name : List ℕ) (k : MemberKind) (found other : Option Data) (d e : Data) (r : Result Bool E) → is_in_envelope c name ≡ false → k ≡ kind_of_member c name
+    → found ≡ Some d → other ≡ Some e → means_nothing k d ≡ false → means_nothing k e ≡ false → IfOk r (λ answer. Decides answer (meant_value a.prefer (view a.tree) k d) (meant_value b.prefer (view b.tree) k e))
+    → IfOk r (λ answer. Decides answer (plain_found a.prefer (view a.tree) c name found) (plain_found b.prefer (view b.tree) c name other))
+meant-Decide a b c name k found other d e r out its_kind is_d is_e one two h =
+    IfOk-weaker r (λ answer. Decides answer (meant_value a.prefer (view a.tree) k d) (meant_value b.prefer (view b.tree) k e)) (λ answer. Decides answer (plain_found a.prefer (view a.tree) c name found) (plain_found b.prefer (view b.tree) c name other))
+    (λ answer is. decides_as refl (sym (means a found d is_d one)) (sym (means b other e is_e two)) (some-Decides answer (meant_value a.prefer (view a.tree) k d) (meant_value b.prefer (view b.tree) k e) is)) h
+  where
+    means : (a : Judged) (found : Option Data) (d : Data) → found ≡ Some d → means_nothing k d ≡ false → plain_found a.prefer (view a.tree) c name found ≡ Some (meant_value a.prefer (view a.tree) k d)
+    means a found d is some = ap (plain_found a.prefer (view a.tree) c name) is ∙ rw out (rw (← its_kind) (plain_meant a.prefer (view a.tree) k d some))
