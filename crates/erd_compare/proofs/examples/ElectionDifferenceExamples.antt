@@ -5,7 +5,7 @@ use Rattle.std.specs.declared.cmp.Ordering.TheVariants.{Less}
 use Rattle.erd_compare.proofs.examples.FirstDifferenceExamples.{before_elections, not_in, same_units}
 use Rattle.std.specs.List.Sorted.{IsStrictlySortedBy}
 use Rattle.erd_compare.specs.code.DifferingNames.{AreNames}
-use Rattle.erd_compare.proofs.differing.HeldNames.{names_of_two}
+use Rattle.erd_compare.proofs.differing.RecordWays.{names_of_two}
 use Rattle.erd_tables.specs.declared.class.Class.TheVariants as class
 use Rattle.erd_compare.specs.declared.difference.Part.TheVariants as part
 

@@ -1,8 +1,7 @@
 use Rattle.erd_compare.proofs.Common.{◌≡◌, ℕ, ◌+◌, ◌<◌, ◌≤◌, sym, ap, ◌∙◌, subst, arith, family, option_map, Bor}
 use Rattle.erd_meaning.specs.NameParts.{NameParts}
 use Rattle.erd_compare.specs.code.ContestSelections.{size_in}
-use Rattle.erd_compare.proofs.contest_selections.AddedNames.{next_named, next_position}
-use Rattle.erd_compare.proofs.contest_selections.NameSizes.{as_many, name_does_not, name_fits, nameless_fits, names_fit, AreTaken}
+use Rattle.erd_compare.proofs.contest_selections.AddedNames.{next_named, next_position, as_many, name_does_not, name_fits, nameless_fits, names_fit, AreTaken}
 use Rattle.erd_compare.proofs.inside.room.left_after_contest.Goals.{in-Some-selection_at+in_ok-left, in_default-selection_at}
 use Rattle.erd_compare.proofs.inside.room.left_after_contest.Goals as goal
 

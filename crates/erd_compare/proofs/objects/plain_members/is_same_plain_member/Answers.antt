@@ -1,5 +1,5 @@
 use Rattle.erd_compare.proofs.Common.{option_map, sym, ap, ◌∙◌, subst, view, NamesKeys}
-use Rattle.erd_compare.proofs.same_values.MeantValues.{meant-Decide, member_keyed}
+use Rattle.erd_compare.proofs.same_values.SameValues.{meant-Decide, member_keyed}
 use Rattle.erd_compare.proofs.objects.plain_members.is_same_plain_member.Goals as goal
 
 pub is_same_meant-requires-clause-keyed : goal.is_same_meant-requires-clause-keyed

@@ -1,8 +1,8 @@
 -- All names that were found are all at which the objects differ.
 use Rattle.erd_compare.proofs.Common.{[], ◌≡◌, ℕ, List, ◌∷◌, ◌++◌, map, Option, option_map, Some, None, true≢false, sym, ap, ◌∙◌, subst, rules, view, map-append, absent_member}
 use Rattle.erd_compare.specs.code.DifferingNames.{AreFound, AreNames, GoesOn}
-use Rattle.erd_compare.proofs.differing.NameLists.{all_names, first_name}
-use Rattle.erd_compare.proofs.differing.NamePairs.{goes_on, ones, others, stand_on}
+use Rattle.erd_compare.proofs.differing.RecordWays.{all_names, first_name}
+use Rattle.erd_compare.proofs.differing.Walks.{goes_on, ones, others, stand_on}
 use Rattle.erd_compare.proofs.objects.records.differing_members.Goals.{In_ok-name}
 use Rattle.erd_compare.proofs.objects.records.differing_members.Goals as goal
 

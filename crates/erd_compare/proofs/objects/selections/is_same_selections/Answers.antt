@@ -1,6 +1,6 @@
 -- The maps of the entries are the same.
 use Rattle.erd_compare.proofs.Common.{sym, ap, ◌∙◌, view}
-use Rattle.erd_compare.proofs.same_selections.MemberValues.{filled-there, selections-Decide, seen, whole_filled}
+use Rattle.erd_compare.proofs.same_selections.SelectionWalks.{filled-there, selections-Decide, seen, whole_filled}
 use Rattle.erd_compare.proofs.same_selections.PlacedSelections.{selections_in}
 use Rattle.erd_compare.proofs.whole_trees.WholeTrees.{whole_values-entries_of}
 use Rattle.erd_compare.proofs.objects.selections.is_same_selections.Goals as goal

@@ -1,11 +1,8 @@
 use Rattle.erd_compare.proofs.Common.{[], ◌≡◌, ℕ, suc, ◌+◌, ◌<◌, ◌≤◌, true, false, List, ◌∷◌, map, length, get_or, codes, sym, refl, ap, ◌∙◌, subst, arith, rules, AllByRecursion, view, items_view, Value, entries_of, depth, ◌*◌, iter_rest, items_depth, the_lemmas, node_of, IsWholeTree}
 use Rattle.serde_json.proofs.Views.{view-Array}
 use Rattle.erd_check.proofs.Lists.{list_of_items-items_of}
-use Rattle.erd_compare.proofs.same_values.EqualOptions.{decides_as}
-use Rattle.erd_compare.proofs.same_content.NodeParts.{decides_swap, entry_depth, get_depth, nodes_decide, within_decides}
-use Rattle.erd_compare.proofs.same_content.PlainNodes.{plain_means}
-use Rattle.erd_compare.proofs.same_content.SameContents.{content-Decides, content_of-none, contest-header, header-contest, header-Decides, header-differs}
-use Rattle.erd_compare.proofs.same_content.StepByStep.{differ_here, one_further}
+use Rattle.erd_compare.proofs.same_values.SameValues.{decides_as}
+use Rattle.erd_compare.proofs.same_content.SameContents.{decides_swap, entry_depth, get_depth, nodes_decide, within_decides, plain_means, content-Decides, content_of-none, contest-header, header-contest, header-Decides, header-differs, differ_here, one_further}
 use Rattle.erd_compare.proofs.whole_trees.WholeTrees.{whole_tree-get, whole_value-index, whole_values-entries_of}
 use Rattle.erd_compare.proofs.values.content.+content.Goals as goal
 

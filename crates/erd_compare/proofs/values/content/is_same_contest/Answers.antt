@@ -1,6 +1,6 @@
 use Rattle.erd_compare.proofs.Common.{◌≡◌, List, map, codes, Option, option_and_then, sym, refl, ap, ◌∙◌, Data, as_str, view, Value, entries_at, Preference, NameParts, name_named}
 use Rattle.std.proofs.lemmas.Simd.{map-map}
-use Rattle.erd_compare.proofs.same_values.EqualOptions.{decides_as}
+use Rattle.erd_compare.proofs.same_values.SameValues.{decides_as}
 use Rattle.erd_compare.proofs.same_content.SameContents.{contest-Decides, contest-differs}
 use Rattle.erd_compare.proofs.values.content.is_same_contest.Goals as goal
 

@@ -1,4 +1,4 @@
-use Rattle.erd_compare.proofs.same_values.EqualOptions.{pairs_decide, pairs_differ}
+use Rattle.erd_compare.proofs.same_values.SameValues.{pairs_decide, pairs_differ}
 use Rattle.erd_compare.proofs.values.content.is_same_outside.Goals as goal
 
 pub returns-then-is_same_owner : goal.returns-then-is_same_owner

@@ -1,8 +1,7 @@
 use Rattle.erd_compare.proofs.Common.{◌≡◌, ◌<◌, Bool, Some, None, Ok, get, option_map, subst, view, names_left, first_of, lesser_name, IsPairOf, MemberPair, arith}
 use Rattle.erd_compare.specs.code.DifferingNames.{StandInPair, count_left}
 use Rattle.erd_compare.specs.declared.objects.differing_names.PairsLeft.{PairsLeft}
-use Rattle.erd_compare.proofs.differing.NamePairs.{differs, ended, passed}
-use Rattle.erd_compare.proofs.differing.NameWalks.{fewer, firsts_left}
+use Rattle.erd_compare.proofs.differing.Walks.{differs, ended, passed, fewer, firsts_left}
 use Rattle.erd_compare.proofs.objects.differing_names.PairsLeft.next_differing.Given.{Over}
 use Rattle.erd_compare.proofs.objects.differing_names.PairsLeft.next_differing.Goals.{After-pass-in-Some}
 use Rattle.erd_compare.proofs.objects.differing_names.PairsLeft.next_differing.Goals as goal
