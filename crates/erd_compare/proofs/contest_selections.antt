@@ -1,12 +1,3 @@
-pub mod NameSets
-pub mod PlacedNames
 pub mod AddedNames
 pub mod ContestRecords
-pub mod NamedSelections
 pub mod SelectionLists
-pub mod ValueLists
-pub mod RoomSizes
-pub mod NameSizes
-pub mod ListSizes
-pub mod ContestNames
-pub mod ToldBounds

@@ -1,11 +1,4 @@
 pub mod Walks
-pub mod NameWalks
-pub mod NamePairs
-pub mod NameLists
-pub mod HeldNames
 pub mod RecordWays
-pub mod RanksShared
 pub mod KeySteps
-pub mod NamedDifferences
 pub mod PartLists
-pub mod FirstOfAll

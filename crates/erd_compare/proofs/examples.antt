@@ -3,6 +3,6 @@ pub mod FirstDifferenceExamples
 mod BallotDifferenceExamples
 mod ElectionDifferenceExamples
 mod AllDifferenceExamples
-mod SelectionDifferenceExamples
+pub mod SelectionDifferenceExamples
 mod ToldExamples
 mod SelectionDataExamples

@@ -1,3 +1,2 @@
-pub mod KeyedRecords
 pub mod RisingKeys
 pub mod PartsInOrder

@@ -1,4 +1,1 @@
 pub mod SameContents
-pub mod NodeParts
-pub mod PlainNodes
-pub mod StepByStep

@@ -1,9 +1,4 @@
-pub mod KeyPlaces
-pub mod MergedKeys
 pub mod KeyRanks
-pub mod NamedRanks
 pub mod RankSets
-pub mod InsertedKeys
 pub mod NameNumbers
-pub mod NamesOnSides
 pub mod NumberedSelections

@@ -1,4 +1,2 @@
-pub mod MemberValues
-pub mod NameMaps
 pub mod SelectionWalks
 pub mod PlacedSelections

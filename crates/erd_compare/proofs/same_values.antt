@@ -1,5 +1,1 @@
-pub mod JsonSets
-pub mod ChosenMembers
-pub mod ReferencedKeys
-pub mod EqualOptions
-pub mod MeantValues
+pub mod SameValues

@@ -1,55 +1,63 @@
 -- A selection means what an object with its members does, and the selections of a contest are those of its record.
-use Rattle.erd_compare.proofs.Common.{◌≡◌, ℕ, Bool, true, false, List, [], codes, Some, None, Option, option_map, option_and_then, sym, refl, ap, ◌∙◌, inl, inr, fun_ext, Data, array, no_items, item, get, view, entries_of, entries_at, role_of_class, kind_of_member, Class, family, role, MemberKind, kind, PlainValue, MemberValue, a_plain, a_selection_map, ObjectRecord, SelectionRecord, Preference, Judged, Placed, NameParts, key_in, plain_member, member_of_class, member_value, unless_empty, object_record, selection_record, selection_map, selection_role, name_of, name_in_class, key_named, meaning, record_at, How, Member, OnlyLeft, OnlyRight, OtherClass, DifferIn, AgreeBut, Key, HasKeyAt, IsComparable, holder_key_in, other_than_election, part, slice_get, same_Some, key_with_role, unwrap_or, contests}
+use Rattle.erd_compare.proofs.Common.{◌≡◌, ℕ, Bool, true, false, List, [], codes, Some, None, Option, option_map, option_and_then, sym, refl, ap, ◌∙◌, inl, inr, fun_ext, Data, array, no_items, item, get, view, entries_of, entries_at, role_of_class, kind_of_member, Class, family, role, MemberKind, kind, PlainValue, MemberValue, a_plain, a_selection_map, ObjectRecord, SelectionRecord, Preference, Judged, Placed, NameParts, key_in, plain_member, member_of_class, member_value, unless_empty, object_record, selection_record, selection_map, selection_role, name_of, name_in_class, key_named, meaning, record_at, How, Member, OnlyLeft, OnlyRight, OtherClass, DifferIn, AgreeBut, Key, HasKeyAt, IsComparable, holder_key_in, other_than_election, part, slice_get, same_Some, key_with_role, unwrap_or, contests, ◌+◌, cond, ◌⊎◌, ◌==◌, find, is_eq, option_cmp, ap₂, subst, slice_get-map, Decides-eqb, tied_itself, Equal-is, options_exact, In, In-map, In-all, any_at, selections_of_contest, objects, numbered_selections, option_map-Some, in_at, position_of, find-Some, find-any, AreSelectionsIn, selections_before, Stands, IsWholeTree, IsPlaced, AreWays, DifferInNames, Ways, ways}
 use Rattle.erd_check.specs.Wants.{class_of_object}
 use Rattle.erd_check.proofs.Positions.{and_then-Some}
-use Rattle.erd_meaning.specs.Lookups.{FindsKey}
-use Rattle.erd_meaning.proofs.accepted.Standing.{contest_selections}
+use Rattle.erd_meaning.specs.Lookups.{FindsKey, selection_in, FindsSelection}
+use Rattle.erd_meaning.proofs.accepted.Standing.{contest_selections, values-placed_entries}
 use Rattle.erd_meaning.proofs.meanings.SelectionKinds.{class_role, is_selections, selections_family, selections_name}
 use Rattle.erd_compare.specs.SelectionDifferences.{selections_in_member, selections_with_key}
-use Rattle.erd_compare.specs.code.ContestSelections.{contest_map, selection_values, whole_record}
-use Rattle.erd_compare.proofs.least_difference.KeyedRecords.{record_here, records_at}
-use Rattle.erd_compare.proofs.same_selections.MemberValues.{one_plain}
+use Rattle.erd_compare.specs.code.ContestSelections.{contest_map, selection_values, whole_record, AreNamesAmong, has_name_in}
+use Rattle.erd_compare.proofs.least_difference.RisingKeys.{record_here, records_at, tells_as}
+use Rattle.erd_compare.proofs.same_selections.SelectionWalks.{one_plain}
+use Rattle.std.specs.Cmp.Lexicographic.{options_total}
+use Rattle.erd_meaning.proofs.selections.ContestSelections.{stand_from_start}
+use Rattle.erd_meaning.proofs.selections.NamesTold.{numbered_at, of_its_contest}
+use Rattle.erd_meaning.specs.NameParts.{NameParts}
+use Rattle.erd_meaning.specs.SelectionNames.{name_cmp}
+use Rattle.erd_meaning.specs.code.Orders.{name_cmp_exact, name_cmp_total}
+use Rattle.erd_meaning.specs.code.SelectionWalk.{if_of_contest, selection_of}
+use Rattle.erd_compare.proofs.whole_trees.WholeTrees.{whole_object}
 
 -- ---- selections as objects
 
 -- the record of an object, and that of a selection, of a class
 abbrev object_in : Preference → Data → Data → Class → ObjectRecord
-object_in π t d c = record { class = c; members = member_of_class π t d c }
+object_in π tree d c = record { class = c; members = member_of_class π tree d c }
 
 abbrev selection_in_class : Preference → Data → Data → Class → SelectionRecord
-selection_in_class π t d c = record { class = c; members = plain_member π t d c }
+selection_in_class π tree d c = record { class = c; members = plain_member π tree d c }
 
 -- members of a kind other than selections mean what they do by themselves
-plain_kind : (π : Preference) (t : Data) (k : MemberKind) (found : Option Data) (p : Option PlainValue) → is_selections k ≡ false → member_value π t k found p ≡ option_map a_plain p
-plain_kind π t (kind.Keyed family.Selection) found p is = cc
-plain_kind π t k found p is = refl
+plain_kind : (π : Preference) (tree : Data) (k : MemberKind) (found : Option Data) (p : Option PlainValue) → is_selections k ≡ false → member_value π tree k found p ≡ option_map a_plain p
+plain_kind π tree (kind.Keyed family.Selection) found p is = cc
+plain_kind π tree k found p is = refl
 
 -- a selection holds no selections
-plain_in : (π : Preference) (t d : Data) (c : Class) → role_of_class c ≡ selection_role → member_of_class π t d c ≡ (λ name. option_map a_plain (plain_member π t d c name))
-plain_in π t d c its = fun_ext (λ name. at name (is_selections (kind_of_member c name)) refl)
+plain_in : (π : Preference) (tree d : Data) (c : Class) → role_of_class c ≡ selection_role → member_of_class π tree d c ≡ (λ name. option_map a_plain (plain_member π tree d c name))
+plain_in π tree d c its = fun_ext (λ name. at name (is_selections (kind_of_member c name)) refl)
   where
-    at : (name : List ℕ) (b : Bool) → is_selections (kind_of_member c name) ≡ b → member_of_class π t d c name ≡ option_map a_plain (plain_member π t d c name)
+    at : (name : List ℕ) (b : Bool) → is_selections (kind_of_member c name) ≡ b → member_of_class π tree d c name ≡ option_map a_plain (plain_member π tree d c name)
     at name true is =
         let clash : family.Selection ≡ family.Contest = selections_family c family.Selection its (ap (λ n. is_selections (kind_of_member c n)) (sym (selections_name c name is)) ∙ is) in
         cc
-    at name false is = plain_kind π t (kind_of_member c name) (get name d) (plain_member π t d c name) is
+    at name false is = plain_kind π tree (kind_of_member c name) (get name d) (plain_member π tree d c name) is
 
 -- so its record is that of any object
-pub record_whole : (π : Preference) (t d : Data) → object_record π t selection_role d ≡ whole_record (selection_record π t d)
-record_whole π t d = at (class_of_object selection_role d) refl
+pub record_whole : (π : Preference) (tree d : Data) → object_record π tree selection_role d ≡ whole_record (selection_record π tree d)
+record_whole π tree d = at (class_of_object selection_role d) refl
   where
     at : (o : Option Class) → class_of_object selection_role d ≡ o
-        → option_map (object_in π t d) o ≡ whole_record (option_map (selection_in_class π t d) o)
+        → option_map (object_in π tree d) o ≡ whole_record (option_map (selection_in_class π tree d) o)
     at None is = refl
-    at (Some c) is = ap (λ (m : List ℕ → Option MemberValue). Some (record { class = c; members = m })) (plain_in π t d c (class_role selection_role d c is))
+    at (Some c) is = ap (λ (m : List ℕ → Option MemberValue). Some (record { class = c; members = m })) (plain_in π tree d c (class_role selection_role d c is))
 
 -- a selection with a name means something
-pub has_record : (π : Preference) (t d : Data) (n : NameParts) → name_of π t d ≡ Some n → (r : SelectionRecord) × (selection_record π t d ≡ Some r)
-has_record π t d n named = at (class_of_object selection_role d) refl
+pub has_record : (π : Preference) (tree d : Data) (n : NameParts) → name_of π tree d ≡ Some n → (r : SelectionRecord) × (selection_record π tree d ≡ Some r)
+has_record π tree d n named = at (class_of_object selection_role d) refl
   where
-    at : (o : Option Class) → class_of_object selection_role d ≡ o → (r : SelectionRecord) × (selection_record π t d ≡ Some r)
-    at None is = let clash : None ≡ Some n = sym (ap (option_map (λ c. name_in_class π (key_named π t) c d)) is) ∙ named in cc
-    at (Some c) is = (selection_in_class π t d c, ap (option_map (selection_in_class π t d)) is)
+    at : (o : Option Class) → class_of_object selection_role d ≡ o → (r : SelectionRecord) × (selection_record π tree d ≡ Some r)
+    at None is = let clash : None ≡ Some n = sym (ap (option_map (λ c. name_in_class π (key_named π tree) c d)) is) ∙ named in cc
+    at (Some c) is = (selection_in_class π tree d c, ap (option_map (selection_in_class π tree d)) is)
 
 -- ---- differences of selections as those of objects
 
@@ -82,9 +90,9 @@ abbrev entries_found : Option Data → List Data
 entries_found None = []
 entries_found (Some v) = entries_of v
 
-module _ (π : Preference) (t : Data) where
+module _ (π : Preference) (tree : Data) where
   -- the selections that a member of their kind means
-  meant : (o : Option Data) → selections_in_member (option_and_then (λ v. unless_empty (a_selection_map (selection_map π t (entries_of v))) v) o) ≡ selection_map π t (entries_found o)
+  meant : (o : Option Data) → selections_in_member (option_and_then (λ v. unless_empty (a_selection_map (selection_map π tree (entries_of v))) v) o) ≡ selection_map π tree (entries_found o)
   meant None = fun_ext (λ n. refl)
   meant (Some (array no_items)) = fun_ext (λ n. refl)
   meant (Some (array (item d ds))) = refl
@@ -98,17 +106,17 @@ module _ (π : Preference) (t : Data) where
       at (Some v) is = rw is refl
 
   -- the selections of a record that is that of a contest
-  of_record : (d : Data) (r : ObjectRecord) → object_record π t (role.OfFamily family.Contest) d ≡ Some r → selections_in_member (r.members (codes "ContestSelection")) ≡ selection_map π t (entries_at (codes "ContestSelection") d)
+  of_record : (d : Data) (r : ObjectRecord) → object_record π tree (role.OfFamily family.Contest) d ≡ Some r → selections_in_member (r.members (codes "ContestSelection")) ≡ selection_map π tree (entries_at (codes "ContestSelection") d)
   of_record d r is = at (class_of_object (role.OfFamily family.Contest) d) refl is
     where
-      at : (o : Option Class) → class_of_object (role.OfFamily family.Contest) d ≡ o → option_map (object_in π t d) o ≡ Some r
-          → selections_in_member (r.members (codes "ContestSelection")) ≡ selection_map π t (entries_at (codes "ContestSelection") d)
+      at : (o : Option Class) → class_of_object (role.OfFamily family.Contest) d ≡ o → option_map (object_in π tree d) o ≡ Some r
+          → selections_in_member (r.members (codes "ContestSelection")) ≡ selection_map π tree (entries_at (codes "ContestSelection") d)
       at None class e = cc
       at (Some c) class e =
-          let same : object_in π t d c ≡ r = same_Some (object_in π t d c) r e in
+          let same : object_in π tree d c ≡ r = same_Some (object_in π tree d c) r e in
           ap (λ (x : ObjectRecord). selections_in_member (x.members (codes "ContestSelection"))) (sym same)
-          ∙ (ap (λ k. selections_in_member (member_value π t k (get (codes "ContestSelection") d) (plain_member π t d c (codes "ContestSelection")))) (contest_selections c (class_role (role.OfFamily family.Contest) d c class))
-          ∙ (meant (get (codes "ContestSelection") d) ∙ ap (selection_map π t) (found_entries (codes "ContestSelection") d)))
+          ∙ (ap (λ k. selections_in_member (member_value π tree k (get (codes "ContestSelection") d) (plain_member π tree d c (codes "ContestSelection")))) (contest_selections c (class_role (role.OfFamily family.Contest) d c class))
+          ∙ (meant (get (codes "ContestSelection") d) ∙ ap (selection_map π tree) (found_entries (codes "ContestSelection") d)))
 
 -- ---- the contest with a key
 
@@ -116,35 +124,228 @@ module _ (a : Judged) (comparable : IsComparable a.prefer (view a.tree)) where
   abbrev π : Preference
   π = a.prefer
 
-  abbrev t : Data
-  t = view a.tree
+  abbrev tree : Data
+  tree = view a.tree
 
   -- a meaning without a record has no selections
-  no_record : (k : Option Key) → record_at (meaning π t) part.Contest k ≡ None → contest_map a None ≡ selections_with_key (meaning π t) k
+  no_record : (k : Option Key) → record_at (meaning π tree) part.Contest k ≡ None → contest_map a None ≡ selections_with_key (meaning π tree) k
   no_record k none = sym (ap (λ (o : Option ObjectRecord). selections_in_member (option_and_then (λ r. r.members (codes "ContestSelection")) o)) none ∙ fun_ext (λ n. refl))
 
-  pub without_key : contest_map a None ≡ selections_with_key (meaning π t) None
+  pub without_key : contest_map a None ≡ selections_with_key (meaning π tree) None
   without_key = no_record None refl
 
-  pub with_key : (k : Key) (found : Option ℕ) → FindsKey π t family.Contest k found → contest_map a found ≡ selections_with_key (meaning π t) (Some k)
+  pub with_key : (k : Key) (found : Option ℕ) → FindsKey π tree family.Contest k found → contest_map a found ≡ selections_with_key (meaning π tree) (Some k)
   with_key k found finds = at found refl
     where
-      key_here : (i : ℕ) (h : HasKeyAt π t (role.OfFamily family.Contest) i (Some k)) → key_in π family.Contest t i ≡ Some k
+      key_here : (i : ℕ) (h : HasKeyAt π tree (role.OfFamily family.Contest) i (Some k)) → key_in π family.Contest tree i ≡ Some k
       key_here i h = ap (option_and_then (λ (o : Placed). key_with_role π (role.OfFamily family.Contest) o.value)) h.stands ∙ h.key
 
-      stands_here : (i : ℕ) → key_in π family.Contest t i ≡ Some k → HasKeyAt π t (role.OfFamily family.Contest) i (Some k)
-      stands_here i e = let o = and_then-Some (λ (o : Placed). key_with_role π (role.OfFamily family.Contest) o.value) (slice_get (contests t) i) k e in record { object = o.0; stands = o.1; key = o.2 }
+      stands_here : (i : ℕ) → key_in π family.Contest tree i ≡ Some k → HasKeyAt π tree (role.OfFamily family.Contest) i (Some k)
+      stands_here i e = let o = and_then-Some (λ (o : Placed). key_with_role π (role.OfFamily family.Contest) o.value) (slice_get (contests tree) i) k e in record { object = o.0; stands = o.1; key = o.2 }
 
-      at : (f : Option ℕ) → found ≡ f → contest_map a f ≡ selections_with_key (meaning π t) (Some k)
-      at None is = elim ((records_at π t comparable part.Contest).beside (Some k)) [
+      at : (f : Option ℕ) → found ≡ f → contest_map a f ≡ selections_with_key (meaning π tree) (Some k)
+      at None is = elim ((records_at π tree comparable part.Contest).beside (Some k)) [
         | inl none ↦ no_record (Some k) none
         | inr (i, h) ↦ let clash : None ≡ Some i = sym is ∙ (finds i).1 (key_here i h) in cc
       ]
       at (Some i) is =
           let h = stands_here i ((finds i).0 is) in
-          let r = record_here π t comparable part.Contest (Some k) i h in
+          let r = record_here π tree comparable part.Contest (Some k) i h in
           let values : selection_values a i ≡ entries_at (codes "ContestSelection") h.object.value = ap (λ (o : Option Placed). unwrap_or (option_map (λ o. entries_at (codes "ContestSelection") o.value) o) []) h.stands in
-          fun_ext (λ n. ap (λ ds. selection_map π t ds n) values)
-          ∙ (sym (of_record π t h.object.value r.0 r.1)
-          ∙ (ap selections_in_member (sym (other_than_election (holder_key_in π (role.OfFamily family.Contest) t i) r.0.members (codes "ContestSelection") refl))
+          fun_ext (λ n. ap (λ ds. selection_map π tree ds n) values)
+          ∙ (sym (of_record π tree h.object.value r.0 r.1)
+          ∙ (ap selections_in_member (sym (other_than_election (holder_key_in π (role.OfFamily family.Contest) tree i) r.0.members (codes "ContestSelection") refl))
           ∙ ap (λ (o : Option ObjectRecord). selections_in_member (option_and_then (λ r. r.members (codes "ContestSelection")) o)) (sym r.3)))
+
+-- ---- the selections of a contest at their positions among those of the report, and which of them has a name
+
+-- a selection with the number of its contest
+abbrev Numbered : Type 0
+Numbered = ℕ × Placed
+
+-- a name with the position of its contest
+abbrev in_contest : ℕ → NameParts → ℕ × NameParts
+in_contest c n = (c, n)
+
+-- the values of the selections of a contest that was found
+abbrev pub values_of : Option Placed → List Data
+values_of o = unwrap_or (option_map (λ o. entries_at (codes "ContestSelection") o.value) o) []
+
+module _ (a : Judged) (c : ℕ) where
+  abbrev t : Data
+  t = view a.tree
+
+  abbrev values : List Data
+  values = selection_values a c
+
+  -- they are those of the contest
+  pub are_selections : AreSelectionsIn a c values
+  are_selections i = at (slice_get (contests t) c)
+    where
+      at : (o : Option Placed) → option_map (λ (s : Placed). s.value) (option_and_then (λ (o : Placed). slice_get (selections_of_contest o) i) o) ≡ slice_get (values_of o) i
+      at None = refl
+      at (Some o) = sym (slice_get-map (λ (s : Placed). s.value) (selections_of_contest o) i) ∙ ap (λ ds. slice_get ds i) (values-placed_entries (codes "ContestSelection") o)
+
+  own : (s : Option Numbered) (o : Placed) → option_and_then (if_of_contest c) s ≡ Some o → s ≡ Some (c, o)
+  own None o e = cc
+  own (Some s) o e = by (s.0 == c) refl e
+    where
+      by : (yes : Bool) → (s.0 == c) ≡ yes → cond yes (Some s.1) None ≡ Some o → Some s ≡ Some (c, o)
+      by true is e = ap₂ (λ (k : ℕ) (p : Placed). Some (k, p)) ((Decides-eqb s.0 c).0 is) (same_Some s.1 o e)
+      by false is e = cc
+
+  -- ---- by position
+
+  module _ (start : ℕ) (counted : start ≡ selections_before t c) where
+    numbered_here : (i : ℕ) (d : Data) → slice_get values i ≡ Some d → (o : Placed) × (slice_get (numbered_selections t) (start + i) ≡ Some (c, o)) × (o.value ≡ d)
+    numbered_here i d at =
+        let o = option_map-Some (λ (o : Placed). o.value) (selection_of t c i) d (are_selections i ∙ at) in
+        (o.0, own (slice_get (numbered_selections t) (start + i)) o.0 (stand_from_start t c start counted i ∙ o.1), o.2)
+
+    -- the selection there, and its name
+    pub object_here : (i : ℕ) (d : Data) → slice_get values i ≡ Some d → (o : Placed) × (slice_get (objects family.Selection t) (start + i) ≡ Some o) × (o.value ≡ d)
+    object_here i d at =
+        let o = numbered_here i d at in
+        (o.0, sym (numbered_at t (start + i)) ∙ ap (option_map (λ (s : Numbered). s.1)) o.1, o.2)
+
+    pub name_here : (i : ℕ) (d : Data) → slice_get values i ≡ Some d → selection_in a.prefer t (start + i) ≡ option_map (λ n. (c, n)) (name_of a.prefer t d)
+    name_here i d at =
+        let o = numbered_here i d at in
+        ap (option_and_then (λ (s : Numbered). option_map (λ n. (s.0, n)) (name_of a.prefer t s.1.value))) o.1
+        ∙ ap (λ v. option_map (λ n. (c, n)) (name_of a.prefer t v)) o.2
+
+  -- ---- by name
+
+  module _ (n : NameParts) where
+    -- a selection of the contest that has the name
+    pub record HasNameAt (i : ℕ) : Type 0 where
+      object : Placed
+      stands : slice_get (objects family.Selection t) i ≡ Some object
+      inside : In object.value values
+      named : name_of a.prefer t object.value ≡ Some n
+
+    named_inside : (i : ℕ) → selection_in a.prefer t i ≡ Some (c, n) → HasNameAt i
+    named_inside i e = at (slice_get (numbered_selections t) i) refl e
+      where
+        by : (s : Numbered) → slice_get (numbered_selections t) i ≡ Some s → (o : Option NameParts) → name_of a.prefer t s.1.value ≡ o → option_map (in_contest s.0) o ≡ Some (c, n) → HasNameAt i
+        by s is None named e = cc
+        by s is (Some m) named e =
+            let pair : ◌≡◌ {A = ℕ × NameParts} (s.0, m) (c, n) = same_Some (in_contest s.0 m) (in_contest c n) e in
+            let number : s.0 ≡ c = ap (λ (p : ℕ × NameParts). p.0) pair in
+            let name : m ≡ n = ap (λ (p : ℕ × NameParts). p.1) pair in
+            let its = of_its_contest t s (in_at (numbered_selections t) i s is) in
+            let here : values ≡ entries_at (codes "ContestSelection") its.contest.value = ap values_of (ap (slice_get (contests t)) (sym number) ∙ its.at) in
+            record {
+              object = s.1;
+              stands = sym (numbered_at t i) ∙ ap (option_map (λ (x : Numbered). x.1)) is;
+              inside = subst (In s.1.value) (values-placed_entries (codes "ContestSelection") its.contest ∙ sym here) (In-map (λ (o : Placed). o.value) s.1 (selections_of_contest its.contest) its.inside);
+              named = named ∙ ap Some name;
+            }
+
+        at : (s : Option Numbered) → slice_get (numbered_selections t) i ≡ s → option_and_then (λ (s : Numbered). option_map (in_contest s.0) (name_of a.prefer t s.1.value)) s ≡ Some (c, n) → HasNameAt i
+        at None is e = cc
+        at (Some s) is e = by s is (name_of a.prefer t s.1.value) refl e
+
+    pub has_the_name : (d : Data) → has_name_in a n d ≡ true → name_of a.prefer t d ≡ Some n
+    has_the_name d is = options_exact name_cmp (λ x y e. name_cmp_exact x y ((Equal-is (name_cmp x y)).0 e)) (name_of a.prefer t d) (Some n) is
+
+    pub is_named : (d : Data) → name_of a.prefer t d ≡ Some n → has_name_in a n d ≡ true
+    is_named d e = ap (λ o. is_eq (option_cmp name_cmp o (Some n))) e ∙ ap is_eq (tied_itself (options_total name_cmp_total) (Some n))
+
+    abbrev first : Option Data
+    first = find (has_name_in a n) values
+
+    -- where no selection is found, none has the name
+    module _ (start : ℕ) (counted : start ≡ selections_before t c) (found : Option ℕ) (finds : FindsSelection a.prefer t c n found) where
+      -- the position of a selection with the name is the one that is found
+      its_position : (d : Data) → first ≡ Some d → (i : ℕ) × (found ≡ Some (start + i)) × (slice_get values i ≡ Some d)
+      its_position d e =
+          let h = find-Some (has_name_in a n) values d e in
+          let place = position_of values d h.0 in
+          (place.0, (finds (start + place.0)).1 (name_here start counted place.0 d place.1 ∙ ap (option_map (λ m. (c, m))) (has_the_name d h.1)), place.1)
+
+      pub found_first : option_and_then (λ i. option_map (λ (o : Placed). o.value) (slice_get (objects family.Selection t) i)) found ≡ first
+      found_first = at found refl first refl
+        where
+          at : (f : Option ℕ) → found ≡ f → (o : Option Data) → first ≡ o → option_and_then (λ i. option_map (λ (o : Placed). o.value) (slice_get (objects family.Selection t) i)) f ≡ o
+          at None is None e = refl
+          at None is (Some d) e = let clash : None ≡ Some (start + (its_position d e).0) = sym is ∙ (its_position d e).1 in cc
+          at (Some i) is None e =
+              let here = named_inside i ((finds i).0 is) in
+              let some = find-any (has_name_in a n) values (any_at (has_name_in a n) here.object.value values here.inside (is_named here.object.value here.named)) in
+              let clash : None ≡ Some some.0 = sym e ∙ some.1 in
+              cc
+          at (Some i) is (Some d) e =
+              let its = its_position d e in
+              let same : i ≡ start + its.0 = same_Some i (start + its.0) (sym is ∙ its.1) in
+              let o = object_here start counted its.0 d its.2 in
+              ap (option_map (λ (o : Placed). o.value)) (ap (slice_get (objects family.Selection t)) same ∙ o.1) ∙ ap Some o.2
+
+-- what a contest has at a name that is not among those of its selections
+pub beside_names : (a : Judged) (c : ℕ) (names : List NameParts) → AreNamesAmong a names (selection_values a c) → (n : NameParts) → (contest_map a (Some c) n ≡ None) ⊎ Stands n names
+beside_names a c names among n = at (find (has_name_in a n) (selection_values a c)) refl
+  where
+    at : (o : Option Data) → find (has_name_in a n) (selection_values a c) ≡ o → (contest_map a (Some c) n ≡ None) ⊎ Stands n names
+    at None e = inl (ap (option_and_then (selection_record a.prefer (view a.tree))) e)
+    at (Some d) e =
+        let h = find-Some (has_name_in a n) (selection_values a c) d e in
+        inr (In-all (λ v. (name : NameParts) → name_of a.prefer (view a.tree) v ≡ Some name → Stands name names) d (selection_values a c) among h.0 n (has_the_name a c n d h.1))
+
+-- ---- what is found in the contest at a position, if there is one
+
+pub found_in : (a : Judged) (n : NameParts) (contest : Option ℕ) (c : ℕ) → contest ≡ Some c → (found : Option ℕ) → FindsSelection a.prefer (view a.tree) c n found → (r : Option Data)
+    → r ≡ option_and_then (λ i. option_map (λ (o : Placed). o.value) (slice_get (objects family.Selection (view a.tree)) i)) found → r ≡ option_and_then (λ c. find (has_name_in a n) (selection_values a c)) contest
+found_in a n contest c there found finds r is = is ∙ (found_first a c n (selections_before (view a.tree) c) refl found finds ∙ sym (ap (option_and_then (λ c. find (has_name_in a n) (selection_values a c))) there))
+
+-- ---- the selections with a name in two contests, and the ways in which they differ
+
+-- a selection is a whole tree
+pub whole_selection : (a : Judged) → IsComparable a.prefer (view a.tree) → (i : ℕ) (d : Data) → IsPlaced a selection_role i d → IsWholeTree d
+whole_selection a c i d placed =
+    let o = option_map-Some (λ (o : Placed). o.value) (slice_get (objects family.Selection (view a.tree)) i) d placed in
+    subst IsWholeTree o.2 (whole_object (view a.tree) family.Selection c.whole o.0 (in_at (objects family.Selection (view a.tree)) i o.0 o.1))
+
+module _ (a : Judged) (contest : Option ℕ) (n : NameParts) where
+  -- the first selection of the contest with the name
+  abbrev pub first_named : Option Data
+  first_named = option_and_then (λ c. find (has_name_in a n) (selection_values a c)) contest
+
+-- what the contest has at the name
+map_found : (a : Judged) (contest : Option ℕ) (n : NameParts) (o : Option Data) → o ≡ first_named a contest n → contest_map a contest n ≡ option_and_then (selection_record a.prefer (view a.tree)) o
+map_found a None n o is = sym (ap (option_and_then (selection_record a.prefer (view a.tree))) is)
+map_found a (Some c) n o is = sym (ap (option_and_then (selection_record a.prefer (view a.tree))) is)
+
+record_found : (a : Judged) (contest : Option ℕ) (n : NameParts) (d : Data) → Some d ≡ first_named a contest n → whole_record (contest_map a contest n) ≡ object_record a.prefer (view a.tree) selection_role d
+record_found a contest n d is = ap whole_record (map_found a contest n (Some d) is) ∙ sym (record_whole a.prefer (view a.tree) d)
+
+some_found : (a : Judged) (contest : Option ℕ) (n : NameParts) (d : Data) → Some d ≡ first_named a contest n → (r : ObjectRecord) × (whole_record (contest_map a contest n) ≡ Some r)
+some_found a None n d is = cc
+some_found a (Some c) n d is =
+    let h = find-Some (has_name_in a n) (selection_values a c) d (sym is) in
+    let r = has_record a.prefer (view a.tree) d n (has_the_name a c n d h.1) in
+    let own = ap whole_record (map_found a (Some c) n (Some d) is ∙ r.1) in
+    (_, own)
+
+none_found : (a : Judged) (contest : Option ℕ) (n : NameParts) → None ≡ first_named a contest n → whole_record (contest_map a contest n) ≡ None
+none_found a contest n is = ap whole_record (map_found a contest n None is)
+
+module _ (a b : Judged) (contest other : Option ℕ) (n : NameParts) where
+  abbrev mine : Option ObjectRecord
+  mine = whole_record (contest_map a contest n)
+
+  abbrev its : Option ObjectRecord
+  its = whole_record (contest_map b other n)
+
+  pub ways_of_both : (d e : Data) → Some d ≡ first_named a contest n → Some e ≡ first_named b other n → (w : Ways) → AreWays true (object_record a.prefer (view a.tree) selection_role d) (object_record b.prefer (view b.tree) selection_role e) w
+      → AreWays true mine its w
+  ways_of_both d e left right w told =
+      tells_as (λ x y. AreWays true x y w) mine its (object_record a.prefer (view a.tree) selection_role d) (object_record b.prefer (view b.tree) selection_role e) (record_found a contest n d left) (record_found b other n e right) told
+
+  pub left_alone : (d : Data) → Some d ≡ first_named a contest n → None ≡ first_named b other n → AreWays true mine its ways.OnlyLeft
+  left_alone d left right = let r = some_found a contest n d left in tells_as (λ x y. AreWays true x y ways.OnlyLeft) mine its (Some r.0) None r.1 (none_found b other n right) refl
+
+  pub right_alone : (e : Data) → None ≡ first_named a contest n → Some e ≡ first_named b other n → AreWays true mine its ways.OnlyRight
+  right_alone e left right = let r = some_found b other n e right in tells_as (λ x y. AreWays true x y ways.OnlyRight) mine its None (Some r.0) (none_found a contest n left) r.1 refl
+
+  pub neither : None ≡ first_named a contest n → None ≡ first_named b other n → (names : List (List ℕ)) → names ≡ [] → DifferInNames true mine its names
+  neither left right names none = tells_as (λ x y. DifferInNames true x y names) mine its None None (none_found a contest n left) (none_found b other n right) none

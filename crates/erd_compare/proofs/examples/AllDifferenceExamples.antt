@@ -1,5 +1,5 @@
 -- The list of all differences of two small meanings, and lists that are not.
-use Rattle.erd_compare.proofs.Common.{List, [], ◌∷◌, Some, None, Option, refl, inl, inr, ObjectRecord, Meaning, Key, Difference, OnlyLeft, OnlyRight, Part, part}
+use Rattle.erd_compare.proofs.Common.{[], List, ◌∷◌, Some, None, Option, refl, inl, inr, ObjectRecord, Meaning, Key, Difference, OnlyLeft, OnlyRight, Part, part}
 use Rattle.std.specs.List.Sorted.{IsStrictlySortedBy}
 use Rattle.erd_compare.specs.Differences.{AgreeBut, AreDifferences, Stands, record_at}
 use Rattle.erd_tables.specs.declared.class.Class.TheVariants as class
@@ -29,25 +29,10 @@ all = report_right ∷ election_left ∷ []
 
 agree : (p : Part) (k : Option Key) → AgreeBut (λ how. Stands (record { part = p; key = k; how = how }) all) (record_at one p k) (record_at other p k)
 agree part.Report None = inl refl
-agree part.Report (Some k) = tt
 agree part.Election None = inr (inl refl)
-agree part.Election (Some k) = tt
-agree part.Unit None = tt
-agree part.Unit (Some k) = tt
-agree part.Party None = tt
-agree part.Party (Some k) = tt
-agree part.Person None = tt
-agree part.Person (Some k) = tt
-agree part.Office None = tt
-agree part.Office (Some k) = tt
-agree part.Header None = tt
-agree part.Header (Some k) = tt
-agree part.Candidate None = tt
-agree part.Candidate (Some k) = tt
-agree part.Contest None = tt
-agree part.Contest (Some k) = tt
-agree part.Style None = tt
-agree part.Style (Some k) = tt
+agree part.Report (Some k) = tt
+agree p None = tt
+agree p (Some k) = tt
 
 pub are_all : AreDifferences one other all
 unfolding IsStrictlySortedBy

@@ -1,11 +1,11 @@
 -- The first difference of reports of elections: a contest in another election, and an election that has lost its key.
-use Rattle.erd_compare.proofs.Common.{◌≡◌, ℕ, Bool, true, false, List, [], ◌∷◌, ◌++◌, slice_get, Some, None, codes, Option, find, option_and_then, bytes_eq, is_eq, unwrap_or, sym, refl, ap, ◌∙◌, subst, true≢false, option_cmp, Data, null, family, role, tree_of, election, one_unit, report_of_two, key_cmp, key_of, ObjectRecord, Placed, report_of, elections, meaning, member_of_class, object_record, record_in_election, records_of, serde_json_on_literals, one_unit_report, status, unit, identifier, other_election, party_contest, local_key, same_object, is_key_in, same_at_every_key, no_record, value_with_key, same_at_key, HaveKeys, keys_of_family, nothing_at, election_has_key, no_election_id, equal_keys, Key, part_cmp, record_at, DifferFirstAt, IsFirstDifference, Member, OnlyLeft, OnlyRight, Part}
+use Rattle.erd_compare.proofs.Common.{[], ◌≡◌, ℕ, Bool, true, false, List, ◌∷◌, ◌++◌, slice_get, Some, None, codes, Option, find, option_and_then, bytes_eq, is_eq, unwrap_or, sym, refl, ap, ◌∙◌, subst, true≢false, option_cmp, Data, null, Family, family, role, tree_of, election, one_unit, report_of_two, key_cmp, key_of, ObjectRecord, Placed, report_of, elections, meaning, member_of_class, object_record, record_in_election, records_of, serde_json_on_literals, one_unit_report, status, unit, identifier, other_election, party_contest, local_key, same_object, is_key_in, value_with_key, same_at_key, HaveKeys, keys_of_family, nothing_at, election_has_key, no_election_id, equal_keys, Key, part_cmp, record_at, DifferFirstAt, IsFirstDifference, Member, OnlyLeft, OnlyRight, Part}
 use Rattle.std.specs.Prelude.{⊤}
 use Rattle.std.specs.declared.cmp.Ordering.TheVariants.{Less}
-use Rattle.erd_compare.proofs.examples.FirstDifferenceExamples.{before_itself, not_in}
+use Rattle.erd_compare.proofs.examples.FirstDifferenceExamples.{before_elections, not_in, same_units}
 use Rattle.std.specs.List.Sorted.{IsStrictlySortedBy}
 use Rattle.erd_compare.specs.code.DifferingNames.{AreNames}
-use Rattle.erd_compare.proofs.differing.HeldNames.{names_of_two}
+use Rattle.erd_compare.proofs.differing.RecordWays.{names_of_two}
 use Rattle.erd_tables.specs.declared.class.Class.TheVariants as class
 use Rattle.erd_compare.specs.declared.difference.Part.TheVariants as part
 
@@ -128,9 +128,7 @@ unfolding serde_json_on_literals
 before_contest part.Report None less = same_object None left moved left moved role.Report class.ElectionReport refl refl refl
 before_contest part.Report (Some k) less = refl
 before_contest part.Unit None less = refl
-before_contest part.Unit (Some k) less =
-    same_at_every_key (records_of None left family.Unit) (records_of None moved family.Unit) (local_key (codes "U1") ∷ [])
-    (same_at_key None left moved family.Unit (local_key (codes "U1")) class.ReportingUnit refl (refl, refl, refl, refl, refl, refl), tt) (no_record None left family.Unit) (no_record None moved family.Unit) k
+before_contest part.Unit (Some k) less = same_units left moved (refl, refl, refl, refl, refl, refl) refl refl k
 before_contest part.Election k less = same_elections left moved (elections left) (elections moved) both_elections k
 before_contest part.Contest None less = refl
 before_contest part.Contest (Some k) less = contests_below k less
@@ -151,20 +149,14 @@ with_key = tree_of (one_unit_report status unit (election ++ codes "," ++ identi
 abbrev without_key : Data
 without_key = tree_of one_unit
 
+keyed_objects : (f : Family) (k : Key) → records_of None with_key f k ≡ records_of None without_key f k
+unfolding serde_json_on_literals
+keyed_objects family.Unit k = same_units with_key without_key (refl, refl, refl, refl, refl, refl) refl refl k
+keyed_objects f k = refl
+
 before_election : (p : Part) (k : Option Key) → part_cmp p k part.Election None ≡ Less → record_at (meaning None with_key) p k ≡ record_at (meaning None without_key) p k
 unfolding serde_json_on_literals
-before_election part.Report None less = same_object None with_key without_key with_key without_key role.Report class.ElectionReport refl refl refl
-before_election part.Report (Some k) less = refl
-before_election part.Unit None less = refl
-before_election part.Unit (Some k) less =
-    same_at_every_key (records_of None with_key family.Unit) (records_of None without_key family.Unit) (local_key (codes "U1") ∷ [])
-    (same_at_key None with_key without_key family.Unit (local_key (codes "U1")) class.ReportingUnit refl (refl, refl, refl, refl, refl, refl), tt) (no_record None with_key family.Unit) (no_record None without_key family.Unit) k
-before_election part.Election k less = absurd (before_itself k less)
-before_election part.Candidate k less = absurd (cc less)
-before_election part.Contest k less = absurd (cc less)
-before_election part.Style k less = absurd (cc less)
-before_election p None less = refl
-before_election p (Some k) less = refl
+before_election = before_elections (meaning None with_key) (meaning None without_key) (same_object None with_key without_key with_key without_key role.Report class.ElectionReport refl refl refl) keyed_objects
 
 -- no key comes before each key, so the election on the right is told
 first_is_without : IsFirstDifference (meaning None with_key) (meaning None without_key) (record { part = part.Election; key = None; how = OnlyRight })

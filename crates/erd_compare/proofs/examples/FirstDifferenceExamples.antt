@@ -1,6 +1,7 @@
 -- The first difference of whole reports, each of one unit: none, and one for each of some edits.
-use Rattle.erd_compare.proofs.Common.{◌≡◌, ℕ, Bool, true, false, ◌≢◌, List, [], ◌∷◌, is_some, slice_get, Some, None, codes, Option, option_and_then, bytes_eq, is_eq, is_lt, unwrap_or, sym, refl, ap, ◌∙◌, true≢false, option_cmp, Data, null, string, class, Family, family, role, tree_of, election, one_unit, key_cmp, untranslated, a_json, a_label, MemberValue, a_plain, ObjectRecord, Placed, report_of, elections, meaning, member_of_class, records_of, serde_json_on_literals, is_eq-slice_cmp, one_unit_report, status, unit, local_key, same_but_one, same_object, is_key_in, same_at_every_key, no_record, same_at_key, same_sole_election, same_meaning, absent_member, equal_keys, Key, part_cmp, record_at, IsDifference, IsFirstDifference, How, Member, OnlyLeft, OnlyRight, Part}
+use Rattle.erd_compare.proofs.Common.{[], ◌≡◌, ℕ, Bool, true, false, ◌≢◌, List, ◌∷◌, is_some, slice_get, Some, None, codes, Option, option_and_then, bytes_eq, is_eq, is_lt, unwrap_or, sym, refl, ap, ◌∙◌, true≢false, option_cmp, lit<, Data, null, string, class, Family, family, role, tree_of, election, one_unit, key_cmp, key_of, untranslated, a_json, a_label, MemberValue, a_plain, ObjectRecord, Placed, report_of, elections, objects, meaning, member_of_class, records_of, serde_json_on_literals, is_eq-slice_cmp, one_unit_report, status, unit, local_key, same_but_one, same_object, is_key_in, no_record, ObjectsAgree, same_at_key, keys_of_family, same_family, same_sole_election, same_meaning, absent_member, equal_keys, Meaning, Key, part_cmp, record_at, IsDifference, IsFirstDifference, How, Member, OnlyLeft, OnlyRight, Part}
 use Rattle.std.specs.declared.cmp.Ordering.TheVariants.{Less}
+use Rattle.erd_meaning.proofs.meanings.WholeMeanings.{have_keys}
 use Rattle.erd_compare.specs.declared.difference.Part.TheVariants as part
 
 -- ---- reports of one unit
@@ -15,15 +16,23 @@ election_in t = unwrap_or (slice_get (elections t) 0) (report_of null)
 abbrev key : Key
 key = local_key (codes "U1")
 
+-- the report has one unit, with this key
+abbrev pub HasOneUnit : Data → Type 0
+HasOneUnit t = have_keys key_cmp (λ (o : Placed). key_of None o.value) (objects family.Unit t) (key ∷ []) ≡ true
+
+-- the units of two such reports mean the same, if they do at the key
+pub same_units : (t u : Data) → ObjectsAgree None t u family.Unit key class.ReportingUnit → HasOneUnit t → HasOneUnit u → (k : Key) → records_of None t family.Unit k ≡ records_of None u family.Unit k
+same_units t u agree left right =
+    same_family None t u family.Unit (key ∷ []) (key ∷ []) (keys_of_family None t family.Unit (key ∷ []) left) (keys_of_family None u family.Unit (key ∷ []) right) ((0, lit< tt, refl), tt)
+    (same_at_key None t u family.Unit key class.ReportingUnit refl agree, tt)
+
 -- with another `@id`, other orders of members, an envelope and empty arrays
 abbrev respelled : Data
 respelled = tree_of (codes "{\"Election\":[{\"ElectionScopeId\":\"k\",\"Name\":\"Test\",\"EndDate\":\"2026-11-03\",\"StartDate\":\"2026-11-03\",\"Type\":\"general\",\"@type\":\"ElectionResults.Election\",\"Contest\":[]}],\"Issuer\":\"Vendor A\",\"SequenceStart\":1,\"Status\":\"pre-election\",\"Party\":[],\"GpUnit\":[{\"Type\":\"county\",\"ComposingGpUnitIds\":[],\"ExternalIdentifier\":[{\"Value\":\"U1\",\"Type\":\"local-level\",\"@type\":\"ElectionResults.ExternalIdentifier\"}],\"@type\":\"ElectionResults.ReportingUnit\",\"@id\":\"k\"}],\"@type\":\"ElectionResults.ElectionReport\"}")
 
 respelled_objects : (f : Family) (k : Key) → records_of None left f k ≡ records_of None respelled f k
 unfolding serde_json_on_literals
-respelled_objects family.Unit k =
-    same_at_every_key (records_of None left family.Unit) (records_of None respelled family.Unit) (key ∷ [])
-    (same_at_key None left respelled family.Unit key class.ReportingUnit refl (refl, refl, refl, refl, refl, refl), tt) (no_record None left family.Unit) (no_record None respelled family.Unit) k
+respelled_objects family.Unit k = same_units left respelled (refl, refl, refl, refl, refl, refl) refl refl k
 respelled_objects f k = refl
 
 -- no difference
@@ -64,21 +73,25 @@ pub before_itself : (k : Option Key) → option_cmp key_cmp k None ≡ Less → 
 before_itself None less = cc
 before_itself (Some k) less = cc
 
--- all that comes before the election is the same
-before_election : (p : Part) (k : Option Key) → part_cmp p k part.Election None ≡ Less → record_at (meaning None left) p k ≡ record_at (meaning None renamed) p k
+-- meanings with equal reports and objects agree at all that comes before an election without a key
+pub before_elections : (m n : Meaning) → m.report ≡ n.report → ((f : Family) (k : Key) → m.objects f k ≡ n.objects f k) → (p : Part) (k : Option Key) → part_cmp p k part.Election None ≡ Less → record_at m p k ≡ record_at n p k
+before_elections m n report objects part.Report None less = report
+before_elections m n report objects part.Election k less = absurd (before_itself k less)
+before_elections m n report objects part.Unit (Some k) less = objects family.Unit k
+before_elections m n report objects part.Party (Some k) less = objects family.Party k
+before_elections m n report objects part.Person (Some k) less = objects family.Person k
+before_elections m n report objects part.Office (Some k) less = objects family.Office k
+before_elections m n report objects part.Header (Some k) less = objects family.Header k
+before_elections m n report objects part.Candidate k less = absurd (cc less)
+before_elections m n report objects part.Contest k less = absurd (cc less)
+before_elections m n report objects part.Style k less = absurd (cc less)
+before_elections m n report objects p None less = refl
+before_elections m n report objects p (Some k) less = refl
+
+renamed_objects : (f : Family) (k : Key) → records_of None left f k ≡ records_of None renamed f k
 unfolding serde_json_on_literals
-before_election part.Report None less = same_object None left renamed left renamed role.Report class.ElectionReport refl refl refl
-before_election part.Report (Some k) less = refl
-before_election part.Unit None less = refl
-before_election part.Unit (Some k) less =
-    same_at_every_key (records_of None left family.Unit) (records_of None renamed family.Unit) (key ∷ [])
-    (same_at_key None left renamed family.Unit key class.ReportingUnit refl (refl, refl, refl, refl, refl, refl), tt) (no_record None left family.Unit) (no_record None renamed family.Unit) k
-before_election part.Election k less = absurd (before_itself k less)
-before_election part.Candidate k less = absurd (cc less)
-before_election part.Contest k less = absurd (cc less)
-before_election part.Style k less = absurd (cc less)
-before_election p None less = refl
-before_election p (Some k) less = refl
+renamed_objects family.Unit k = same_units left renamed (refl, refl, refl, refl, refl, refl) refl refl k
+renamed_objects f k = refl
 
 first_is_name : IsFirstDifference (meaning None left) (meaning None renamed) (record { part = part.Election; key = None; how = Member (codes "Name") })
 unfolding serde_json_on_literals
@@ -88,7 +101,7 @@ first_is_name = record {
     differ = other_name;
     least = λ name less. same_but_name name (sym (is_eq-slice_cmp name (codes "Name")) ∙ ap is_eq less);
   };
-  least = before_election;
+  least = before_elections (meaning None left) (meaning None renamed) (same_object None left renamed left renamed role.Report class.ElectionReport refl refl refl) renamed_objects;
 }
 
 -- a later member is not the first; the two are not equal

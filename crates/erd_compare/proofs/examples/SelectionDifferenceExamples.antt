@@ -1,5 +1,5 @@
 -- The list of all differences of the selections of two contests, and lists that are not.
-use Rattle.erd_compare.proofs.Common.{◌≡◌, ◌⊎◌, ℕ, Bool, true, List, [], ◌∷◌, Some, None, Option, option_map, refl, inl, inr, Data, null, boolean, PlainValue, a_json, SelectionRecord, Class, Key, Member, OnlyLeft, OnlyRight}
+use Rattle.erd_compare.proofs.Common.{[], ◌≡◌, ◌⊎◌, ℕ, Bool, true, List, ◌∷◌, Some, None, Option, option_map, refl, inl, inr, Data, null, boolean, PlainValue, a_json, SelectionRecord, Class, Key, Member, OnlyLeft, OnlyRight}
 use Rattle.std.specs.List.Sorted.{IsStrictlySortedBy}
 use Rattle.std.specs.Prelude.{ℤ}
 use Rattle.erd_tables.specs.declared.class.Class.TheVariants as class
@@ -19,34 +19,41 @@ abbrev sole : Class → List Key → Bool → Option ℤ → Option (List ℕ) �
 sole class.CandidateSelection [] true None None None = Some bare
 sole c ks w o l i = None
 
+-- the selections of a contest, by the parts of their names
+abbrev pub by_parts : (Class → List Key → Bool → Option ℤ → Option (List ℕ) → Option Key → Option SelectionRecord) → SelectionMap
+by_parts f n = f n.class n.keys n.write_in n.order n.label n.identifier
+
+abbrev pub without_selections : SelectionMap
+without_selections n = None
+
+abbrev pub left_alone : NameParts → SelectionDifference
+left_alone n = record { name = n; how = OnlyLeft }
+
 -- one contest has the line, and the other has no selection
 abbrev one : SelectionMap
-one n = sole n.class n.keys n.write_in n.order n.label n.identifier
-
-abbrev other : SelectionMap
-other n = None
+one = by_parts sole
 
 abbrev only : SelectionDifference
-only = record { name = line; how = OnlyLeft }
+only = left_alone line
 
 agree : (c : Class) (ks : List Key) (w : Bool) (o : Option ℤ) (l : Option (List ℕ)) (i : Option Key)
-    → AgreeBut (λ how. Stands (record { name = record { class = c; keys = ks; write_in = w; order = o; label = l; identifier = i }; how = how }) (only ∷ [])) (sole c ks w o l i) (other line)
+    → AgreeBut (λ how. Stands (record { name = record { class = c; keys = ks; write_in = w; order = o; label = l; identifier = i }; how = how }) (only ∷ [])) (sole c ks w o l i) (without_selections line)
 agree class.CandidateSelection [] true None None None = inl refl
 agree c ks w o l i = tt
 
-pub are_all : AreSelectionDifferences one other (only ∷ [])
+pub are_all : AreSelectionDifferences one without_selections (only ∷ [])
 unfolding IsStrictlySortedBy
 are_all = record { rise = (tt, tt); differ = (refl, tt); all = λ n. agree n.class n.keys n.write_in n.order n.label n.identifier }
 
 -- a list that leaves it out, one that has it twice, and one on the other side
-not_without : AreSelectionDifferences one other [] → ⊥
+not_without : AreSelectionDifferences one without_selections [] → ⊥
 not_without h = h.all line
 
-not_twice : AreSelectionDifferences one other (only ∷ only ∷ []) → ⊥
+not_twice : AreSelectionDifferences one without_selections (only ∷ only ∷ []) → ⊥
 unfolding IsStrictlySortedBy
 not_twice h = absurd (cc h.rise.0.0)
 
-not_turned : AreSelectionDifferences one other (record { name = line; how = OnlyRight } ∷ []) → ⊥
+not_turned : AreSelectionDifferences one without_selections (record { name = line; how = OnlyRight } ∷ []) → ⊥
 not_turned h = absurd (cc h.differ.0)
 
 -- ---- a member that differs

@@ -1,11 +1,12 @@
 -- What a bound lets be told of a contest whose selections differ: how long names and differences are, and which lists are told.
-use Rattle.erd_compare.proofs.Common.{◌≡◌, ◌≢◌, ℕ, zero, ◌≤◌, Bool, false, List, [], ◌∷◌, Some, None, Option, codes, bytes_eq, sym, refl, ap, ◌∙◌, subst, inl, inr, arith, class, Class, Key, local_key, Meaning, ObjectRecord, a_selection_map, SelectionRecord, NameParts, Difference, Member, OnlyLeft, part, Family, family}
+use Rattle.erd_compare.proofs.Common.{[], ◌≡◌, ◌≢◌, ℕ, zero, ◌≤◌, Bool, false, List, ◌∷◌, Some, None, Option, codes, bytes_eq, sym, refl, ap, ◌∙◌, subst, inl, inr, arith, class, Class, Key, local_key, Meaning, ObjectRecord, a_selection_map, SelectionRecord, NameParts, Difference, Member, part, Family, family}
 use Rattle.std.specs.List.Sorted.{IsStrictlySortedBy}
 use Rattle.std.specs.List.{IsDistinct}
 use Rattle.std.specs.Prelude.{ℤ, if◌then◌else◌, sum_by}
 use Rattle.std.specs.Global.{Vec}
 use Rattle.std.proofs.lemmas.List.Sums.{sum_by-cons}
 use Rattle.erd_compare.specs.Differences.{AgreeBut, Stands}
+use Rattle.erd_compare.proofs.examples.SelectionDifferenceExamples.{by_parts, left_alone, without_selections}
 use Rattle.erd_compare.specs.SelectionDifferences.{difference_size, name_size, AreNamesOf, AreSelectionDifferences, AreTold, SelectionMap, Takes}
 use Rattle.erd_compare.specs.declared.detailed.DetailedDifference.{DetailedDifference}
 use Rattle.erd_compare.specs.declared.inside.SelectionDifference.{SelectionDifference}
@@ -23,13 +24,10 @@ sole c ks w o l i = None
 
 -- one contest has it, and the other has no selection
 abbrev one : SelectionMap
-one n = sole n.class n.keys n.write_in n.order n.label n.identifier
-
-abbrev other : SelectionMap
-other n = None
+one = by_parts sole
 
 abbrev only : SelectionDifference
-only = record { name = labelled; how = OnlyLeft }
+only = left_alone labelled
 
 -- ---- names and sizes
 
@@ -49,16 +47,16 @@ names_of_one = record { once = (tt, tt); all = λ n. (here n, has_it n.class n.k
     here n (inl same) none = let clash : one labelled ≡ None = ap one same ∙ none in cc
     here n (inr never) none = absurd never
 
-names_of_other : AreNamesOf other []
+names_of_other : AreNamesOf without_selections []
 unfolding IsDistinct
 names_of_other = record { once = tt; all = λ n. ((λ none. absurd none), (λ some. absurd (some refl))) }
 
 agree : (c : Class) (ks : List Key) (w : Bool) (o : Option ℤ) (l : Option (List ℕ)) (i : Option Key)
-    → AgreeBut (λ how. Stands (record { name = record { class = c; keys = ks; write_in = w; order = o; label = l; identifier = i }; how = how }) (only ∷ [])) (sole c ks w o l i) (other labelled)
+    → AgreeBut (λ how. Stands (record { name = record { class = c; keys = ks; write_in = w; order = o; label = l; identifier = i }; how = how }) (only ∷ [])) (sole c ks w o l i) (without_selections labelled)
 agree class.BallotMeasureSelection [] false None (Some (zero ∷ [])) None = inl refl
 agree c ks w o l i = tt
 
-are_all : AreSelectionDifferences one other (only ∷ [])
+are_all : AreSelectionDifferences one without_selections (only ∷ [])
 unfolding IsStrictlySortedBy
 are_all = record { rise = (tt, tt); differ = (refl, tt); all = λ n. agree n.class n.keys n.write_in n.order n.label n.identifier }
 
@@ -82,16 +80,16 @@ abbrev detailed : Option (Vec SelectionDifference) → DetailedDifference
 detailed told = record { difference = in_selections; selections = told }
 
 abbrev Told : (first most : ℕ) → Option (Vec SelectionDifference) → Type 0
-Told first most told = AreTold (meaning_of one) (meaning_of other) first 0 most (detailed told ∷ [])
+Told first most told = AreTold (meaning_of one) (meaning_of without_selections) first 0 most (detailed told ∷ [])
 
 -- the name takes one byte, and the difference one more
-takes : (most : ℕ) → Takes (meaning_of one) (meaning_of other) 0 most in_selections 2
+takes : (most : ℕ) → Takes (meaning_of one) (meaning_of without_selections) 0 most in_selections 2
 takes most =
     ((λ _. record { left = labelled ∷ []; right = []; inside = only ∷ []; left_names = names_of_one; right_names = names_of_other; differences = λ _. are_all; counted = refl }), (λ outside. absurd (cc outside)))
 
 -- two bytes are enough
 pub told : (v : Vec SelectionDifference) → v.items ≡ only ∷ [] → Told 0 2 (Some v)
-told v items = (2, takes 2, (refl, omega arith, subst (AreSelectionDifferences one other) (sym items) are_all), tt)
+told v items = (2, takes 2, (refl, omega arith, subst (AreSelectionDifferences one without_selections) (sym items) are_all), tt)
 
 -- and one is not, nor is anything told before the first
 pub untold : Told 0 1 None × Told 1 2 None

@@ -5,9 +5,7 @@ use Rattle.std.proofs.lemmas.List.Kept.{Contains-dedup_nat, Contains-from_dedup,
 use Rattle.std.proofs.lemmas.List.Sorted.{list_any-IsPermutation}
 use Rattle.std.proofs.lemmas.Map.Views.{Contains-from_any}
 use Rattle.erd_meaning.proofs.orders.DistinctEntries.{set_unique}
-use Rattle.erd_compare.proofs.same_ranks.KeyRanks.{both_keys, one_rank}
-use Rattle.erd_compare.proofs.same_ranks.KeyPlaces.{Stands}
-use Rattle.erd_compare.proofs.same_ranks.NamedRanks.{value_named, value_known}
+use Rattle.erd_compare.proofs.same_ranks.KeyRanks.{both_keys, one_rank, Stands, value_named, value_known}
 
 -- ---- the ranks of references
 

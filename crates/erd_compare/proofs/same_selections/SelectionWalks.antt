@@ -1,10 +1,83 @@
--- The selections of two contests by the numbers of their names: what the right has at each name of the left is taken out.
-use Rattle.erd_compare.proofs.Common.{◌≡◌, ℕ, suc, Bool, true, false, cond, ◌⊎◌, List, [], ◌∷◌, length, ◌==◌, Some, None, Option, option_map, find, option_and_then, sym, refl, ap, ◌∙◌, subst, inl, inr, arith, Bor, fun_ext, AllByRecursion, Data, view, Value, Class, Judged, Preference, plain_member, selection_record, name_in_class, selection_role, ◌↔◌, IsDistinct, option_eq, find-Some, SelectionRecord, number_of_name, Decides, IsWholeTree, on_side, has_number, IsByNumber, numbered_map, ComparedReport, Left, Right, In-all, key_named}
-use Rattle.std.specs.Map.{keys_of, lookup}
+-- The selections of a contest are put into a map one after another, the first of each name. Names are given by their numbers.
+use Rattle.erd_compare.proofs.Common.{◌≡◌, ℕ, Bool, true, false, cond, List, [], ◌∷◌, map, is_some, ◌==◌, Some, None, Option, option_map, find, sym, refl, ap, ◌∙◌, true≢false, Bor, Decides-eqb, option_eq, option_or, Data, view, Value, Judged, number_of_selection, has_number, IsByNumber, ComparedReport, suc, ◌⊎◌, length, option_and_then, subst, inl, inr, arith, fun_ext, AllByRecursion, Class, Preference, plain_member, selection_record, name_in_class, selection_role, ◌↔◌, IsDistinct, find-Some, SelectionRecord, number_of_name, Decides, IsWholeTree, on_side, numbered_map, Left, Right, In-all, key_named, not, IfSome, IfOk, Ok, Err, Result, array, no_items, item, kind_of_member, family, MemberKind, kind, entries_of, PlainValue, MemberValue, a_plain, NameParts, selection_map, member_value, a_selection_map, plain_found, member_found, is_selections, if_filled, selections_meant}
+use Rattle.std.specs.Map.{lookup, keys_of}
 use Rattle.erd_check.specs.Wants.{class_of_object}
 use Rattle.erd_meaning.proofs.identity.ObjectFamilies.{itself}
-use Rattle.erd_compare.proofs.same_selections.NameMaps.{one_number}
 use Rattle.erd_compare.proofs.whole_trees.WholeTrees.{AreWholeTrees}
+use Rattle.erd_compare.specs.code.DifferingNames.{GoesOn}
+use Rattle.erd_compare.specs.declared.objects.differing_names.PairsLeft.{PairsLeft}
+use Rattle.erd_compare.proofs.differing.Walks.{none_there}
+
+-- selections by their names
+abbrev pub Named : Type 0
+Named = List (ℕ × Bor Value)
+
+-- the selection of a name
+abbrev pub at_name : Named → ℕ → Option (Bor Value)
+at_name m q = lookup (λ l. q == l) m
+
+abbrev pub had : Named → ℕ → Option Data
+had m q = option_map (λ v. view v.now) (at_name m q)
+
+-- there is the first selection of each name, but for these, which are left
+abbrev pub IsFilling : Judged → Judged → ComparedReport → List Value → List Value → Named → Type 0
+IsFilling a b side all left m = (q : ℕ) → option_or (had m q) (find (has_number a b side q) (map view left)) ≡ find (has_number a b side q) (map view all)
+
+-- numbers that pass the test are one
+pub one_number : (k q : ℕ) → (k == q) ≡ true → k ≡ q
+one_number k q e = (Decides-eqb k q).0 e
+
+module _ (a b : Judged) (side : ComparedReport) where
+  pub none_put : (all left : List Value) (m : Named) → left ≡ all → m ≡ [] → IsFilling a b side all left m
+  none_put all left m is none q = rw none (ap (λ vs. find (has_number a b side q) (map view vs)) is)
+
+  pub all_put : (all left : List Value) (m : Named) → left ≡ [] → IsFilling a b side all left m → IsByNumber a b side (map view all) m
+  all_put all left m is h q = unless_left (had m q) ∙ (ap (λ vs. option_or (had m q) (find (has_number a b side q) (map view vs))) (sym is) ∙ h q)
+    where
+      unless_left : (o : Option Data) → o ≡ option_or o None
+      unless_left None = refl
+      unless_left (Some d) = refl
+
+  -- a selection without a name
+  pub unnamed : (all left : List Value) (v : Value) (m : Named) → None ≡ number_of_selection a b side (view v) → IsFilling a b side all (v ∷ left) m → IsFilling a b side all left m
+  unnamed all left v m nameless h q =
+      ap (λ yes. option_or (had m q) (cond yes (Some (view v)) (find (has_number a b side q) (map view left)))) (ap (λ o. option_eq ◌==◌ o (Some q)) nameless) ∙ h q
+
+  -- the test of a selection that has the name
+  tested : (v : Value) (k q : ℕ) → Some k ≡ number_of_selection a b side (view v) → has_number a b side q (view v) ≡ (k == q)
+  tested v k q named = ap (λ o. option_eq ◌==◌ o (Some q)) (sym named)
+
+  -- a selection with a name that the map has
+  pub named_before : (all left : List Value) (v : Value) (k : ℕ) (m : Named) → Some k ≡ number_of_selection a b side (view v) → is_some (at_name m k) ≡ true → IsFilling a b side all (v ∷ left) m → IsFilling a b side all left m
+  named_before all left v k m named before h q = at q (at_name m q) refl ∙ h q
+    where
+      other : (q : ℕ) → at_name m q ≡ None → (yes : Bool) → (k == q) ≡ yes → yes ≡ false
+      other q none true e = absurd (true≢false (sym before ∙ (ap (λ x. is_some (at_name m x)) (one_number k q e) ∙ ap is_some none)))
+      other q none false e = refl
+
+      at : (q : ℕ) (o : Option (Bor Value)) → at_name m q ≡ o
+          → option_or (option_map (λ (w : Bor Value). view w.now) o) (find (has_number a b side q) (map view left)) ≡ option_or (option_map (λ (w : Bor Value). view w.now) o) (find (has_number a b side q) (map view (v ∷ left)))
+      at q (Some w) e = refl
+      at q None e = sym (ap (λ yes. cond yes (Some (view v)) (find (has_number a b side q) (map view left))) (tested v k q named ∙ other q e ((k == q)) refl))
+
+  -- a selection with a new name, which is put into the map
+  pub named_first : (all left : List Value) (v : Value) (w : Bor Value) (k : ℕ) (m n : Named) → Some k ≡ number_of_selection a b side (view v) → is_some (at_name m k) ≡ false
+      → ((q : ℕ) → at_name n q ≡ cond (k == q) (Some w) (at_name m q)) → w.now ≡ v → IsFilling a b side all (v ∷ left) m → IsFilling a b side all left n
+  named_first all left v w k m n named new updates is h q =
+      (ap (λ o. option_or (option_map (λ (x : Bor Value). view x.now) o) (find (has_number a b side q) (map view left))) (updates q) ∙ at q ((k == q)) refl) ∙ h q
+    where
+      none : (o : Option (Bor Value)) → is_some o ≡ false → o ≡ None
+      none None e = refl
+      none (Some x) e = cc
+
+      at : (q : ℕ) (yes : Bool) → (k == q) ≡ yes
+          → option_or (option_map (λ (x : Bor Value). view x.now) (cond yes (Some w) (at_name m q))) (find (has_number a b side q) (map view left)) ≡ option_or (had m q) (find (has_number a b side q) (map view (v ∷ left)))
+      at q true e =
+          sym (ap (λ o. option_or (option_map (λ (x : Bor Value). view x.now) o) (find (has_number a b side q) (map view (v ∷ left)))) (ap (at_name m) (sym (one_number k q e)) ∙ none (at_name m k) new)
+          ∙ (ap (λ yes. cond yes (Some (view v)) (find (has_number a b side q) (map view left))) (tested v k q named ∙ e) ∙ ap (λ x. Some (view x)) (sym is)))
+      at q false e = sym (ap (λ yes. option_or (had m q) (cond yes (Some (view v)) (find (has_number a b side q) (map view left)))) (tested v k q named ∙ e))
+
+-- ---- the selections of two contests by the numbers of their names: what the right has at each name of the left is taken out
 
 -- ---- entries of a map
 
@@ -184,3 +257,77 @@ module _ {a b : Judged} {ds es : List Data} where
   pub ended : (answer : Bool) {ls : List Entry} (rs : List Entry) → ls ≡ [] → AreSelectionsLeft a b ds es ls rs → ((answer ≡ true) ↔ (length rs ≡ 0)) → Decides answer (ones a b ds es) (others a b ds es)
   ended answer [] end h empty = (λ _. all_passed (subst (λ xs. AreSelectionsLeft a b ds es xs []) end h), λ _. empty.1 refl)
   ended answer (g ∷ rs) end h empty = (λ told. let none : suc (length rs) ≡ 0 = empty.0 told in cc, λ same. absurd (right_alone g rs (subst (λ xs. AreSelectionsLeft a b ds es xs (g ∷ rs)) end h) same))
+
+-- ---- what members mean: the selections of a contest, and all others, which mean what they do by themselves
+
+-- ---- selections
+
+-- the map that a member is, and an empty one of any other
+abbrev map_in : Option MemberValue → NameParts → Option SelectionRecord
+map_in (Some (a_selection_map m)) = m
+map_in found = λ name. None
+
+-- a value that was found, as its data
+abbrev pub seen : Option (Bor Value) → Option Data
+seen found = option_map (λ v. view v.now) found
+
+-- a member that is no empty array is there
+pub filled-there : (found : Option Data) (v : Data) → if_filled found ≡ Some v → found ≡ Some v
+filled-there None v e = e
+filled-there (Some (array no_items)) v e = cc
+filled-there (Some (array (item d ds))) v e = e
+filled-there (Some d) v e = e
+
+-- a value that is no empty array is the one that was found, and a whole tree if that is one
+pub whole_filled : (o : Option (Bor Value)) (v : Data) → IfSome o (λ w. IsWholeTree (view w.now)) → if_filled (option_map (λ w. view w.now) o) ≡ Some v → IsWholeTree v
+whole_filled None v whole e = cc
+whole_filled (Some w) v whole e =
+    let same : Some (view w.now) ≡ Some v = filled-there (Some (view w.now)) v e in
+    let is : view w.now ≡ v = cc in
+    subst IsWholeTree is whole
+
+-- the selections of a member that is no empty array
+selections_meant-filled : (π : Preference) (t : Data) (found : Option Data) (v : Data) → if_filled found ≡ Some v → selections_meant π t found ≡ Some (a_selection_map (selection_map π t (entries_of v)))
+selections_meant-filled π t found v e = subst (λ o. selections_meant π t o ≡ Some (a_selection_map (selection_map π t (entries_of v)))) (sym (filled-there found v e)) (at v (subst (λ o. if_filled o ≡ Some v) (filled-there found v e) e))
+  where
+    at : (d : Data) → if_filled (Some d) ≡ Some d → selections_meant π t (Some d) ≡ Some (a_selection_map (selection_map π t (entries_of d)))
+    at (array no_items) e = cc
+    at (array (item d ds)) e = refl
+    at d e = refl
+
+-- two contests have the same selections exactly if the maps of their entries are the same
+pub selections-Decide : (π ρ : Preference) {E : Type 0} (r : Result Bool E) (t u d e : Data) (found other : Option Data) (ds es : List Data) → if_filled found ≡ Some d → if_filled other ≡ Some e → ds ≡ entries_of d → es ≡ entries_of e
+    → IfOk r (λ answer. Decides answer (selection_map π t ds) (selection_map ρ u es)) → IfOk r (λ answer. Decides answer (selections_meant π t found) (selections_meant ρ u other))
+selections-Decide π ρ (Err x) t u d e found other ds es left right of_d of_e h = tt
+selections-Decide π ρ (Ok answer) t u d e found other ds es left right of_d of_e h = (
+  λ is. selections_meant-filled π t found d left ∙ ap (λ m. Some (a_selection_map m)) (sym (ap (selection_map π t) of_d) ∙ h.0 is ∙ ap (selection_map ρ u) of_e) ∙ sym (selections_meant-filled ρ u other e right),
+  λ same. h.1 (ap (selection_map π t) of_d ∙ ap map_in (sym (selections_meant-filled π t found d left) ∙ same ∙ selections_meant-filled ρ u other e right) ∙ sym (ap (selection_map ρ u) of_e)),
+)
+
+-- ---- other members
+
+-- what a member means that it does by itself is determined by that
+pub one_plain : (p q : Option PlainValue) → option_map a_plain p ≡ option_map a_plain q → p ≡ q
+one_plain None None same = refl
+one_plain (Some v) (Some w) same = cc
+one_plain p q same = cc
+
+pub plain-Decides : (answer : Bool) (p q : Option PlainValue) → Decides answer p q → Decides answer (option_map a_plain p) (option_map a_plain q)
+plain-Decides answer p q h = (λ is. ap (option_map a_plain) (h.0 is), λ same. h.1 (one_plain p q same))
+
+-- what all members mean by themselves is the same exactly if there is no name at which they differ
+pub plain_maps-Decide : (p q : List ℕ → Option PlainValue) (left : PairsLeft) (found : Option (List ℕ)) → GoesOn (λ k. option_map a_plain (p k)) (λ k. option_map a_plain (q k)) [] left found → Decides (not (is_some found)) p q
+plain_maps-Decide p q left None end = (λ h. fun_ext (λ k. one_plain (p k) (q k) (none_there end k)), λ same. refl)
+plain_maps-Decide p q left (Some name) next = (λ h. cc, λ same. absurd (next.differ.0 (ap (λ (m : List ℕ → Option PlainValue). option_map a_plain (m name)) same)))
+
+-- members of a kind other than selections mean the same exactly if they do so by themselves
+other_kind : (π ρ : Preference) (answer : Bool) (t u : Data) (k : MemberKind) (found other : Option Data) (p q : Option PlainValue) → is_selections k ≡ false
+    → Decides answer p q → Decides answer (member_value π t k found p) (member_value ρ u k other q)
+other_kind π ρ answer t u (kind.Keyed family.Selection) found other p q is h = cc
+other_kind π ρ answer t u k found other p q is h = plain-Decides answer p q h
+
+pub other_member : {E : Type 0} (a b : Judged) (c : Class) (name : List ℕ) (found other : Option Data) (r : Result Bool E) → is_selections (kind_of_member c name) ≡ false
+    → IfOk r (λ answer. Decides answer (plain_found a.prefer (view a.tree) c name found) (plain_found b.prefer (view b.tree) c name other))
+    → IfOk r (λ answer. Decides answer (member_found a.prefer (view a.tree) c name found) (member_found b.prefer (view b.tree) c name other))
+other_member a b c name found other (Ok answer) is h = other_kind a.prefer b.prefer answer (view a.tree) (view b.tree) (kind_of_member c name) found other _ _ is h
+other_member a b c name found other (Err e) is h = tt

@@ -1,9 +1,9 @@
 -- What two objects have under one name, and what a test of such pairs decides.
-use Rattle.std.specs.Prelude.{◌≡◌, ℕ, List, Bool, None, option_map}
+use Rattle.std.specs.Prelude.{◌≡◌, ℕ, List, Bool, None, option_map, IfSome}
 use Rattle.serde_json.specs.Data.{Data}
 use Rattle.serde_json.specs.Find.{get}
 use Rattle.serde_json.specs.View.{view}
-use Rattle.erd_compare.specs.code.Comparing.{Decides}
+use Rattle.erd_compare.specs.code.Comparing.{Decides, IsWholeTree}
 use Rattle.erd_compare.specs.code.LeastNames.{MemberMap}
 use Rattle.erd_compare.specs.declared.objects.differing_names.MemberPair.{MemberPair}
 
@@ -11,6 +11,10 @@ use Rattle.erd_compare.specs.declared.objects.differing_names.MemberPair.{Member
 pub record IsPairOf (d e : Data) (pair : MemberPair) : Type 0 where
   pub one : option_map (λ v. view v.now) pair.one ≡ get pair.name.now d
   pub other : option_map (λ v. view v.now) pair.other ≡ get pair.name.now e
+
+-- What the pair has are trees whose numbers are whole.
+abbrev pub IsWholePair : MemberPair → Type 0
+IsWholePair pair = IfSome pair.one (λ v. IsWholeTree (view v.now)) × IfSome pair.other (λ v. IsWholeTree (view v.now))
 
 -- The map has nothing at a name that the object has not.
 abbrev pub IsMapOf : Data → MemberMap → Type 0

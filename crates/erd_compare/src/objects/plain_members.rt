@@ -1,6 +1,7 @@
-ghost use Rattle.std.specs.Prelude.{◌≡◌, option_map, IfOk, IfSome};
-ghost use Rattle.erd_compare.specs.Words.{view, entries_of, is_in_envelope, json_set, plain_value};
+ghost use Rattle.std.specs.Prelude.{◌≡◌, option_map, IfOk};
+ghost use Rattle.erd_compare.specs.Words.{view, entries_of, is_in_envelope, json_set};
 ghost use Rattle.erd_compare.specs.code.Comparing.{Decides, IsWholeTree, NamesKeys};
+ghost use Rattle.erd_compare.specs.code.MemberPairs.{IsWholePair};
 ghost use Rattle.erd_compare.specs.code.PlainParts.{means_nothing, meant_value, plain_found};
 
 use crate::comparer::Comparer;
@@ -21,8 +22,7 @@ pub(crate) fn is_same_plain_member(
     class: Class,
     pair: MemberPair,
 ) -> Result<bool, AllocError>
-    requires one { IfSome pair.one (λ v. IsWholeTree (view v.now)) }
-    requires other { IfSome pair.other (λ v. IsWholeTree (view v.now)) }
+    requires whole { IsWholePair pair }
     ensures { IfOk result (λ answer. Decides answer (plain_found comparer.now.left.prefer (view comparer.now.left.tree) class pair.entry.name.now (option_map (λ v. view v.now) pair.entry.one))
         (plain_found comparer.now.right.prefer (view comparer.now.right.tree) class pair.entry.name.now (option_map (λ v. view v.now) pair.entry.other))) }
 {
@@ -31,7 +31,11 @@ pub(crate) fn is_same_plain_member(
     }
     let kind = member_kind(class, pair.name);
     match (pair.one, pair.other) {
-        (Some(one), Some(other)) => is_same_plain(comparer, kind, one, other),
+        (Some(one), Some(other)) => match (means_nothing(kind, one), means_nothing(kind, other)) {
+            (true, true) => Ok(true),
+            (false, false) => is_same_meant(comparer, one, other, kind),
+            _ => Ok(false),
+        },
         (Some(one), None) => Ok(means_nothing(kind, one)),
         (None, Some(other)) => Ok(means_nothing(kind, other)),
         (None, None) => Ok(true),
@@ -49,31 +53,12 @@ fn is_in_envelope(class: Class, name: &str) -> bool
     }
 }
 
-/// Returns whether two values of members of the same kind mean the same, apart from the objects inside them.
-fn is_same_plain(
-    comparer: &Comparer,
-    kind: MemberKind,
-    one: &Value,
-    other: &Value,
-) -> Result<bool, AllocError>
-    requires one { IsWholeTree (view one.now) }
-    requires other { IsWholeTree (view other.now) }
-    requires keyed { NamesKeys kind }
-    ensures { IfOk result (λ answer. Decides answer (plain_value comparer.now.left.prefer (view comparer.now.left.tree) kind (view one.now)) (plain_value comparer.now.right.prefer (view comparer.now.right.tree) kind (view other.now))) }
-{
-    match (means_nothing(kind, one), means_nothing(kind, other)) {
-        (true, true) => Ok(true),
-        (false, false) => is_same_meant(comparer, kind, one, other),
-        _ => Ok(false),
-    }
-}
-
 /// Returns whether two values of members of the same kind mean the same. Both mean something.
 fn is_same_meant(
     comparer: &Comparer,
-    kind: MemberKind,
     one: &Value,
     other: &Value,
+    kind: MemberKind,
 ) -> Result<bool, AllocError>
     requires one { IsWholeTree (view one.now) }
     requires other { IsWholeTree (view other.now) }

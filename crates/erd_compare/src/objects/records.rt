@@ -1,10 +1,11 @@
-ghost use Rattle.std.specs.Prelude.{◌≡◌, map, option_map, true, IfOk, IfSome};
+ghost use Rattle.std.specs.Prelude.{◌≡◌, map, option_map, true, IfOk};
 ghost use Rattle.erd_compare.specs.Words.{view, role_of_class, kind_of_member, object_record};
 ghost use Rattle.erd_meaning.specs.Records.{member_of_class};
 ghost use Rattle.erd_compare.specs.code.Comparing.{IsWholeTree, Decides};
 ghost use Rattle.erd_compare.specs.code.DifferingNames.{AreNames};
 ghost use Rattle.erd_compare.specs.code.DifferingWays.{AreWays};
 ghost use Rattle.erd_compare.specs.code.LeastNames.{IsObject};
+ghost use Rattle.erd_compare.specs.code.MemberPairs.{IsWholePair};
 ghost use Rattle.erd_compare.specs.code.PlacedObjects.{AreSelectionsAt, IsPlaced};
 ghost use Rattle.erd_compare.specs.code.PlainParts.{member_found};
 ghost use Rattle.erd_compare.specs.code.SelectionMembers.{is_selections};
@@ -12,7 +13,7 @@ ghost use Rattle.erd_compare.specs.code.SelectionMembers.{is_selections};
 use crate::comparer::Comparer;
 use crate::objects::differing_names::{MemberPair, PairsLeft};
 use crate::objects::plain_members::is_same_plain_member;
-use crate::objects::selections::{PlacedMember, is_same_selections};
+use crate::objects::selections::is_same_selections;
 use crate::objects::ways::Ways;
 use erd_check::values::class_of_object;
 use erd_tables::{Class, Family, MemberKind, Role, member_kind};
@@ -103,23 +104,14 @@ fn is_same_member(
     position: usize,
     other_position: usize,
 ) -> Result<bool, AllocError>
-    requires one { IfSome pair.one (λ v. IsWholeTree (view v.now)) }
-    requires other { IfSome pair.other (λ v. IsWholeTree (view v.now)) }
+    requires whole { IsWholePair pair }
     requires one_placed { is_selections (kind_of_member class pair.name.now) ≡ true → AreSelectionsAt comparer.now.left position (option_map (λ v. view v.now) pair.one) }
     requires other_placed { is_selections (kind_of_member class pair.name.now) ≡ true → AreSelectionsAt comparer.now.right other_position (option_map (λ v. view v.now) pair.other) }
     ensures { IfOk result (λ answer. Decides answer (member_found comparer.now.left.prefer (view comparer.now.left.tree) class pair.entry.name.now (option_map (λ v. view v.now) pair.entry.one))
         (member_found comparer.now.right.prefer (view comparer.now.right.tree) class pair.entry.name.now (option_map (λ v. view v.now) pair.entry.other))) }
 {
     if is_selections(member_kind(class, pair.name)) {
-        let one = PlacedMember {
-            value: pair.one,
-            index: position,
-        };
-        let other = PlacedMember {
-            value: pair.other,
-            index: other_position,
-        };
-        is_same_selections(comparer, one, other)
+        is_same_selections(comparer, pair, position, other_position)
     } else {
         is_same_plain_member(comparer, class, pair)
     }

@@ -1,14 +1,15 @@
-ghost use Rattle.std.specs.Prelude.{◌≡◌, map, option_map, IfOk, IfSome};
+ghost use Rattle.std.specs.Prelude.{◌≡◌, map, option_map, IfOk};
 ghost use Rattle.erd_compare.specs.Words.{AllByRecursion, view, plain_member, selection_map, selection_record};
 ghost use Rattle.erd_compare.specs.code.Comparing.{Decides, IsWholeTree};
 ghost use Rattle.erd_compare.specs.code.LeastNames.{IsObject};
+ghost use Rattle.erd_compare.specs.code.MemberPairs.{IsWholePair};
 ghost use Rattle.erd_compare.specs.code.RankedSides.{on_side};
 ghost use Rattle.erd_compare.specs.code.PlacedObjects.{AreSelectionsIn, AreSelectionsAt};
 ghost use Rattle.erd_compare.specs.code.SelectionMembers.{if_filled, selections_meant};
 ghost use Rattle.erd_compare.specs.code.SelectionsByName.{IsByNumber};
 
 use crate::comparer::Comparer;
-use crate::objects::differing_names::PairsLeft;
+use crate::objects::differing_names::{MemberPair, PairsLeft};
 use crate::objects::plain_members::is_same_plain_member;
 use crate::ranks::common_ranks::ComparedReport;
 use erd_check::values::{class_of_object, entries_of, is_empty_array};
@@ -17,13 +18,6 @@ use indexmap::IndexMap;
 use serde_json::Value;
 use std::alloc::AllocError;
 
-/// The value of a member, if the object has the member, and the position of the object among those of its role.
-#[derive(Clone, Copy)]
-pub(crate) struct PlacedMember<'a> {
-    pub(crate) value: Option<&'a Value>,
-    pub(crate) index: usize,
-}
-
 /// The selections of a contest, and the position of the contest.
 #[derive(Clone, Copy)]
 struct Selections<'a> {
@@ -31,28 +25,29 @@ struct Selections<'a> {
     contest: usize,
 }
 
-/// Returns whether the selections of two contests mean the same. An empty array of selections means the same as no array.
+/// Returns whether the selections of two contests at these positions mean the same. An empty array of selections means the same
+/// as no array.
 pub(crate) fn is_same_selections(
     comparer: &Comparer,
-    one: PlacedMember,
-    other: PlacedMember,
+    pair: MemberPair,
+    position: usize,
+    other_position: usize,
 ) -> Result<bool, AllocError>
-    requires one { IfSome one.value (λ v. IsWholeTree (view v.now)) }
-    requires other { IfSome other.value (λ v. IsWholeTree (view v.now)) }
-    requires one_placed { AreSelectionsAt comparer.now.left one.index (option_map (λ v. view v.now) one.value) }
-    requires other_placed { AreSelectionsAt comparer.now.right other.index (option_map (λ v. view v.now) other.value) }
-    ensures { IfOk result (λ answer. Decides answer (selections_meant comparer.now.left.prefer (view comparer.now.left.tree) (option_map (λ v. view v.now) one.entry.value))
-        (selections_meant comparer.now.right.prefer (view comparer.now.right.tree) (option_map (λ v. view v.now) other.entry.value))) }
+    requires whole { IsWholePair pair }
+    requires one_placed { AreSelectionsAt comparer.now.left position (option_map (λ v. view v.now) pair.one) }
+    requires other_placed { AreSelectionsAt comparer.now.right other_position (option_map (λ v. view v.now) pair.other) }
+    ensures { IfOk result (λ answer. Decides answer (selections_meant comparer.now.left.prefer (view comparer.now.left.tree) (option_map (λ v. view v.now) pair.entry.one))
+        (selections_meant comparer.now.right.prefer (view comparer.now.right.tree) (option_map (λ v. view v.now) pair.entry.other))) }
 {
-    match (filled(one.value), filled(other.value)) {
+    match (filled(pair.one), filled(pair.other)) {
         (Some(ones), Some(others)) => {
             let ones = Selections {
                 values: entries_of(ones),
-                contest: one.index,
+                contest: position,
             };
             let others = Selections {
                 values: entries_of(others),
-                contest: other.index,
+                contest: other_position,
             };
             is_same_selection_map(comparer, ones, others)
         }

@@ -41,7 +41,7 @@ impl CommonRanks {
         ensures all { IfOk result (AreAllCommonRanks left.now right.now) }
         ensures by_rank { IfOk result (AreCommonByRank left.now right.now) }
     {
-        let families = PerFamily::of(|family| ranks_of_family(alloc, left, right, family))?;
+        let families = PerFamily::of(|family| ranks_of_family(alloc, family, left, right))?;
         let elections = common_ranks(alloc, left, right, Role::Election)?;
         Ok(CommonRanks {
             families,
@@ -76,9 +76,9 @@ impl CommonRanks {
 /// an empty list.
 fn ranks_of_family(
     alloc: Global,
+    family: Family,
     left: &Report,
     right: &Report,
-    family: Family,
 ) -> Result<Vec<usize>, AllocError>
     requires left { IsComparable left.now.prefer (view left.now.tree) }
     requires right { IsComparable right.now.prefer (view right.now.tree) }

@@ -1,7 +1,7 @@
 ghost use Rattle.std.specs.Prelude.{◌≡◌, true, map, option_and_then};
-ghost use Rattle.erd_compare.specs.Words.{AllByRecursion, Data, as_str, view, Preference, has_keys, text_at, no_content, content_of, node_of, contest_node, header_node, class_of_node, is_header_class, key_named, name_named};
+ghost use Rattle.erd_compare.specs.Words.{AllByRecursion, Data, as_str, view, Preference, has_keys, text_at, carried_members, no_content, content_of, node_of, contest_node, header_node, class_of_node, is_header_class, key_named, name_named};
 ghost use Rattle.erd_compare.specs.code.Comparing.{Decides, IsWholeTree};
-ghost use Rattle.erd_compare.specs.code.ContentParts.{content_within, plain_node};
+ghost use Rattle.erd_compare.specs.code.ContentParts.{content_within, outside_of, plain_node};
 
 use crate::comparer::Comparer;
 use crate::ranks::common_ranks::ComparedReport;
@@ -56,34 +56,23 @@ fn is_same_node(comparer: &Comparer, one: &Value, other: &Value) -> bool
     if let (Some(one), Some(other)) = (plain_contest(one), plain_contest(other)) {
         return is_same_plain_contest(comparer, one, other);
     }
-    let class = class_of_node(one);
-    let other_class = class_of_node(other);
-    match (is_header(class), is_header(other_class)) {
-        (true, true) => is_same_header(comparer, class, one, other_class, other),
+    match (is_header(one), is_header(other)) {
+        (true, true) => is_same_header(comparer, one, other),
         (true, false) => false,
         (false, true) => false,
-        (false, false) => is_same_contest(comparer, class, one, other_class, other),
+        (false, false) => is_same_contest(comparer, one, other),
     }
 }
 
-/// Returns whether two headers, which are of these classes, mean the same.
+/// Returns whether two headers mean the same.
 #[cycle(content)]
-fn is_same_header(
-    comparer: &Comparer,
-    class: Option<Class>,
-    one: &Value,
-    other_class: Option<Class>,
-    other: &Value,
-) -> bool
+fn is_same_header(comparer: &Comparer, one: &Value, other: &Value) -> bool
     requires one { IsWholeTree (view one.now) }
     requires other { IsWholeTree (view other.now) }
-    requires class { class ≡ class_of_node (view one.now) }
-    requires other_class { other_class ≡ class_of_node (view other.now) }
     ensures { Decides result (header_node comparer.now.left.prefer (view comparer.now.left.tree) (view one.now) (content_within comparer.now.left.prefer (view comparer.now.left.tree) (view one.now)))
         (header_node comparer.now.right.prefer (view comparer.now.right.tree) (view other.now) (content_within comparer.now.right.prefer (view comparer.now.right.tree) (view other.now))) }
 {
-    is_same_owner(comparer, Family::Header, "HeaderId", one, other)
-        && is_same_carried(class, one, other_class, other)
+    is_same_outside(comparer, Family::Header, "HeaderId", one, other)
         && is_same_within(comparer, one, other)
 }
 
@@ -109,23 +98,14 @@ fn has_no_content(value: &Value) -> bool
     entries_of(value).is_empty()
 }
 
-/// Returns whether two contests in the contents of a ballot, which are of these classes, mean the same.
-fn is_same_contest(
-    comparer: &Comparer,
-    class: Option<Class>,
-    one: &Value,
-    other_class: Option<Class>,
-    other: &Value,
-) -> bool
+/// Returns whether two contests in the contents of a ballot mean the same.
+fn is_same_contest(comparer: &Comparer, one: &Value, other: &Value) -> bool
     requires one { IsWholeTree (view one.now) }
     requires other { IsWholeTree (view other.now) }
-    requires class { class ≡ class_of_node (view one.now) }
-    requires other_class { other_class ≡ class_of_node (view other.now) }
     ensures { Decides result (contest_node comparer.now.left.prefer (view comparer.now.left.tree) (view one.now)) (contest_node comparer.now.right.prefer (view comparer.now.right.tree) (view other.now)) }
 {
     let name = "OrderedContestSelectionIds";
-    is_same_owner(comparer, Family::Contest, "ContestId", one, other)
-        && is_same_carried(class, one, other_class, other)
+    is_same_outside(comparer, Family::Contest, "ContestId", one, other)
         && are_same_names(comparer, entries_at(one, name), entries_at(other, name))
 }
 
@@ -167,6 +147,33 @@ fn is_same_name(comparer: &Comparer, one: &Value, other: &Value) -> bool
         == number_of_name_named(comparer, ComparedReport::Right, other)
 }
 
+/// Returns whether two contests or headers mean the same apart from what stands inside them: the members with this name refer
+/// to objects of the family with the same key, and both carry the same members.
+fn is_same_outside(
+    comparer: &Comparer,
+    family: Family,
+    name: &str,
+    one: &Value,
+    other: &Value,
+) -> bool
+    requires one { IsWholeTree (view one.now) }
+    requires other { IsWholeTree (view other.now) }
+    requires keyed { has_keys family ≡ true }
+    ensures { Decides result (outside_of comparer.now.left.prefer (view comparer.now.left.tree) family name.now (view one.now))
+        (outside_of comparer.now.right.prefer (view comparer.now.right.tree) family name.now (view other.now)) }
+{
+    is_same_owner(comparer, family, name, one, other) && carries_the_same(one, other)
+}
+
+/// Returns whether two contests or headers carry the same members.
+fn carries_the_same(one: &Value, other: &Value) -> bool
+    requires one { IsWholeTree (view one.now) }
+    requires other { IsWholeTree (view other.now) }
+    ensures { Decides result (carried_members (class_of_node (view one.now)) (view one.now)) (carried_members (class_of_node (view other.now)) (view other.now)) }
+{
+    is_same_carried(class_of_node(one), one, class_of_node(other), other)
+}
+
 /// Returns whether the members with this name refer to objects of the family with the same key.
 fn is_same_owner(
     comparer: &Comparer,
@@ -192,11 +199,11 @@ fn is_same_target(comparer: &Comparer, family: Family, one: &str, other: &str) -
         == rank_with_id(comparer, ComparedReport::Right, family, other)
 }
 
-/// Returns whether the class is that of a header in the contents of a ballot.
-fn is_header(class: Option<Class>) -> bool
-    ensures { result ≡ is_header_class class }
+/// Returns whether a node of the contents of a ballot is a header.
+fn is_header(node: &Value) -> bool
+    ensures { result ≡ is_header_class (class_of_node (view node.now)) }
 {
-    matches!(class, Some(Class::OrderedHeader))
+    matches!(class_of_node(node), Some(Class::OrderedHeader))
 }
 
 /// Returns the class of a node of the contents of a ballot.

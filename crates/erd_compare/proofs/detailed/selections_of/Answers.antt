@@ -1,8 +1,8 @@
 use Rattle.erd_compare.proofs.Common.{◌≡◌, ℕ, ◌+◌, ◌-◌, true, false, Option, option_map, refl, ap, ◌∙◌, subst, rules, arith, IfOk-weaker, option_copied, view, Judged, meaning, Key}
 use Rattle.erd_compare.specs.SelectionDifferences.{is_in_selections, selections_with_key}
 use Rattle.erd_compare.specs.code.ContestSelections.{contest_map, names_in, size_in, PassesInside}
-use Rattle.erd_compare.proofs.contest_selections.ContestNames.{names_at}
-use Rattle.erd_compare.proofs.contest_selections.ToldBounds.{passed_before, passed_beside, passed_inside}
+use Rattle.erd_compare.proofs.contest_selections.AddedNames.{names_at}
+use Rattle.erd_compare.proofs.contest_selections.SelectionLists.{passed_before, passed_beside, passed_inside}
 use Rattle.erd_compare.proofs.detailed.selections_of.Goals as goal
 
 pub returns-then-room-gt0 : goal.returns-then-room-gt0

@@ -1,5 +1,5 @@
 use Rattle.erd_compare.proofs.Common.{◌≡◌, List, subst, IfOk-weaker, view, Judged, meaning, Difference, AreDifferences}
-use Rattle.erd_compare.proofs.differing.FirstOfAll.{first_of_all, has_each, none_or_same}
+use Rattle.erd_compare.proofs.differing.PartLists.{first_of_all, has_each, none_or_same}
 use Rattle.erd_compare.proofs.first.differences.Goals as goal
 
 -- all differences of the comparer's reports are those of the two

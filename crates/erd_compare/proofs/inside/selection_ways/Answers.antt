@@ -1,6 +1,6 @@
 use Rattle.erd_compare.proofs.Common.{[], sym, subst, Judged}
 use Rattle.erd_compare.specs.code.ContestSelections.{contest_map, differences_at, names_in_set, AddsNames}
-use Rattle.erd_compare.proofs.contest_selections.NameSets.{lent, names_rise}
+use Rattle.erd_compare.proofs.contest_selections.AddedNames.{lent, names_rise}
 use Rattle.erd_compare.proofs.contest_selections.SelectionLists.{ArePassed, both_names, next_passed, none_passed}
 use Rattle.erd_compare.proofs.inside.selection_ways.Goals as goal
 

@@ -1,5 +1,5 @@
 use Rattle.erd_compare.specs.code.ContestSelections.{contest_map, differences_at}
-use Rattle.erd_compare.proofs.contest_selections.NameSets.{lent}
+use Rattle.erd_compare.proofs.contest_selections.AddedNames.{lent}
 use Rattle.erd_compare.proofs.contest_selections.SelectionLists.{ArePassed}
 use Rattle.erd_compare.proofs.inside.selection_ways.Given as goal
 

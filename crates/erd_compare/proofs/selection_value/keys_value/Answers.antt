@@ -3,7 +3,7 @@ use Rattle.serde_json.specs.View.{items_of}
 use Rattle.serde_json.proofs.Views.{view-Array}
 use Rattle.erd_compare.specs.DifferenceLine.{key_as_json}
 use Rattle.erd_compare.proofs.contest_selections.AddedNames.{some_at}
-use Rattle.erd_compare.proofs.contest_selections.ValueLists.{all_values, one_value}
+use Rattle.erd_compare.proofs.contest_selections.SelectionLists.{all_values, one_value}
 use Rattle.erd_compare.proofs.selection_value.keys_value.Goals.{in-Some+in_ok-key_value+in_ok-push, in_default}
 use Rattle.erd_compare.proofs.selection_value.keys_value.Goals as goal
 

@@ -2,7 +2,7 @@ use Rattle.erd_compare.proofs.Common.{◌≡◌, ◌∙◌, length, slice_get, s
 use Rattle.serde_json.specs.View.{items_of}
 use Rattle.serde_json.proofs.Views.{view-Array}
 use Rattle.erd_compare.specs.SelectionData.{selection_data}
-use Rattle.erd_compare.proofs.contest_selections.ValueLists.{all_values, one_value}
+use Rattle.erd_compare.proofs.contest_selections.SelectionLists.{all_values, one_value}
 use Rattle.erd_compare.proofs.selection_value.selections_value.Goals as goal
 
 pub loop-selection-preserved : goal.loop-selection-preserved

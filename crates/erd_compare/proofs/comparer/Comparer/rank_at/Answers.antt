@@ -1,6 +1,6 @@
 use Rattle.erd_compare.proofs.Common.{◌≡◌, Some, option_map, refl, ◌∙◌, subst, view, Judged, rank_in_keys, keys_in_role, key_in_role, on_side, AreCommonByRank}
 use Rattle.erd_compare.specs.code.Compared.{Compared}
-use Rattle.erd_compare.proofs.same_ranks.NamedRanks.{rank_found}
+use Rattle.erd_compare.proofs.same_ranks.KeyRanks.{rank_found}
 use Rattle.erd_compare.proofs.comparer.Comparer.rank_at.Goals as goal
 
 pub returns : goal.returns

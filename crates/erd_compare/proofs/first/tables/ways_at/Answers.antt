@@ -1,5 +1,5 @@
 use Rattle.erd_compare.proofs.Common.{slice_get, Bool, Option, option_map, sym, ap, ◌∙◌, subst, IfOk-weaker, view, object_record, Key, Decides, TellsHeld, role_of_part, objects_in, holder_key_in, TellsAtPositions, AreWays}
-use Rattle.erd_compare.proofs.least_difference.KeyedRecords.{records_here, whole_here}
+use Rattle.erd_compare.proofs.least_difference.RisingKeys.{records_here, whole_here}
 use Rattle.erd_compare.proofs.first.tables.ways_at.Goals as goal
 
 pub object_ways-requires-clause-one : goal.object_ways-requires-clause-one

@@ -1,5 +1,5 @@
 use Rattle.erd_compare.proofs.Common.{◌≡◌, ◌++◌}
-use Rattle.erd_compare.proofs.differing.NamedDifferences.{named, named_from}
+use Rattle.erd_compare.proofs.differing.PartLists.{named, named_from}
 use Rattle.erd_compare.proofs.first.told.push_ways.Given as goal
 
 -- with those at the names that are left, all are appended

@@ -1,5 +1,5 @@
 use Rattle.erd_compare.proofs.Common.{rules}
-use Rattle.erd_compare.proofs.contest_selections.PlacedNames.{found_in}
+use Rattle.erd_compare.proofs.contest_selections.ContestRecords.{found_in}
 use Rattle.erd_compare.proofs.inside.named.selection_named.Goals as goal
 
 pub returns-in_err-index-clause-found : goal.returns-in_err-index-clause-found

@@ -1,6 +1,6 @@
 use Rattle.erd_compare.proofs.Common.{◌≡◌, true, Some, None, map, ap, subst, IfOk-weaker, view, Judged, selection_role, object_record, IsPlaced, AreWays}
 use Rattle.erd_compare.specs.code.ContestSelections.{contest_map, whole_record}
-use Rattle.erd_compare.proofs.contest_selections.NamedSelections.{first_named, left_alone, neither, right_alone, ways_of_both, whole_selection}
+use Rattle.erd_compare.proofs.contest_selections.ContestRecords.{first_named, left_alone, neither, right_alone, ways_of_both, whole_selection}
 use Rattle.erd_compare.proofs.inside.named.ways_of_name.Goals as goal
 
 pub object_ways-requires-clause-one : goal.object_ways-requires-clause-one

@@ -1,4 +1,4 @@
-use Rattle.erd_compare.proofs.contest_selections.NameSizes.{AreTaken}
+use Rattle.erd_compare.proofs.contest_selections.AddedNames.{AreTaken}
 use Rattle.erd_compare.proofs.inside.room.left_after_contest.Given as goal
 
 abbrev pub invariant-loop-index : goal.invariant-loop-index

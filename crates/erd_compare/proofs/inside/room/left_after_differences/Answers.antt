@@ -1,7 +1,7 @@
 use Rattle.erd_compare.proofs.Common.{◌≡◌, ◌+◌, ◌<◌, length, refl, subst, slice_get_read}
 use Rattle.std.specs.Prelude.{sum_by}
-use Rattle.erd_compare.proofs.contest_selections.ListSizes.{size_at, sizes_at}
-use Rattle.erd_compare.proofs.contest_selections.RoomSizes.{all_fit, one_does_not}
+use Rattle.erd_compare.proofs.contest_selections.SelectionLists.{size_at, sizes_at}
+use Rattle.erd_compare.proofs.contest_selections.AddedNames.{all_fit, one_does_not}
 use Rattle.erd_compare.proofs.inside.room.left_after_differences.Goals as goal
 
 pub returns-in_err-left : goal.returns-in_err-left

@@ -1,7 +1,7 @@
 use Rattle.erd_compare.proofs.Common.{◌≡◌, ◌+◌, ◌<◌, ◌≤◌, drop, sym, ap, ◌∙◌, subst, option_copied}
 use Rattle.std.specs.Prelude.{sum_by}
 use Rattle.erd_compare.specs.SelectionDifferences.{key_size}
-use Rattle.erd_compare.proofs.contest_selections.RoomSizes.{all_fit, no_entry, one_does_not, one_fits}
+use Rattle.erd_compare.proofs.contest_selections.AddedNames.{all_fit, no_entry, one_does_not, one_fits}
 use Rattle.erd_compare.proofs.inside.room.left_after_keys.Goals.{in-Some+in_ok-left, in_default}
 use Rattle.erd_compare.proofs.inside.room.left_after_keys.Goals as goal
 

@@ -1,5 +1,5 @@
 use Rattle.erd_compare.proofs.Common.{sym, ◌∙◌, subst, true≢false, Some, record_in_election, AreWays, DifferInNames}
-use Rattle.erd_compare.proofs.differing.HeldNames.{ways_of_one, ways_of_two}
+use Rattle.erd_compare.proofs.differing.RecordWays.{ways_of_one, ways_of_two}
 use Rattle.erd_compare.proofs.objects.held.held_ways.Goals as goal
 
 pub returns-then-is_same_holder : goal.returns-then-is_same_holder

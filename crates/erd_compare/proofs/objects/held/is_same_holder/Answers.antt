@@ -1,4 +1,4 @@
-use Rattle.erd_compare.proofs.same_ranks.NamedRanks.{holders_decide}
+use Rattle.erd_compare.proofs.same_ranks.KeyRanks.{holders_decide}
 use Rattle.erd_compare.proofs.objects.held.is_same_holder.Goals as goal
 
 pub returns : goal.returns

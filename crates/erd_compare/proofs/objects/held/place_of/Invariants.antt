@@ -1,5 +1,5 @@
 use Rattle.erd_compare.proofs.Common.{◌≡◌, ◌+◌, drop}
-use Rattle.erd_compare.proofs.differing.HeldNames.{lesser_count}
+use Rattle.erd_compare.proofs.differing.RecordWays.{lesser_count}
 use Rattle.erd_compare.proofs.objects.held.place_of.Given as goal
 
 abbrev pub invariant-loop-place : goal.invariant-loop-place

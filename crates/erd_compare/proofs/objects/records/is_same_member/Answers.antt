@@ -1,6 +1,6 @@
 -- Members that are no selections mean what they do by themselves.
 use Rattle.erd_compare.proofs.Common.{sym, ap, ◌∙◌, is_selections}
-use Rattle.erd_compare.proofs.same_selections.MemberValues.{other_member, seen}
+use Rattle.erd_compare.proofs.same_selections.SelectionWalks.{other_member, seen}
 use Rattle.erd_compare.proofs.objects.records.is_same_member.Goals as goal
 
 pub returns-else-is_selections : goal.returns-else-is_selections

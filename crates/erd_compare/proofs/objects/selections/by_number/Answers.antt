@@ -1,7 +1,7 @@
 use Rattle.erd_compare.proofs.Common.{◌≡◌, ℕ, ◌+◌, ◌<◌, List, ◌∷◌, map, length, get_or, drop, slice_get, Some, option_map, option_and_then, sym, refl, ap, ◌∙◌, subst, arith, drop_more, drop_all, slice_get-map, slice_get_within, slice_get_read, view, Value, family, Judged, selections_before, Placed, objects, number_of_selection, AreSelectionsIn, on_side}
 use Rattle.erd_meaning.proofs.selections.ContestSelections.{stand_from_start}
 use Rattle.erd_compare.proofs.same_selections.PlacedSelections.{stands_after}
-use Rattle.erd_compare.proofs.same_selections.NameMaps.{IsFilling, all_put, named_before, named_first, none_put, unnamed}
+use Rattle.erd_compare.proofs.same_selections.SelectionWalks.{IsFilling, all_put, named_before, named_first, none_put, unnamed}
 use Rattle.erd_compare.proofs.objects.selections.by_number.Goals.{in-Some+then-not-contains_key+in_ok-insert, in-Some+else-not-contains_key, in_default}
 use Rattle.erd_compare.proofs.objects.selections.by_number.Goals as goal
 

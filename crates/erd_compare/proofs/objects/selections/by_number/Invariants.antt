@@ -1,5 +1,5 @@
 use Rattle.erd_compare.proofs.Common.{drop}
-use Rattle.erd_compare.proofs.same_selections.NameMaps.{IsFilling}
+use Rattle.erd_compare.proofs.same_selections.SelectionWalks.{IsFilling}
 use Rattle.erd_compare.proofs.objects.selections.by_number.Given as goal
 
 abbrev pub invariant-loop-index : goal.invariant-loop-index

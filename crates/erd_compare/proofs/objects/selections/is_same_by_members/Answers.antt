@@ -1,7 +1,7 @@
 use Rattle.erd_compare.proofs.Common.{◌≡◌, ℕ, Bool, true, false, not, List, [], is_some, Some, None, Option, option_map, refl, ap, subst, Bor, rules, view, PlainValue, a_plain, plain_member, absent_plain, Decides, plain_found, MemberMap, IsMapOf}
-use Rattle.erd_compare.proofs.differing.NamePairs.{goes_from}
-use Rattle.erd_compare.proofs.same_values.EqualOptions.{decides_as}
-use Rattle.erd_compare.proofs.same_selections.MemberValues.{plain-Decides, plain_maps-Decide, seen}
+use Rattle.erd_compare.proofs.differing.Walks.{goes_from}
+use Rattle.erd_compare.proofs.same_values.SameValues.{decides_as}
+use Rattle.erd_compare.proofs.same_selections.SelectionWalks.{plain-Decides, plain_maps-Decide, seen}
 use Rattle.erd_compare.proofs.objects.selections.is_same_by_members.Goals as goal
 
 none_told : (found : Option (Bor (List ℕ))) (none : Bool) → is_some found ≡ not none → not (is_some (option_map (λ (s : Bor (List ℕ)). s.now) found)) ≡ none

@@ -1,6 +1,6 @@
 use Rattle.erd_compare.proofs.Common.{◌≡◌, ℕ, ◌+◌, ◌<◌, ◌≤◌, true, List, [], ◌∷◌, ◌++◌, length, slice_get, Some, Option, Ordering, Less, Equal, Greater, sym, ap, ◌∙◌, subst, arith, length-map, slice_get_within, option_cmp, Data, view, Role, key_cmp, Preference, rising_positions, at_low, KeyPosition, Key, next_cmp, keys_in_role, is_ranked, rising_in_role, IsComparable}
 use Rattle.erd_compare.proofs.least_difference.RisingKeys.{entries, entry_keys, keys_rise}
-use Rattle.erd_compare.proofs.same_ranks.MergedKeys.{IsMergedTo, all_merged, both_done, equal_key, next_above, next_there, one_passed, other_done}
+use Rattle.erd_compare.proofs.same_ranks.KeyRanks.{IsMergedTo, all_merged, both_done, equal_key, next_above, next_there, one_passed, other_done}
 use Rattle.erd_compare.proofs.ranks.merging.common_ranks.Goals as goal
 
 -- there are as many rising positions as rising keys

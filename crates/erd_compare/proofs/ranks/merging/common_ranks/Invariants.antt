@@ -1,5 +1,5 @@
 use Rattle.erd_compare.proofs.Common.{◌+◌, ◌-◌, length, view, rising_in_role}
-use Rattle.erd_compare.proofs.same_ranks.MergedKeys.{IsMergedTo}
+use Rattle.erd_compare.proofs.same_ranks.KeyRanks.{IsMergedTo}
 use Rattle.erd_compare.proofs.ranks.merging.common_ranks.Given as goal
 
 abbrev pub invariant-loop-ones : goal.invariant-loop-ones

@@ -1,5 +1,5 @@
 use Rattle.erd_compare.proofs.Common.{Some, option_map, sym, ap, ◌∙◌, ap₂, numbered_parts}
-use Rattle.erd_compare.proofs.same_ranks.NamesOnSides.{told_at, told_name}
+use Rattle.erd_compare.proofs.same_ranks.NameNumbers.{told_at, told_name}
 use Rattle.erd_compare.proofs.ranks.name_numbers.name_at.Goals as goal
 
 pub returns-in_ok-ranks-in-Some : goal.returns-in_ok-ranks-in-Some

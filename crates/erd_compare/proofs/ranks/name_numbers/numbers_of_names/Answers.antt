@@ -1,5 +1,5 @@
 use Rattle.erd_compare.proofs.Common.{◌<◌, ◌≤◌, map, length, Some, None, Option, option_map, option_and_then, sym, ap, ◌∙◌, subst, view, family, RankedParts, numbered_name_cmp, Placed, objects, at_low, with_ranks, numbered_name_cmp_total, numbered_name_cmp_exact, name_told, name_eq}
-use Rattle.erd_compare.proofs.same_ranks.InsertedKeys.{inserted_seen, next, none_left, place_seen}
+use Rattle.erd_compare.proofs.same_ranks.NameNumbers.{inserted_seen, next, none_left, place_seen}
 use Rattle.erd_compare.proofs.ranks.name_numbers.numbers_of_names.Goals.{in-Some+in_ok-insert_full-in-Some, in-None}
 use Rattle.erd_compare.proofs.ranks.name_numbers.numbers_of_names.Goals as goal
 

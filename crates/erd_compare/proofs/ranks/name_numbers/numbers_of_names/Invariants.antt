@@ -1,5 +1,5 @@
 use Rattle.erd_compare.proofs.Common.{map, drop, view, family, numbered_name_cmp, objects, with_ranks, numbered_name_cmp_total, numbered_name_cmp_exact, name_told}
-use Rattle.erd_compare.proofs.same_ranks.InsertedKeys.{IsAdding}
+use Rattle.erd_compare.proofs.same_ranks.NameNumbers.{IsAdding}
 use Rattle.erd_compare.proofs.ranks.name_numbers.numbers_of_names.Given as goal
 
 abbrev pub invariant-loop-position : goal.invariant-loop-position

@@ -1,6 +1,6 @@
 -- The carried members are the chosen ones.
 use Rattle.erd_compare.proofs.Common.{Bool, sym, subst, view, carried_members, Decides, Carried}
-use Rattle.erd_compare.proofs.same_values.ChosenMembers.{carried_by_choice, chosen-Decides}
+use Rattle.erd_compare.proofs.same_values.SameValues.{carried_by_choice, chosen-Decides}
 use Rattle.erd_compare.proofs.values.chosen_members.is_same_carried.Goals as goal
 
 pub returns : goal.returns

@@ -1,14 +1,9 @@
-use Rattle.erd_compare.proofs.Common.{◌≡◌, ℕ, suc, ◌+◌, ◌<◌, ◌≤◌, true, List, [], ◌∷◌, map, length, get_or, codes, sym, refl, ap, ◌∙◌, subst, true≢false, arith, rules, AllByRecursion, view, items_view, Value, family, entries_of, text_at, carried_members, key_named, depth, ◌*◌, iter_rest, items_depth, the_lemmas, class_of_node, is_header_class, node_of, IsWholeTree}
+use Rattle.erd_compare.proofs.Common.{[], ◌≡◌, ℕ, suc, ◌+◌, ◌<◌, ◌≤◌, true, false, List, ◌∷◌, map, length, get_or, codes, sym, refl, ap, ◌∙◌, subst, arith, rules, AllByRecursion, view, items_view, Value, entries_of, depth, ◌*◌, iter_rest, items_depth, the_lemmas, node_of, IsWholeTree}
 use Rattle.serde_json.proofs.Views.{view-Array}
-use Rattle.erd_compare.specs.code.ContentParts.{content_within}
 use Rattle.erd_check.proofs.Lists.{list_of_items-items_of}
-use Rattle.erd_compare.proofs.same_values.EqualOptions.{decides_as}
-use Rattle.erd_compare.proofs.same_content.NodeParts.{decides_swap, entry_depth, get_depth, node_contest, node_header, within_decides}
-use Rattle.erd_compare.proofs.same_content.PlainNodes.{plain_means}
-use Rattle.erd_compare.proofs.same_content.SameContents.{content-Decides, content_of-none, contest-header, header-contest, header-Decides}
-use Rattle.erd_compare.proofs.same_content.StepByStep.{differ_here, one_further}
+use Rattle.erd_compare.proofs.same_values.SameValues.{decides_as}
+use Rattle.erd_compare.proofs.same_content.SameContents.{decides_swap, entry_depth, get_depth, nodes_decide, within_decides, plain_means, content-Decides, content_of-none, contest-header, header-contest, header-Decides, header-differs, differ_here, one_further}
 use Rattle.erd_compare.proofs.whole_trees.WholeTrees.{whole_tree-get, whole_value-index, whole_values-entries_of}
-use Rattle.erd_compare.proofs.values.content.+content.Goals.{is_same_header-then-is_same_owner, is_same_header-else-is_same_owner}
 use Rattle.erd_compare.proofs.values.content.+content.Goals as goal
 
 -- the entry at an index, where the list is lent
@@ -87,24 +82,16 @@ is_same_node-returns-in-Some-Some t c =
     c.is_same_plain_contest.ensures
 
 pub is_same_node-returns-in-true-true : goal.is_same_node-returns-in-true-true
-is_same_node-returns-in-true-true t c =
-    decides_as refl (sym (node_header c.args.comparer.now.left.prefer (view c.args.comparer.now.left.tree) (view c.args.one.now) (ap is_header_class (sym c.class_of_node-class.ensures) ∙ sym c.in-true-true.ensures))) (sym (node_header c.args.comparer.now.right.prefer (view c.args.comparer.now.right.tree) (view c.args.other.now) (ap is_header_class (sym c.class_of_node-other_class.ensures) ∙ sym c.in-true-true.ensures')))
-    c.is_same_header.ensures
+is_same_node-returns-in-true-true t c = nodes_decide c.args.comparer.now.left c.args.comparer.now.right (view c.args.one.now) (view c.args.other.now) true true c.in-true-true.ensures c.in-true-true.ensures' c.is_same_header.ensures
 
 pub is_same_node-returns-in-false-false : goal.is_same_node-returns-in-false-false
-is_same_node-returns-in-false-false t c =
-    decides_as refl (sym (node_contest c.args.comparer.now.left.prefer (view c.args.comparer.now.left.tree) (view c.args.one.now) (ap is_header_class (sym c.class_of_node-class.ensures) ∙ sym c.in-false-false.ensures))) (sym (node_contest c.args.comparer.now.right.prefer (view c.args.comparer.now.right.tree) (view c.args.other.now) (ap is_header_class (sym c.class_of_node-other_class.ensures) ∙ sym c.in-false-false.ensures')))
-    c.is_same_contest.ensures
+is_same_node-returns-in-false-false t c = nodes_decide c.args.comparer.now.left c.args.comparer.now.right (view c.args.one.now) (view c.args.other.now) false false c.in-false-false.ensures c.in-false-false.ensures' c.is_same_contest.ensures
 
 pub is_same_node-returns-in-true-false : goal.is_same_node-returns-in-true-false
-is_same_node-returns-in-true-false t c =
-    decides_as refl (sym (node_header c.args.comparer.now.left.prefer (view c.args.comparer.now.left.tree) (view c.args.one.now) (ap is_header_class (sym c.class_of_node-class.ensures) ∙ sym c.in-true-false.ensures))) (sym (node_contest c.args.comparer.now.right.prefer (view c.args.comparer.now.right.tree) (view c.args.other.now) (ap is_header_class (sym c.class_of_node-other_class.ensures) ∙ sym c.in-true-false.ensures')))
-    header-contest
+is_same_node-returns-in-true-false t c = nodes_decide c.args.comparer.now.left c.args.comparer.now.right (view c.args.one.now) (view c.args.other.now) true false c.in-true-false.ensures c.in-true-false.ensures' header-contest
 
 pub is_same_node-returns-in-false-true : goal.is_same_node-returns-in-false-true
-is_same_node-returns-in-false-true t c =
-    decides_as refl (sym (node_contest c.args.comparer.now.left.prefer (view c.args.comparer.now.left.tree) (view c.args.one.now) (ap is_header_class (sym c.class_of_node-class.ensures) ∙ sym c.in-false-true.ensures))) (sym (node_header c.args.comparer.now.right.prefer (view c.args.comparer.now.right.tree) (view c.args.other.now) (ap is_header_class (sym c.class_of_node-other_class.ensures) ∙ sym c.in-false-true.ensures')))
-    contest-header
+is_same_node-returns-in-false-true t c = nodes_decide c.args.comparer.now.left c.args.comparer.now.right (view c.args.one.now) (view c.args.other.now) false true c.in-false-true.ensures c.in-false-true.ensures' contest-header
 
 pub is_same_within-is_same_content-requires : goal.is_same_within-is_same_content-requires
 is_same_within-is_same_content-requires t c =
@@ -134,21 +121,8 @@ pub is_same_within-returns-in-None-None : goal.is_same_within-returns-in-None-No
 is_same_within-returns-in-None-None t c =
     within_decides c.args.comparer.now.left c.args.comparer.now.right (view c.args.one.now) (view c.args.other.now) true (sym c.in-None-None.ensures) (sym c.in-None-None.ensures') (λ h. refl, λ h. refl)
 
-pub is_same_header-returns-then-is_same_carried : goal.is_same_header-returns-then-is_same_carried
-is_same_header-returns-then-is_same_carried t c =
-    let left = view c.args.comparer.now.left.tree in
-    let right = view c.args.comparer.now.right.tree in
-    let d = view c.args.one.now in
-    let e = view c.args.other.now in
-    let k = key_named c.args.comparer.now.left.prefer left family.Header (text_at (codes "HeaderId") d) in
-    let l = key_named c.args.comparer.now.right.prefer right family.Header (text_at (codes "HeaderId") e) in
-    let m = carried_members (class_of_node d) d in
-    let n = carried_members (class_of_node e) e in
-    let both : (k ≡ l) × (m ≡ n) =
-    elim c.if-is_same_owner.branch [
-      | is_same_header-then-is_same_owner w ↦ (c.is_same_owner.ensures.0 w.if-is_same_owner.true, ap (λ x. carried_members x d) (sym c.requires.class) ∙ (w.is_same_carried.ensures.0 (sym w.value-is ∙ c.if-is_same_carried.true) ∙ ap (λ x. carried_members x e) c.requires.other_class))
-      | is_same_header-else-is_same_owner w ↦ absurd (true≢false (sym c.if-is_same_carried.true ∙ (w.value-is ∙ w.if-is_same_owner.false)))
-    ] in
-    header-Decides c.is_same_within.result k l (content_within c.args.comparer.now.left.prefer left d) (content_within c.args.comparer.now.right.prefer right e) m n
-    (λ h. (both.0, both.1, c.is_same_within.ensures.0 h))
-    (λ a b s. c.is_same_within.ensures.1 s)
+pub is_same_header-returns-then-is_same_outside : goal.is_same_header-returns-then-is_same_outside
+is_same_header-returns-then-is_same_outside t c = header-Decides c.is_same_outside.ensures c.if-is_same_outside.true c.is_same_within.ensures
+
+pub is_same_header-returns-else-is_same_outside : goal.is_same_header-returns-else-is_same_outside
+is_same_header-returns-else-is_same_outside t c = header-differs c.is_same_outside.ensures c.if-is_same_outside.false

@@ -1,5 +1,5 @@
 use Rattle.erd_compare.proofs.Common.{◌+◌, ◌*◌, map, drop, AllByRecursion, iter_rest, depth, items_depth, view, items_view, node_of, IsWholeTree}
-use Rattle.erd_compare.proofs.same_content.StepByStep.{AreSameIfLeft}
+use Rattle.erd_compare.proofs.same_content.SameContents.{AreSameIfLeft}
 use Rattle.erd_compare.proofs.values.content.+content.Given as goal
 
 abbrev pub invariant-are_same_nodes-loop-one : goal.invariant-are_same_nodes-loop-one

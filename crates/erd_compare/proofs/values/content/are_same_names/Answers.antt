@@ -1,5 +1,5 @@
 use Rattle.erd_compare.proofs.Common.{map, Option, option_and_then, sym, ◌∙◌, iter_rest, Data, as_str, view, Value, Preference, NameParts, name_named}
-use Rattle.erd_compare.proofs.same_content.StepByStep.{differ_here, one_further}
+use Rattle.erd_compare.proofs.same_content.SameContents.{differ_here, one_further}
 use Rattle.erd_compare.proofs.values.content.are_same_names.Goals as goal
 
 -- the name of the selection that a reference names

@@ -1,5 +1,5 @@
 use Rattle.erd_compare.proofs.Common.{map, drop, option_and_then, iter_rest, as_str, view, name_named}
-use Rattle.erd_compare.proofs.same_content.StepByStep.{AreSameIfLeft}
+use Rattle.erd_compare.proofs.same_content.SameContents.{AreSameIfLeft}
 use Rattle.erd_compare.proofs.values.content.are_same_names.Given as goal
 
 abbrev pub invariant-loop-one : goal.invariant-loop-one

@@ -1,6 +1,6 @@
 use Rattle.erd_compare.proofs.Common.{◌==◌, option_and_then, refl, ◌∙◌, ap₂, option_eq, as_str, view, name_named, Left, Right}
 use Rattle.erd_compare.proofs.same_ranks.NameNumbers.{names_decide, reference_named}
-use Rattle.erd_compare.proofs.same_values.EqualOptions.{decides_as}
+use Rattle.erd_compare.proofs.same_values.SameValues.{decides_as}
 use Rattle.erd_compare.proofs.values.content.is_same_name.Goals as goal
 
 pub returns : goal.returns

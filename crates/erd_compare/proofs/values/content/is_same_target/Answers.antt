@@ -1,5 +1,5 @@
 use Rattle.erd_compare.proofs.Common.{Some}
-use Rattle.erd_compare.proofs.same_ranks.NamedRanks.{values_decide}
+use Rattle.erd_compare.proofs.same_ranks.KeyRanks.{values_decide}
 use Rattle.erd_compare.proofs.values.content.is_same_target.Goals as goal
 
 pub returns : goal.returns

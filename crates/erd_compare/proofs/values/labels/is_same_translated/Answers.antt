@@ -1,7 +1,6 @@
 -- The members beside the translations, then the translations.
 use Rattle.erd_compare.proofs.Common.{◌≡◌, ℕ, Bool, true, false, cond, not, ◌&&◌, ◌||◌, List, map, IfOk, None, codes, Option, bytes_eq, refl, ◌∙◌, subst, ap₂, and_parts, and_from, IfOk-weaker, Data, get, view, entries_at, json_set, label_beside_text, are_same_members, translated, takes_name, chosen_in, translated_label, Decides, IsWholeTree, BesideText}
-use Rattle.erd_compare.proofs.same_values.ChosenMembers.{chosen-Decides}
-use Rattle.erd_compare.proofs.same_values.JsonSets.{first_answer, json_set-Decides, second_answer}
+use Rattle.erd_compare.proofs.same_values.SameValues.{chosen-Decides, first_answer, json_set-Decides, second_answer}
 use Rattle.erd_compare.proofs.whole_trees.WholeTrees.{whole_trees-entries_at, whole_values-entries_at}
 use Rattle.erd_compare.proofs.values.labels.is_same_translated.Goals as goal
 

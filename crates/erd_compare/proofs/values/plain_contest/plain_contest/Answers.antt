@@ -1,6 +1,6 @@
 use Rattle.erd_compare.proofs.Common.{◌≡◌, true, Some, codes, bytes_eq, sym, ap, ◌∙◌, rules, bytes_eq-Decides, no_members, member, as_str, as_object, view, members_view, class}
 use Rattle.erd_tables.specs.Classes.{text_of_class}
-use Rattle.erd_compare.proofs.same_content.PlainNodes.{plain_parts, table_members}
+use Rattle.erd_compare.proofs.same_content.SameContents.{plain_parts, table_members}
 use Rattle.erd_compare.proofs.values.plain_contest.plain_contest.Goals as goal
 
 pub returns-in-None : goal.returns-in-None

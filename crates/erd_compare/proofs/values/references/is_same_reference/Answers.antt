@@ -1,5 +1,5 @@
 use Rattle.erd_compare.proofs.Common.{as_str, view}
-use Rattle.erd_compare.proofs.same_ranks.NamedRanks.{values_decide}
+use Rattle.erd_compare.proofs.same_ranks.KeyRanks.{values_decide}
 use Rattle.erd_compare.proofs.values.references.is_same_reference.Goals as goal
 
 pub returns : goal.returns

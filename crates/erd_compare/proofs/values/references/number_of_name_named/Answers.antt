@@ -1,5 +1,5 @@
 use Rattle.erd_compare.proofs.Common.{ℕ, List, slice_get, Option, option_map, option_and_then, sym, ap, ◌∙◌, view, family, Judged, objects, name_named, number_of_name, on_side, ComparedReport}
-use Rattle.erd_compare.proofs.same_values.ReferencedKeys.{found_elsewhere, found_here, found_nowhere, number_kept, number_owned}
+use Rattle.erd_compare.proofs.same_values.SameValues.{found_elsewhere, found_here, found_nowhere, number_kept, number_owned}
 use Rattle.erd_compare.proofs.values.references.number_of_name_named.Goals as goal
 
 -- the number of the name that a text names

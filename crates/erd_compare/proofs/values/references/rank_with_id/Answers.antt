@@ -1,5 +1,5 @@
 use Rattle.erd_compare.proofs.Common.{slice_get, sym, ◌∙◌, view, objects, on_side}
-use Rattle.erd_compare.proofs.same_values.ReferencedKeys.{found_elsewhere, found_here, found_nowhere, rank_kept, rank_owned}
+use Rattle.erd_compare.proofs.same_values.SameValues.{found_elsewhere, found_here, found_nowhere, rank_kept, rank_owned}
 use Rattle.erd_compare.proofs.values.references.rank_with_id.Goals as goal
 
 pub returns-in_err-found : goal.returns-in_err-found

@@ -1,5 +1,5 @@
 -- Each value of either list is among the other exactly if the two are the same set.
-use Rattle.erd_compare.proofs.same_values.JsonSets.{first_answer, second_answer, values_decide}
+use Rattle.erd_compare.proofs.same_values.SameValues.{first_answer, second_answer, values_decide}
 use Rattle.erd_compare.proofs.values.sets.is_same_few.Goals as goal
 
 pub returns-then-are_among : goal.returns-then-are_among

@@ -1,6 +1,6 @@
 -- Each value of either list is in the set of the other exactly if the two are the same set.
 use Rattle.erd_compare.proofs.Common.{map, sym, ap, ◌∙◌, list_all, view}
-use Rattle.erd_compare.proofs.same_values.JsonSets.{first_answer, second_answer, stands_for, values_decide}
+use Rattle.erd_compare.proofs.same_values.SameValues.{first_answer, second_answer, stands_for, values_decide}
 use Rattle.erd_compare.proofs.values.sets.is_same_many.Goals.{else-are_in, then-are_in}
 use Rattle.erd_compare.proofs.values.sets.is_same_many.Goals as goal
 

@@ -1,5 +1,5 @@
 use Rattle.erd_compare.proofs.Common.{refl, sym, ap, subst, view, members_view, names, AreMembersOf}
-use Rattle.erd_compare.proofs.differing.NameWalks.{all_members, both_left}
+use Rattle.erd_compare.proofs.differing.Walks.{all_members, both_left}
 use Rattle.erd_compare.proofs.objects.differing_names.PairsLeft.of.Goals as goal
 
 pub returns-clause-stand : goal.returns-clause-stand
