@@ -1,20 +1,9 @@
 -- The members that are built: what is asked of them, and of which members of the report they are built.
 use Rattle.erd_normal.proofs.Common.{◌≡◌, ℕ, Bool, true, false, ◌&&◌, List, map, is_some, Some, codes, flat_map, bytes_eq, sym, refl, ap, ◌∙◌, subst, and_parts, list_all, Data, object, Members, get_member, role_of_class, family_of_class, rows_of_class, kind_of_identity, kind_of_member, Class, class, Family, family, Role, role, MemberKind, kind, entries_in, text_exact, kind_of_name, kind_of_id, list_of_items, entries_of, entries_at, values-placed_entries, values_in_elections, Skeleton, kind_of_type, has_keys, placed_entries, report_of, elections, objects, In, None, Option, option_map, option_and_then, Ordering, Equal, exact_bytes, option_map_or, match_ordering, no_members, member, text_cmp, IsTree, Preference, IsBeforeFirst, AreMembers, before_later, get_member-before, get_member-first, get_member-later, normal_members, normal_node_value, normal_content, normal_node_members, zero, suc, ◌⊎◌, if◌then◌else◌, inl, inr, AllByRecursion, array, Items, no_items, item, get_item, get, Step, At, Name, array_from, Within-step, of_role, wanted_within, lacks_none, member_within, Within, ShapeFault, NoneOf, class_of_object, is_report_class, member_want, entry_want, is_compared_set, Asked, asked, asked_of_member, asked_inside, Want, ClassText, Member, AsksObject, of_label, classed, Classed, is_required, ObjectAt, want_of_kind, Status, want_unless_status, Object, is_empty_array, [], length, nil_from_length, Decides-eqb}
+use Rattle.erd_meaning.specs.code.Spots.{member_name}
 use Rattle.erd_normal.proofs.lists.Lists.{IsPart, part_flat, part_self}
 
 -- ---- the names of the members that hold objects: what stands there is the array of the objects of the family
-
--- the name of the member that holds the objects of a family
-abbrev pub family_name : Family → List ℕ
-family_name family.Unit = codes "GpUnit"
-family_name family.Party = codes "Party"
-family_name family.Person = codes "Person"
-family_name family.Office = codes "Office"
-family_name family.Header = codes "Header"
-family_name family.Candidate = codes "Candidate"
-family_name family.Contest = codes "Contest"
-family_name family.Style = codes "BallotStyle"
-family_name family.Selection = codes "ContestSelection"
 
 -- objects with this role hold those of the family
 abbrev pub holds : Role → Family → Bool
@@ -35,7 +24,7 @@ is_report_role r = false
 
 -- what the table says of a member of this kind
 abbrev pub is_home : Class → List ℕ → MemberKind → Bool
-is_home c n (kind.Keyed f) = holds (role_of_class c) f && bytes_eq n (family_name f)
+is_home c n (kind.Keyed f) = holds (role_of_class c) f && bytes_eq n (member_name f)
 is_home c n kind.Elections = is_report_role (role_of_class c) && bytes_eq n (codes "Election")
 is_home c n kind.Identity = is_some (family_of_class c) && bytes_eq n (codes "@id")
 is_home c n (kind.Many f) = has_keys f
@@ -59,19 +48,19 @@ home c name = at (bytes_eq name (codes "@type")) refl (bytes_eq name (codes "@id
     at false is false is' =
         kind_of_name (λ m. is_home c m.name m.kind) (is_home c name) c name is is' (home_rows c) (λ m h e. subst (λ n. is_home c n m.kind ≡ true) (sym (text_exact name m.name e)) h) refl refl
 
-keyed_home : (c : Class) (name : List ℕ) (f : Family) → kind_of_member c name ≡ kind.Keyed f → (holds (role_of_class c) f ≡ true) × (bytes_eq name (family_name f) ≡ true)
-keyed_home c name f is = and_parts (holds (role_of_class c) f) (bytes_eq name (family_name f)) (subst (λ k. is_home c name k ≡ true) is (home c name))
+keyed_home : (c : Class) (name : List ℕ) (f : Family) → kind_of_member c name ≡ kind.Keyed f → (holds (role_of_class c) f ≡ true) × (bytes_eq name (member_name f) ≡ true)
+keyed_home c name f is = and_parts (holds (role_of_class c) f) (bytes_eq name (member_name f)) (subst (λ k. is_home c name k ≡ true) is (home c name))
 
-pub keyed_name : (c : Class) (name : List ℕ) (f : Family) → kind_of_member c name ≡ kind.Keyed f → name ≡ family_name f
-keyed_name c name f is = text_exact name (family_name f) (keyed_home c name f is).1
+pub keyed_name : (c : Class) (name : List ℕ) (f : Family) → kind_of_member c name ≡ kind.Keyed f → name ≡ member_name f
+keyed_name c name f is = text_exact name (member_name f) (keyed_home c name f is).1
 
 pub elections_name : (c : Class) (name : List ℕ) → kind_of_member c name ≡ kind.Elections → name ≡ codes "Election"
 elections_name c name is =
     text_exact name (codes "Election") (and_parts (is_report_role (role_of_class c)) (bytes_eq name (codes "Election")) (subst (λ k. is_home c name k ≡ true) is (home c name))).1
 
 -- contests alone hold selections
-pub contest_of_selections : (c : Class) (f : Family) → role_of_class c ≡ role.OfFamily f → kind_of_member c (family_name family.Selection) ≡ kind.Keyed family.Selection → f ≡ family.Contest
-contest_of_selections c f r is = at f (subst (λ q. holds q family.Selection ≡ true) r (keyed_home c (family_name family.Selection) family.Selection is).0)
+pub contest_of_selections : (c : Class) (f : Family) → role_of_class c ≡ role.OfFamily f → kind_of_member c (member_name family.Selection) ≡ kind.Keyed family.Selection → f ≡ family.Contest
+contest_of_selections c f r is = at f (subst (λ q. holds q family.Selection ≡ true) r (keyed_home c (member_name family.Selection) family.Selection is).0)
   where
     at : (f : Family) → holds (role.OfFamily f) family.Selection ≡ true → f ≡ family.Contest
     at family.Contest e = refl
@@ -82,7 +71,7 @@ contest_of_selections c f r is = at f (subst (λ q. holds q family.Selection ≡
 values_in_report : (t : Data) (s : Skeleton t) (name : List ℕ) → map (λ o. o.value) (placed_entries name (report_of t)) ≡ entries_in (get_member name s.ms)
 values_in_report t s name = values-placed_entries name (report_of t) ∙ ap (entries_at name) s.is_object
 
-pub report_objects : (t : Data) (s : Skeleton t) (f : Family) (d : Data) → kind_of_member class.ElectionReport (family_name f) ≡ kind.Keyed f → get_member (family_name f) s.ms ≡ Some d
+pub report_objects : (t : Data) (s : Skeleton t) (f : Family) (d : Data) → kind_of_member class.ElectionReport (member_name f) ≡ kind.Keyed f → get_member (member_name f) s.ms ≡ Some d
     → map (λ o. o.value) (objects f t) ≡ entries_of d
 report_objects t s family.Unit d is stands = values_in_report t s (codes "GpUnit") ∙ ap entries_in stands
 report_objects t s family.Party d is stands = values_in_report t s (codes "Party") ∙ ap entries_in stands
@@ -92,13 +81,13 @@ report_objects t s family.Header d is stands = values_in_report t s (codes "Head
 report_objects t s f d is stands = cc
 
 -- a member of the report holds all objects of its family
-pub report_part : (t : Data) (s : Skeleton t) (f : Family) (d : Data) → kind_of_member class.ElectionReport (family_name f) ≡ kind.Keyed f → get_member (family_name f) s.ms ≡ Some d
+pub report_part : (t : Data) (s : Skeleton t) (f : Family) (d : Data) → kind_of_member class.ElectionReport (member_name f) ≡ kind.Keyed f → get_member (member_name f) s.ms ≡ Some d
     → IsPart (entries_of d) (map (λ o. o.value) (objects f t))
 report_part t s f d is stands = subst (IsPart (entries_of d)) (sym (report_objects t s f d is stands)) (part_self (entries_of d))
 
 -- and one of an election some of them
-pub election_part : (t : Data) (s : Skeleton t) (e : Data) (ms : Members) → In e (list_of_items s.es) → e ≡ object ms → (f : Family) (d : Data) → kind_of_member class.Election (family_name f) ≡ kind.Keyed f
-    → get_member (family_name f) ms ≡ Some d → IsPart (entries_of d) (map (λ o. o.value) (objects f t))
+pub election_part : (t : Data) (s : Skeleton t) (e : Data) (ms : Members) → In e (list_of_items s.es) → e ≡ object ms → (f : Family) (d : Data) → kind_of_member class.Election (member_name f) ≡ kind.Keyed f
+    → get_member (member_name f) ms ≡ Some d → IsPart (entries_of d) (map (λ o. o.value) (objects f t))
 election_part t s e ms h same f d is stands = at f is stands
   where
     held : (name : List ℕ) → get_member name ms ≡ Some d → IsPart (entries_of d) (map (λ o. o.value) (flat_map (placed_entries name) (elections t)))
@@ -106,7 +95,7 @@ election_part t s e ms h same f d is stands = at f is stands
         subst (IsPart (entries_of d)) (sym (values_in_elections t s name))
         (subst (λ xs. IsPart xs (flat_map (entries_at name) (list_of_items s.es))) (ap (entries_at name) same ∙ ap entries_in found) (part_flat (entries_at name) (list_of_items s.es) e h))
 
-    at : (g : Family) → kind_of_member class.Election (family_name g) ≡ kind.Keyed g → get_member (family_name g) ms ≡ Some d → IsPart (entries_of d) (map (λ o. o.value) (objects g t))
+    at : (g : Family) → kind_of_member class.Election (member_name g) ≡ kind.Keyed g → get_member (member_name g) ms ≡ Some d → IsPart (entries_of d) (map (λ o. o.value) (objects g t))
     at family.Candidate k found = held (codes "Candidate") found
     at family.Contest k found = held (codes "Contest") found
     at family.Style k found = held (codes "BallotStyle") found

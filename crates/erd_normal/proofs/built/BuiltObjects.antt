@@ -1,8 +1,9 @@
 -- The objects that are built, with the report and the entries of arrays: what stands in them, of what they are built, and their
 -- keys, which do not depend on the order of identifiers.
 use Rattle.erd_normal.proofs.Common.{◌≡◌, ℕ, true, false, List, [], ◌∷◌, if◌then◌else◌, Some, None, codes, Option, option_and_then, bytes_eq, sym, refl, ap, ◌∙◌, subst, true≢false, and_parts, list_all, Data, object, Members, put, get_member, get, as_str, class_in_role, kind_of_member, class, role, ShapeFault, NoneOf, IsTree, class_of_object, Preference, get_member-put, is_envelope_name, text_exact, skeleton_of_shape, Skeleton, HasCanonicalEnvelope, put_all, normal_members, normal_object_with, normal_report_value, envelope_values, with_envelope, in_envelope, normal_tree, map, Class, Family, family, kind, entries_in, list_of_items, entries_of, entries_at, rising_list, compact_cmp, is_empty_array, list_of_items-items_of, unless_no_entry, array_of, normal_selection, by_key, by_name, normal_object, normal_election, Bool, option_map, same_Some, string, Role, ObjectAt, ObjectIn, asked, key_of, selection_role, within-tree, Object, id_of_key, id_of_selection, normal_value, normal_node_value, normal_content, normal_node, normal_object_value, normal_election_value, flat_map, Within, has_keys, placed_entries, report_of, elections, objects, values-placed_entries, values-placed_flat, election_entries, values_in_elections, election_within, election_object, contest_selections, class_role, reordered_rising, IsPermutation-map, In, is_lt, Ordering, Less, Equal, Greater, CmpEqualImpliesEq, IsTotalOrder, ordering_reverse, role_of_class, less, triple_of, key_of_identifiers, whole-reordered, Key, fun_ext, IsPermutation}
+use Rattle.erd_meaning.specs.code.Spots.{member_name}
 use Rattle.erd_normal.proofs.built.NormalTrees.{put_elsewhere, no_value, same_value, get_election, get_object, class_of_built, class_of_built_node, class_of_built_selection, get_election-type, get_node, get_object-id, get_selection, get_selection-id}
-use Rattle.erd_normal.proofs.built.BuiltFrom.{get_normal, Builder, BuiltObject, family_name, no_entry}
+use Rattle.erd_normal.proofs.built.BuiltFrom.{get_normal, Builder, BuiltObject, no_entry}
 use Rattle.erd_normal.proofs.lists.Matched.{Matched, matched_flat, matched_map, matched_then}
 use Rattle.erd_meaning.specs.code.ChosenKeys.{choice_cmp, choice_of, choice_of_two}
 use Rattle.erd_meaning.proofs.orders.ChoiceOrder.{choice_cmp_exact, choice_cmp_total, key_is_choice}
@@ -308,7 +309,7 @@ module _ (π : Preference) (t : Data) (clean : NoneOf (ShapeFault t)) (tree : Is
   objects_matched family.Contest k = in_elections (skeleton_of_shape t clean) family.Contest (codes "Contest") refl
   objects_matched family.Style k = in_elections (skeleton_of_shape t clean) family.Style (codes "BallotStyle") refl
   objects_matched family.Selection k = cc
-  objects_matched f k = in_report f (family_name f) refl refl
+  objects_matched f k = in_report f (member_name f) refl refl
 
 -- ---- the lesser of two
 

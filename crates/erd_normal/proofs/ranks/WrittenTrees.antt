@@ -1,8 +1,9 @@
 -- The objects of each election in the order of their keys, and the tree that is written of them.
 use Rattle.erd_normal.proofs.Common.{◌≡◌, ℕ, zero, suc, ◌+◌, ◌<◌, ◌≤◌, Bool, true, false, cond, List, [], ◌∷◌, ◌++◌, map, length, if◌then◌else◌, ◌==◌, slice_get, Some, None, codes, filter, Option, option_map, flat_map, option_and_then, bytes_eq, unwrap_or, sym, refl, ap, ◌∙◌, append-nil, arith, ne_eqb, Decides-eqb, length-map, filter-append, slice_get_past, options_total, enumerate_from, option_cmp, option_map_or, Data, Items, no_items, item, Family, family, Step, At, Name, list_of_items, entries_at, IsAccepted, has_keys, key_cmp, Preference, key_of, key_in, rising_keys, Placed, placed_from, placed_entries, report_of, elections, objects, election_of_place, rising_list, key_cmp_total, option_map-Some, skeleton, values-placed_entries, election_entries, Skeleton, by_first, rising_list_map, rising_election_keys, Key, in_order_of_keys, rising_objects, rising_elections, part_at, objects_in_part, by_key, In-filter, in_at, subst, ap₂, array, object, Members, no_members, member, get_member, get, role_of_class, kind_of_member, Class, class, Role, role, MemberKind, kind, entries_in, object_in, ObjectIn, In, Within, IsTree, entries_of, class_of_object, asked, AreMembers, get_member-first, within-tree, get_member-later, Object, no_shape_fault, election_stands, election_object, stands as standing, id_of_key, unless_no_entry, array_of, normal_members, normal_object_with, with_id, normal_selection, by_name, normal_object_value, normal_object, normal_election_value, normal_election, normal_report_value, in_envelope, normal_tree, map_from, written_selection, written_in_contest, written_object_value, written_object, written_objects, written_election_value, written_election, written_elections, written_report_value, view, Judged}
-use Rattle.erd_normal.proofs.built.BuiltFrom.{family_name, contest_of_selections, elections_name, keyed_name, report_objects, Builder}
+use Rattle.erd_meaning.specs.code.Spots.{member_name}
+use Rattle.erd_normal.proofs.built.BuiltFrom.{contest_of_selections, elections_name, keyed_name, report_objects, Builder}
 use Rattle.erd_text.proofs.StableRising.{map_after}
-use Rattle.erd_normal.proofs.ranks.SelectionRanks.{positions, stands, values_kept, values}
+use Rattle.erd_normal.proofs.ranks.SelectionRanks.{next, positions, stands, values_kept, values, Next}
 use Rattle.erd_normal.proofs.canonical.NormalKeys.{selection_ranks}
 use Rattle.erd_normal.proofs.lists.Lists.{maps_agree}
 
@@ -145,7 +146,7 @@ module _ (t : Data) (s : Skeleton t) (i : ℕ) (high : length (elections t) ≤ 
   none_held family.Contest keyed = none_in_elections (codes "Contest")
   none_held family.Style keyed = none_in_elections (codes "BallotStyle")
   none_held family.Selection keyed = cc
-  none_held f keyed = none_in_report (family_name f) refl
+  none_held f keyed = none_in_report (member_name f) refl
 
 pub no_part : (π : Preference) (t : Data) (f : Family) → IsAccepted π t → has_keys f ≡ true → (i : ℕ) → length (elections t) ≤ i → objects_in_part π t f i ≡ []
 no_part π t f accepted keyed i high =
@@ -165,6 +166,13 @@ pub lent_elections : (r s : Judged) → r ≡ s → map (λ (p : Option Key × �
 lent_elections r s same =
     positions (option_cmp key_cmp) (λ (o : Placed). key_of r.prefer o.value) (elections (view r.tree))
     ∙ ap (λ (j : Judged). map (λ (e : ℕ × Placed). e.0) (rising_elections j.prefer (view j.tree))) same
+
+-- the election that comes next
+pub next_election : (r s : Judged) (places : List ℕ) (k : ℕ) → places ≡ map (λ (p : Option Key × ℕ). p.1) (rising_election_keys r.prefer (view r.tree)) → r ≡ s → k < length places
+    → Next (rising_elections s.prefer (view s.tree)) (elections (view s.tree)) places k
+next_election r s places k are same low =
+    let es = rising_elections s.prefer (view s.tree) in
+    next es (elections (view s.tree)) places k (are ∙ lent_elections r s same) low (λ p e. stands (option_cmp key_cmp) (λ (o : Placed). key_of s.prefer o.value) (elections (view s.tree)) p (in_at es k p e))
 
 -- ---- the tree as it is written is the tree that is built for an accepted report
 
@@ -244,7 +252,7 @@ module _ (π : Preference) (t : Data) (accepted : IsAccepted π t) (tree : IsTre
 
   -- ---- the elections
 
-  keyed_in_election : (f : Family) → kind_of_member class.Election (family_name f) ≡ kind.Keyed f → has_keys f ≡ true
+  keyed_in_election : (f : Family) → kind_of_member class.Election (member_name f) ≡ kind.Keyed f → has_keys f ≡ true
   keyed_in_election family.Selection is = cc
   keyed_in_election f is = refl
 
@@ -256,7 +264,7 @@ module _ (π : Preference) (t : Data) (accepted : IsAccepted π t) (tree : IsTre
           ∙ values-placed_entries name e
 
       -- what the election holds
-      held_here : (f : Family) → kind_of_member class.Election (family_name f) ≡ kind.Keyed f → map (λ o. o.value) (filter (is_in i) (objects f t)) ≡ entries_at (family_name f) e.value
+      held_here : (f : Family) → kind_of_member class.Election (member_name f) ≡ kind.Keyed f → map (λ o. o.value) (filter (is_in i) (objects f t)) ≡ entries_at (member_name f) e.value
       held_here family.Candidate is = held (codes "Candidate")
       held_here family.Contest is = held (codes "Contest")
       held_here family.Style is = held (codes "BallotStyle")
@@ -264,8 +272,8 @@ module _ (π : Preference) (t : Data) (accepted : IsAccepted π t) (tree : IsTre
 
       election_value : (name : List ℕ) (v : Data) → get name e.value ≡ Some v → (k : MemberKind) → kind_of_member class.Election name ≡ k → written_election_value π t i k v ≡ normal_election_value π t k v
       election_value name v found (kind.Keyed f) named =
-          let called : name ≡ family_name f = keyed_name class.Election name f named in
-          let is : kind_of_member class.Election (family_name f) ≡ kind.Keyed f = ap (kind_of_member class.Election) (sym called) ∙ named in
+          let called : name ≡ member_name f = keyed_name class.Election name f named in
+          let is : kind_of_member class.Election (member_name f) ≡ kind.Keyed f = ap (kind_of_member class.Election) (sym called) ∙ named in
           ap (λ ds. unless_no_entry v (array_of ds))
           (objects_agree f (keyed_in_election f is) i (entries_of v) (held_here f is ∙ ap entries_in (ap (λ n. get n e.value) (sym called) ∙ found)))
       election_value name v found k named = refl
@@ -290,21 +298,21 @@ module _ (π : Preference) (t : Data) (accepted : IsAccepted π t) (tree : IsTre
 
     -- ---- the report
 
-    keyed_in_report : (f : Family) → kind_of_member class.ElectionReport (family_name f) ≡ kind.Keyed f → has_keys f ≡ true
+    keyed_in_report : (f : Family) → kind_of_member class.ElectionReport (member_name f) ≡ kind.Keyed f → has_keys f ≡ true
     keyed_in_report family.Selection is = cc
     keyed_in_report f is = refl
 
-    held_by_report : (f : Family) → kind_of_member class.ElectionReport (family_name f) ≡ kind.Keyed f → filter (is_in 0) (objects f t) ≡ objects f t
+    held_by_report : (f : Family) → kind_of_member class.ElectionReport (member_name f) ≡ kind.Keyed f → filter (is_in 0) (objects f t) ≡ objects f t
     held_by_report family.Candidate is = cc
     held_by_report family.Contest is = cc
     held_by_report family.Style is = cc
     held_by_report family.Selection is = cc
-    held_by_report f is = in_report_kept t (family_name f) refl 0
+    held_by_report f is = in_report_kept t (member_name f) refl 0
 
     report_value : (name : List ℕ) (v : Data) → get_member name s.ms ≡ Some v → (k : MemberKind) → kind_of_member class.ElectionReport name ≡ k → written_report_value π t name k v ≡ normal_report_value π t name k v
     report_value name v found (kind.Keyed f) named =
-        let called : name ≡ family_name f = keyed_name class.ElectionReport name f named in
-        let is : kind_of_member class.ElectionReport (family_name f) ≡ kind.Keyed f = ap (kind_of_member class.ElectionReport) (sym called) ∙ named in
+        let called : name ≡ member_name f = keyed_name class.ElectionReport name f named in
+        let is : kind_of_member class.ElectionReport (member_name f) ≡ kind.Keyed f = ap (kind_of_member class.ElectionReport) (sym called) ∙ named in
         ap (λ ds. unless_no_entry v (array_of ds))
         (objects_agree f (keyed_in_report f is) 0 (entries_of v) (ap (map (λ (o : Placed). o.value)) (held_by_report f is) ∙ report_objects t s f v is (ap (λ n. get_member n s.ms) (sym called) ∙ found)))
     report_value name v found kind.Elections named =

@@ -1,9 +1,10 @@
 -- The objects of a report, family by family, and their `@id`s.
 use Rattle.erd_normal.proofs.Common.{◌≡◌, ℕ, false, List, map, codes, flat_map, bytes_eq, Less, Equal, sym, ap, ◌∙◌, subst, tied_itself, Data, kind_of_member, class, Family, family, kind, entries_at, values-placed_entries, values-placed_flat, IsBefore, Placed, placed_entries, report_of, elections, contests, objects, Class, Role, MemberKind, role, is_in_envelope, role_of_class, report_class, election_class, contest_selections, is_envelope_name, refl, In, In-map, In-map_from, Bool, true, cond, ◌&&◌, [], is_some, Some, None, Option, option_map, option_and_then, and_parts, AllByRecursion, option_map_or, string, array, object, Items, Members, get_member, get_item, as_str, family_of_role, family_of_class, is_required, Step, At, string_from_text, text_exact, Within-step, wanted_within, Within, list_of_items, entries_of, class_of_object, scope_inside, want_of_kind, is_report_class, member_want, want_of_name, entry_want, Asked, asked, is_repeated, asked_at, scope, Want, Carried, ClassText, Member, Object, Reference, Status, no_shape_fault, owned, unrepeated_reference, class_role, IsAccepted, has_keys, Preference, owner, slice_get, find, IsDistinct, position_of, no_identity_fault, find-Some, has_id-Some, has_id-from, one_id, distinct_from_one_place, distinct_map, id_in, id_of, has_id, In-flat_map}
+use Rattle.erd_meaning.specs.code.Spots.{member_name}
 use Rattle.erd_tables.specs.Places.{place_cmp}
 use Rattle.erd_tables.proofs.PlaceOrder.{place_cmp_total}
 use Rattle.erd_normal.proofs.lists.Matched.{Matched, matched_flat, find_values}
-use Rattle.erd_normal.proofs.built.BuiltFrom.{all_items, family_name, holds, home, is_home, is_report_role}
+use Rattle.erd_normal.proofs.built.BuiltFrom.{all_items, holds, home, is_home, is_report_role}
 use Rattle.erd_normal.proofs.same.Related.{entry_has}
 use Rattle.erd_normal.proofs.throughout.ThroughoutMembers.{all_inside}
 
@@ -215,7 +216,7 @@ module _ (t : Data) (ms : Members) (x : Data) where
   nested_entry : (name : List ℕ) (ds : List Data) → In (object ms) ds → get_member name ms ≡ Some x → (y : Data) → In y (entries_of x) → In y (flat_map (entries_at name) ds)
   nested_entry name ds part found y h = In-flat_map (entries_at name) y (object ms) ds part (found_entry name ms x y found h)
 
-  home_entry : (r : Role) (f : Family) → holds r f ≡ true → IsPart t (Object r) (object ms) → get_member (family_name f) ms ≡ Some x → (y : Data) → In y (entries_of x) → In y (family_values f t)
+  home_entry : (r : Role) (f : Family) → holds r f ≡ true → IsPart t (Object r) (object ms) → get_member (member_name f) ms ≡ Some x → (y : Data) → In y (entries_of x) → In y (family_values f t)
   home_entry role.Report family.Unit p part found = top_entry (codes "GpUnit") part found
   home_entry role.Report family.Party p part found = top_entry (codes "Party") part found
   home_entry role.Report family.Person p part found = top_entry (codes "Person") part found
@@ -241,8 +242,8 @@ module _ (t : Data) (ms : Members) (x : Data) where
   kind_part r c n (kind.One f) required role at part found = tt
   kind_part r c n kind.Carried required role at part found = tt
   kind_part r c n (kind.Keyed f) required role at part found =
-      let b = and_parts (holds (role_of_class c) f) (bytes_eq n (family_name f)) at in
-      home_entry r f (subst (λ q. holds q f ≡ true) role b.0) part (subst (λ z. get_member z ms ≡ Some x) (text_exact n (family_name f) b.1) found)
+      let b = and_parts (holds (role_of_class c) f) (bytes_eq n (member_name f)) at in
+      home_entry r f (subst (λ q. holds q f ≡ true) role b.0) part (subst (λ z. get_member z ms ≡ Some x) (text_exact n (member_name f) b.1) found)
   kind_part r c n kind.Elections required role at part found =
       let b = and_parts (is_report_role (role_of_class c)) (bytes_eq n (codes "Election")) at in
       elections_part r (subst (λ q. is_report_role q ≡ true) role b.0) part (subst (λ z. get_member z ms ≡ Some x) (text_exact n (codes "Election") b.1) found)

@@ -2,4 +2,3 @@
 pub mod NewIds
 pub mod SaidValues
 pub mod SaidReports
-pub mod SameDepths

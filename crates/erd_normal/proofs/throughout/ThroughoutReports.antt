@@ -1,6 +1,7 @@
 -- Whatever is asked in the report that is built is asked of a value that is built: by one step inside each.
 use Rattle.erd_normal.proofs.Common.{◌≡◌, ℕ, zero, suc, Bool, true, false, List, map, Some, codes, bytes_eq, sym, refl, ap, ◌∙◌, subst, inl, inr, Data, string, array, object, Items, no_items, item, Members, get_member, get_item, get, role_of_class, kind_of_member, Class, class, Family, family, Role, role, MemberKind, kind, text_exact, object_in, ObjectAt, ObjectIn, wanted_within, Within, kind_of_class, kind_of_name, want_by_kind, is_array, ShapeFault, NoneOf, IsTree, entries_of, want_of_kind, member_want, Asked, asked, Member, Object, Status, all_rising, Preference, Placed, objects, rising_list, selection_role, id_of_selection, array_of, normal_value, normal_node_value, normal_content, normal_nodes, normal_node, normal_selection, by_key, by_name, normal_object_value, normal_object, normal_objects, same_Some, Option, In, In-map_from, Step, asked_inside, [], ◌∷◌, is_some, if◌then◌else◌, None, AllByRecursion, unsigned, number, Row, envelope_rows, kind_in_rows, is_envelope_name, list_of_items, entries_at, asked_at, skeleton_of_shape, election_entries, election_within, election_object, Skeleton, has_keys, normal_election_value, normal_election, normal_report_value, normal_tree, Within-step, Reference, is_text, reference_cmp}
-use Rattle.erd_normal.proofs.built.BuiltFrom.{entry_asked, Builder, BuiltFrom, BuiltObject, inside_built, member_holds, contest_of_selections, family_name, keyed_name, election_part, elections_name, report_part}
+use Rattle.erd_meaning.specs.code.Spots.{member_name}
+use Rattle.erd_normal.proofs.built.BuiltFrom.{entry_asked, Builder, BuiltFrom, BuiltObject, inside_built, member_holds, contest_of_selections, keyed_name, election_part, elections_name, report_part}
 use Rattle.erd_normal.proofs.lists.Lists.{IsPart, part_has, entry_holds}
 use Rattle.erd_normal.proofs.built.BuiltObjects.{built_node, built_object, built_selection, is_id, no_name, node_builder, object_builder, object_id, plain_builder, selection_id, built_election, built_report, election_builder, has_canonical_envelope}
 use Rattle.erd_normal.proofs.built.NormalTrees.{kind_of_family_id}
@@ -43,7 +44,7 @@ IsOfContest t contest d = In contest (objects family.Contest t) × (get (codes "
 pub is_of_contest : (t : Data) (f : Family) (d : Placed) (o : ObjectIn t (role.OfFamily f) d.value) (name : List ℕ) (from : Data) → In d (objects f t) → get_member name o.ms ≡ Some from
     → kind_of_member o.class name ≡ kind.Keyed family.Selection → IsOfContest t d from
 is_of_contest t f d o name from h stands is =
-    let named : name ≡ family_name family.Selection = keyed_name o.class name family.Selection is in
+    let named : name ≡ member_name family.Selection = keyed_name o.class name family.Selection is in
     let contest : f ≡ family.Contest = contest_of_selections o.class f o.role (ap (kind_of_member o.class) (sym named) ∙ is) in
     (subst (λ g. In d (objects g t)) contest h, ap (get (codes "ContestSelection")) o.is_object ∙ ap (λ n. get_member n o.ms) (sym named) ∙ stands)
 
@@ -87,13 +88,13 @@ module _ (t : Data) (s : Skeleton t) where
   pub election_family : (d : Data) → In d (list_of_items s.es) → (ms : Members) → d ≡ object ms → (name : List ℕ) (from : Data) → get_member name ms ≡ Some from
       → (f : Family) → kind_of_member class.Election name ≡ kind.Keyed f → IsPart (entries_of from) (map (λ o. o.value) (objects f t))
   election_family d h ms is name from stands f keyed =
-      let named : name ≡ family_name f = keyed_name class.Election name f keyed in
+      let named : name ≡ member_name f = keyed_name class.Election name f keyed in
       election_part t s d ms h is f from (ap (kind_of_member class.Election) (sym named) ∙ keyed) (ap (λ n. get_member n ms) (sym named) ∙ stands)
 
   pub report_family : (name : List ℕ) (from : Data) → get_member name s.ms ≡ Some from → (f : Family) → kind_of_member class.ElectionReport name ≡ kind.Keyed f
       → IsPart (entries_of from) (map (λ o. o.value) (objects f t))
   report_family name from stands f keyed =
-      let named : name ≡ family_name f = keyed_name class.ElectionReport name f keyed in
+      let named : name ≡ member_name f = keyed_name class.ElectionReport name f keyed in
       report_part t s f from (ap (kind_of_member class.ElectionReport) (sym named) ∙ keyed) (ap (λ n. get_member n s.ms) (sym named) ∙ stands)
 
   -- and that of elections is the one

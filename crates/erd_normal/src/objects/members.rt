@@ -47,7 +47,8 @@ pub(crate) fn write_members<R: MemberRule>(
     out.end_object()
 }
 
-/// Writes a member if it is kept, after those that are put in before it. Returns the position of the first that is left.
+/// Writes a member if it is kept, or the one that is put in its place, after those that are put in before it. Returns the
+/// position of the first that is left.
 fn write_member<R: MemberRule>(
     rule: &R,
     due: &[DueMember],
@@ -60,26 +61,9 @@ fn write_member<R: MemberRule>(
         ≡ out.new ++ members_tokens (put_all (due_list (drop left due.now)) ms)) }
 {
     let (name, kind, value) = member;
-    if rule.keeps(name, kind, value) {
-        write_kept(rule, due, at, member, out)
-    } else {
-        Ok(at)
+    if !rule.keeps(name, kind, value) {
+        return Ok(at);
     }
-}
-
-/// Writes a member that is kept, or the one that is put in its place, after those that are put in before it. Returns the
-/// position of the first that is left.
-fn write_kept<R: MemberRule>(
-    rule: &R,
-    due: &[DueMember],
-    at: usize,
-    member: (&str, MemberKind, &Value),
-    out: &mut Output,
-) -> Result<usize, AllocError>
-    ensures { IfOk result (λ left. AreDue due.now → has_float (view member.entry.2.now) ≡ false → (d : Data) (ms : Members) → R.value_of rule.now member.entry.0.now member.entry.1 (view member.entry.2.now) ≡ Some d
-        → out.old ++ members_tokens (put_all (due_list (drop at due.now)) (first_if member.entry.0.now (Some d) ms)) ≡ out.new ++ members_tokens (put_all (due_list (drop left due.now)) ms)) }
-{
-    let (name, kind, value) = member;
     let (is_replaced, left) = write_through(due, at, name, out)?;
     if !is_replaced {
         out.key(name)?;

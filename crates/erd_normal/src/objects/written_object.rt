@@ -1,4 +1,4 @@
-ghost use Rattle.std.specs.Prelude.{◌≡◌, ◌++◌, Some, false, OnOk};
+ghost use Rattle.std.specs.Prelude.{◌≡◌, ◌++◌, false, OnOk};
 ghost use Rattle.erd_normal.specs.Words.{view, has_float, class_of_object, value_tokens};
 ghost use Rattle.erd_normal.specs.code.Building.{put_in};
 ghost use Rattle.erd_normal.specs.code.DueMembers.{AreDue, due_list};
@@ -8,8 +8,8 @@ use crate::objects::copied_members::write_with;
 use crate::objects::due_members::DueMember;
 use crate::objects::members::{MemberRule, write_members};
 use erd_check::values::class_of_object;
-use erd_tables::{Class, Role};
-use erd_text::{Output, write_value};
+use erd_tables::Role;
+use erd_text::Output;
 use serde_json::Value;
 use std::alloc::AllocError;
 
@@ -25,26 +25,8 @@ pub(crate) fn write_object<R: MemberRule>(
     requires whole { has_float (view value.now) ≡ false }
     ensures { OnOk result (out.new ≡ out.old ++ value_tokens (put_in (due_list due.now) (normal_object_with (R.value_of rule.now) (class_of_object role (view value.now)) (view value.now)))) }
 {
-    match class_of_object(role, value) {
-        Some(class) => write_in_class(rule, class, due, value, out),
-        None => write_with(due, value, out),
-    }
-}
-
-/// Writes an object of the class in the same way.
-fn write_in_class<R: MemberRule>(
-    rule: &R,
-    class: Class,
-    due: &[DueMember],
-    value: &Value,
-    out: &mut Output,
-) -> Result<(), AllocError>
-    requires due { AreDue due.now }
-    requires whole { has_float (view value.now) ≡ false }
-    ensures { OnOk result (out.new ≡ out.old ++ value_tokens (put_in (due_list due.now) (normal_object_with (R.value_of rule.now) (Some class) (view value.now)))) }
-{
-    match value {
-        Value::Object(members) => write_members(rule, class, due, members, out),
-        other => write_value(other, out),
+    match (class_of_object(role, value), value) {
+        (Some(class), Value::Object(members)) => write_members(rule, class, due, members, out),
+        _ => write_with(due, value, out),
     }
 }

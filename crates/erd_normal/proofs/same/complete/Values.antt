@@ -13,19 +13,15 @@ use Rattle.erd_normal.proofs.built.BuiltFrom.{label_class, status_kind}
 
 -- the kinds of members that mean something by themselves, or never stand in an accepted report but as an empty array
 abbrev pub means_itself : MemberKind → Bool
-means_itself kind.Word = true
-means_itself kind.Label = true
-means_itself kind.Flag = true
-means_itself kind.Whole = true
+means_itself kind.ClassText = false
+means_itself kind.Identity = false
 means_itself (kind.One f) = has_keys f
 means_itself (kind.Many f) = has_keys f
-means_itself kind.Identifiers = true
-means_itself kind.Content = true
-means_itself kind.Outside = true
-means_itself kind.StrangeReference = true
-means_itself kind.StrangeIdentity = true
-means_itself kind.Carried = true
-means_itself k = false
+means_itself kind.Languages = false
+means_itself (kind.Keyed f) = false
+means_itself kind.Elections = false
+means_itself kind.Ordered = false
+means_itself k = true
 
 -- ---- labels
 
