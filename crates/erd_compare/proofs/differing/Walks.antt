@@ -173,7 +173,7 @@ module _ {K V : Type 0} {cmp : K → K → Ordering} (total : IsTotalOrder cmp) 
     | inr (inr inside, its) ↦ absurd (outside total k ls below inside)
   ]
 
--- ---- the names of the members of two objects, walked in step: at first all are left, and the next one is the lesser of the first
+-- ---- the names of the members of two objects, walked in step: all are left at first, and the next one is the lesser
 
 -- ---- the first name that is left
 
