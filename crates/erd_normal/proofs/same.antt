@@ -1,6 +1,7 @@
 -- The reports that say the same: what `SaysTheSame` holds of.
 pub mod Lookups
 pub mod Related
+pub mod Owners
 pub mod Examples
 pub mod InTurn
 pub mod Labels

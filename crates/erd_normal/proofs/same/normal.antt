@@ -2,3 +2,4 @@
 pub mod NewIds
 pub mod SaidValues
 pub mod SaidReports
+pub mod SameDepths

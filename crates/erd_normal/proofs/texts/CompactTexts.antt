@@ -172,8 +172,8 @@ sign_of_text [] = 0
 sign_of_text (b ∷ r) = sign_of_byte b
 
 abbrev sign_of : Data → ℕ
-sign_of (boolean b) = 116
 sign_of null = 110
+sign_of (boolean b) = 116
 sign_of (number n) = 4
 sign_of (string s) = 34
 sign_of (array ds) = 91

@@ -8,7 +8,7 @@ use Rattle.erd_normal.proofs.texts.CompactTexts.{number_read, normal_tree-fits}
 use Rattle.erd_normal.specs.CanonicalText.{IsCanonicalText}
 use Rattle.erd_normal.proofs.built.NormalTrees.{normal_tree-tree}
 use Rattle.erd_normal.proofs.canonical.NormalForms.{form_built, only_form_built, whole_built}
-use Rattle.erd_normal.proofs.same.normal.SaidValues.{no_deeper_form}
+use Rattle.erd_normal.proofs.same.normal.SameDepths.{no_deeper_form}
 use Rattle.erd_normal.proofs.same.normal.SaidReports.{normal_tree_says}
 use Rattle.json.specs.Json as json
 use Rattle.json.specs.Tree as tree

@@ -1,7 +1,7 @@
 use Rattle.erd_normal.proofs.Common.{normal_tree}
 use Rattle.erd_normal.proofs.built.NormalTrees.{normal_tree-tree}
 use Rattle.erd_normal.proofs.canonical.NormalForms.{form_built}
-use Rattle.erd_normal.proofs.same.normal.SaidValues.{no_deeper_form}
+use Rattle.erd_normal.proofs.same.normal.SameDepths.{no_deeper_form}
 use Rattle.erd_normal.proofs.same.normal.SaidReports.{normal_tree_says}
 use Rattle.erd_normal.proofs.laws.canonical_form_exists.Goals as goal
 

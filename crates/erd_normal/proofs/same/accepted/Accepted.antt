@@ -5,7 +5,7 @@ use Rattle.erd_normal.proofs.same.IdsOfObjects.{Refers, reference_refers, not_be
 use Rattle.erd_normal.proofs.same.accepted.RequiredMembers.{IsListSound, IsListed, none_elsewhere, IsSound, is_lone}
 use Rattle.erd_normal.proofs.lists.Matched.{Both, both, Matched, matched_any, matched_back, IsEven, distinct_matched, even_order, matched_within}
 use Rattle.erd_normal.proofs.same.InTurn.{OtherText, id_text}
-use Rattle.erd_normal.proofs.same.Labels.{has_same, ids_alike, owners_related, selections_matched, elections_matched, family_matched, related_election_key, related_key}
+use Rattle.erd_normal.proofs.same.Owners.{has_same, ids_alike, owners_related, selections_matched, elections_matched, family_matched, related_election_key, related_key}
 use Rattle.erd_normal.proofs.same.Related.{Related}
 use Rattle.erd_normal.proofs.same.accepted.AcceptedShape.{AskedAgain, asked_again, none_repeated, none_asked, same_shape}
 use Rattle.erd_normal.proofs.same.means.References.{used}

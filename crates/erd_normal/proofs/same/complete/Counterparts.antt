@@ -13,8 +13,8 @@ use Rattle.erd_normal.proofs.same.IdsOfObjects.{InElections}
 
 pub record MeanOne (π : Preference) (t u : Data) : Type 0 where
   pub left_tree : IsTree t
-  pub left : IsAccepted π t
   pub right_tree : IsTree u
+  pub left : IsAccepted π t
   pub right : IsAccepted π u
   pub same : meaning π t ≡ meaning π u
 

@@ -6,7 +6,7 @@ use Rattle.erd_normal.proofs.lists.Matched.{AtMostOne, Matched, apart_distinct, 
 use Rattle.erd_normal.proofs.meaning.MatchedMeanings.{HeldAlike, MeanOne, held_matched, matched_meaning, is_named, named_tied, plain_members, record_alike, flat_no_selections, is_flat_role, kind_is_flat}
 use Rattle.erd_normal.proofs.same.IdsOfObjects.{family_values, placed_value, outside, in_report, in_election, not_before_itself, value_placed}
 use Rattle.erd_normal.proofs.same.Related.{Related}
-use Rattle.erd_normal.proofs.same.Labels.{elections_matched, related_election_key, related_key, keyed_array, family_matched, selections_matched}
+use Rattle.erd_normal.proofs.same.Owners.{elections_matched, related_election_key, related_key, keyed_array, family_matched, selections_matched}
 use Rattle.erd_normal.proofs.same.means.Members.{BothObjects, MeansNothing, TwoReports, Told, both_told, both_objects, unless_empty_same, nothing_cases, none_told}
 use Rattle.erd_normal.proofs.same.means.References.{name_alike}
 use Rattle.erd_normal.proofs.same.means.Records.{plain_alike, selection_alike}

@@ -3,10 +3,11 @@ use Rattle.erd_normal.proofs.Common.{◌≡◌, ℕ, List, [], ◌∷◌, map, S
 use Rattle.erd_normal.proofs.lists.Matched.{Matched, paired_kept, matched_equal, said_same}
 use Rattle.erd_normal.proofs.lists.Lists.{rising_keys_named-reordered}
 use Rattle.erd_normal.proofs.meaning.MatchedMeanings.{keys_named-reordered, json_set-reordered}
-use Rattle.erd_normal.proofs.same.Labels.{keys_named_same, owners_related, related_key, label_text, plain_beside, steady_beside}
+use Rattle.erd_normal.proofs.same.Owners.{keys_named_same, owners_related, related_key}
 use Rattle.erd_normal.proofs.same.Related.{Stands, stands_tree, Related}
 use Rattle.erd_normal.proofs.same.means.Members.{TwoReports, HaveMembers, both_members, told_entries, told_plain, BothObjects, Told, both_told, both_objects, steady_nothing, none_told}
 use Rattle.erd_normal.proofs.same.InTurn.{id_text}
+use Rattle.erd_normal.proofs.same.Labels.{label_text, plain_beside, steady_beside}
 use Rattle.erd_normal.proofs.same.Lookups.{steady_same, plain_of_kind, is_steady_kind, is_plain}
 use Rattle.erd_normal.proofs.built.BuiltFrom.{label_class}
 
