@@ -7,11 +7,6 @@ use Rattle.erd_tables.specs.declared.class.Family.{Family}
 use Rattle.erd_text.specs.Tokens.{value_tokens}
 use Rattle.erd_normal.specs.Canonical.{canonical_id}
 
--- The members with the value under the name. If there is no value, the members stay.
-abbrev pub put_if : List ℕ → Option Data → Members → Members
-put_if k None ms = ms
-put_if k (Some v) ms = put k v ms
-
 -- The members with a first one of this name, if there is a value for it.
 abbrev pub first_if : List ℕ → Option Data → Members → Members
 first_if k v ms = option_map_or (λ d. member k d ms) v ms
