@@ -1,12 +1,12 @@
 -- The value of a difference with what differs inside the selections is a tree, nests little, and has only numbers that fit.
-use Rattle.erd_canon.proofs.Common.{◌≡◌, ℕ, ◌+◌, ◌^◌, ◌≤◌, Bool, true, false, List, [], ◌∷◌, map, Option, Some, None, pos, negsuc, refl, arith, nat_lt, codes, Data, null, number, string, unsigned, negative, array, object, Members, no_members, member, depth, items_depth, has_float, items_have_float, IsTree, AreTrees, HasFittingNumbers, ItemsHaveFittingNumbers, items_of}
+use Rattle.erd_canon.proofs.Common.{◌≡◌, ℕ, ◌+◌, ◌^◌, ◌≤◌, Bool, true, false, List, [], ◌∷◌, map, Option, Some, None, pos, negsuc, refl, arith, nat_lt, codes, Data, null, number, string, unsigned, negative, array, object, no_members, member, depth, items_depth, has_float, items_have_float, IsTree, AreTrees, HasFittingNumbers, ItemsHaveFittingNumbers, items_of}
 use Rattle.std.specs.Prelude.{ℤ, if◌then◌else◌, option_map}
 use Rattle.std.proofs.lemmas.Bool.{ltb-true}
 use Rattle.erd_meaning.specs.NameParts.{NameParts}
 use Rattle.erd_meaning.specs.declared.keys.key.Key.{Key}
 use Rattle.erd_compare.specs.DifferenceData.{difference_members, key_data}
 use Rattle.erd_compare.specs.DifferenceLine.{key_as_json, part_text}
-use Rattle.erd_compare.specs.SelectionData.{detailed_data, label_data, name_data, order_data, selection_data, selections_data, selections_member, whole_data}
+use Rattle.erd_compare.specs.SelectionData.{detailed_data, label_data, name_data, order_data, selection_data, selections_data, selections_member}
 use Rattle.erd_compare.specs.declared.detailed.DetailedDifference.{DetailedDifference}
 use Rattle.erd_compare.specs.declared.difference.How.{How}
 use Rattle.erd_compare.specs.declared.difference.How.TheVariants.{Member, OnlyLeft, OnlyRight, OtherClass}

@@ -1,12 +1,12 @@
 -- The answers that have a piece of a list as lines.
-use Rattle.erd_canon.proofs.Common.{◌≡◌, ℕ, zero, suc, ◌<◌, ◌≤◌, Bool, true, false, List, [], ◌∷◌, ◌++◌, map, take, drop, codes, sym, refl, ap, ◌∙◌, subst, inl, inr, Preference, IsSomeReport, RefusedAs, RefusedSide, Refusal, refusal, Outcome, Bad, Good, NotJson, lines_of_side, text_of_lines}
+use Rattle.erd_canon.proofs.Common.{◌≡◌, ℕ, zero, suc, ◌<◌, ◌≤◌, Bool, true, false, List, [], ◌∷◌, ◌++◌, map, take, drop, codes, sym, refl, ap, ◌∙◌, subst, inl, inr, Preference, RefusedAs, RefusedSide, Refusal, refusal, Outcome, Bad, Good, NotJson, lines_of_side, text_of_lines}
 use Rattle.std.proofs.Common.{◌==◌, length, sum, true≢false}
 use Rattle.erd_meaning.proofs.Common.{length-map, map-append}
 use Rattle.erd_compare.specs.DifferenceLine.{difference_line}
 use Rattle.erd_compare.specs.declared.detailed.DetailedDifference.{DetailedDifference}
 use Rattle.erd_canon.specs.DataAnswers.{listing_outcome}
 use Rattle.erd_canon.specs.EngineTexts.{AreDetailed}
-use Rattle.erd_canon.specs.Pieces.{IsCheckLines, IsCompareLines, IsFormLines, IsFoundLines, IsFront, IsListLines, IsPieceLines, IsRefusalLines, TellsNone, whole_line}
+use Rattle.erd_canon.specs.Pieces.{IsCheckLines, IsCompareLines, IsFormLines, IsFoundLines, IsFront, IsListLines, IsPieceLines, IsRefusalLines, whole_line}
 use Rattle.erd_canon.specs.code.Fronts.{AppendsEntries, TellsLinesAs, joined_text}
 use Rattle.erd_canon.specs.code.SideRefusals.{OnSide}
 use Rattle.erd_canon.specs.declared.bytes.refusal.Side.{Side}
@@ -87,11 +87,6 @@ lines_refused π bytes refused piece outcome told text is tells = at outcome (wh
     at : (o : Outcome) → IsRefusalLines π [] bytes piece o told text → IsCheckLines π bytes piece o told text × IsFormLines π bytes piece o told text
     at Good why = absurd why
     at o why = (why, why)
-
--- a check of an accepted report
-pub check_line : (π : Preference) (bytes : List ℕ) (piece : Piece) (outcome : Outcome) (told : Told) (text : List ℕ) → IsSomeReport π bytes → outcome ≡ Good
-    → text ≡ text_of_lines (codes "accepted" ∷ []) → TellsNone told → IsCheckLines π bytes piece outcome told text
-check_line π bytes piece outcome told text accepted good is none = subst (λ o. IsCheckLines π bytes piece o told text) (sym good) (accepted, is, none)
 
 -- a comparison, or a list of differences, of which one side is refused
 pub sides_refused : (π : Preference) (left right : List ℕ) (s : Side) (piece : Piece) (outcome : Outcome) (told : Told) (text : List ℕ) → RefusedSide π left right s

@@ -1,9 +1,8 @@
 -- The answers that have a piece of a list.
-use Rattle.erd_canon.proofs.Common.{◌≡◌, ℕ, List, [], IsUtf8, sym, refl, subst, inl, inr, arith, Data, Preference, Difference, Option, IsComparison, IsSomeReport, RefusedAs, RefusedSide, Refusal, refusal, Outcome, Bad, Good, NotJson, comparison_data, AppendsData, AnswersData, TellsSideAs}
+use Rattle.erd_canon.proofs.Common.{◌≡◌, ℕ, List, [], IsUtf8, sym, refl, subst, inr, arith, Data, Preference, Difference, Option, IsComparison, RefusedAs, RefusedSide, Refusal, refusal, Outcome, Bad, Good, NotJson, comparison_data, AppendsData, AnswersData, TellsSideAs}
 use Rattle.erd_compare.specs.SelectionData.{detailed_data}
 use Rattle.erd_compare.specs.declared.detailed.DetailedDifference.{DetailedDifference}
 use Rattle.erd_canon.specs.DataAnswers.{IsDataText, listing_outcome}
-use Rattle.erd_canon.specs.DataValues.{faults_data}
 use Rattle.erd_canon.specs.EngineTexts.{AreDetailed}
 use Rattle.erd_canon.specs.Pieces.{IsCheckPiece, IsComparePiece, IsFormPiece, IsListPiece, IsPieceData, IsPieceText, IsRefusalPiece, TellsNone}
 use Rattle.erd_canon.specs.Run.{comparison_outcome}
@@ -41,15 +40,6 @@ why_is π bytes piece outcome told refused why is tells = absurd tells
 check_is : (π : Preference) (bytes : List ℕ) (piece : Piece) (outcome : Outcome) (told : Told) (why : Data) → IsRefusalPiece π bytes piece outcome told why → IsCheckPiece π bytes piece outcome told why
 check_is π bytes piece Good told why is = absurd is
 check_is π bytes piece outcome told why is = is
-
--- a check of an accepted report
-pub check_accepted : (π : Preference) (bytes : List ℕ) (piece : Piece) (outcome : Outcome) (told : Told) (text : List ℕ) → IsSomeReport π bytes → outcome ≡ Good → TellsNone told
-    → IsDataText text (faults_data []) → IsPieceText (IsCheckPiece π bytes piece outcome) told text
-check_accepted π bytes piece outcome told text accepted good none is = record {
-  value = faults_data [];
-  answers = subst (λ o. IsCheckPiece π bytes piece o told (faults_data [])) (sym good) (accepted, refl, none);
-  is_text = is;
-}
 
 -- a check of refused bytes
 pub check_refused : (π : Preference) (bytes : List ℕ) (refused : Refusal) (piece : Piece) (outcome : Outcome) (told : Told) (text : List ℕ) → RefusedAs π bytes refused

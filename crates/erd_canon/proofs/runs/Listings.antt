@@ -1,5 +1,5 @@
 -- What a list of the differences of two accepted reports answers.
-use Rattle.erd_canon.proofs.Common.{◌≡◌, ℕ, ◌≤◌, Result, Ok, Err, IfOk, List, [], ◌∷◌, subst, refl, inr, arith, Data, IsAccepted, Preference, meaning, IsTreeOf, RefusedSide, TellsRefusalAs, TellsSideAs, AnswersData, Outcome, IsUtf8, compact_text, IsTree, depth, items_depth, HasFittingNumbers, ItemsHaveFittingNumbers, Option, Some, None, items_of, map, AreTrees, max_depth}
+use Rattle.erd_canon.proofs.Common.{◌≡◌, ℕ, ◌≤◌, Result, Ok, Err, IfOk, List, [], ◌∷◌, subst, refl, inr, arith, Data, IsAccepted, Preference, meaning, IsTreeOf, RefusedSide, TellsRefusalAs, TellsSideAs, AnswersData, Outcome, IsUtf8, compact_text, items_depth, ItemsHaveFittingNumbers, items_of, map, AreTrees}
 use Rattle.erd_compare.specs.SelectionData.{detailed_data}
 use Rattle.erd_compare.specs.SelectionDifferences.{AreDetailedDifferences}
 use Rattle.erd_compare.specs.declared.detailed.DetailedDifference.{DetailedDifference}

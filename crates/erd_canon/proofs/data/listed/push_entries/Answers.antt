@@ -1,6 +1,6 @@
 use Rattle.erd_canon.proofs.Common.{string_bytes, subst, iter_rest}
 use Rattle.erd_canon.specs.code.Fronts.{FitsIn, IsReached, size_in, text_in}
-use Rattle.erd_canon.proofs.data_values.Fronts.{begun, ended, none_of}
+use Rattle.erd_canon.proofs.data_values.Fronts.{ended, none_of}
 use Rattle.erd_canon.proofs.data.listed.push_entries.Goals as goal
 
 pub loop-entry-preserved : goal.loop-entry-preserved

@@ -1,4 +1,4 @@
-use Rattle.erd_canon.proofs.Common.{◌≡◌, ℕ, ◌/◌, ◌%◌, ◌^◌, ◌<◌, ◌≤◌, ◌++◌, decimal, sym, ap, ◌∙◌, arith, false, on_error}
+use Rattle.erd_canon.proofs.Common.{◌≡◌, ℕ, ◌/◌, ◌%◌, ◌^◌, ◌<◌, ◌≤◌, ◌++◌, decimal, sym, ap, ◌∙◌, arith, on_error}
 use Rattle.std.proofs.lemmas.Fmt.{decimal_digit, decimal_step}
 use Rattle.erd_canon.proofs.runs.Moving.{IsFrontMoved-first, IsMoved-first, last_moved, last_part}
 use Rattle.erd_canon.proofs.engines.lines.+write_decimal.Goals as goal

@@ -1,4 +1,4 @@
-use Rattle.erd_canon.proofs.Common.{◌+◌, get_or, drop, ◌∙◌, escaped_byte, escaped_name, true, on_error}
+use Rattle.erd_canon.proofs.Common.{◌+◌, get_or, drop, ◌∙◌, escaped_byte, escaped_name, on_error}
 use Rattle.std.proofs.lemmas.List.{at_drop_more}
 use Rattle.erd_canon.proofs.runs.Moving.{IsFrontMoved-more, IsMoved-more}
 use Rattle.erd_canon.proofs.engines.lines.write_name.Goals as goal
