@@ -71,7 +71,7 @@ lane 'tests/prove.sh'
 lane 'python3 tests/pages/definitions.py' 'python3 tests/pages/closures.py' 'python3 tests/pages/gate_times.py' 'python3 tests/pages/facts_and_links.py' \
     'python3 tests/pages/exists.py' \
     'python3 tests/pages/documented.py' 'python3 tests/pages/quotes.py' 'tests/pages/commit_message.sh' 'tests/pages/version.sh' 'tests/forms/signed_sums.sh' \
-    'python3 tests/bodies/self_test.py' 'tests/bodies/prove_again.sh' 'python3 tests/bodies/wrong_programs.py' \
+    'python3 tests/bodies/self_test.py' 'tests/bodies/the_gate.sh' 'python3 tests/bodies/wrong_programs.py' \
     'python3 packaging/notices.py' 'python3 tests/pages/site.py' 'python3 tests/prepare/steps.py' \
     'tests/forms/make_try.sh' \
     'conformance/run --in-process reference/erd_reference.py' \

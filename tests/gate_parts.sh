@@ -121,7 +121,7 @@ add() {
     [ -e "$1/status" ] || { missing "$command: was lost"; return; }
     status=$(cat "$1/status")
     last=$(grep -aE '^[0-9]+ passed, [0-9]+ failed$' "$1/said" | tail -n 1)
-    lines=$(grep -aE '^(skipped|again:) |FAILED|NOT REFUSED|NOT PROVED|BAD EDIT' "$1/said" | head -c 2000 | sed "s|^|$command: |")
+    lines=$(grep -aE '^(skipped|again:|notice:) |FAILED|NOT REFUSED|NOT PROVED|BAD EDIT' "$1/said" | head -c 2000 | sed "s|^|$command: |")
     told+=${lines:+$lines$'\n'}
     if [[ $last =~ ^([0-9]+)\ passed,\ ([0-9]+)\ failed$ ]]; then
         passed=$((passed + BASH_REMATCH[1]))
