@@ -55,7 +55,7 @@ libraries() {
 edits() {
     local crate steps=()
     for crate in "$@"; do
-        steps+=("proved: $(libraries "$crate")" "tests/bodies/try_edits.py --gate $crate")
+        steps+=("proved: $(libraries "$crate")" "tests/bodies/try_wrong.py --gate $crate")
         tried+=" $crate "
     done
     lane "${steps[@]}"
@@ -77,7 +77,7 @@ first 'python3 tests/pages/facts_and_links.py' 'python3 tests/pages/definitions.
     'python3 tests/bodies/self_test.py' 'tests/bodies/the_gate.sh' \
     'conformance/run --in-process reference/erd_reference.py' \
     'conformance/run --differences --in-process reference/erd_reference.py' \
-    'conformance/run --entries --in-process reference/erd_reference.py' 'python3 tests/bodies/wrong_programs.py' \
+    'conformance/run --entries --in-process reference/erd_reference.py' 'tests/bodies/try_wrong.py programs' \
     'python3 tests/pages/site.py' 'tests/forms/make_try.sh'
 first 'python3 tests/prepare/steps.py'
 echo 'Beside them `rt ci` proves the crates from the lowest to the highest, and names each one when it is proved.'
@@ -85,13 +85,13 @@ proof 'tests/prove.sh'
 
 edits erd_check erd_text erd_meaning erd_normal
 edits erd_compare erd_canon erd_program
-for crate in $(sed -n 's|^\([a-z_]*\)/.*|\1|p' tests/edits/gate.txt | sort -u); do
-    [[ $tried == *" $crate "* ]] || missing "tests/edits/gate.txt: the edits of $crate are not tried"
+for crate in $(grep -l '^gate: ' $(grep -lx 'noticed by: a contract' tests/bodies/lists/*.txt) | xargs -n 1 basename -s .txt); do
+    [[ $tried == *" $crate "* ]] || missing "tests/bodies/lists/$crate.txt: the wrong bodies of the gate are not tried"
 done
 
 lane 'proved: erd_canon' 'tests/library/c_library.sh' 'python3 tests/library/lists_agree.py 300' 'tests/fuzz/fuzz.sh' 'program:' 'tests/forms/other_machines.sh' 'tests/forms/other_programs.sh' \
     'tests/forms/language_examples.sh' 'tests/forms/javascript_package.sh' 'tests/forms/python_package.sh' 'tests/page/page.sh' \
-    'python3 tests/bodies/wrong_lines.py --gate' 'tests/forms/program_packages.sh' 'tests/forms/release_files.sh' 'tests/forms/installed_alone.sh'
+    'tests/bodies/try_wrong.py --gate lines' 'tests/forms/program_packages.sh' 'tests/forms/release_files.sh' 'tests/forms/installed_alone.sh'
 
 lane 'program:' 'tests/program/command.sh' 'tests/pages/manual.sh' 'python3 tests/pages/examples.py' 'tests/program/contrib.sh' \
     'python3 tests/program/agrees_with_reference.py 500' 'python3 tests/program/same_meaning.py' \
