@@ -61,11 +61,17 @@ edits() {
     lane "${steps[@]}"
 }
 
+# tests/forms/other_machines.sh and other_programs.sh make each form anew; the release in this folder takes these, and that in another folder
+# makes them once more.
+export FORMS_ARE_MADE=yes
+
 # Without llvm-profdata, what is handed on is made without a profile, and tests/forms/profiled_program.sh says so.
 packaging/profile/flags.sh > /dev/null 2>&1 || export PROFILE=no
 
-# What `rt ci` has proved, compiled and run is what the scripts run, so nothing older may stand there.
+# What `rt ci` has proved, compiled and run is what the scripts run, and a release takes the forms that are made here, so nothing older may
+# stand there. Some kits take no repository with links either, as the folders of these forms have.
 rm -f "$program" "$tests"
+rm -rf out/portable/{linux,windows,program}-* out/portable/erd.wasm
 
 echo "make test with $(rt version), on $(nproc) processors. What each part says goes to out/gate, and its counts and what failed stand here."
 packaging/room.sh
