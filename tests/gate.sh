@@ -18,7 +18,7 @@ is_beside=yes
 
 # is_proved CRATE: whether `rt ci` says so
 is_proved() {
-    grep -aqE "^rt: $1 (proved$|is kept: )" "$results/001/said"
+    grep -aqE "^rt: $1 (proved$|is kept: )" "$proof/said"
 }
 
 # proved CRATE ..: waits until `rt ci` has proved these crates
@@ -26,7 +26,7 @@ proved() {
     local crate
     [ -n "$is_beside" ] || ended tests/prove.sh
     for crate in "$@"; do
-        until is_proved "$crate" || [ -e "$results/001/status" ] || [ -e "$results/001/lost" ]; do sleep 1; done
+        until is_proved "$crate" || [ -e "$proof/status" ] || [ -e "$proof/lost" ]; do sleep 1; done
         is_proved "$crate" || return
     done
 }
@@ -66,17 +66,22 @@ packaging/profile/flags.sh > /dev/null 2>&1 || export PROFILE=no
 
 # What `rt ci` has proved, compiled and run is what the scripts run, so nothing older may stand there.
 rm -f "$program" "$tests"
-lane 'tests/prove.sh'
 
-lane 'python3 tests/pages/definitions.py' 'python3 tests/pages/closures.py' 'python3 tests/pages/gate_times.py' 'python3 tests/pages/facts_and_links.py' \
-    'python3 tests/pages/exists.py' \
-    'python3 tests/pages/documented.py' 'python3 tests/pages/quotes.py' 'tests/pages/commit_message.sh' 'tests/pages/version.sh' 'tests/forms/signed_sums.sh' \
-    'python3 tests/bodies/self_test.py' 'tests/bodies/prove_again.sh' 'python3 tests/bodies/wrong_programs.py' \
-    'python3 packaging/notices.py' 'python3 tests/pages/site.py' 'python3 tests/prepare/steps.py' \
-    'tests/forms/make_try.sh' \
+echo "make test with $(rt version), on $(nproc) processors. What each part says goes to out/gate, and its counts and what failed stand here."
+packaging/room.sh
+[ -n "$is_beside" ] || echo 'notice: what needs a crate waits for the end of the proofs, since less than 12 GB are free or earlier libraries are kept'
+echo 'First come the parts that need no proof: for a minute or two they tell whether the pages, the scripts and the lists fit the code.'
+first 'python3 tests/pages/facts_and_links.py' 'python3 tests/pages/definitions.py' 'python3 tests/pages/closures.py' \
+    'python3 tests/pages/exists.py' 'python3 tests/pages/documented.py' 'python3 tests/pages/quotes.py' 'python3 tests/pages/gate_times.py' \
+    'tests/pages/commit_message.sh' 'tests/pages/version.sh' 'tests/forms/signed_sums.sh' 'python3 packaging/notices.py' \
+    'python3 tests/bodies/self_test.py' 'tests/bodies/the_gate.sh' \
     'conformance/run --in-process reference/erd_reference.py' \
     'conformance/run --differences --in-process reference/erd_reference.py' \
-    'conformance/run --entries --in-process reference/erd_reference.py'
+    'conformance/run --entries --in-process reference/erd_reference.py' 'python3 tests/bodies/wrong_programs.py' \
+    'python3 tests/pages/site.py' 'tests/forms/make_try.sh'
+first 'python3 tests/prepare/steps.py'
+echo 'Beside them `rt ci` proves the crates from the lowest to the highest, and names each one when it is proved.'
+proof 'tests/prove.sh'
 
 edits erd_check erd_text erd_meaning erd_normal
 edits erd_compare erd_canon erd_program
@@ -95,8 +100,7 @@ lane 'program:' 'tests/program/command.sh' 'tests/pages/manual.sh' 'python3 test
     'tests/forms/profiled_program.sh' 'python3 tests/measures/instructions.py' 'tests/forms/same_bytes.sh' 'tests:' \
     'tests/program/refusals.sh'
 
-follow
 await
 # With the proofs that an earlier run has kept, the first part takes some seconds, and docs/GATE.md says what it takes from nothing.
-! grep -aqE '^rt: [a-z_]+ is kept: ' "$results/001/said" || : > "$results/001/is_cheaper"
+! grep -aqE '^rt: [a-z_]+ is kept: ' "$proof/said" || : > "$proof/is_cheaper"
 sum_up
