@@ -95,14 +95,15 @@ static void said(const char *why, enum erd_listing listing, const char *what) {
 static const char *wrong_in(enum erd_listing listing, size_t most, size_t enough, size_t room) {
     static char expected[100 * ENTRIES + 100];
     struct erd_list *list = erd_open(listing, "", 0, "", 0, NULL, room);
-    size_t first = 0, told;
+    size_t first = 0, told, most_told;
     const char *why = NULL;
     for (bool is_over = false; !is_over && why == NULL;) {
         struct erd_piece piece = {99, most, enough, 99, 99};
         char *text;
         size_t length;
         enum erd_outcome outcome = erd_next(list, &piece, &text, &length);
-        struct wanted wanted = {first, piece.told, SIZE_MAX, 0, 0, false};
+        struct wanted asked = {first, most, enough, 0, 0, false}, wanted = {first, piece.told, SIZE_MAX, 0, 0, false};
+        text_of(&asked, listing >= ERD_LIST_CHECK_DATA, &most_told, expected);
         size_t expected_length = text_of(&wanted, listing >= ERD_LIST_CHECK_DATA, &told, expected);
         is_over = first == entries && (entries > 0 || text == NULL);
         if (outcome != ERD_BAD || piece.first != first || piece.all != entries)
@@ -113,6 +114,8 @@ static const char *wrong_in(enum erd_listing listing, size_t most, size_t enough
             why = "another text";
         else if (!is_over && piece.told == 0 && entries > 0)
             why = "a piece without an entry";
+        else if (piece.told > most_told || (room == 0 && piece.told < most_told))
+            why = "more or fewer entries than are asked for";
         first += piece.told;
         erd_free(text);
     }
