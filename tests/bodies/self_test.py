@@ -93,6 +93,7 @@ METHOD = "fn some::outer::Outer::size: no proof: expected answers in ./proofs/ou
 METHOD_GOAL = GOAL.replace(":6:1", ":33:5")
 NAME = "./proofs/a/b/counts/Answers.antt:7:15: error: `returns`: record `Lts.After-len`\n  has no field `len`"
 TYPE = "./proofs/a/b/counts/Answers.antt:7:15: error: `returns`: as printed, the two types first differ"
+NUMBER = "./proofs/a/b/counts/Answers.antt:7:15: error: `returns`: the two types are `f c.push.x` (expected) and `f c.push-2.x`\n  (found)"
 INVARIANT = "./proofs/a/b/counts/Invariants.antt:7:15: error: `invariant-loop-at`: as printed, the two types first differ"
 
 
@@ -230,6 +231,7 @@ CASES = [
     ("a missing name", lambda: judged(LINE, NAME), "no"),
     ("a missing name beside an open goal", lambda: judged(LINE, GOAL, NAME), "no"),
     ("an invariant that doesn't fit", lambda: judged(LINE, INVARIANT), "no"),
+    ("an answer that cites another call of one name", lambda: judged(LINE, NUMBER), "no"),
 ]
 
 

@@ -30,11 +30,11 @@ from typing import Optional, Union
 
 from .library import TooLong, version
 from .listing import MOST_LISTED, listed, utf_8
-from .repeats import RepeatedName, repeated_names
+from .repeats import RepeatedName, RepeatedNames, repeated_names
 from .results import (Canonical, Check, Comparison, Difference, Differences, Fault, SelectionDifference, SelectionName, check_of,
                       comparison_of, differences_of)
 
-__all__ = ['Canonical', 'Check', 'Comparison', 'Difference', 'Differences', 'Fault', 'MOST_LISTED', 'RepeatedName',
+__all__ = ['Canonical', 'Check', 'Comparison', 'Difference', 'Differences', 'Fault', 'MOST_LISTED', 'RepeatedName', 'RepeatedNames',
            'SelectionDifference', 'SelectionName', 'TooLong', 'canonical', 'check', 'compare', 'differences', 'repeated_names', 'version']
 
 Report = Union[bytes, bytearray, memoryview, str]
