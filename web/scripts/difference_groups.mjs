@@ -11,16 +11,18 @@ const MOST_TYPES = 12;
 
 export class Differences {
     /**
-     * @param {import('../../bindings/js/index.d.ts').Difference[]} entries the proved list
+     * @param {import('../../bindings/js/index.d.ts').Difference[]} entries the proved list, or its beginning if it is very long
+     * @param {number} all how many differences there are
      * @param {import('./meaning.mjs').Meaning[] | null} meanings null where the files are too large for their values to be shown
      * @param {Record<string, Record<string, string>>} seen what a voter sees
      */
-    constructor(entries, meanings, seen) {
+    constructor(entries, all, meanings, seen) {
+        this.all = all;
         this.meanings = meanings;
         const { pairs, isCaused } = meanings === null || entries.length > MOST_PAIRED ? { pairs: [], isCaused: [] } : renamed(meanings, entries);
         this.pairs = pairs;
-        this.entries = meanings === null ? entries
-            : entries.map((entry, index) => ({ ...entry, word: this.wordOf(seen, entry, isCaused[index] === true) }));
+        this.entries = entries.map((entry, number) => ({ ...entry, number,
+            ...(meanings === null ? {} : { word: this.wordOf(seen, entry, isCaused[number] === true) }) }));
         this.groups = {
             all: this.entries,
             own: this.entries.filter((_, index) => !isCaused[index]),
@@ -42,7 +44,8 @@ export class Differences {
     /** What is known of all differences together, and the first one. */
     told() {
         return {
-            count: this.entries.length,
+            count: this.all,
+            listed: this.entries.length,
             first: this.shown(this.entries[0]),
             seen: this.meanings === null ? null : countsOf(this.entries.map(({ word }) => word)),
             tallies: talliesOf(this.entries),
@@ -75,6 +78,6 @@ export class Differences {
             return [];
         }
         return types.map((type) => ({ type, count: countOf(type) }))
-            .filter(({ count }) => count !== null && count < this.entries.length).sort((one, other) => one.count - other.count);
+            .filter(({ count }) => count !== null && count < this.all).sort((one, other) => one.count - other.count);
     }
 }
