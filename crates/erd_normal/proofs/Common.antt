@@ -64,7 +64,7 @@ pub use Rattle.erd_normal.specs.SaysTheSame.{Sides, NameOneThing, IsUnused, is_a
 pub use Rattle.erd_normal.specs.code.Building.{first_if, member_tokens, put_all, put_in, id_of_rank}
 pub use Rattle.erd_normal.specs.code.DueMembers.{due_value, due_list, IsBeforeAll, NamesRise, AreDue, WritesThrough}
 pub use Rattle.erd_normal.specs.code.ElectionParts.{in_order_of_keys, rising_objects, rising_elections, part_at, objects_in_part, positions_in_part, part_seen}
-pub use Rattle.erd_normal.specs.code.NormalTree.{id_of_key, normal_id, normal_reference, reference_cmp, rank_of_name, id_of_selection, contest_with, selection_with, normal_selection_reference, unless_no_entry, array_of, normal_value, normal_members, normal_object_with, normal_node_value, normal_content, normal_nodes, normal_node, normal_node_members, with_id, normal_selection, by_key, by_name, normal_object_value, normal_object, normal_objects, normal_election_value, normal_election, normal_report_value, envelope_values, with_envelope, in_envelope, normal_tree}
+pub use Rattle.erd_normal.specs.code.NormalTree.{id_of_key, normal_id, normal_reference, reference_cmp, rank_of_name, id_of_selection, contest_with, selection_with, normal_selection_reference, unless_no_entry, array_of, normal_value, normal_members, normal_object_with, normal_node_value, normal_content, normal_nodes, normal_node, normal_node_members, with_id, by_key, by_name, envelope_values, with_envelope, in_envelope}
 pub use Rattle.erd_normal.specs.code.Orders.{rank_named}
 pub use Rattle.erd_normal.specs.code.SelectionOrders.{lent_name_cmp, name_in, AreNamedFrom, rising_selections, AreSelectionRanks}
 pub use Rattle.erd_normal.specs.code.WrittenTree.{map_from, written_selection, written_in_contest, holds_parts, written_object_value, written_object, written_objects, written_election_value, written_election, written_elections, written_report_value}

@@ -10,3 +10,4 @@ pub mod ranks
 pub mod examples
 pub mod rearranged
 pub mod same
+pub mod view

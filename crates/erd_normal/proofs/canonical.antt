@@ -2,4 +2,3 @@
 pub mod CanonicalIds
 pub mod NormalKeys
 pub mod ContestSelections
-pub mod NormalForms

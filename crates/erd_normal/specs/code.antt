@@ -1,4 +1,5 @@
 pub mod NormalTree  -- the tree that is built for a report, part by part, with ranks counted
+pub mod View  -- the same tree by one recursion over what the table asks
 pub mod WrittenTree  -- the same tree, with objects and selections found by their positions
 pub mod Orders  -- the orders in which the parts of a report are written
 pub mod ElectionParts  -- the objects of a family in order with their positions, election by election

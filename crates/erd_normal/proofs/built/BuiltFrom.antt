@@ -1,5 +1,5 @@
 -- The members that are built: what is asked of them, and of which members of the report they are built.
-use Rattle.erd_normal.proofs.Common.{◌≡◌, ℕ, Bool, true, false, ◌&&◌, List, map, is_some, Some, codes, flat_map, bytes_eq, sym, refl, ap, ◌∙◌, subst, and_parts, list_all, Data, object, Members, get_member, role_of_class, family_of_class, rows_of_class, kind_of_identity, kind_of_member, Class, class, Family, family, Role, role, MemberKind, kind, entries_in, text_exact, kind_of_name, kind_of_id, list_of_items, entries_of, entries_at, values-placed_entries, values_in_elections, Skeleton, kind_of_type, has_keys, placed_entries, report_of, elections, objects, In, None, Option, option_map, option_and_then, Ordering, Equal, exact_bytes, option_map_or, match_ordering, no_members, member, text_cmp, IsTree, Preference, IsBeforeFirst, AreMembers, before_later, get_member-before, get_member-first, get_member-later, normal_members, normal_node_value, normal_content, normal_node_members, zero, suc, ◌⊎◌, if◌then◌else◌, inl, inr, AllByRecursion, array, Items, no_items, item, get_item, get, Step, At, Name, array_from, Within-step, of_role, wanted_within, lacks_none, member_within, Within, ShapeFault, NoneOf, class_of_object, is_report_class, member_want, entry_want, is_compared_set, Asked, asked, asked_of_member, asked_inside, Want, ClassText, Member, AsksObject, of_label, classed, Classed, is_required, ObjectAt, want_of_kind, Status, want_unless_status, Object, is_empty_array, [], length, nil_from_length, Decides-eqb}
+use Rattle.erd_normal.proofs.Common.{◌≡◌, ℕ, Bool, true, false, ◌&&◌, List, map, is_some, Some, codes, flat_map, bytes_eq, sym, refl, ap, ◌∙◌, subst, and_parts, list_all, Data, object, Members, get_member, role_of_class, family_of_class, rows_of_class, kind_of_identity, kind_of_member, Class, class, Family, family, Role, role, MemberKind, kind, entries_in, text_exact, kind_of_name, kind_of_id, list_of_items, entries_of, entries_at, values-placed_entries, values_in_elections, Skeleton, kind_of_type, has_keys, placed_entries, report_of, elections, objects, In, None, Option, option_map, option_and_then, Ordering, Equal, exact_bytes, option_map_or, match_ordering, no_members, member, text_cmp, IsTree, Preference, IsBeforeFirst, AreMembers, before_later, get_member-before, get_member-first, get_member-later, normal_members, normal_node_value, normal_content, normal_node_members, zero, suc, AllByRecursion, array, Items, no_items, item, get_item, At, array_from, Within-step, wanted_within, lacks_none, member_within, Within, ShapeFault, NoneOf, is_report_class, entry_want, is_compared_set, asked, Want, Member, of_label, classed, Classed, is_empty_array, [], length, nil_from_length, Decides-eqb}
 use Rattle.erd_meaning.specs.code.Spots.{member_name}
 use Rattle.erd_normal.proofs.lists.Lists.{IsPart, part_flat, part_self}
 
@@ -121,7 +121,7 @@ get_each_at value name l d ms rest Equal (Some v) is given rise later =
 get_each_at value name l d ms rest o None is given rise later = later
 get_each_at value name l d ms rest o (Some v) is given rise later = rw is later
 
-get_each : (value : List ℕ → Data → Option Data) (name : List ℕ) (ms : Members) → AreMembers ms → get_member name (each_member value ms) ≡ option_and_then (value name) (get_member name ms)
+pub get_each : (value : List ℕ → Data → Option Data) (name : List ℕ) (ms : Members) → AreMembers ms → get_member name (each_member value ms) ≡ option_and_then (value name) (get_member name ms)
 get_each value name no_members rise = refl
 get_each value name (member l d ms) rise =
     get_each_at value name l d ms (each_member value ms) (text_cmp name l) (value l d) refl refl rise (get_each value name ms rise.2)
@@ -152,9 +152,6 @@ module _ (value_of : List ℕ → MemberKind → Data → Option Data) (c : Clas
   normal_members_each no_members = refl
   normal_members_each (member k d ms) = rw (normal_members_each ms) refl
 
-  pub get_normal : (name : List ℕ) (ms : Members) → AreMembers ms → get_member name (normal_members value_of c ms) ≡ option_and_then (value_of name (kind_of_member c name)) (get_member name ms)
-  get_normal name ms rise = ap (get_member name) (normal_members_each ms) ∙ get_each value_in_class name ms rise
-
 -- ---- of a contest or a header
 
 module _ (π : Preference) (t : Data) (c : Option Class) where
@@ -165,9 +162,6 @@ module _ (π : Preference) (t : Data) (c : Option Class) where
   pub normal_node_members_each : (ms : Members) → normal_node_members π t c ms ≡ each_member node_value ms
   normal_node_members_each no_members = refl
   normal_node_members_each (member k d ms) = rw (normal_node_members_each ms) refl
-
-  pub get_normal_node : (name : List ℕ) (ms : Members) → AreMembers ms → get_member name (normal_node_members π t c ms) ≡ option_and_then (node_value name) (get_member name ms)
-  get_normal_node name ms rise = ap (get_member name) (normal_node_members_each ms) ∙ get_each node_value name ms rise
 
 -- ---- members
 
@@ -217,129 +211,8 @@ pub entries_asked : (t : Data) (w v : Want) (ds : Items) → entry_want w ≡ So
     → AllByRecursion (λ d. Within t (asked v d)) (list_of_items ds)
 entries_asked t w v ds want apart inside = all_items (λ d. Within t (asked v d)) ds (entry_asked t w v ds want apart inside)
 
--- ---- one step inside an object
-
--- `@type` of an object is asked for
-pub record TypeAsked (r : Role) (d : Data) (s : Step) (b : Asked) : Type 0 where
-  pub text : Data
-  pub stands : get (codes "@type") d ≡ Some text
-  pub step : s ≡ Name (codes "@type")
-  pub is : b ≡ asked (ClassText r) text
-
--- another member of an object of the class is asked for
-pub record MemberAsked (c : Class) (d : Data) (s : Step) (b : Asked) : Type 0 where
-  pub name : List ℕ
-  pub other : bytes_eq name (codes "@type") ≡ false
-  pub found : Data
-  pub stands : get name d ≡ Some found
-  pub step : s ≡ Name name
-  pub is : b ≡ asked (member_want c name) found
-
--- what is asked of the member of this name
-asked_of_name : (w : Want) (r : Role) (c : Class) (n : List ℕ) (ms : Members) → AsksObject w r → class_of_object r (object ms) ≡ Some c
-    → asked_inside w (object ms) (Name n) ≡ asked_of_member (if bytes_eq n (codes "@type") then Some (ClassText r) else Some (member_want c n)) (get_member n ms)
-asked_of_name w r c n ms of_role among = rw among refl
-asked_of_name w r c n ms of_label among = rw among refl
-
--- what is asked one step inside an object
-pub asked_in_object : (w : Want) (r : Role) (c : Class) (d : Data) (s : Step) (b : Asked) → AsksObject w r → class_of_object r d ≡ Some c → asked_inside w d s ≡ Some b
-    → TypeAsked r d s b ⊎ MemberAsked c d s b
-asked_in_object w r c (object ms) (Name n) b asks among e = at (bytes_eq n (codes "@type")) refl (get_member n ms) refl (sym (asked_of_name w r c n ms asks among) ∙ e)
-  where
-    at : (type : Bool) → bytes_eq n (codes "@type") ≡ type → (o : Option Data) → get_member n ms ≡ o
-        → asked_of_member (if type then Some (ClassText r) else Some (member_want c n)) o ≡ Some b → TypeAsked r (object ms) (Name n) b ⊎ MemberAsked c (object ms) (Name n) b
-    at true type None found e = cc
-    at true type (Some v) found e =
-        let same : asked (ClassText r) v ≡ b = cc in
-        let named : n ≡ codes "@type" = text_exact n (codes "@type") type in
-        inl (record { text = v; stands = subst (λ q. get_member q ms ≡ Some v) named found; step = ap Name named; is = sym same })
-    at false type None found e = cc
-    at false type (Some v) found e =
-        let same : asked (member_want c n) v ≡ b = cc in
-        inr (record { name = n; other = type; found = v; stands = found; step = refl; is = sym same })
-asked_in_object w r c (object ms) (At i) b asks among e = cc
-asked_in_object w r c d s b asks among e = cc
-
 -- ---- the members of an object that is built come from members of the object that it is built of
 
 -- what gives the value of a member, by its name and kind
 abbrev pub Builder : Type 0
 Builder = List ℕ → MemberKind → Data → Option Data
-
--- ---- members
-
--- the value that is built comes from a member of the object, of which this is asked in the report
-pub record BuiltFrom (t : Data) (value_of : Builder) (c : Class) (ms : Members) (name : List ℕ) (v : Data) : Type 0 where
-  pub other : bytes_eq name (codes "@type") ≡ false
-  pub from : Data
-  pub stands : get_member name ms ≡ Some from
-  pub inside : Within t (asked (member_want c name) from)
-  pub given : value_of name (kind_of_member c name) from ≡ Some v
-
--- an object that is built: it keeps its class, and has under each name that is not special what is built of the value there
-pub record BuiltObject (t : Data) (value_of : Builder) (special : List ℕ → Bool) (r : Role) (c : Class) (ms : Members) (d : Data) : Type 0 where
-  pub at : ObjectAt t (Object r) r c ms
-  pub among : class_of_object r d ≡ Some c
-  pub gets : (name : List ℕ) → special name ≡ false → get name d ≡ option_and_then (value_of name (kind_of_member c name)) (get_member name ms)
-
--- a member that does not come from the object's: `@id` and the envelope
-pub record SpecialAsked (special : List ℕ → Bool) (c : Class) (d : Data) (s : Step) (b : Asked) : Type 0 where
-  pub name : List ℕ
-  pub named : special name ≡ true
-  pub found : Data
-  pub stands : get name d ≡ Some found
-  pub step : s ≡ Name name
-  pub is : b ≡ asked (member_want c name) found
-
--- a member that comes from one of the object's
-pub record BuiltAsked (t : Data) (value_of : Builder) (special : List ℕ → Bool) (c : Class) (ms : Members) (s : Step) (b : Asked) : Type 0 where
-  pub name : List ℕ
-  pub plain : special name ≡ false
-  pub found : Data
-  pub origin : BuiltFrom t value_of c ms name found
-  pub step : s ≡ Name name
-  pub is : b ≡ asked (member_want c name) found
-
-module _ (t : Data) (clean : NoneOf (ShapeFault t)) where
-  pub built_from : (value_of : Builder) (w : Want) (r : Role) (c : Class) (ms : Members) → ObjectAt t w r c ms → (name : List ℕ) (v : Data) → bytes_eq name (codes "@type") ≡ false
-      → option_and_then (value_of name (kind_of_member c name)) (get_member name ms) ≡ Some v → BuiltFrom t value_of c ms name v
-  built_from value_of w r c ms o name v other =
-      (elim (get_member name ms) as (λ found. get_member name ms ≡ found → option_and_then (value_of name (kind_of_member c name)) found ≡ Some v → BuiltFrom t value_of c ms name v) [
-        | None ↦ λ is e. cc
-        | Some d ↦ λ is e. record { other = other; from = d; stands = is; inside = member_within t clean w r ms c name d o.asks o.among other o.inside is; given = e }
-      ]) refl
-
-  -- what holds of what is built of the value where that value stands holds of the member, if texts stay
-  pub member_holds : (Q : Asked → Type 0) → ((d : Data) → Within t (asked Status d) → Q (asked Status d))
-      → (value_of : Builder) (c : Class) (ms : Members) (name : List ℕ) (v : Data) → (b : BuiltFrom t value_of c ms name v)
-      → ((required : Bool) → Within t (asked (want_of_kind (kind_of_member c name) required) b.from) → Q (asked (want_of_kind (kind_of_member c name) required) v))
-      → (kind_of_member c name ≡ kind.Word → b.from ≡ v) → Q (asked (member_want c name) v)
-  member_holds Q status value_of c ms name v b built word =
-      (elim (is_report_class c && bytes_eq name (codes "Status")) as (λ apart. (is_report_class c && bytes_eq name (codes "Status")) ≡ apart → Q (asked (member_want c name) v)) [
-        | true ↦ λ is.
-            let want : member_want c name ≡ Status = rw is refl in
-            subst (λ w. Q (asked w v)) (sym want) (subst (λ x. Q (asked Status x)) (word (status_kind c name is)) (status b.from (subst (λ w. Within t (asked w b.from)) want b.inside)))
-        | false ↦ λ is.
-            let want = want_unless_status c name is in
-            subst (λ w. Q (asked w v)) (sym want) (built (is_required c name) (subst (λ w. Within t (asked w b.from)) want b.inside))
-      ]) refl
-
-  -- what is asked one step inside an object that is built: its `@type`, a special member, or what is built of a member
-  pub inside_built : (value_of : Builder) (special : List ℕ → Bool) (r : Role) (c : Class) (ms : Members) (d : Data) → BuiltObject t value_of special r c ms d → (s : Step) (b : Asked)
-      → asked_inside (Object r) d s ≡ Some b → TypeAsked r d s b ⊎ (SpecialAsked special c d s b ⊎ BuiltAsked t value_of special c ms s b)
-  inside_built value_of special r c ms d o s b e = elim (asked_in_object (Object r) r c d s b of_role o.among e) [
-    | inl type ↦ inl type
-    | inr m ↦ inr (at m (special m.name) refl)
-  ]
-    where
-      at : (m : MemberAsked c d s b) (is : Bool) → special m.name ≡ is → SpecialAsked special c d s b ⊎ BuiltAsked t value_of special c ms s b
-      at m true is = inl (record { name = m.name; named = is; found = m.found; stands = m.stands; step = m.step; is = m.is })
-      at m false is =
-          inr (record {
-            name = m.name;
-            plain = is;
-            found = m.found;
-            origin = built_from value_of (Object r) r c ms o.at m.name m.found m.other (sym (o.gets m.name is) ∙ m.stands);
-            step = m.step;
-            is = m.is;
-          })
