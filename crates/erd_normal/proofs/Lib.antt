@@ -1,8 +1,7 @@
 pub mod Common
 pub mod lists
 pub mod texts
-pub mod built
-pub mod throughout
+pub mod inside
 pub mod canonical
 pub mod meaning
 pub mod unique

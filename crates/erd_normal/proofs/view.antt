@@ -1,6 +1,7 @@
--- The report as it is written: a view in any style, and in the canonical one.
+-- A view of a report: in any style, and in the canonical one.
 pub mod Views
 pub mod AskedInViews
+pub mod NewIds
 pub mod CanonicalStyles
 pub mod SaidViews
 pub mod ViewIds

@@ -1,6 +1,7 @@
 //! What the canonical form of a report is written from: the report, and the orders of its parts.
 ghost use Rattle.std.specs.Prelude.{◌≡◌, ◌==◌, ℕ, List, [], Some, true, false, map, option_map, slice_get, IfOk};
-ghost use Rattle.erd_normal.specs.Words.{option_map_or, string, Value, view, has_float, family_number, IsAccepted, IsBounded, has_keys, FindsId, id_in, key_in, rank_of, contests, elections, objects, canonical_selection_id};
+ghost use Rattle.erd_normal.specs.Words.{option_map_or, string, Value, view, has_float, family_number, IsAccepted, IsBounded, has_keys};
+ghost use Rattle.erd_normal.specs.Words.{FindsId, id_in, key_in, rank_of, contests, elections, objects, canonical_selection_id};
 ghost use denote.Ref.{Bor};
 ghost use Rattle.erd_tables.specs.declared.class.Family.TheVariants as family;
 ghost use Rattle.erd_normal.specs.code.ElectionParts.{objects_in_part, part_seen};
@@ -149,7 +150,8 @@ impl<'a> Writer<'a> {
 
     /// Returns the positions of the selections of the contest at a position among them, in the order of their names.
     pub(crate) fn rising_selections(&self, contest: usize) -> &[usize]
-        ensures { result.now ≡ option_map_or (λ o. rising_selections self.now.prefer (view self.now.tree) o.value) (slice_get (contests (view self.now.tree)) contest) [] }
+        ensures { result.now ≡ option_map_or (λ o. rising_selections self.now.prefer (view self.now.tree) o.value)
+            (slice_get (contests (view self.now.tree)) contest) [] }
     {
         part_at(&self.orders.selections.rising, contest)
     }
@@ -157,7 +159,8 @@ impl<'a> Writer<'a> {
     /// Returns the rank of the contest of the selection that has the `@id`, and the rank of the selection there. Returns `None`
     /// if no selection has it.
     pub(crate) fn selection_ranks(&self, id: &str) -> Option<(usize, usize)>
-        ensures { string (option_map_or (λ r. canonical_selection_id r.0 r.1) result []) ≡ normal_selection_reference self.now.prefer (view self.now.tree) (string id.now) }
+        ensures { string (option_map_or (λ r. canonical_selection_id r.0 r.1) result [])
+            ≡ normal_selection_reference self.now.prefer (view self.now.tree) (string id.now) }
     {
         match self.report.target_of(Family::Selection, id) {
             Some((found, position)) => {
@@ -174,7 +177,8 @@ impl<'a> Writer<'a> {
     /// Returns the rank of the contest of the selection at the position, and the rank of the selection there.
     fn ranks_at(&self, position: usize) -> Option<(usize, usize)>
         ensures { (id : List ℕ) → id_in family.Selection (view self.now.tree) position ≡ Some id
-            → string (option_map_or (λ r. canonical_selection_id r.0 r.1) result []) ≡ normal_selection_reference self.now.prefer (view self.now.tree) (string id) }
+            → string (option_map_or (λ r. canonical_selection_id r.0 r.1) result [])
+            ≡ normal_selection_reference self.now.prefer (view self.now.tree) (string id) }
     {
         let (contest, _) = self.report.selection_at(position)?;
         let rank = rank_in(&self.orders.selections.ranks, position)?;

@@ -6,9 +6,9 @@ use Rattle.erd_meaning.specs.code.ObjectWalk.{same_key}
 use Rattle.erd_meaning.proofs.finding.Found.{one_election_key}
 use Rattle.erd_meaning.proofs.identity.IdentityFaults.{same_key_from}
 use Rattle.erd_normal.proofs.lists.Matched.{IsEven, Matched, distinct_matched, matched_back, matched_length}
-use Rattle.erd_normal.proofs.built.BuiltFrom.{all_items}
+use Rattle.erd_normal.proofs.inside.Entries.{all_items}
 use Rattle.erd_normal.proofs.same.IdsOfObjects.{Refers, reference_refers}
-use Rattle.erd_normal.proofs.throughout.ThroughoutReports.{row_named}
+use Rattle.erd_normal.proofs.inside.Homes.{row_named}
 
 -- ---- canonical `@id` texts tell objects and selections apart, as long as a report has fewer of them than a word counts
 

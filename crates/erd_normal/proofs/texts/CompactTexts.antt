@@ -4,8 +4,7 @@ use Rattle.std.specs.Char.{digit_char}
 use Rattle.std.proofs.lemmas.Str.Parse.{digit_at}
 use Rattle.serde_json.proofs.Numbers.{number_of-decimal, number_of-negative}
 use Rattle.erd_normal.proofs.lists.Lists.{entry_holds, items_again, array_of-tree, trees_listed, all_both}
-use Rattle.erd_normal.proofs.built.BuiltFrom.{each_member, trees_of_each}
-use Rattle.erd_normal.proofs.built.NormalTrees.{IsPartwise}
+use Rattle.erd_normal.proofs.inside.Members.{each_member, trees_of_each, IsPartwise}
 
 -- ---- what is written for a byte
 

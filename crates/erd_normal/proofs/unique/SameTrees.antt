@@ -9,7 +9,7 @@ use Rattle.erd_normal.proofs.same.complete.Texts.{Counterpart, by_key, by_name, 
 use Rattle.erd_normal.proofs.lists.Lists.{is_family, listed_depth}
 use Rattle.erd_normal.proofs.same.complete.Complete.{AloneUnused}
 use Rattle.erd_normal.proofs.same.Lookups.{Aligned, both_there, not_both, lookups, scope_same, steady_same, of_report}
-use Rattle.erd_normal.proofs.throughout.ThroughoutReports.{of_envelope}
+use Rattle.erd_normal.proofs.inside.Homes.{of_envelope}
 
 -- ---- counterparts in canonical reports that mean the same have one `@id`, and so a text names one key in both
 

@@ -1,7 +1,7 @@
 -- Whatever is asked in a report that is written anew is asked of what is written of a value, or of what is put in.
 use Rattle.erd_normal.proofs.Common.{◌≡◌, ℕ, zero, suc, Bool, true, false, ◌||◌, inl, inr, List, [], ◌∷◌, map, if◌then◌else◌, Some, None, codes, Option, option_and_then, bytes_eq, sym, refl, ap, ◌∙◌, subst, AllByRecursion, Data, null, boolean, string, number, array, object, Items, no_items, item, Members, get_member, get_item, items_of, Class, class, Role, role, kind, Step, IsTree, In, entry_want, scope_inside, scope, Scope, want_of_name, ClassText, Member, Want, Object, Asked, asked, asked_at, put_all, as_str, class_of_object, class_in_role, is_envelope}
-use Rattle.erd_normal.proofs.built.BuiltObjects.{put_value}
-use Rattle.erd_normal.proofs.throughout.ThroughoutMembers.{all_inside}
+use Rattle.erd_normal.proofs.inside.Members.{put_value}
+use Rattle.erd_normal.proofs.inside.Walks.{all_inside}
 use Rattle.erd_normal.proofs.view.Views.{viewed, get_view, is_put, IsPutOrNot, one_put, none_put, put_or_not, second, entry_kept, right_false, each_in_order, Holding, GoesInward}
 use Rattle.erd_normal.specs.code.View.{Style, is_dropped, is_left_out, set_in_order, view, view_entries, view_members, whole}
 

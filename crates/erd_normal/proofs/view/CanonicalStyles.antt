@@ -1,7 +1,7 @@
 -- The canonical style suits an accepted report: so the report that is written in it says what the report says.
 use Rattle.erd_normal.proofs.Common.{asked, scope, ObjectAt, ObjectIn, object_in, Within, is_envelope, id_of_key, has_keys, key_of, ◌≡◌, ℕ, Bool, true, false, cond, ◌||◌, ◌&&◌, inl, inr, List, [], map, is_some, Some, None, codes, Option, option_map, option_map_or, bytes_eq, sym, refl, ap, ◌∙◌, subst, and_parts, AllByRecursion, Data, null, string, array, object, Items, Members, get_member, get_item, get, role_of_class, family_of_class, kind_of_member, is_required, Class, class, Family, family, Role, role, MemberKind, kind, IsTree, In, text_exact, class_role, ShapeFault, NoneOf, entries_of, class_of_object, scope_inside, want_of_kind, is_report_class, member_want, want_of_name, entry_want, Asked, asked_at, Within-root, Want, Carried, ClassText, Member, Object, Status, Preference, Placed, objects, family_of_role, skeleton_of_shape, Skeleton, election_entries, entries_at}
 use Rattle.erd_meaning.specs.code.Spots.{member_name}
-use Rattle.erd_normal.proofs.built.BuiltFrom.{holds, home, is_home, is_report_role, report_part, election_part}
+use Rattle.erd_normal.proofs.inside.Homes.{holds, home, is_home, is_report_role, report_part, election_part}
 use Rattle.erd_normal.proofs.lists.Lists.{IsPart}
 use Rattle.erd_normal.proofs.canonical.NormalKeys.{selection_values}
 use Rattle.erd_normal.proofs.same.Related.{Stands, entry_stands, member_stands, stands_tree, entry_has}

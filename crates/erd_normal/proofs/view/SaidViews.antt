@@ -1,11 +1,11 @@
 -- The report that is written in the canonical style says what the report says.
 use Rattle.erd_normal.proofs.Common.{◌≡◌, ℕ, Bool, true, false, List, Some, None, codes, Option, option_and_then, option_map_or, sym, refl, ap, ◌∙◌, subst, same_Some, subst, Data, null, string, object, Members, get_member, as_str, class, Family, family, Role, role, kind, IsTree, In, In-all, In-map_from, string_from_text, wanted_within, report_class, want_by_kind, ShapeFault, NoneOf, class_of_object, scope_inside, want_of_name, asked, is_reference, unrepeated, unrepeated_reference, scope, Want, Member, Object, Reference, IsAccepted, no_shape_fault, has_keys, Preference, key_of, Placed, selections_of_contest, id_of, IsBounded, Sides, IsUnused, is_envelope, Same, SaysTheSame, an_id, of_the_envelope, an_unused_id, MayBeAbsent, is_envelope_name, envelope_values, id_of_key, id_of_selection}
-use Rattle.erd_normal.proofs.built.NormalTrees.{kind_of_family_id}
+use Rattle.erd_normal.proofs.inside.Homes.{kind_of_family_id}
 use Rattle.erd_normal.proofs.canonical.NormalKeys.{listed}
 use Rattle.erd_normal.proofs.same.Lookups.{Aligned, both_there, not_both, lacks_none, lacks_one, asked_of_name}
 use Rattle.erd_normal.proofs.same.Related.{Stands}
 use Rattle.erd_normal.proofs.same.IdsOfObjects.{family_values, value_placed, Refers, reference_refers}
-use Rattle.erd_normal.proofs.same.normal.NewIds.{NewId, of_family, of_contest, new_exact, stands_for, new_text, old_text, pair_of, Renamed, renamed_reference, renamed_selection, style_unused, free_from}
+use Rattle.erd_normal.proofs.view.NewIds.{NewId, of_family, of_contest, new_exact, stands_for, new_text, old_text, pair_of, Renamed, renamed_reference, renamed_selection, style_unused, free_from}
 use Rattle.erd_normal.proofs.view.Views.{said, is_put, Suits}
 use Rattle.erd_normal.proofs.view.AskedInViews.{IsViewOf, of_value, of_put}
 use Rattle.erd_normal.proofs.view.CanonicalStyles.{Classed, classed, IsHeld, part_of, goes_inward, root_held, HoldsId, holds_id, put_id, puts_trees, asked_in_form}

@@ -1,11 +1,13 @@
 -- What is written of the value of a member without objects, and of the order of a ballot, is its view.
 use Rattle.erd_normal.proofs.Common.{◌≡◌, ℕ, zero, suc, Bool, true, false, ◌||◌, ◌&&◌, List, [], ◌∷◌, map, if◌then◌else◌, Some, None, codes, Option, option_map_or, bytes_eq, not-false, sym, refl, ap, ap₂, ◌∙◌, subst, Data, null, boolean, string, number, array, object, Items, no_items, item, Members, no_members, member, put, get_member, get_item, items_of, kind_of_member, is_required, is_report_class, role_of_class, Class, class, Family, family, Role, role, MemberKind, kind, reason, IsTree, In-all, faultless, wanted_within, kind_of_class, want_unless_status, member_within, of_role, object_in, ObjectIn, ObjectAt, ShapeFault, NoneOf, entries_of, entries_at, list_of_items, is_array, is_empty_array, class_of_object, scope_inside, want_of_kind, member_want, want_of_name, entry_want, asked, Within, scope, Scope, Want, Carried, ClassText, Member, Object, Reference, Status, IsAccepted, no_shape_fault, Preference, is_envelope, normal_value, normal_reference, normal_selection_reference, normal_content, normal_nodes, normal_node, normal_node_members, normal_node_value, normal_members, reference_cmp, compact_cmp, rising_list, with_rising_text, array_of, within-tree, members_unique, found_cases, get_member-first, get_member-later, kind_of_type, kind_of_unlisted_has, text_exact, class_role, option_and_then, In-rising, AreMembers}
 use Rattle.erd_check.specs.Wants.{is_table_set}
-use Rattle.erd_normal.proofs.built.BuiltFrom.{Builder, each_member, entry_asked, entries_asked, normal_members_each, normal_node_members_each, node_value, status_kind, value_in_class}
-use Rattle.erd_normal.proofs.built.NormalTrees.{get_label-other, with_rising_text-tree}
+use Rattle.erd_normal.proofs.inside.Members.{Builder, each_member, normal_members_each, normal_node_members_each, node_value, value_in_class}
+use Rattle.erd_normal.proofs.inside.Entries.{entry_asked, entries_asked}
+use Rattle.erd_normal.proofs.inside.Homes.{status_kind, is_prefixed}
+use Rattle.erd_normal.proofs.inside.RisingLabels.{get_label-other, with_rising_text-tree, BuiltLabel, built_label}
 use Rattle.erd_normal.proofs.lists.Lists.{maps_agree}
 use Rattle.erd_normal.proofs.same.IdsOfObjects.{Refers, reference_refers, references_refer}
-use Rattle.erd_normal.proofs.throughout.ThroughoutMembers.{BuiltLabel, built_label, closed_names, is_apart_role, is_closed, is_prefixed, known_passes}
+use Rattle.erd_normal.proofs.inside.Walks.{closed_names, is_apart_role, is_closed, known_passes}
 use Rattle.erd_normal.proofs.view.Views.{viewed, get_view, view_members_each, view-tree, written_entries, second}
 use Rattle.erd_normal.proofs.view.CanonicalStyles.{Classed, apart, classed, puts_trees}
 use Rattle.erd_normal.specs.code.View.{is_dropped, view, view_entries, view_members, style_of, puts_of, text_for}

@@ -4,7 +4,7 @@ use Rattle.erd_check.specs.Wants.{entry_want_of_kind}
 use Rattle.erd_check.proofs.ShapedReports.{no_fraction}
 use Rattle.erd_text.proofs.StableRising.{map_after}
 use Rattle.erd_text.proofs.RisingOrders.{rising-In}
-use Rattle.erd_normal.proofs.built.BuiltObjects.{put_value}
+use Rattle.erd_normal.proofs.inside.Members.{put_value}
 use Rattle.erd_normal.proofs.canonical.CanonicalIds.{canonical_id_exact, selection_id_apart, sound_envelope}
 use Rattle.erd_normal.proofs.canonical.ContestSelections.{never_before_itself}
 use Rattle.erd_normal.proofs.canonical.NormalKeys.{elections_rise, objects_rise, references_rise, selections_rise, values_rise}
@@ -18,8 +18,8 @@ use Rattle.erd_normal.proofs.same.complete.Values.{identifier_simple, language_s
 use Rattle.erd_normal.proofs.same.means.Meanings.{saying_the_same_means_the_same}
 use Rattle.erd_normal.proofs.same.means.References.{name_alike, key_alike}
 use Rattle.erd_normal.proofs.texts.CompactTexts.{within-fitting, IsFitting, fitting_partwise}
-use Rattle.erd_normal.proofs.throughout.ThroughoutMembers.{all_inside, carried_passes, name_passes}
-use Rattle.erd_normal.proofs.unique.Unique.{unique}
+use Rattle.erd_normal.proofs.inside.Walks.{all_pass}
+use Rattle.erd_normal.proofs.unique.Unique.{member_wanted, unique}
 use Rattle.erd_normal.proofs.view.ViewDepths.{no_deeper}
 use Rattle.erd_normal.specs.SameForms.{CanonicalSaysTheSame}
 use Rattle.erd_normal.proofs.view.Views.{view-holds, get_view, viewed, written_entries, entries_viewed, entries_in_order, entry_kept}
@@ -49,20 +49,6 @@ fair_rows : (c : Class) → (list_all (λ m. is_fair_kind m.kind) (rows_of_class
 fair_rows class.ElectionReport = (refl, refl)
 fair_rows c = (refl, refl)
 
-fair_member : (c : Class) (name : List ℕ) → bytes_eq name (codes "@type") ≡ false → is_fair (member_want c name) ≡ true
-fair_member c name other = at (is_report_class c && bytes_eq name (codes "Status")) refl
-  where
-    at : (b : Bool) → (is_report_class c && bytes_eq name (codes "Status")) ≡ b → is_fair (member_want c name) ≡ true
-    at true is = rw is refl
-    at false is =
-        ap is_fair (want_unless_status c name is)
-        ∙ fair_of_kind (kind_of_member c name) (is_required c name) (kind_of_class is_fair_kind c name other (fair_rows c).0 (fair_rows c).1 refl refl)
-
-fair_name : (s : Scope) (name : List ℕ) → option_map_or is_fair (want_of_name s name) true ≡ true
-fair_name scope.Nothing name = refl
-fair_name scope.Carried name = carried_passes is_fair refl refl name
-fair_name (scope.Members r o) name = name_passes is_fair r o name refl (λ c is other. fair_member c name other)
-
 fair_entry_kind : (k : MemberKind) → option_map_or is_fair (entry_want_of_kind k) true ≡ true
 fair_entry_kind (kind.Many f) = refl
 fair_entry_kind k = refl
@@ -72,9 +58,7 @@ fair_entry (Member k required) = fair_entry_kind k
 fair_entry w = refl
 
 fair_at : (u : Data) (p : List Step) (a : Asked) → asked_at u p ≡ Some a → is_fair a.want ≡ true
-fair_at u p a e =
-    all_inside (λ w d. is_fair w ≡ true) (λ w ms n v x h asks found. subst (λ o. option_map_or is_fair o true ≡ true) asks (fair_name (scope_inside w (object ms)) n))
-    (λ w ds i v x h asks found. subst (λ o. option_map_or is_fair o true ≡ true) asks (fair_entry w)) (asked (Object role.Report) u) p a refl e
+fair_at u p a e = all_pass is_fair is_fair_kind fair_of_kind fair_rows refl refl refl (λ r. refl) refl refl (λ w h. fair_entry w) (asked (Object role.Report) u) p a refl e
 
 -- ---- arrays
 
@@ -118,11 +102,6 @@ module _ (t : Data) (clean : NoneOf (ShapeFault t)) where
   other_full kind.ClassText r (array ds) fair read w = cc
   other_full k r (array ds) fair read w = read
   other_full k r d fair read w = refl
-
--- the kind that is wanted
-member_wanted : (w : Want) (k : MemberKind) → kind_wanted w ≡ Some k → (r : Bool) × (w ≡ Member k r)
-member_wanted (Member q r) k e = let same : q ≡ k = cc in (r, ap (λ x. Member x r) same)
-member_wanted w k e = cc
 
 -- the objects of one family or the other
 keyed_or_selection : (f : Family) → (has_keys f ≡ true) ⊎ (f ≡ family.Selection)

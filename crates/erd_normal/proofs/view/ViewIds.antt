@@ -1,6 +1,6 @@
 -- The objects of the report that is written in the canonical style: their keys, ranks and `@id`s.
 use Rattle.erd_normal.proofs.Common.{◌≡◌, ℕ, ◌+◌, ◌^◌, ◌<◌, Bool, true, false, ◌||◌, List, [], map, length, filter, slice_get, if◌then◌else◌, Some, None, codes, Option, option_map, option_and_then, option_map_or, sym, refl, ap, ◌∙◌, subst, ap₂, arith, is_lt, is_eq, Equal, same_Some, tied_back, option_cmp, eq_by_cmp, options_total, key_cmp, key_cmp_total, IsDistinct, length-map, slice_get-map, slice_get_within, option_map-Some, Data, array, object, Members, get_member, as_str, Family, family, role, kind, IsTree, In, In-map_from, In-flat_map, In-from_contains, wanted_within, object_in, ObjectIn, is_empty_array, is_array, NoneOf, ShapeFault, entries_of, entries_at, scope_inside, want_of_name, want_by_kind, unrepeated, asked, Within-root, scope, Scope, Want, Member, Object, IsAccepted, no_shape_fault, no_identity_fault, has_keys, Preference, key_of, Placed, objects, contests, selections_of_contest, id_of, IsBounded, Sides, is_envelope, canonical_id, canonical_selection_id, rank_of, rank_map, by_key, by_name, selection_role, rising_list, length-rising, In-rising, in_at, HasCanonicalIds, values_distinct, distinct_one, stands, contest_selections, position_of}
-use Rattle.erd_normal.proofs.built.BuiltObjects.{put_value}
+use Rattle.erd_normal.proofs.inside.Members.{put_value}
 use Rattle.erd_normal.proofs.canonical.CanonicalIds.{few_selections, canonical_selection_id_exact}
 use Rattle.erd_normal.proofs.canonical.NormalKeys.{listed, selection_values, selection_ranks, by_key_total}
 use Rattle.erd_normal.proofs.lists.Lists.{rank_exact, rank_low}
@@ -10,7 +10,7 @@ use Rattle.erd_normal.proofs.same.Owners.{family_matched, related_key}
 use Rattle.erd_normal.proofs.same.Related.{Stands, Related}
 use Rattle.erd_normal.proofs.same.IdsOfObjects.{family_values, value_placed, placed_value, object_values}
 use Rattle.erd_normal.proofs.same.means.Members.{TwoReports}
-use Rattle.erd_normal.proofs.same.normal.NewIds.{new_text, old_text}
+use Rattle.erd_normal.proofs.view.NewIds.{new_text, old_text}
 use Rattle.erd_normal.proofs.view.Views.{said, get_view, viewed, entries_viewed, is_put, empty_is}
 use Rattle.erd_normal.proofs.view.AskedInViews.{IsViewOf, of_value, of_put, not_put}
 use Rattle.erd_normal.proofs.view.CanonicalStyles.{apart, given_by_key, IsHeld, part_of, goes_inward, puts_trees, asked_in_form, viewed_tree}

@@ -1,12 +1,11 @@
--- A report that is written anew, in any style: it is a tree, whatever is asked in it is asked of what is written of a value, and it
--- says the same.
+-- A report that is written anew, in any style: it is a tree, whatever is asked in it is asked of what is written of a value, and
+-- it says the same.
 use Rattle.erd_normal.proofs.Common.{◌≡◌, ℕ, zero, suc, Bool, true, false, ◌||◌, inl, inr, List, [], ◌∷◌, map, if◌then◌else◌, Some, None, Option, option_and_then, bytes_eq, list_any, sym, refl, ap, ◌∙◌, subst, AllByRecursion, IsPermutation, IsPermutation-map, Data, null, boolean, string, number, array, object, Items, no_items, item, Members, no_members, member, get_member, get_item, items_of, MemberKind, kind, IsTree, AreMembers, list_of_items, is_empty_array, In, text_exact, found_cases, list_of_items-items_of, entry_want, is_table_set, scope_inside, Scope, want_of_name, Reference, Member, Want, reordered_rising, all-reordered, rising_list, put_all, and_parts, rising_list_map, entries_of}
 use Rattle.erd_text.proofs.StableRising.{map_after}
 use Rattle.erd_normal.proofs.Common.{Sides, MayBeAbsent, Same, SameEntries, is_array_kind, is_envelope, NameOneThing, not_asked, a_null, a_flag, a_number, a_text, an_id, a_list, a_set, an_object, no_entry, one_entry, an_empty_array, of_the_envelope}
 use Rattle.erd_check.specs.Wants.{entry_want_of_kind}
-use Rattle.erd_normal.proofs.built.BuiltFrom.{each_member, get_each, no_entry as none_inside}
-use Rattle.erd_normal.proofs.built.BuiltObjects.{put_value, get_put_all}
-use Rattle.erd_normal.proofs.built.NormalTrees.{IsPartwise, tree_partwise}
+use Rattle.erd_normal.proofs.inside.Members.{each_member, get_each, put_value, get_put_all, IsPartwise, tree_partwise}
+use Rattle.erd_normal.proofs.inside.Entries.{no_entry as none_inside}
 use Rattle.erd_normal.proofs.lists.Lists.{items_again}
 use Rattle.erd_normal.proofs.same.Lookups.{Aligned, both_there, not_both, lacks_none, lacks_one, merged}
 use Rattle.erd_normal.specs.code.View.{Style, text_for, is_dropped, is_left_out, set_in_order, view, view_entries, view_members}
@@ -174,8 +173,8 @@ module _ (H : Holding) (inward : GoesInward H) where
 
 -- ---- it says the same
 
--- the style suits the sides: texts of references stand for one another, what is put in is aligned, and an `@id` that is left out with
--- none put in may be absent
+-- the style suits the sides: texts of references stand for one another, what is put in is aligned, and an `@id` that is left out
+-- with none put in may be absent
 pub record Suits (n : Style) (m : Sides) (H : Holding) : Type 0 where
   pub texts : (o : Data) (f : Rattle.erd_tables.specs.declared.class.Family.Family) (s : List ℕ) → H o (Reference f) (string s) → NameOneThing m s (n.text f s)
   pub puts : (o : Data) (w : Want) (ms : Members) (k : List ℕ) (v : Data) → H o w (object ms) → In (k, v) (n.puts o w (object ms)) → Aligned m (scope_inside w (object ms)) k (get_member k ms) (Some v)

@@ -131,7 +131,8 @@ abbrev mutual
   pub normal_node_members : Preference → Data → Option Class → Members → Members
   normal_node_members π t c no_members = no_members
   normal_node_members π t c (member k d ms) =
-      option_map_or (λ v. member k v (normal_node_members π t c ms)) (normal_node_value π t (option_map (λ c. kind_of_member c k) c) d (normal_content π t d)) (normal_node_members π t c ms)
+      option_map_or (λ v. member k v (normal_node_members π t c ms))
+      (normal_node_value π t (option_map (λ c. kind_of_member c k) c) d (normal_content π t d)) (normal_node_members π t c ms)
 
 -- ---- objects
 

@@ -1,6 +1,6 @@
 -- The tree as it is written: objects and selections are found by their positions, in the order of their keys and names, and not
--- in the members that hold them. It does not define the profile: `WrittenTrees` proves that it is the tree of `NormalTree` for an
--- accepted report.
+-- in the members that hold them. It does not define the profile: `WrittenViews` proves that it is the view of `View` in the
+-- canonical style, for an accepted report.
 use Rattle.std.specs.Prelude.{ℕ, ◌+◌, List, [], ◌∷◌, Bool, true, false, if◌then◌else◌, Option, Some, None, map, codes}
 use Rattle.std.specs.List.{slice_get}
 use Rattle.std.specs.Option.{option_map_or}
@@ -32,7 +32,8 @@ map_from f n (x ∷ xs) = f n x ∷ map_from f (n + 1) xs
 -- The selection with rank m of the contest.
 abbrev pub written_selection : Preference → Data → Data → ℕ → Data → Data
 written_selection π t contest m d =
-    with_id (Some (canonical_selection_id (rank_of π t family.Contest (key_of π contest)) m)) (normal_object_with (λ name k v. normal_value π t k v) (class_of_object selection_role d) d)
+    with_id (Some (canonical_selection_id (rank_of π t family.Contest (key_of π contest)) m))
+    (normal_object_with (λ name k v. normal_value π t k v) (class_of_object selection_role d) d)
 
 -- The selections of the contest, in the order of their names.
 abbrev pub written_in_contest : Preference → Data → Data → List Data

@@ -106,7 +106,9 @@ fn write_identified<R: MemberRule>(
     out: &mut Output,
 ) -> Result<(), AllocError>
     requires whole { has_float (view value.now) ≡ false }
-    ensures { OnOk result (out.new ≡ out.old ++ value_tokens (with_id (option_map (λ text. text.bytes) id.now) (normal_object_with (R.value_of rule.now) (class_of_object role (view value.now)) (view value.now)))) }
+    ensures { OnOk result (out.new ≡ out.old
+        ++ value_tokens (with_id (option_map (λ text. text.bytes) id.now)
+        (normal_object_with (R.value_of rule.now) (class_of_object role (view value.now)) (view value.now)))) }
 {
     match id {
         Some(id) => {

@@ -13,7 +13,8 @@ pub(crate) fn election_parts(
     report: &Report,
 ) -> Result<PerFamily<Vec<Vec<usize>>>, AllocError>
     requires accepted { IsAccepted report.now.prefer (view report.now.tree) }
-    ensures { IfOk result (λ parts. (f : Family) (i : ℕ) → part_seen (entry_of parts f).items i ≡ positions_in_part report.now.prefer (view report.now.tree) f i) }
+    ensures { IfOk result (λ parts. (f : Family) (i : ℕ)
+        → part_seen (entry_of parts f).items i ≡ positions_in_part report.now.prefer (view report.now.tree) f i) }
 {
     PerFamily::of(|family| parts_of(alloc, report, family))
 }

@@ -1,27 +1,7 @@
--- The objects that are built, with the report and the entries of arrays: what stands in them, of what they are built, and their
--- keys, which do not depend on the order of identifiers.
-use Rattle.erd_normal.proofs.Common.{◌≡◌, ℕ, true, false, List, [], ◌∷◌, if◌then◌else◌, Some, None, codes, Option, bytes_eq, sym, refl, ap, ◌∙◌, true≢false, Data, Members, put, get_member, kind_of_member, class, role, Preference, get_member-put, text_exact, put_all, map, Class, Family, kind, Bool, is_lt, Ordering, Less, Equal, Greater, CmpEqualImpliesEq, IsTotalOrder, ordering_reverse, role_of_class, less, triple_of, key_of_identifiers, whole-reordered, Key, fun_ext, IsPermutation}
-use Rattle.erd_normal.proofs.built.NormalTrees.{put_elsewhere}
+-- The key that identifiers give does not depend on their order.
+use Rattle.erd_normal.proofs.Common.{◌≡◌, Bool, true, false, List, map, Some, sym, refl, ap, ◌∙◌, Data, None, Option, Ordering, Equal, Preference, [], ◌∷◌, if◌then◌else◌, true≢false, is_lt, Less, Greater, CmpEqualImpliesEq, IsTotalOrder, ordering_reverse, less, triple_of, key_of_identifiers, whole-reordered, Key, fun_ext, IsPermutation}
 use Rattle.erd_meaning.specs.code.ChosenKeys.{choice_cmp, choice_of, choice_of_two}
 use Rattle.erd_meaning.proofs.orders.ChoiceOrder.{choice_cmp_exact, choice_cmp_total, key_is_choice}
-
--- ---- several values put at their names
-
-abbrev Named : Type 0
-Named = List ℕ × Data
-
--- what stands at a name then, where o stood before
-abbrev pub put_value : List Named → List ℕ → Option Data → Option Data
-put_value [] name o = o
-put_value (p ∷ ps) name o = if bytes_eq name p.0 then Some p.1 else put_value ps name o
-
-pub get_put_all : (ps : List Named) (name : List ℕ) (ms : Members) → get_member name (put_all ps ms) ≡ put_value ps name (get_member name ms)
-get_put_all [] name ms = refl
-get_put_all (p ∷ ps) name ms =
-    (elim (bytes_eq name p.0) as (λ b. bytes_eq name p.0 ≡ b → get_member name (put_all (p ∷ ps) ms) ≡ (if b then Some p.1 else put_value ps name (get_member name ms))) [
-      | true ↦ λ is. ap (λ x. get_member x (put p.0 p.1 (put_all ps ms))) (text_exact name p.0 is) ∙ get_member-put p.0 p.1 (put_all ps ms)
-      | false ↦ λ is. put_elsewhere name p.0 p.1 (put_all ps ms) is ∙ get_put_all ps name ms
-    ]) refl
 
 -- ---- the lesser of two
 
@@ -85,10 +65,3 @@ module _ (π : Preference) where
 
   pub key_of_identifiers-reordered : (ds es : List Data) → IsPermutation ds es → key_of_identifiers π ds ≡ key_of_identifiers π es
   key_of_identifiers-reordered ds es h = key_is_chosen ds ∙ ap (λ f. f None) (chosen-reordered h) ∙ sym (key_is_chosen es)
-
--- ---- keys of what is built
-
--- each class of a family has identifiers
-pub kind_of_identifiers : (c : Class) (f : Family) → role_of_class c ≡ role.OfFamily f → kind_of_member c (codes "ExternalIdentifier") ≡ kind.Identifiers
-kind_of_identifiers class.ElectionReport f e = cc
-kind_of_identifiers c f e = cc

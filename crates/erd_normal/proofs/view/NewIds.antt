@@ -1,11 +1,12 @@
 -- The canonical `@id` of each object of a report. It tells objects apart, and two functions lead from the `@id` texts of the
 -- report to the canonical ones and back.
-use Rattle.erd_normal.proofs.Common.{◌≡◌, ℕ, ◌+◌, ◌^◌, ◌<◌, true, List, [], ◌∷◌, ◌++◌, map, length, is_some, Some, None, decimal, Option, option_map, find, flat_map, bytes_eq, is_eq, Equal, unwrap_or, sym, refl, ap, ◌∙◌, subst, ⊎_elim, arith, tied_back, length-map, same_Some, options_total, IsDistinct, option_map_or, eq_by_cmp, Data, Family, family, text_exact, text_itself, values_distinct, no_identity_fault, find-any, one_object, has_id-Some, has_id-from, distinct_one, IsAccepted, has_keys, Preference, key_of, rank_of, Placed, contests, selections_of_contest, objects, id_of, has_id, IsBounded, name_of, key_cmp_total, name_cmp_total, id_prefix, canonical_id, id_of_key, rank_of_name, id_of_selection, by_key, by_name, Bool, false, ◌&&◌, codes, option_and_then, list_all, string, object, rows_of_class, kind_of_identity, kind_of_member, is_required, Class, class, role, MemberKind, kind, Step, Within, kind_of_class, want_unless_status, is_reference, IsTree, text_of, scope_inside, want_of_kind, is_report_class, member_want, want_of_name, entry_want, Asked, asked, asked_from, Scope, scope, Want, Member, Object, Reference, owned, unrepeated_reference, owned_by, owner, key_named, IsUnused, normal_id, normal_selection_reference, In, In-all, In-append, In-append_left, In-append_right, In-flat_map, In-flat_map_from, In-map, In-map_from, any_at, inl, inr}
+use Rattle.erd_normal.proofs.Common.{◌≡◌, ℕ, ◌+◌, ◌^◌, ◌<◌, true, List, [], ◌∷◌, ◌++◌, map, length, is_some, Some, None, decimal, Option, option_map, find, flat_map, bytes_eq, is_eq, Equal, unwrap_or, sym, refl, ap, ◌∙◌, subst, ⊎_elim, arith, tied_back, length-map, same_Some, options_total, IsDistinct, option_map_or, eq_by_cmp, Data, Family, family, text_exact, text_itself, values_distinct, no_identity_fault, find-any, one_object, has_id-Some, has_id-from, distinct_one, IsAccepted, has_keys, Preference, key_of, rank_of, Placed, contests, selections_of_contest, objects, id_of, has_id, IsBounded, name_of, key_cmp_total, name_cmp_total, id_prefix, canonical_id, id_of_key, rank_of_name, id_of_selection, by_key, by_name, Bool, false, option_and_then, list_all, string, rows_of_class, kind_of_identity, Class, class, role, MemberKind, kind, Step, Within, is_reference, IsTree, text_of, want_of_kind, entry_want, Asked, asked, asked_from, Want, Member, Object, Reference, owned, unrepeated_reference, owned_by, owner, key_named, IsUnused, normal_id, normal_selection_reference, In, In-all, In-append, In-append_left, In-append_right, In-flat_map, In-flat_map_from, In-map, In-map_from, any_at, inl, inr}
 use Rattle.erd_normal.proofs.canonical.CanonicalIds.{canonical_id_exact, selection_id_apart, few_selections, canonical_selection_id_exact}
 use Rattle.erd_normal.proofs.canonical.ContestSelections.{one_contest}
 use Rattle.erd_normal.proofs.canonical.NormalKeys.{selection_values_distinct, by_key_total, by_name_total, listed, selection_values, text_built}
 use Rattle.erd_normal.proofs.lists.Lists.{rank_exact, rank_low}
-use Rattle.erd_normal.proofs.throughout.ThroughoutMembers.{is_prefixed, all_inside, carried_passes, name_passes}
+use Rattle.erd_normal.proofs.inside.Homes.{is_prefixed}
+use Rattle.erd_normal.proofs.inside.Walks.{all_pass}
 use Rattle.erd_normal.proofs.same.complete.Texts.{no_keys, one_family, some_again}
 use Rattle.erd_normal.proofs.same.IdsOfObjects.{Refers}
 use Rattle.erd_normal.proofs.lists.Matched.{FoundSelection, owner_found}
@@ -239,28 +240,12 @@ free_rows : (c : Class) → (list_all (λ m. is_free_kind m.kind) (rows_of_class
 free_rows class.ElectionReport = (refl, refl)
 free_rows c = (refl, refl)
 
-free_member : (c : Class) (name : List ℕ) → bytes_eq name (codes "@type") ≡ false → is_free (member_want c name) ≡ true
-free_member c name other = at (is_report_class c && bytes_eq name (codes "Status")) refl
-  where
-    at : (b : Bool) → (is_report_class c && bytes_eq name (codes "Status")) ≡ b → is_free (member_want c name) ≡ true
-    at true is = rw is refl
-    at false is =
-        ap is_free (want_unless_status c name is)
-        ∙ free_of_kind (kind_of_member c name) (is_required c name) (kind_of_class is_free_kind c name other (free_rows c).0 (free_rows c).1 refl refl)
-
-free_name : (s : Scope) (name : List ℕ) → option_map_or is_free (want_of_name s name) true ≡ true
-free_name scope.Nothing name = refl
-free_name scope.Carried name = carried_passes is_free refl refl name
-free_name (scope.Members r o) name = name_passes is_free r o name refl (λ c is other. free_member c name other)
-
 free_entry : (w : Want) → is_free w ≡ true → option_map_or is_free (entry_want w) true ≡ true
 free_entry (Member (kind.Many family.Style) required) h = cc
 free_entry w h = refl
 
 pub free_from : (a : Asked) (p : List Step) (b : Asked) → is_free a.want ≡ true → asked_from a p ≡ Some b → is_free b.want ≡ true
-free_from =
-    all_inside (λ w d. is_free w ≡ true) (λ w ms n v x h asks found. subst (λ o. option_map_or is_free o true ≡ true) asks (free_name (scope_inside w (object ms)) n))
-    (λ w ds i v x h asks found. subst (λ o. option_map_or is_free o true ≡ true) asks (free_entry w h))
+free_from = all_pass is_free is_free_kind free_of_kind free_rows refl refl refl (λ r. refl) refl refl free_entry
 
 module _ (π : Preference) (t : Data) (accepted : IsAccepted π t) where
   one_reference : (g : Family) (s : List ℕ) (a : Asked) → a.want ≡ Reference g → a.value ≡ string s → Within t a → Within t (asked (Reference g) (string s))

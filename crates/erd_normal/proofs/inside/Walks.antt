@@ -1,7 +1,5 @@
--- What is asked inside a value, and of each value that is built: of arrays and of members without objects.
-use Rattle.erd_normal.proofs.Common.{◌≡◌, ℕ, Bool, true, false, ◌&&◌, ◌||◌, List, [], ◌∷◌, if◌then◌else◌, Some, None, codes, Option, option_map, option_and_then, bytes_eq, refl, ap, ◌∙◌, subst, list_all, option_map_or, Data, array, object, Items, Members, get_member, get_item, role_of_class, rows_of_class, is_reference_name, kind_of_member, Class, class, Role, role, MemberKind, kind, Step, At, Name, kind_of_class, class_of_object, scope_inside, want_of_kind, member_want, carried_want, want_of_name, entry_want, is_compared_set, Asked, asked, is_repeated, asked_inside, asked_from, scope, Want, Carried, ClassText, Member, Object, class_role, same_Some, Within, list_of_items, array_of, is_some, get, as_str, class_in_role, Family, of_label, classed, Classed, ShapeFault, NoneOf, rising_list, compact_cmp, with_rising_text, id_prefix}
-use Rattle.erd_normal.proofs.built.BuiltFrom.{label_class, label_texts}
-use Rattle.erd_normal.proofs.built.NormalTrees.{get_label-other, get_label-text}
+-- What is asked inside a value, step by step: what passes on to members and to entries holds all the way.
+use Rattle.erd_normal.proofs.Common.{◌≡◌, ℕ, Bool, true, false, ◌&&◌, List, Some, codes, bytes_eq, refl, ap, ◌∙◌, subst, list_all, Data, object, Members, get_member, role_of_class, rows_of_class, kind_of_member, Class, class, Role, role, MemberKind, kind, None, Option, option_map, option_and_then, option_map_or, array, Items, get_item, At, entry_want, is_compared_set, asked, Want, Member, [], ◌∷◌, if◌then◌else◌, ◌||◌, is_reference_name, Step, Name, kind_of_class, class_of_object, scope_inside, want_of_kind, member_want, carried_want, want_of_name, Asked, is_repeated, asked_inside, asked_from, scope, Carried, ClassText, Object, class_role, same_Some, kind_of_identity, Status, Scope, is_report_class, is_required, want_unless_status}
 
 -- ---- along a place
 
@@ -84,29 +82,25 @@ module _ (P : Want → Bool) (K : MemberKind → Bool) (of_kind : (k : MemberKin
   closed_names (Member kind.Label required) ms closed name = cc
   closed_names w ms closed name = refl
 
--- a family whose objects have `@id` texts by their ranks alone
-abbrev pub is_prefixed : Family → Bool
-is_prefixed f = is_some (id_prefix f)
+-- ---- what passes a test wherever it is asked, since the kinds of all members pass a test of kinds
 
--- a label that is an object, and the one that is built of it, whose translations rise
-pub record BuiltLabel (t : Data) (ms : Members) : Type 0 where
-  pub texts : Items
-  pub found : get_member (codes "Text") ms ≡ Some (array texts)
-  pub inside : Within t (asked (Member kind.Languages true) (array texts))
-  pub kept : class_of_object role.Label (object ms) ≡ Some class.InternationalizedText
-  pub among : class_of_object role.Label (with_rising_text (object ms)) ≡ Some class.InternationalizedText
-  pub stands : get (codes "Text") (with_rising_text (object ms)) ≡ Some (array_of (rising_list compact_cmp (list_of_items texts)))
+module _ (P : Want → Bool) (K : MemberKind → Bool) (of_kind : (k : MemberKind) (required : Bool) → K k ≡ true → P (want_of_kind k required) ≡ true)
+    (rows : (c : Class) → (list_all (λ m. K m.kind) (rows_of_class c) ≡ true) × (K (kind_of_identity c) ≡ true)) (reference : K kind.StrangeReference ≡ true) (member_carried : K kind.Carried ≡ true)
+    (status : P Status ≡ true) (text : (r : Role) → P (ClassText r) ≡ true) (identity : P (Member kind.StrangeIdentity false) ≡ true) (carried : P Carried ≡ true)
+    (entry : (w : Want) → P w ≡ true → option_map_or P (entry_want w) true ≡ true) where
+  member_passes : (c : Class) (name : List ℕ) → bytes_eq name (codes "@type") ≡ false → P (member_want c name) ≡ true
+  member_passes c name other = at (is_report_class c && bytes_eq name (codes "Status")) refl
+    where
+      at : (b : Bool) → (is_report_class c && bytes_eq name (codes "Status")) ≡ b → P (member_want c name) ≡ true
+      at true is = rw is status
+      at false is = ap P (want_unless_status c name is) ∙ of_kind (kind_of_member c name) (is_required c name) (kind_of_class K c name other (rows c).0 (rows c).1 reference member_carried)
 
-pub built_label : (t : Data) → NoneOf (ShapeFault t) → (required : Bool) (ms : Members) → Within t (asked (Member kind.Label required) (object ms)) → BuiltLabel t ms
-built_label t clean required ms w =
-    let texts = label_texts t clean required ms w in
-    let cl : Classed role.Label (object ms) = classed t clean (Member kind.Label required) role.Label (object ms) of_label refl w in
-    let kept : class_of_object role.Label (object ms) ≡ Some class.InternationalizedText = cl.among ∙ ap Some (label_class cl.class cl.role) in
-    record {
-      texts = texts.0;
-      found = texts.1;
-      inside = texts.2;
-      kept = kept;
-      among = ap (λ o. option_and_then (class_in_role role.Label) (option_and_then as_str o)) (get_label-other (codes "@type") (object ms) refl) ∙ kept;
-      stands = get_label-text (object ms) refl ∙ rw texts.1 refl;
-    }
+  scope_passes : (s : Scope) (name : List ℕ) → option_map_or P (want_of_name s name) true ≡ true
+  scope_passes scope.Nothing name = refl
+  scope_passes scope.Carried name = carried_passes P identity carried name
+  scope_passes (scope.Members r o) name = name_passes P r o name (text r) (λ c is other. member_passes c name other)
+
+  pub all_pass : (a : Asked) (p : List Step) (b : Asked) → P a.want ≡ true → asked_from a p ≡ Some b → P b.want ≡ true
+  all_pass =
+      all_inside (λ w d. P w ≡ true) (λ w ms n v x h asks found. subst (λ o. option_map_or P o true ≡ true) asks (scope_passes (scope_inside w (object ms)) n))
+      (λ w ds i v x h asks found. subst (λ o. option_map_or P o true ≡ true) asks (entry w h))
