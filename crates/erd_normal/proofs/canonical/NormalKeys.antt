@@ -1,9 +1,15 @@
 -- The sets and the objects of a report in rising order, and the keys and the `@id`s of those that are built.
-use Rattle.erd_normal.proofs.Common.{◌≡◌, ℕ, Bool, true, false, ◌&&◌, List, IsTrue, Some, Equal, sym, refl, ap, ◌∙◌, subst, ap₂, exact_bytes, IsDistinct, option_cmp, eq_by_cmp, Data, string, array, Items, get_item, compact_text, role_of_class, Class, Family, Role, reason, MemberKind, kind, At, string_from_text, list_of_items-place, list_of_items-tree, text_itself, and_then-Some, In, Within-step, not_within, faultless, wanted_within, unrepeated, Within, is_simple_class, entry_itself, is_shape_fault, AreTrees, is_same_json, list_of_items, entry_want, is_compared_set, asked, is_repeated, Want, Member, Object, Reference, no_shape_fault, no_reference_fault, resolves, one_keyed, owned_by, unrepeated_by_cmp, IsAccepted, has_keys, key_cmp, Preference, key_of, is_reference_fault, id_of, owner, compact_cmp, key_named, key_cmp_exact, Key, reference_cmp, zero, suc, ◌+◌, [], ◌∷◌, ◌++◌, map, slice_get, codes, option_map, is_eq, arith, on_total, Equal-is, IsTotalOrder, options_total, family, Step, entries_at, NameParts, Placed, placed_from, contests, selections_of_contest, objects, rising_list, name_of, name_cmp, key_cmp_total, name_cmp_total, name_cmp_exact, IsStrictlySortedBy, sorted_map, ItemsHaveFittingNumbers, text_of, values_distinct, elections_distinct, no_identity_fault, values-placed_from, stands, one_named, in_at, distinct_from_one_place, distinct_map, rising_strictly, rank_by_at, compact_cmp_total, rank_of_name, by_key, by_name, In-flat_map, IsTree, values-placed_entries, option_map_or, IsBounded, id_of_selection, selection_with, normal_selection_reference}
+use Rattle.erd_normal.proofs.Common.{Ordering, ◌≡◌, ℕ, Bool, true, false, ◌&&◌, List, IsTrue, Some, Equal, sym, refl, ap, ◌∙◌, subst, ap₂, exact_bytes, IsDistinct, option_cmp, eq_by_cmp, Data, string, array, Items, get_item, compact_text, role_of_class, Class, Family, Role, reason, MemberKind, kind, At, string_from_text, list_of_items-place, list_of_items-tree, text_itself, and_then-Some, In, Within-step, not_within, faultless, wanted_within, unrepeated, Within, is_simple_class, entry_itself, is_shape_fault, AreTrees, is_same_json, list_of_items, entry_want, is_compared_set, asked, is_repeated, Want, Member, Object, Reference, no_shape_fault, no_reference_fault, resolves, one_keyed, owned_by, unrepeated_by_cmp, IsAccepted, has_keys, key_cmp, Preference, key_of, is_reference_fault, id_of, owner, compact_cmp, key_named, key_cmp_exact, Key, reference_cmp, zero, suc, ◌+◌, [], ◌∷◌, ◌++◌, map, slice_get, codes, option_map, is_eq, arith, on_total, Equal-is, IsTotalOrder, options_total, family, Step, entries_at, NameParts, Placed, placed_from, contests, selections_of_contest, objects, rising_list, name_of, name_cmp, key_cmp_total, name_cmp_total, name_cmp_exact, IsStrictlySortedBy, sorted_map, ItemsHaveFittingNumbers, text_of, values_distinct, elections_distinct, no_identity_fault, values-placed_from, stands, one_named, in_at, distinct_from_one_place, distinct_map, rising_strictly, rank_by_at, compact_cmp_total, rank_of_name, by_key, by_name, In-flat_map, IsTree, values-placed_entries, option_map_or, IsBounded, id_of_selection, selection_with, normal_selection_reference}
 use Rattle.erd_normal.proofs.meaning.MatchedMeanings.{has_name}
 use Rattle.erd_normal.proofs.texts.CompactTexts.{compact_exact, entry-fitting}
 use Rattle.erd_normal.proofs.lists.Lists.{IsPart, part_distinct}
 use Rattle.erd_normal.proofs.lists.Matched.{FoundSelection, owner_found}
+
+-- what has no key twice rises by its keys
+rises : {K : Type 0} (cmp : K → K → Ordering) → IsTotalOrder cmp → (key : Data → K) (ds : List Data) → IsDistinct (eq_by_cmp (λ a b. cmp (key a) (key b))) ds
+    → IsStrictlySortedBy cmp (map key (rising_list (λ a b. cmp (key a) (key b)) ds))
+rises cmp total key ds apart =
+    sorted_map key (λ a b. cmp (key a) (key b)) cmp (λ x y h. h) (rising_list (λ a b. cmp (key a) (key b)) ds) (rising_strictly (on_total key total) ds apart)
 
 -- ---- sets of references
 
@@ -64,8 +70,9 @@ module _ (π : Preference) (t : Data) (accepted : IsAccepted π t) (f : Family) 
       let same : b.0 ≡ a.0 = texts_equal a.0 b.0 a.2 b.2 (sym (ap₂ (reference_cmp π t f) a.1 b.1) ∙ h) in
       ap₂ is_same_json (b.1 ∙ ap string same) a.1 ∙ text_itself a.0
 
-  pub references_distinct : IsDistinct (eq_by_cmp (reference_cmp π t f)) (list_of_items ds)
-  references_distinct = unrepeated_by_cmp (reference_cmp π t f) ds first_of_references equal_references
+  pub references_rise : IsStrictlySortedBy (option_cmp key_cmp) (map (λ d. key_named π t f (text_of d)) (rising_list (reference_cmp π t f) (list_of_items ds)))
+  references_rise =
+      rises (option_cmp key_cmp) (options_total key_cmp_total) (λ d. key_named π t f (text_of d)) (list_of_items ds) (unrepeated_by_cmp (reference_cmp π t f) ds first_of_references equal_references)
 
 -- ---- sets of JSON values
 
@@ -97,6 +104,12 @@ module _ (π : Preference) (t : Data) (accepted : IsAccepted π t) (k : MemberKi
 
   pub json_values_distinct : IsDistinct (eq_by_cmp compact_cmp) (list_of_items ds)
   json_values_distinct = unrepeated_by_cmp compact_cmp ds first_of_values equal_values
+
+pub values_rise : (π : Preference) (t : Data) → IsAccepted π t → (k : MemberKind) (r : Bool) (o : Role) → entry_want (Member k r) ≡ Some (Object o) → is_compared_set (Member k r) ≡ true → ((c : Class) → role_of_class c ≡ o → is_simple_class c ≡ true)
+    → (ds : Items) → Within t (asked (Member k r) (array ds)) → AreTrees ds → ItemsHaveFittingNumbers ds → IsStrictlySortedBy compact_cmp (rising_list compact_cmp (list_of_items ds))
+values_rise π t accepted k r o entries compared simple ds w trees fits =
+    rising_strictly compact_cmp_total (list_of_items ds)
+    (json_values_distinct π t accepted k r o ds w entries compared simple trees (λ d e i j. compact_exact d e (entry-fitting ds d fits i) (entry-fitting ds e fits j)))
 
 -- ---- in an accepted report no two selections of a contest have one name
 
@@ -147,50 +160,29 @@ by_name_total π t = on_total (name_of π t) (options_total name_cmp_total)
 pub reference_cmp_total : (π : Preference) (t : Data) (f : Family) → IsTotalOrder (reference_cmp π t f)
 reference_cmp_total π t f = on_total (λ d. key_named π t f (text_of d)) (options_total key_cmp_total)
 
--- ---- objects of a family
-
--- those of an array among them
+-- objects of a family: those of an array among them
 pub objects_rise : (π : Preference) (t : Data) → IsAccepted π t → (f : Family) → has_keys f ≡ true → (ds : List Data) → IsPart ds (map (λ o. o.value) (objects f t))
     → IsStrictlySortedBy (option_cmp key_cmp) (map (key_of π) (rising_list (by_key π) ds))
 objects_rise π t accepted f keyed ds part =
-    sorted_map (key_of π) (by_key π) (option_cmp key_cmp) (λ x y h. h) (rising_list (by_key π) ds)
-    (rising_strictly (by_key_total π) ds (part_distinct (eq_by_cmp (by_key π)) ds (map (λ o. o.value) (objects f t)) part (values_distinct π t (no_identity_fault π t accepted) f keyed)))
+    rises (option_cmp key_cmp) (options_total key_cmp_total) (key_of π) ds
+    (part_distinct (eq_by_cmp (by_key π)) ds (map (λ o. o.value) (objects f t)) part (values_distinct π t (no_identity_fault π t accepted) f keyed))
 
 -- the elections
 pub elections_rise : (π : Preference) (t : Data) → IsAccepted π t → IsStrictlySortedBy (option_cmp key_cmp) (map (key_of π) (rising_list (by_key π) (entries_at (codes "Election") t)))
-elections_rise π t accepted =
-    sorted_map (key_of π) (by_key π) (option_cmp key_cmp) (λ x y h. h) (rising_list (by_key π) (entries_at (codes "Election") t))
-    (rising_strictly (by_key_total π) (entries_at (codes "Election") t) (elections_distinct π t (no_identity_fault π t accepted)))
+elections_rise π t accepted = rises (option_cmp key_cmp) (options_total key_cmp_total) (key_of π) (entries_at (codes "Election") t) (elections_distinct π t (no_identity_fault π t accepted))
 
 -- ---- selections of a contest
 
 module _ (π : Preference) (t : Data) (accepted : IsAccepted π t) (contest : Placed) (stands : In contest (objects family.Contest t)) where
   pub selections_rise : IsStrictlySortedBy (option_cmp name_cmp) (map (name_of π t) (rising_list (by_name π t) (entries_at (codes "ContestSelection") contest.value)))
   selections_rise =
-      sorted_map (name_of π t) (by_name π t) (option_cmp name_cmp) (λ x y h. h) (rising_list (by_name π t) (entries_at (codes "ContestSelection") contest.value))
-      (rising_strictly (by_name_total π t) (entries_at (codes "ContestSelection") contest.value) (selection_values_distinct π t accepted contest stands))
+      rises (option_cmp name_cmp) (options_total name_cmp_total) (name_of π t) (entries_at (codes "ContestSelection") contest.value) (selection_values_distinct π t accepted contest stands)
 
   -- the selection at a position has that rank
   pub selection_ranks : (i : ℕ) (d : Data) → slice_get (rising_list (by_name π t) (entries_at (codes "ContestSelection") contest.value)) i ≡ Some d
       → rank_of_name π t (entries_at (codes "ContestSelection") contest.value) (name_of π t d) ≡ i
   selection_ranks i d e =
       rank_by_at (name_of π t) (option_cmp name_cmp) (options_total name_cmp_total) (entries_at (codes "ContestSelection") contest.value) i d (selection_values_distinct π t accepted contest stands) e
-
--- ---- sets of references
-
-pub references_rise : (π : Preference) (t : Data) → IsAccepted π t → (f : Family) → has_keys f ≡ true → (r : Bool) (ds : Items) → Within t (asked (Member (kind.Many f) r) (array ds))
-    → IsStrictlySortedBy (option_cmp key_cmp) (map (λ d. key_named π t f (text_of d)) (rising_list (reference_cmp π t f) (list_of_items ds)))
-references_rise π t accepted f keyed r ds w =
-    sorted_map (λ d. key_named π t f (text_of d)) (reference_cmp π t f) (option_cmp key_cmp) (λ x y h. h) (rising_list (reference_cmp π t f) (list_of_items ds))
-    (rising_strictly (reference_cmp_total π t f) (list_of_items ds) (references_distinct π t accepted f keyed r ds w))
-
--- ---- sets of JSON values
-
-pub values_rise : (π : Preference) (t : Data) → IsAccepted π t → (k : MemberKind) (r : Bool) (o : Role) → entry_want (Member k r) ≡ Some (Object o) → is_compared_set (Member k r) ≡ true → ((c : Class) → role_of_class c ≡ o → is_simple_class c ≡ true)
-    → (ds : Items) → Within t (asked (Member k r) (array ds)) → AreTrees ds → ItemsHaveFittingNumbers ds → IsStrictlySortedBy compact_cmp (rising_list compact_cmp (list_of_items ds))
-values_rise π t accepted k r o entries compared simple ds w trees fits =
-    rising_strictly compact_cmp_total (list_of_items ds)
-    (json_values_distinct π t accepted k r o ds w entries compared simple trees (λ d e i j. compact_exact d e (entry-fitting ds d fits i) (entry-fitting ds e fits j)))
 
 -- ---- the selections in the report that is built have canonical ids, by the rank of their contest and their own
 

@@ -1,5 +1,5 @@
 -- The objects of each election in the order of their keys, and the tree that is written of them.
-use Rattle.erd_normal.proofs.Common.{◌≡◌, ℕ, zero, suc, ◌+◌, ◌<◌, ◌≤◌, Bool, true, false, cond, List, [], ◌∷◌, ◌++◌, map, length, if◌then◌else◌, ◌==◌, slice_get, Some, None, codes, filter, Option, option_map, flat_map, option_and_then, bytes_eq, unwrap_or, sym, refl, ap, ◌∙◌, append-nil, arith, ne_eqb, Decides-eqb, length-map, filter-append, slice_get_past, options_total, enumerate_from, option_cmp, option_map_or, Data, Items, no_items, item, Family, family, Step, At, Name, list_of_items, entries_at, IsAccepted, has_keys, key_cmp, Preference, key_of, key_in, rising_keys, Placed, placed_from, placed_entries, report_of, elections, objects, election_of_place, rising_list, key_cmp_total, option_map-Some, skeleton, values-placed_entries, election_entries, Skeleton, by_first, rising_list_map, rising_election_keys, Key, in_order_of_keys, rising_objects, rising_elections, part_at, objects_in_part, by_key, In-filter, in_at, ap₂, role, class_of_object, normal_object_with, in_envelope, map_from, written_report_value, view, Judged}
+use Rattle.erd_normal.proofs.Common.{◌≡◌, ℕ, zero, suc, ◌+◌, ◌<◌, ◌≤◌, Bool, true, false, cond, List, [], ◌∷◌, ◌++◌, map, length, if◌then◌else◌, ◌==◌, slice_get, Some, None, codes, filter, Option, option_map, flat_map, option_and_then, bytes_eq, unwrap_or, sym, refl, ap, ◌∙◌, append-nil, arith, ne_eqb, Decides-eqb, length-map, filter-append, slice_get_past, options_total, enumerate_from, option_cmp, option_map_or, Data, Items, no_items, item, Family, family, Step, At, Name, list_of_items, entries_at, IsAccepted, has_keys, key_cmp, Preference, key_of, key_in, rising_keys, Placed, placed_from, placed_entries, report_of, elections, objects, election_of_place, rising_list, key_cmp_total, option_map-Some, skeleton, values-placed_entries, election_entries, Skeleton, by_first, rising_list_map, rising_election_keys, Key, in_order_of_keys, rising_objects, rising_elections, holding_election, objects_in_election, by_key, In-filter, in_at, ap₂, role, class_of_object, normal_object_with, in_envelope, map_from, written_report_value, view, Judged}
 use Rattle.erd_meaning.specs.code.Spots.{member_name}
 use Rattle.erd_text.proofs.StableRising.{map_after}
 use Rattle.erd_normal.proofs.ranks.SelectionRanks.{next, positions, stands, values_kept, Next}
@@ -7,38 +7,38 @@ use Rattle.erd_normal.proofs.ranks.SelectionRanks.{next, positions, stands, valu
 -- ---- the objects of one election among the sorted objects of a family: they are the objects that it holds, in the order of
 -- their keys
 
--- the part that an object stands in
-abbrev pub part_of : Placed → ℕ
-part_of o = unwrap_or (election_of_place o.place) 0
+-- the position of the election that an object stands in, or 0
+abbrev pub placed_election : Placed → ℕ
+placed_election o = unwrap_or (election_of_place o.place) 0
 
 abbrev pub is_in : ℕ → Placed → Bool
-is_in i o = part_of o == i
+is_in i o = placed_election o == i
 
-part_is : (t : Data) (f : Family) (j : ℕ) (o : Placed) → has_keys f ≡ true → slice_get (objects f t) j ≡ Some o → part_at t f j ≡ part_of o
-part_is t family.Selection j o keyed at = cc
-part_is t d j o keyed at = ap (λ x. unwrap_or (option_and_then (λ (o : Placed). election_of_place o.place) x) 0) at
+election_is : (t : Data) (f : Family) (j : ℕ) (o : Placed) → has_keys f ≡ true → slice_get (objects f t) j ≡ Some o → holding_election t f j ≡ placed_election o
+election_is t family.Selection j o keyed at = cc
+election_is t d j o keyed at = ap (λ x. unwrap_or (option_and_then (λ (o : Placed). election_of_place o.place) x) 0) at
 
 module _ (π : Preference) (t : Data) (f : Family) (keyed : has_keys f ≡ true) where
   -- the objects of a family that has keys, in order
   pub in_order : rising_objects π t f ≡ in_order_of_keys π (objects f t)
   in_order = ap (λ b. if b then in_order_of_keys π (objects f t) else []) keyed
 
-  -- and those of a part
-  pub values_of_part : (i : ℕ) → map (λ (o : ℕ × Placed). o.1.value) (objects_in_part π t f i) ≡ rising_list (by_key π) (map (λ o. o.value) (filter (is_in i) (objects f t)))
-  values_of_part i =
+  -- and those of an election
+  pub values_in_election : (i : ℕ) → map (λ (o : ℕ × Placed). o.1.value) (objects_in_election π t f i) ≡ rising_list (by_key π) (map (λ o. o.value) (filter (is_in i) (objects f t)))
+  values_in_election i =
       let key : (Placed → Option Key) = λ o. key_of π o.value in
-      let in_this : (ℕ → Bool) = λ j. part_at t f j == i in
+      let in_this : (ℕ → Bool) = λ j. holding_election t f j == i in
       ap (λ os. map (λ (o : ℕ × Placed). o.1.value) (filter (λ o. in_this o.0) os)) in_order
       ∙ (map_after (λ (o : ℕ × Placed). o.1) (λ (o : Placed). o.value) (filter (λ o. in_this o.0) (in_order_of_keys π (objects f t)))
-      ∙ (ap (map (λ (o : Placed). o.value)) (values_kept (option_cmp key_cmp) key (objects f t) (options_total key_cmp_total) in_this (is_in i) (λ j o e. ap (λ n. n == i) (part_is t f j o keyed e)))
+      ∙ (ap (map (λ (o : Placed). o.value)) (values_kept (option_cmp key_cmp) key (objects f t) (options_total key_cmp_total) in_this (is_in i) (λ j o e. ap (λ n. n == i) (election_is t f j o keyed e)))
       ∙ rising_list_map (λ (o : Placed). o.value) (by_key π) (filter (is_in i) (objects f t))))
 
--- an object that stands in a part is that at its position, and its family has keys
-pub in_part_there : (π : Preference) (t : Data) (f : Family) (part k : ℕ) (o : ℕ × Placed) → slice_get (objects_in_part π t f part) k ≡ Some o → (has_keys f ≡ true) × (slice_get (objects f t) o.0 ≡ Some o.1)
-in_part_there π t f part k o =
-    (elim (has_keys f) as (λ b. has_keys f ≡ b → slice_get (filter (λ (o : ℕ × Placed). part_at t f o.0 == part) (if b then in_order_of_keys π (objects f t) else [])) k ≡ Some o → (has_keys f ≡ true) × (slice_get (objects f t) o.0 ≡ Some o.1)) [
+-- an object that stands in an election is that at its position, and its family has keys
+pub in_election_there : (π : Preference) (t : Data) (f : Family) (i k : ℕ) (o : ℕ × Placed) → slice_get (objects_in_election π t f i) k ≡ Some o → (has_keys f ≡ true) × (slice_get (objects f t) o.0 ≡ Some o.1)
+in_election_there π t f i k o =
+    (elim (has_keys f) as (λ b. has_keys f ≡ b → slice_get (filter (λ (o : ℕ × Placed). holding_election t f o.0 == i) (if b then in_order_of_keys π (objects f t) else [])) k ≡ Some o → (has_keys f ≡ true) × (slice_get (objects f t) o.0 ≡ Some o.1)) [
       | true ↦ λ keyed e.
-          let inside = (In-filter (λ (o : ℕ × Placed). part_at t f o.0 == part) o (in_order_of_keys π (objects f t)) (in_at (filter (λ (o : ℕ × Placed). part_at t f o.0 == part) (in_order_of_keys π (objects f t))) k o e)).0 in
+          let inside = (In-filter (λ (o : ℕ × Placed). holding_election t f o.0 == i) o (in_order_of_keys π (objects f t)) (in_at (filter (λ (o : ℕ × Placed). holding_election t f o.0 == i) (in_order_of_keys π (objects f t))) k o e)).0 in
           (keyed, stands (option_cmp key_cmp) (λ (o : Placed). key_of π o.value) (objects f t) o inside)
       | false ↦ λ none e. cc
     ]) refl
@@ -74,14 +74,14 @@ found_below (o ∷ os) (suc i) low e = found_below os i (omega arith) e
 
 -- ---- which objects stand in an election
 
--- entries of one part are kept all, or none
-one_part : (i n : ℕ) (p : List Step) → ((k : ℕ) (d : Data) → part_of (record { place = p ++ At k ∷ []; value = d }) ≡ n) → (k : ℕ) (ds : List Data) → filter (is_in i) (placed_from p k ds) ≡ cond (n == i) (placed_from p k ds) []
-one_part i n p part k [] = elim (n == i) as (λ b. placed_from p k [] ≡ cond b (placed_from p k []) []) [ true ↦ refl | false ↦ refl ]
-one_part i n p part k (d ∷ ds) =
+-- entries of one election are kept all, or none
+one_election : (i n : ℕ) (p : List Step) → ((k : ℕ) (d : Data) → placed_election (record { place = p ++ At k ∷ []; value = d }) ≡ n) → (k : ℕ) (ds : List Data) → filter (is_in i) (placed_from p k ds) ≡ cond (n == i) (placed_from p k ds) []
+one_election i n p its k [] = elim (n == i) as (λ b. placed_from p k [] ≡ cond b (placed_from p k []) []) [ true ↦ refl | false ↦ refl ]
+one_election i n p its k (d ∷ ds) =
     let o : Placed = record { place = p ++ At k ∷ []; value = d } in
     let rest : List Placed = placed_from p (k + 1) ds in
-    ap (λ m. cond (m == i) (o ∷ filter (is_in i) rest) (filter (is_in i) rest)) (part k d)
-    ∙ ap (λ os. cond (n == i) (o ∷ os) os) (one_part i n p part (k + 1) ds)
+    ap (λ m. cond (m == i) (o ∷ filter (is_in i) rest) (filter (is_in i) rest)) (its k d)
+    ∙ ap (λ os. cond (n == i) (o ∷ os) os) (one_election i n p its (k + 1) ds)
     ∙ elim (n == i) as (λ b. cond b (o ∷ cond b rest []) (cond b rest []) ≡ cond b (o ∷ rest) []) [ true ↦ refl | false ↦ refl ]
 
 -- the objects of the election at position n, and those of later ones
@@ -90,7 +90,7 @@ from_one : (name : List ℕ) (i n : ℕ) (e : Data) (es : List Data) → filter 
 from_one name i n e es =
     let p : List Step = Name (codes "Election") ∷ At n ∷ Name name ∷ [] in
     let rest : List Placed = flat_map (placed_entries name) (placed_from (Name (codes "Election") ∷ []) (n + 1) es) in
-    filter-append (is_in i) (placed_from p 0 (entries_at name e)) rest ∙ ap (λ os. os ++ filter (is_in i) rest) (one_part i n p (λ k d. refl) 0 (entries_at name e))
+    filter-append (is_in i) (placed_from p 0 (entries_at name e)) rest ∙ ap (λ os. os ++ filter (is_in i) rest) (one_election i n p (λ k d. refl) 0 (entries_at name e))
 
 -- those before have none
 none_before : (name : List ℕ) (i n : ℕ) (es : List Data) → i < n → filter (is_in i) (flat_map (placed_entries name) (placed_from (Name (codes "Election") ∷ []) n es)) ≡ []
@@ -111,9 +111,9 @@ in_elections_kept t name i = held_by name i 0 i (entries_at (codes "Election") t
 
 -- and those of the report
 pub in_report_kept : (t : Data) (name : List ℕ) → bytes_eq name (codes "Election") ≡ false → (i : ℕ) → filter (is_in i) (placed_entries name (report_of t)) ≡ cond (0 == i) (placed_entries name (report_of t)) []
-in_report_kept t name other i = one_part i 0 (Name name ∷ []) (λ k d. rw other refl) 0 (entries_at name t)
+in_report_kept t name other i = one_election i 0 (Name name ∷ []) (λ k d. rw other refl) 0 (entries_at name t)
 
--- ---- no object stands in a part that is not there
+-- ---- no object stands in an election that is not there
 
 none_listed : {A B : Type 0} (g : A → B) (xs : List A) → map g xs ≡ [] → xs ≡ []
 none_listed g [] e = refl
@@ -145,10 +145,10 @@ module _ (t : Data) (s : Skeleton t) (i : ℕ) (high : length (elections t) ≤ 
   none_held family.Selection keyed = cc
   none_held f keyed = none_in_report (member_name f) refl
 
-pub no_part : (π : Preference) (t : Data) (f : Family) → IsAccepted π t → has_keys f ≡ true → (i : ℕ) → length (elections t) ≤ i → objects_in_part π t f i ≡ []
-no_part π t f accepted keyed i high =
-    none_listed (λ (o : ℕ × Placed). o.1.value) (objects_in_part π t f i)
-    (values_of_part π t f keyed i ∙ ap (λ os. rising_list (by_key π) (map (λ (o : Placed). o.value) os)) (none_held t (skeleton π t accepted) i high f keyed))
+pub none_in_election : (π : Preference) (t : Data) (f : Family) → IsAccepted π t → has_keys f ≡ true → (i : ℕ) → length (elections t) ≤ i → objects_in_election π t f i ≡ []
+none_in_election π t f accepted keyed i high =
+    none_listed (λ (o : ℕ × Placed). o.1.value) (objects_in_election π t f i)
+    (values_in_election π t f keyed i ∙ ap (λ os. rising_list (by_key π) (map (λ (o : Placed). o.value) os)) (none_held t (skeleton π t accepted) i high f keyed))
 
 -- ---- the positions that a report lends
 

@@ -1,4 +1,5 @@
--- The report that is written in the canonical style is its canonical form: its envelope, no empty array, distinct ids, sets in order.
+-- The report that is written in the canonical style is its canonical form: its envelope, no empty array, distinct ids, sets in
+-- order.
 use Rattle.erd_normal.proofs.Common.{◌≡◌, ℕ, Bool, true, false, ◌||◌, ◌&&◌, ◌==◌, ◌⊎◌, inl, inr, List, [], ◌∷◌, map, length, if◌then◌else◌, Some, None, codes, Option, option_and_then, option_map_or, bytes_eq, list_all, sym, refl, ap, ◌∙◌, subst, option_cmp, key_cmp, name_cmp, IsStrictlySortedBy, length-map, length-rising, rising_list, Data, null, boolean, string, number, array, object, Items, Members, get_member, get, as_str, rows_of_class, kind_of_identity, kind_of_member, is_required, is_report_class, Class, class, Family, family, Role, role, MemberKind, kind, Step, IsTree, In, In-all, In-map, In-from_contains, position_of, array_from, list_of_items-place, wanted_within, kind_of_class, want_unless_status, ShapeFault, NoneOf, entries_of, list_of_items, is_array, is_empty_array, class_of_object, scope_inside, want_of_kind, member_want, want_of_name, entry_want, is_compared_set, unrepeated, Asked, asked, asked_at, Within, scope, Scope, Want, Carried, ClassText, Member, Object, Reference, IsAccepted, no_shape_fault, skeleton_of_shape, Skeleton, has_keys, Preference, key_of, key_named, Placed, objects, contests, selections_of_contest, id_of, IsBefore, IsBounded, Sides, is_envelope, is_envelope_name, envelope_values, HasCanonicalEnvelope, HasNoEmptyArray, AreSetsInOrder, RisesAs, kind_wanted, keys_of, HasDistinctIds, IsCanonicalFormOf, rank_of, by_key, by_name, compact_cmp, text_of, name_of, selection_role, HasFittingNumbers, ◌^◌, ◌<◌, arith, AllByRecursion, SaysTheSame, depth, IsNoDeeper, no_unknown, no_strange, position_of, In-flat_map_from, contains_from_In, within-tree, has_float, tree_in_order, In-rising, is_simple_class, role_of_class}
 use Rattle.erd_check.specs.Wants.{entry_want_of_kind}
 use Rattle.erd_check.proofs.ShapedReports.{no_fraction}
@@ -6,13 +7,12 @@ use Rattle.erd_text.proofs.StableRising.{map_after}
 use Rattle.erd_text.proofs.RisingOrders.{rising-In}
 use Rattle.erd_normal.proofs.inside.Members.{put_value}
 use Rattle.erd_normal.proofs.canonical.CanonicalIds.{canonical_id_exact, selection_id_apart, sound_envelope}
-use Rattle.erd_normal.proofs.canonical.ContestSelections.{never_before_itself}
 use Rattle.erd_normal.proofs.canonical.NormalKeys.{elections_rise, objects_rise, references_rise, selections_rise, values_rise}
 use Rattle.erd_normal.proofs.lists.Lists.{maps_agree, as_empty}
 use Rattle.erd_normal.proofs.same.Lookups.{steady_same}
 use Rattle.erd_normal.proofs.same.Owners.{related_election_key}
 use Rattle.erd_normal.proofs.same.Related.{Stands, Related, entry_stands}
-use Rattle.erd_normal.proofs.same.IdsOfObjects.{Refers, reference_refers}
+use Rattle.erd_normal.proofs.same.IdsOfObjects.{Refers, reference_refers, not_before_itself}
 use Rattle.erd_normal.proofs.same.accepted.Accepted.{same_is_accepted}
 use Rattle.erd_normal.proofs.same.complete.Values.{identifier_simple, language_simple}
 use Rattle.erd_normal.proofs.same.means.Meanings.{saying_the_same_means_the_same}
@@ -202,7 +202,7 @@ module _ (π : Preference) (t : Data) (accepted : IsAccepted π t) (tree : IsTre
     distinct_ids p r =
         let one : r.earlier ≡ r.later =
         one_object r.earlier_family r.family r.earlier r.later r.id (In-from_contains r.earlier (objects r.earlier_family u) r.earlier_stands) (In-from_contains r.later (objects r.family u) r.later_stands) r.earlier_id r.later_id in
-        never_before_itself r.later (subst (λ x. IsBefore x r.later) one r.before)
+        not_before_itself r.earlier r.later one r.before
 
     -- ---- sets in order
 

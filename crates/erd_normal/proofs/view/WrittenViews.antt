@@ -1,6 +1,6 @@
 -- What is written of an accepted report, object by object in the order of the sorted positions, is its view in the canonical
 -- style.
-use Rattle.erd_normal.proofs.Common.{◌≡◌, ℕ, ◌+◌, Bool, true, false, List, [], map, if◌then◌else◌, slice_get, Some, None, codes, Option, option_map_or, bytes_eq, sym, refl, ap, ◌∙◌, subst, arith, filter, flat_map, option_cmp, key_cmp, Data, null, array, object, Items, Members, get_member, kind_of_member, role_of_class, Class, class, Family, family, Role, role, MemberKind, kind, reason, IsTree, In, In-flat_map, In-map_from, In-filter, in_at, faultless, wanted_within, kind_of_class, object_in, ObjectIn, ShapeFault, NoneOf, entries_of, entries_at, list_of_items, is_array, is_empty_array, array_from, class_of_object, scope_inside, want_of_kind, asked, Within, scope, Member, Object, IsAccepted, no_shape_fault, skeleton, Skeleton, election_stands, election_entries, Preference, key_of, has_keys, is_envelope_name, Placed, objects, elections, contests, selections_of_contest, report_of, placed_entries, values-placed_entries, rising_list, rising_list_map, In-rising, by_key, by_name, name_of, rank_of, rank_of_name, canonical_selection_id, id_of_key, selection_role, normal_value, normal_object_with, with_id, in_envelope, array_of, unless_no_entry, written_selection, written_in_contest, written_object_value, written_object, written_objects, written_election_value, written_election, written_elections, written_report_value, objects_in_part, rising_objects, rising_elections, put_all, within-tree, stands}
+use Rattle.erd_normal.proofs.Common.{◌≡◌, ℕ, ◌+◌, Bool, true, false, List, [], map, if◌then◌else◌, slice_get, Some, None, codes, Option, option_map_or, bytes_eq, sym, refl, ap, ◌∙◌, subst, arith, filter, flat_map, option_cmp, key_cmp, Data, null, array, object, Items, Members, get_member, kind_of_member, role_of_class, Class, class, Family, family, Role, role, MemberKind, kind, reason, IsTree, In, In-flat_map, In-map_from, In-filter, in_at, faultless, wanted_within, kind_of_class, object_in, ObjectIn, ShapeFault, NoneOf, entries_of, entries_at, list_of_items, is_array, is_empty_array, array_from, class_of_object, scope_inside, want_of_kind, asked, Within, scope, Member, Object, IsAccepted, no_shape_fault, skeleton, Skeleton, election_stands, election_entries, Preference, key_of, has_keys, is_envelope_name, Placed, objects, elections, contests, selections_of_contest, report_of, placed_entries, values-placed_entries, rising_list, rising_list_map, In-rising, by_key, by_name, name_of, rank_of, rank_of_name, canonical_selection_id, id_of_key, selection_role, normal_value, normal_object_with, with_id, in_envelope, array_of, unless_no_entry, written_selection, written_in_contest, written_object_value, written_object, written_objects, written_election_value, written_election, written_elections, written_report_value, objects_in_election, rising_objects, rising_elections, put_all, within-tree, stands}
 use Rattle.erd_meaning.specs.code.Spots.{member_name}
 use Rattle.erd_text.proofs.StableRising.{map_after}
 use Rattle.erd_normal.proofs.inside.Homes.{contest_of_selections, elections_name, keyed_name, report_objects, of_envelope}
@@ -8,7 +8,7 @@ use Rattle.erd_normal.proofs.inside.Members.{Builder}
 use Rattle.erd_normal.proofs.canonical.NormalKeys.{listed, selection_values, selection_ranks}
 use Rattle.erd_normal.proofs.lists.Lists.{maps_agree}
 use Rattle.erd_normal.proofs.ranks.SelectionRanks.{stands as standing, values}
-use Rattle.erd_normal.proofs.ranks.WrittenTrees.{in_elections_kept, in_order, in_report_kept, is_in, map_by_place, values_of_part, written_tree}
+use Rattle.erd_normal.proofs.ranks.WrittenTrees.{in_elections_kept, in_order, in_report_kept, is_in, map_by_place, values_in_election, written_tree}
 use Rattle.erd_normal.proofs.view.Views.{viewed, written_entries}
 use Rattle.erd_normal.proofs.view.CanonicalStyles.{Classed, apart, classed, given_by_key}
 use Rattle.erd_normal.proofs.view.ValuesViewed.{content_viewed, is_flat_kind, kept_view, members_viewed, name_viewed, value_viewed}
@@ -144,11 +144,11 @@ module _ (π : Preference) (t : Data) (accepted : IsAccepted π t) (tree : IsTre
   objects_written : (f : Family) → has_keys f ≡ true → (holder : Data) (i : ℕ) (ds : List Data) → map (λ o. o.value) (filter (is_in i) (objects f t)) ≡ ds
       → written_objects π t f i ≡ map (view (style_of π t) holder (Some (Object (role.OfFamily f)))) (rising_list (by_key π) ds)
   objects_written f keyed holder i ds is =
-      maps_agree (λ (o : ℕ × Placed). written_object π t f o.0 o.1.value) (λ o. view (style_of π t) holder (Some (Object (role.OfFamily f))) o.1.value) (objects_in_part π t f i) (λ o h.
+      maps_agree (λ (o : ℕ × Placed). written_object π t f o.0 o.1.value) (λ o. view (style_of π t) holder (Some (Object (role.OfFamily f))) o.1.value) (objects_in_election π t f i) (λ o h.
       let there = standing (option_cmp key_cmp) (λ (o : Placed). key_of π o.value) (objects f t) o (subst (In o) (in_order π t f keyed) (In-filter _ o (rising_objects π t f) h).0) in
       object_written f o.0 o.1 (in_at (objects f t) o.0 o.1 there) there keyed holder)
-      ∙ (map_after (λ (o : ℕ × Placed). o.1.value) (view (style_of π t) holder (Some (Object (role.OfFamily f)))) (objects_in_part π t f i)
-      ∙ ap (map (view (style_of π t) holder (Some (Object (role.OfFamily f))))) (values_of_part π t f keyed i ∙ ap (rising_list (by_key π)) is))
+      ∙ (map_after (λ (o : ℕ × Placed). o.1.value) (view (style_of π t) holder (Some (Object (role.OfFamily f)))) (objects_in_election π t f i)
+      ∙ ap (map (view (style_of π t) holder (Some (Object (role.OfFamily f))))) (values_in_election π t f keyed i ∙ ap (rising_list (by_key π)) is))
 
   -- the array of them
   array_written : (f : Family) → has_keys f ≡ true → (holder : Data) (r : Bool) (i : ℕ) (d : Data) → map (λ o. o.value) (filter (is_in i) (objects f t)) ≡ entries_of d → Within t (asked (Member (kind.Keyed f) r) d)

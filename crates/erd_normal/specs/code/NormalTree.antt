@@ -1,4 +1,4 @@
--- What is built of the parts of a report. It does not define the profile: `IsCanonicalFormOf` does.
+-- What values and contents of a report become. It does not define the profile: `IsCanonicalFormOf` does.
 use Rattle.std.specs.Prelude.{ℕ, List, [], ◌∷◌, true, false, if◌then◌else◌, Option, Some, None, option_map, unwrap_or, map, filter, find, length, codes}
 use Rattle.std.specs.Option.{option_cmp, option_map_or}
 use Rattle.std.specs.Ordering.{is_lt}

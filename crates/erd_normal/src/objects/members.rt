@@ -1,6 +1,6 @@
 ghost use Rattle.std.specs.Prelude.{◌≡◌, ◌++◌, ℕ, List, Option, Some, false, is_some, drop, IfOk, OnOk};
 ghost use Rattle.erd_normal.specs.Words.{Data, Members, object, view, members_view, has_float};
-ghost use Rattle.erd_normal.specs.Words.{members_have_float, MemberKind as Asked, members_tokens, value_tokens};
+ghost use Rattle.erd_normal.specs.Words.{members_have_float, MemberKind as Kind, members_tokens, value_tokens};
 ghost use Rattle.erd_normal.specs.code.Building.{first_if, put_all};
 ghost use Rattle.erd_normal.specs.code.DueMembers.{AreDue, due_list};
 ghost use Rattle.erd_normal.specs.code.NormalTree.{normal_members};
@@ -14,7 +14,7 @@ use std::alloc::AllocError;
 /// A rule that gives the canonical members of an object.
 pub(crate) trait MemberRule {
     // The canonical value of a member, by its name and kind, if the member is kept.
-    ghost value_of: { Self → List ℕ → Asked → Data → Option Data };
+    ghost value_of: { Self → List ℕ → Kind → Data → Option Data };
 
     /// Returns whether the member is kept.
     fn keeps(&self, name: &str, kind: MemberKind, member: &Value) -> bool
