@@ -18,6 +18,9 @@ import re
 import sys
 
 ROOT = pathlib.Path(__file__).resolve().parents[2]
+sys.path.append(str(ROOT / 'tests' / 'shared'))
+from cases import differing_lines, tell_cases  # noqa: E402
+
 PAGE = ROOT / 'docs' / 'DEFINITIONS.md'
 CRATES = ['erd_tables', 'erd_index', 'erd_check', 'erd_text', 'erd_meaning', 'erd_normal', 'erd_compare', 'erd_canon', 'erd_program', 'erd_c']
 # Words of the table in docs/ARCHITECTURE.md, with the crates whose files, functions, types and definitions may be named by them.
@@ -252,34 +255,13 @@ def main():
     if '--write' in sys.argv[1:]:
         PAGE.write_text(new, encoding='utf-8')
         return 0
-    old_lines, new_lines = set(page.splitlines()), set(new.splitlines())
-    for line in page.splitlines():
-        if line not in new_lines:
-            print(f'docs/DEFINITIONS.md has, and specs/ have not: {line}')
-    for line in new.splitlines():
-        if line not in old_lines:
-            print(f'specs/ have, and docs/DEFINITIONS.md has not: {line}')
-    agree = page == new
-    print(f'{"passed" if agree else "FAILED"}: the definitions of docs/DEFINITIONS.md')
-    cited = code_cited()
-    for line in cited:
-        print(line)
-    print(f'{"FAILED" if cited else "passed"}: public contracts can be read without specs/code')
-    twice = named_twice(new)
-    for name in twice:
-        print(f'{name} is defined twice')
-    print(f'{"FAILED" if twice else "passed"}: one name is one definition')
-    wide = long_comments()
-    for place in wide:
-        print(f'{place} is a comment of more than 130 characters')
-    print(f'{"FAILED" if wide else "passed"}: lines of comments fit')
-    misused = list(misused_words())
-    for line in misused:
-        print(line)
-    print(f'{"FAILED" if misused else "passed"}: a word of docs/ARCHITECTURE.md is used for one thing')
-    passed = sum((agree, not cited, not twice, not wide, not misused))
-    print(f'{passed} passed, {5 - passed} failed')
-    return int(passed < 5)
+    return tell_cases([
+        ('the definitions of docs/DEFINITIONS.md: python3 tests/pages/definitions.py --write', new, page),
+        ('public contracts can be read without specs/code', '', '\n'.join(code_cited())),
+        ('one name is one definition; defined twice', '', '\n'.join(named_twice(new))),
+        ('lines of comments have at most 130 characters', '', '\n'.join(long_comments())),
+        ('a word of docs/ARCHITECTURE.md is used for one thing', '', '\n'.join(misused_words())),
+    ], differing_lines)
 
 
 if __name__ == '__main__':

@@ -3,6 +3,7 @@ import { renamed, talliesOf } from './causes.mjs';
 import { rowsOfDifference } from './rows.mjs';
 import { countsOf, wordOf } from './seen.mjs';
 import { insideOf } from './selection_names.mjs';
+import { shownRows } from './shown_rows.mjs';
 
 /** The most differences for which objects under another identifier are looked for, and other types of identifier are tried. */
 const MOST_PAIRED = 2000;
@@ -58,7 +59,14 @@ export class Differences {
     shown(difference) {
         const { selections: _selections, ...entry } = difference;
         const inside = insideOf(this.meanings, difference);
-        return { ...entry, ...(this.meanings === null ? {} : rowsOfDifference(this.meanings, entry)), ...(inside === undefined ? {} : { inside }) };
+        return { ...entry, ...(this.meanings === null ? {} : this.valuesOf(entry)), ...(inside === undefined ? {} : { inside }) };
+    }
+
+    // Those rows of both values that a reader needs, and which side has none.
+    valuesOf(entry) {
+        const { rows, ...values } = rowsOfDifference(this.meanings, entry);
+        return rows === null ? { ...values, rows } : { ...values, rows: shownRows(rows),
+            lacking: ['left', 'right'].map((side) => rows.every((row) => row[side] === null)) };
     }
 
     /** How many differences there are under each type, where there are fewer; the fewest first. `countOf` tells how many, or null. */
