@@ -1,15 +1,15 @@
 -- The canonical `@id` of each object of a report. It tells objects apart, and two functions lead from the `@id` texts of the
 -- report to the canonical ones and back.
-use Rattle.erd_normal.proofs.Common.{◌≡◌, ℕ, ◌+◌, ◌^◌, ◌<◌, true, List, [], ◌∷◌, ◌++◌, map, length, is_some, Some, None, decimal, Option, option_map, find, flat_map, bytes_eq, is_eq, Equal, unwrap_or, sym, refl, ap, ◌∙◌, subst, ⊎_elim, arith, tied_back, length-map, same_Some, options_total, IsDistinct, option_map_or, eq_by_cmp, Data, Family, family, text_exact, text_itself, values_distinct, no_identity_fault, find-any, one_object, has_id-Some, has_id-from, distinct_one, IsAccepted, has_keys, Preference, key_of, rank_of, Placed, contests, selections_of_contest, objects, id_of, has_id, IsBounded, name_of, key_cmp_total, name_cmp_total, id_prefix, canonical_id, Sides, NameOneThing, id_of_key, rank_of_name, id_of_selection, by_key, by_name, normal_tree, Bool, false, ◌&&◌, codes, option_and_then, AllByRecursion, list_all, string, array, object, rows_of_class, kind_of_identity, kind_of_member, is_required, Class, class, role, MemberKind, kind, Step, array_from, wanted_within, Within, kind_of_class, want_unless_status, is_reference, IsTree, list_of_items, text_of, scope_inside, want_of_kind, is_report_class, member_want, want_of_name, entry_want, Asked, asked, asked_from, Scope, scope, Want, Member, Object, Reference, no_shape_fault, owned, unrepeated_reference, owned_by, all_rising, owner, rising_list, key_named, IsUnused, normal_id, normal_reference, reference_cmp, normal_selection_reference, In, In-all, In-append, In-append_left, In-append_right, In-flat_map, In-flat_map_from, In-map, In-map_from, any_at, inl, inr}
+use Rattle.erd_normal.proofs.Common.{◌≡◌, ℕ, ◌+◌, ◌^◌, ◌<◌, true, List, [], ◌∷◌, ◌++◌, map, length, is_some, Some, None, decimal, Option, option_map, find, flat_map, bytes_eq, is_eq, Equal, unwrap_or, sym, refl, ap, ◌∙◌, subst, ⊎_elim, arith, tied_back, length-map, same_Some, options_total, IsDistinct, option_map_or, eq_by_cmp, Data, Family, family, text_exact, text_itself, values_distinct, no_identity_fault, find-any, one_object, has_id-Some, has_id-from, distinct_one, IsAccepted, has_keys, Preference, key_of, rank_of, Placed, contests, selections_of_contest, objects, id_of, has_id, IsBounded, name_of, key_cmp_total, name_cmp_total, id_prefix, canonical_id, id_of_key, rank_of_name, id_of_selection, by_key, by_name, Bool, false, option_and_then, list_all, string, rows_of_class, kind_of_identity, Class, class, role, MemberKind, kind, Step, Within, is_reference, IsTree, text_of, want_of_kind, entry_want, Asked, asked, asked_from, Want, Member, Object, Reference, owned, unrepeated_reference, owned_by, owner, key_named, IsUnused, normal_id, normal_selection_reference, In, In-all, In-append, In-append_left, In-append_right, In-flat_map, In-flat_map_from, In-map, In-map_from, any_at, inl, inr}
 use Rattle.erd_normal.proofs.canonical.CanonicalIds.{canonical_id_exact, selection_id_apart, few_selections, canonical_selection_id_exact}
 use Rattle.erd_normal.proofs.canonical.ContestSelections.{one_contest}
 use Rattle.erd_normal.proofs.canonical.NormalKeys.{selection_values_distinct, by_key_total, by_name_total, listed, selection_values, text_built}
-use Rattle.erd_normal.proofs.lists.Lists.{rank_exact, rank_low, all_map, entry_holds}
-use Rattle.erd_normal.proofs.throughout.ThroughoutMembers.{is_prefixed, BuiltAs, from_kept, from_one, from_many_entry, from_ordered_entry, built_references, is_apart, all_inside, carried_passes, name_passes}
+use Rattle.erd_normal.proofs.lists.Lists.{rank_exact, rank_low}
+use Rattle.erd_normal.proofs.inside.Homes.{is_prefixed}
+use Rattle.erd_normal.proofs.inside.Walks.{all_pass}
 use Rattle.erd_normal.proofs.same.complete.Texts.{no_keys, one_family, some_again}
-use Rattle.erd_normal.proofs.same.IdsOfObjects.{Refers, reference_refers, references_refer}
+use Rattle.erd_normal.proofs.same.IdsOfObjects.{Refers}
 use Rattle.erd_normal.proofs.lists.Matched.{FoundSelection, owner_found}
-use Rattle.erd_normal.proofs.throughout.ThroughoutReports.{built_as}
 
 -- ---- the canonical `@id` of an object
 
@@ -116,8 +116,8 @@ new_text π t s = option_map_or (λ (x : Placed × List ℕ). x.1) (find (λ (x 
 abbrev pub old_text : Preference → Data → List ℕ → List ℕ
 old_text π t s = option_map_or (λ (x : Placed × List ℕ). unwrap_or (id_of x.0.value) []) (find (λ (x : Placed × List ℕ). bytes_eq x.1 s) (named_objects π t)) []
 
-abbrev pub sides : Preference → Data → Sides
-sides π t = record { left = t; right = normal_tree π t; there = new_text π t; back = old_text π t }
+abbrev pub IsNewText : Preference → Data → List ℕ → List ℕ → Type 0
+IsNewText π t s id = (id ≡ new_text π t s) × (s ≡ old_text π t id)
 
 has_letters : (f : Family) (i : ℕ) (id : List ℕ) → canonical_id f i ≡ Some id → is_prefixed f ≡ true
 has_letters f i id = at (id_prefix f)
@@ -179,7 +179,7 @@ module _ (π : Preference) (t : Data) where
         ap (λ z. option_map_or (λ (y : Placed × List ℕ). unwrap_or (id_of y.0.value) []) z []) x.1 ∙ ap (λ z. unwrap_or (id_of z.value) []) one ∙ ap (λ z. unwrap_or z []) e
 
     -- the `@id` of an object stands for its canonical one
-    pub stands_for : (f : Family) (o : Placed) (s id : List ℕ) → NewId π t f o id → id_of o.value ≡ Some s → NameOneThing (sides π t) s id
+    pub stands_for : (f : Family) (o : Placed) (s id : List ℕ) → NewId π t f o id → id_of o.value ≡ Some s → IsNewText π t s id
     stands_for f o s id new e = (sym (text_there f o s id new e), sym (text_back f o s id new e))
 
 -- ---- references of the report that is built: none is to an object without `@id`, and none of the report is to a style
@@ -215,43 +215,8 @@ module _ (π : Preference) (t : Data) (accepted : IsAccepted π t) (tree : IsTre
         own = ap id_of s.value ∙ (owned_by t family.Selection r.0 r.2.0 r.2.1).3;
       }
 
-  pub pair_of : (s id : List ℕ) → Renamed π t s id → NameOneThing (sides π t) s id
+  pub pair_of : (s id : List ℕ) → Renamed π t s id → IsNewText π t s id
   pair_of s id r = stands_for π t accepted bounded r.its_family r.object s id r.new r.own
-
-  -- ---- references of the report that is built
-
-  apart_refers : (w : Want) → is_apart w ≡ true → is_reference w ≡ false
-  apart_refers (Reference f) h = cc
-  apart_refers w h = refl
-
-  renamed_entry : (f : Family) → is_prefixed f ≡ true → (required : Bool) (d : Data) → Within t (asked (Member (kind.Many f) required) d)
-      → AllByRecursion (λ e. (s : List ℕ) × (id : List ℕ) × Renamed π t s id × (e ≡ string id)) (built_references π t f d)
-  renamed_entry f named required d w =
-      let ds = array_from d (wanted_within t (no_shape_fault π t accepted) (asked (Member (kind.Many f) required) d) w) in
-      let inside : Within t (asked (Member (kind.Many f) required) (array ds.0)) = subst (λ x. Within t (asked (Member (kind.Many f) required) x)) ds.1 w in
-      subst (λ x. AllByRecursion (λ e. (s : List ℕ) × (id : List ℕ) × Renamed π t s id × (e ≡ string id)) (built_references π t f x)) (sym ds.1)
-      (all_map (Refers t f) (λ e. (s : List ℕ) × (id : List ℕ) × Renamed π t s id × (e ≡ string id)) (normal_reference π t f) (rising_list (reference_cmp π t f) (list_of_items ds.0))
-      (λ x r. (r.0, normal_id π t f (text_of x), renamed_reference f named x r, refl))
-      (all_rising (Refers t f) (reference_cmp π t f) (list_of_items ds.0) (references_refer π t accepted f required ds.0 inside)))
-
-  -- if it is a reference, it has the canonical `@id` of an object with an `@id`
-  renamed_built : {a : Asked} → BuiltAs π t a → is_reference a.want ≡ true → (s : List ℕ) × (id : List ℕ) × Renamed π t s id × (a.value ≡ string id)
-  renamed_built (from_kept a w apart) is = let x : true ≡ false = sym is ∙ apart_refers a.want apart in cc
-  renamed_built (from_one f named d w) is = let r = reference_refers π t accepted f d w in (r.0, normal_id π t f (text_of d), renamed_reference f named d r, refl)
-  renamed_built (from_many_entry f named required d w i e found) is =
-      entry_holds (λ e. (s : List ℕ) × (id : List ℕ) × Renamed π t s id × (e ≡ string id)) (built_references π t f d) i e (renamed_entry f named required d w) found
-  renamed_built (from_ordered_entry e w) is = let r = reference_refers π t accepted family.Selection e w in (r.0, text_of (normal_selection_reference π t e), renamed_selection e r, refl)
-  renamed_built h is = cc
-
-  -- nothing in the report that is built refers to an object without `@id`
-  pub new_unused : (f : Family) (o : Placed) (id : List ℕ) → NewId π t f o id → id_of o.value ≡ None → IsUnused (normal_tree π t) id
-  new_unused f o id new none p a stands refers value =
-      let r = renamed_built (built_as π t (no_shape_fault π t accepted) tree p a stands) refers in
-      let texts : string r.1 ≡ string id = sym r.3 ∙ value in
-      let same : r.1 ≡ id = cc in
-      let one : r.2.object ≡ o = new_exact π t accepted bounded r.2.its_family f r.2.object o id (subst (NewId π t r.2.its_family r.2.object) same r.2.new) new in
-      let owns : Some r.0 ≡ None = sym r.2.own ∙ ap (λ (x : Placed). id_of x.value) one ∙ none in
-      cc
 
 -- ---- no reference is to a style
 
@@ -261,7 +226,7 @@ is_free_kind (kind.One family.Style) = false
 is_free_kind (kind.Many family.Style) = false
 is_free_kind k = true
 
-abbrev is_free : Want → Bool
+abbrev pub is_free : Want → Bool
 is_free (Reference family.Style) = false
 is_free (Member (kind.Many family.Style) required) = false
 is_free w = true
@@ -275,28 +240,12 @@ free_rows : (c : Class) → (list_all (λ m. is_free_kind m.kind) (rows_of_class
 free_rows class.ElectionReport = (refl, refl)
 free_rows c = (refl, refl)
 
-free_member : (c : Class) (name : List ℕ) → bytes_eq name (codes "@type") ≡ false → is_free (member_want c name) ≡ true
-free_member c name other = at (is_report_class c && bytes_eq name (codes "Status")) refl
-  where
-    at : (b : Bool) → (is_report_class c && bytes_eq name (codes "Status")) ≡ b → is_free (member_want c name) ≡ true
-    at true is = rw is refl
-    at false is =
-        ap is_free (want_unless_status c name is)
-        ∙ free_of_kind (kind_of_member c name) (is_required c name) (kind_of_class is_free_kind c name other (free_rows c).0 (free_rows c).1 refl refl)
-
-free_name : (s : Scope) (name : List ℕ) → option_map_or is_free (want_of_name s name) true ≡ true
-free_name scope.Nothing name = refl
-free_name scope.Carried name = carried_passes is_free refl refl name
-free_name (scope.Members r o) name = name_passes is_free r o name refl (λ c is other. free_member c name other)
-
 free_entry : (w : Want) → is_free w ≡ true → option_map_or is_free (entry_want w) true ≡ true
 free_entry (Member (kind.Many family.Style) required) h = cc
 free_entry w h = refl
 
-free_from : (a : Asked) (p : List Step) (b : Asked) → is_free a.want ≡ true → asked_from a p ≡ Some b → is_free b.want ≡ true
-free_from =
-    all_inside (λ w d. is_free w ≡ true) (λ w ms n v x h asks found. subst (λ o. option_map_or is_free o true ≡ true) asks (free_name (scope_inside w (object ms)) n))
-    (λ w ds i v x h asks found. subst (λ o. option_map_or is_free o true ≡ true) asks (free_entry w h))
+pub free_from : (a : Asked) (p : List Step) (b : Asked) → is_free a.want ≡ true → asked_from a p ≡ Some b → is_free b.want ≡ true
+free_from = all_pass is_free is_free_kind free_of_kind free_rows refl refl refl (λ r. refl) refl refl free_entry
 
 module _ (π : Preference) (t : Data) (accepted : IsAccepted π t) where
   one_reference : (g : Family) (s : List ℕ) (a : Asked) → a.want ≡ Reference g → a.value ≡ string s → Within t a → Within t (asked (Reference g) (string s))

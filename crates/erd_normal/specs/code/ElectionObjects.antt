@@ -24,18 +24,18 @@ abbrev pub rising_elections : Preference → Data → List (ℕ × Placed)
 rising_elections π t = in_order_of_keys π (elections t)
 
 -- The position of the election that holds the object at this position of its family, or 0 if none holds it.
-abbrev pub part_at : Data → Family → ℕ → ℕ
-part_at t f i = unwrap_or (election_in f t i) 0
+abbrev pub holding_election : Data → Family → ℕ → ℕ
+holding_election t f i = unwrap_or (election_in f t i) 0
 
 -- Those objects of a family that the election at this position holds. In a family that no election holds, all of them are at
 -- position 0.
-abbrev pub objects_in_part : Preference → Data → Family → ℕ → List (ℕ × Placed)
-objects_in_part π t f part = filter (λ o. part_at t f o.0 == part) (rising_objects π t f)
+abbrev pub objects_in_election : Preference → Data → Family → ℕ → List (ℕ × Placed)
+objects_in_election π t f election = filter (λ o. holding_election t f o.0 == election) (rising_objects π t f)
 
 -- The positions of these objects.
-abbrev pub positions_in_part : Preference → Data → Family → ℕ → List ℕ
-positions_in_part π t f part = map (λ o. o.0) (objects_in_part π t f part)
+abbrev pub positions_in_election : Preference → Data → Family → ℕ → List ℕ
+positions_in_election π t f election = map (λ o. o.0) (objects_in_election π t f election)
 
--- The positions of one part. A part that is not there has none.
-abbrev pub part_seen : List (Vec ℕ Global) → ℕ → List ℕ
-part_seen parts i = option_map_or (λ part. part.items) (slice_get parts i) []
+-- The positions of one list. A list that is not there has none.
+abbrev pub list_seen : List (Vec ℕ Global) → ℕ → List ℕ
+list_seen lists i = option_map_or (λ list. list.items) (slice_get lists i) []
