@@ -16,7 +16,7 @@ import sys
 
 ROOT = pathlib.Path(__file__).resolve().parents[2]
 PAGE = ROOT / 'docs' / 'DEFINITIONS.md'
-CRATES = ['erd_tables', 'erd_index', 'erd_check', 'erd_text', 'erd_meaning', 'erd_normal', 'erd_compare', 'erd_canon', 'erd_program', 'erd_c']
+CRATES = ['erd_tables', 'erd_index', 'erd_check', 'erd_prepare', 'erd_text', 'erd_meaning', 'erd_normal', 'erd_compare', 'erd_canon', 'erd_program', 'erd_c']
 HEAD = ['| Definition | What it says | From |', '|---|---|---|']
 CODE = 'What private functions answer, step by step; a reader may skip it. What each file says stands in its first lines.'
 
@@ -68,6 +68,15 @@ SOURCES = {
     'erd_meaning/Records.is_header_class': 'classes OrderedContest and OrderedHeader',
     'erd_meaning/Records.node_of': 'classes BallotStyle and OrderedHeader',
     'erd_meaning/Records.nodes_of': 'classes BallotStyle and OrderedHeader',
+    'erd_prepare/Changes': 'this project',
+    'erd_prepare/Laws': 'this project',
+    'erd_prepare/LocalSteps': 'docs/FIXES.md',
+    'erd_prepare/Local': 'docs/FIXES.md',
+    'erd_prepare/Names': 'docs/FIXES.md',
+    'erd_prepare/Nulls': 'docs/FIXES.md',
+    'erd_prepare/Persons': 'docs/FIXES.md',
+    'erd_prepare/Places': 'this project',
+    'erd_prepare/Rules': 'this project',
     'erd_program/Files': 'this project',
     'erd_program/Messages': 'this project',
     'erd_program/Program': 'this project',
