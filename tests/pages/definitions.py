@@ -22,7 +22,7 @@ sys.path.append(str(ROOT / 'tests' / 'shared'))
 from cases import differing_lines, tell_cases  # noqa: E402
 
 PAGE = ROOT / 'docs' / 'DEFINITIONS.md'
-CRATES = ['erd_tables', 'erd_index', 'erd_check', 'erd_text', 'erd_meaning', 'erd_normal', 'erd_compare', 'erd_canon', 'erd_program', 'erd_c']
+CRATES = ['erd_tables', 'erd_index', 'erd_check', 'erd_prepare', 'erd_text', 'erd_meaning', 'erd_normal', 'erd_compare', 'erd_canon', 'erd_program', 'erd_c']
 # Words of the table in docs/ARCHITECTURE.md, with the crates whose files, functions, types and definitions may be named by them.
 KNOWING = {
     'position': ['erd_index', 'erd_meaning', 'erd_normal', 'erd_compare'],
@@ -86,6 +86,15 @@ SOURCES = {
     'erd_meaning/Records.is_header_class': 'classes OrderedContest and OrderedHeader',
     'erd_meaning/Records.node_of': 'classes BallotStyle and OrderedHeader',
     'erd_meaning/Records.nodes_of': 'classes BallotStyle and OrderedHeader',
+    'erd_prepare/Changes': 'this project',
+    'erd_prepare/Laws': 'this project',
+    'erd_prepare/LocalSteps': 'docs/FIXES.md',
+    'erd_prepare/Local': 'docs/FIXES.md',
+    'erd_prepare/Names': 'docs/FIXES.md',
+    'erd_prepare/Nulls': 'docs/FIXES.md',
+    'erd_prepare/Persons': 'docs/FIXES.md',
+    'erd_prepare/Places': 'this project',
+    'erd_prepare/Rules': 'this project',
     'erd_program/Files': 'this project',
     'erd_program/Messages': 'this project',
     'erd_program/Program': 'this project',
