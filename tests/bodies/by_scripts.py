@@ -66,7 +66,7 @@ class Copy:
 
     def run(self, command, cases=()):
         """What a command of the shell says, and its status. A script may leave out what has none of these cases."""
-        more = {'LIBRARY_IS_MADE': 'yes', 'PYTHONDONTWRITEBYTECODE': '1', **({'CASES': '\n'.join(cases)} if cases else {})}
+        more = {'LIBRARY_IS_MADE': 'yes', 'FORMS_ARE_MADE': 'no', 'PYTHONDONTWRITEBYTECODE': '1', **({'CASES': '\n'.join(cases)} if cases else {})}
         return subprocess.run(['bash', '-c', command], cwd=self.top, stdin=subprocess.DEVNULL, stdout=subprocess.PIPE, check=False,
                               stderr=subprocess.STDOUT, text=True, errors='replace', env={**os.environ, **more})
 
