@@ -42,8 +42,7 @@ class Repeats extends Visitor {
     value(level) {
         for (const [name, times] of level.names) {
             if (times > 1 && this.found.length < this.most) {
-                const place = [...level.place(), name];
-                this.found.push({ place, pointer: pointerOf(place), times });
+                this.found.push({ place: [...level.place(), name], times });
             }
         }
     }
@@ -55,7 +54,12 @@ class Repeats extends Visitor {
  * @param {{ most?: number | null }} [options] `most`: how many are listed; null for all
  * @throws {SyntaxError} if the report is not JSON
  */
-export function repeatedNames(report, { most = MOST_NAMES } = {}) {
+export function repeatedNames(report, options) {
+    return repeatedPlaces(report, options).map(({ place, times }) => ({ place, pointer: pointerOf(place), times }));
+}
+
+/** The same without pointers, of which each has all the names above it. */
+export function repeatedPlaces(report, { most = MOST_NAMES } = {}) {
     const bytes = bytesOf(report, 'the report');
     const repeats = new Repeats(most ?? Infinity);
     try {
