@@ -159,7 +159,7 @@ struct erd_list;
 
 /* Opens a list. It is judged when its first piece is taken. `left` is the report, or the left one of two; of one report `right` is
  * not read. If `room` is 0, it is 16 mebibytes. The bytes of the reports and of `prefer` must stay as they are until the
- * list is closed. The result is null if out of memory. */
+ * list is closed. The result is null if out of memory, and for a number that no listing has. */
 struct erd_list *erd_open(enum erd_listing listing, const void *left, size_t left_size, const void *right, size_t right_size,
                           const char *prefer, size_t room);
 

@@ -164,6 +164,7 @@ int main(void) {
         has_side = has_line_feed = false;
     }
     erd_close(NULL);
+    said(erd_open((enum erd_listing)8, "", 0, "", 0, NULL, 0) == NULL ? NULL : "it was opened", (enum erd_listing)8, "another number");
     printf("%u passed, %u failed\n", passed, failed);
     return failed != 0;
 }
