@@ -134,7 +134,7 @@ enum erd_outcome erd_compare_data_piece(const void *left, size_t left_size, cons
  * the same. If a report is refused, the text is that of erd_compare_data_piece.
  *
  * An object for the member `ContestSelection` of a contest has a member `selections` too, with what differs inside. A name of a
- * selection has its keys in full, so this can be as long as the square of the reports. It takes the bytes of all names of both
+ * selection has its keys in full, so this can grow with the square of their sizes. It takes the bytes of all names of both
  * contests, and those of each difference inside. Where these, with those of the objects before them in the piece, are more than
  * `enough_bytes`, that object and all behind it in the piece have no such member. */
 enum erd_outcome erd_differences_data(const void *left, size_t left_size, const void *right, size_t right_size,

@@ -18,7 +18,7 @@ chosen() {
     [[ -z ${CASES:-} || $'\n'$CASES$'\n' == *$'\n'"$1"$'\n'* ]]
 }
 
-# tests/bodies/wrong_lines.py makes a library of its own, and says so.
+# tests/bodies/by_scripts.py makes a library of its own, and says so.
 if [ -z "${LIBRARY_IS_MADE:-}" ]; then
     make --no-print-directory library > "$work/out" 2> "$work/err"
     status=$?

@@ -13,8 +13,11 @@ import subprocess
 import sys
 
 ROOT = pathlib.Path(__file__).resolve().parents[2]
+sys.path.append(str(ROOT / 'tests' / 'shared'))
+from cases import differing_lines, tell_cases  # noqa: E402
+
 PAGE = ROOT / 'docs' / 'DEFINITIONS.md'
-CRATES = ['erd_tables', 'erd_index', 'erd_check', 'erd_text', 'erd_meaning', 'erd_normal', 'erd_compare', 'erd_canon', 'erd_program', 'erd_c']
+CRATES = ['erd_tables', 'erd_index', 'erd_check', 'erd_prepare', 'erd_text', 'erd_meaning', 'erd_normal', 'erd_compare', 'erd_canon', 'erd_program', 'erd_c']
 # Definitions of the kit that a reader has to know too.
 KIT = ['clap']
 BEGIN, END = '<!-- the lists begin -->\n', '<!-- the lists end -->\n'
@@ -208,11 +211,7 @@ def main():
     if '--write' in sys.argv[1:]:
         PAGE.write_text(head + begin + new + end + tail, encoding='utf-8')
         return 0
-    for line in sorted(set(old.splitlines()) ^ set(new.splitlines())):
-        print(f'{"the page" if line in old.splitlines() else "specs/"} alone: {line}')
-    print(f'{"passed" if old == new else "FAILED"}: what to read for each promise')
-    print(f'{int(old == new)} passed, {int(old != new)} failed')
-    return int(old != new)
+    return tell_cases([('what to read for each promise: python3 tests/pages/closures.py --write', new, old)], differing_lines)
 
 
 if __name__ == '__main__':

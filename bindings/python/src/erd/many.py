@@ -1,8 +1,8 @@
-"""Judges many files at once, and groups those that define the same ballots.
+"""Judges many files at once, and groups those that mean the same.
 
 python -m erd.many FOLDER.. [--json | --csv] [--prefer TYPE] [--prepare STEPS] [--jobs N] [--scheduler ADDRESS] [--resume]
 
-Two accepted files define the same ballots if and only if their canonical forms are equal. So files of one group have one SHA-256
+Two accepted files mean the same if and only if their canonical forms are equal. So files of one group have one SHA-256
 of their canonical forms. A file that cannot be judged is a row with its reason, and the run goes on.
 """
 
@@ -140,7 +140,7 @@ def pattern_of(text: str) -> str:
 def parser() -> argparse.ArgumentParser:
     """Returns the parser of the command line."""
     words = Parser(prog='python -m erd.many', allow_abbrev=False, description=(
-        'Judges the files, and the *.json files below the folders, and groups those that define the same ballots. The exit status '
+        'Judges the files, and the *.json files below the folders, and groups those that mean the same. The exit status '
         'is the highest that erd check has for one of them.'))
     words.add_argument('names', nargs='+', metavar='FOLDER', help='a folder or a file')
     form = words.add_mutually_exclusive_group()
