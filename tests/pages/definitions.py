@@ -68,6 +68,7 @@ SOURCES = {
     'erd_meaning/Records.is_header_class': 'classes OrderedContest and OrderedHeader',
     'erd_meaning/Records.node_of': 'classes BallotStyle and OrderedHeader',
     'erd_meaning/Records.nodes_of': 'classes BallotStyle and OrderedHeader',
+    'erd_meaning/SaltWrites': 'this project',
     'erd_program/Files': 'this project',
     'erd_program/Messages': 'this project',
     'erd_program/Program': 'this project',
