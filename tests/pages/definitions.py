@@ -95,6 +95,7 @@ SOURCES = {
     'erd_prepare/Persons': 'docs/FIXES.md',
     'erd_prepare/Places': 'this project',
     'erd_prepare/Rules': 'this project',
+    'erd_meaning/SaltWrites': 'this project',
     'erd_program/Files': 'this project',
     'erd_program/Messages': 'this project',
     'erd_program/Program': 'this project',
