@@ -12,7 +12,7 @@ import sys
 
 ROOT = pathlib.Path(__file__).resolve().parents[2]
 PAGE = ROOT / 'docs' / 'DEFINITIONS.md'
-CRATES = ['erd_tables', 'erd_index', 'erd_check', 'erd_text', 'erd_meaning', 'erd_normal', 'erd_compare', 'erd_canon', 'erd_program', 'erd_c']
+CRATES = ['erd_tables', 'erd_index', 'erd_check', 'erd_text', 'erd_meaning', 'erd_normal', 'erd_shown', 'erd_compare', 'erd_canon', 'erd_program', 'erd_c']
 BEGIN, END = '<!-- the lists begin -->\n', '<!-- the lists end -->\n'
 
 # The promises, with the definitions that state them.

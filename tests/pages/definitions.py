@@ -16,7 +16,7 @@ import sys
 
 ROOT = pathlib.Path(__file__).resolve().parents[2]
 PAGE = ROOT / 'docs' / 'DEFINITIONS.md'
-CRATES = ['erd_tables', 'erd_index', 'erd_check', 'erd_text', 'erd_meaning', 'erd_normal', 'erd_compare', 'erd_canon', 'erd_program', 'erd_c']
+CRATES = ['erd_tables', 'erd_index', 'erd_check', 'erd_text', 'erd_meaning', 'erd_normal', 'erd_shown', 'erd_compare', 'erd_canon', 'erd_program', 'erd_c']
 HEAD = ['| Definition | What it says | From |', '|---|---|---|']
 CODE = 'What private functions answer, step by step; a reader may skip it. What each file says stands in its first lines.'
 

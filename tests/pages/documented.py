@@ -11,7 +11,7 @@ import re
 import sys
 
 ROOT = pathlib.Path(__file__).resolve().parents[2]
-CRATES = ['erd_tables', 'erd_index', 'erd_check', 'erd_text', 'erd_meaning', 'erd_normal', 'erd_compare', 'erd_canon']
+CRATES = ['erd_tables', 'erd_index', 'erd_check', 'erd_text', 'erd_meaning', 'erd_normal', 'erd_shown', 'erd_compare', 'erd_canon']
 CALL = re.compile(r'^( *)(pub )?fn (\w+)(?:<[^(]*>)?\(([^)]*)', re.M)
 OWNER = re.compile(r"^(?:impl(?:<[^{]*?>)? (?:\w+(?:<[^{]*>)? for )?|pub trait )(\w+)", re.M)
 
