@@ -9,7 +9,7 @@ export interface Preference {
 export interface Options extends Preference {
     /**
      * The most faults that are listed: 1,000 if it is left out, and all if it is null. They are fewer if their texts together have
-     * more than a megabyte, since the list of all faults can be as long as the square of the report.
+     * more than a megabyte, since the list of all faults can grow with the square of the report's size.
      */
     mostFaults?: number | null;
 }
@@ -50,7 +50,7 @@ export interface Difference {
      * What differs inside the selections of a contest, in rising order of names and then of members, if the member is
      * `ContestSelection`. Only `differences` tells it. It is left out too where the names of selections and of what differs,
      * from the first difference of the list on, have more than a megabyte together. If all differences are asked for, this holds
-     * for each piece of the list.
+     * for as much of the list as is kept at a time: at least 4 megabytes.
      */
     selections?: SelectionDifference[];
     /** The line that the program writes for the difference, without its line feed. */
@@ -201,13 +201,21 @@ export interface RepeatedName {
     times: number;
 }
 
+/** The names that are listed, and how many there are. */
+export interface RepeatedNames extends Array<RepeatedName> {
+    readonly allNames: number;
+    /** Whether there are more names than are listed. */
+    readonly more: boolean;
+}
+
 /**
  * The names that are written more than once in one object, in the order in which their objects end. `erd` reads the last value of
  * such a name; another program may read the first. This list is not part of what is proved.
- * @param options `most`: how many are listed; 1,000 if it is left out, and all if it is null
+ * @param options `most`: how many are listed, and fewer if their places together have more than a megabyte; 1,000 if it is left out,
+ * and all if it is null
  * @throws {SyntaxError} if the report is not JSON
  */
-export function repeatedNames(report: Report, options?: { most?: number | null }): RepeatedName[];
+export function repeatedNames(report: Report, options?: { most?: number | null }): RepeatedNames;
 
 /** How many faults, or differences, are listed if the options name no other number: 1,000. */
 export const MOST_LISTED: number;

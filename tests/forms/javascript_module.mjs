@@ -209,6 +209,12 @@ const repeated = `[${Array(1001).fill('{"a":1,"a":2}')}]`;
 equal('the first 1,000 repeated names', repeatedNames(repeated).length, 1000);
 equal('all repeated names', repeatedNames(repeated, { most: null }).length, 1001);
 equal('two repeated names', JSON.stringify(repeatedNames(repeated, { most: 2 }).map(({ place }) => place)), '[[0,"a"],[1,"a"]]');
+// Names below a long one: together, their places are as long as the square of the report.
+const below = `{"${'n'.repeat(5_000_000)}":[${Array(3000).fill('{"a":1,"a":2}').join()}]}`;
+const few = repeatedNames(below);
+equal('repeated names with long places are fewer', JSON.stringify([few.length, few.allNames, few.more]), '[1,3000,true]');
+equal('all repeated names with long places', repeatedNames(below, { most: null }).map(({ place }) => place[1]).join(), [...Array(3000).keys()].join());
+equal('no more repeated names', JSON.stringify([repeatedNames(repeated, { most: null }).more, repeatedNames(repeated).more]), '[false,true]');
 throws('no report with repeated names', TypeError, () => repeatedNames(5));
 
 // The limit on bytes.

@@ -95,7 +95,7 @@ export class Erd {
     *written(command, reports, options, take = copied) {
         const { prefer } = askedFor(options, 'mostFaults');
         const bytesOfReports = reports.map((report) => bytesOf(report, 'a report'));
-        for (const { outcome, taken } of this.#pieces(COMMANDS[command], bytesOfReports, prefer, ALL, take)) {
+        for (const { outcome, taken } of this.#pieces(COMMANDS[command], bytesOfReports, prefer, take)) {
             yield { outcome, bytes: taken };
         }
     }
@@ -104,11 +104,14 @@ export class Erd {
     // all of them are there if the caller asked for all.
     #list(call, reports, { prefer, most }) {
         const isForm = (outcome) => call === 'erd_canonical_data_piece' && outcome === OUTCOME.good;
-        const pieces = this.#pieces(call, reports, prefer, most ?? ALL,
-            (bytes, outcome) => (isForm(outcome) ? copied(bytes) : readExactly(bytes)));
+        const take = (bytes, outcome) => (isForm(outcome) ? copied(bytes) : readExactly(bytes));
+        if (most !== null) {
+            return this.#first(call, reports, prefer, most, take);
+        }
+        const pieces = this.#pieces(call, reports, prefer, take);
         const { value: answer } = pieces.next();
         const entries = entriesOf(answer.taken);
-        for (const piece of most === null ? pieces : []) {
+        for (const piece of pieces) {
             for (const entry of entriesOf(piece.taken)) {
                 entries.push(entry);
             }
@@ -116,26 +119,32 @@ export class Erd {
         return answer;
     }
 
-    // The answers with one piece of a list after another.
-    *#pieces(call, reports, prefer, most, take) {
-        for (let first = 0, isLast = false; !isLast;) {
-            const answer = this.#call(call, reports, prefer, { first, most, enoughBytes: BYTES_OF_PIECE }, take);
-            yield answer;
-            first += answer.told;
-            isLast = first >= answer.all || answer.told === 0;
-        }
+    // The answer with the first piece of a list. Nothing is kept of the others.
+    #first(name, reports, prefer, most, take) {
+        checkLengths(reports);
+        return checked(this.#engine.call(name, reports, prefer, { first: 0, most, enoughBytes: BYTES_OF_PIECE }, take));
     }
 
-    #call(name, reports, prefer, piece, take) {
-        if (reports.some((report) => report.length > MOST_BYTES)) {
-            throw new TooLongError();
+    // The answers with one piece of a list after another.
+    *#pieces(name, reports, prefer, take) {
+        checkLengths(reports);
+        for (const answer of this.#engine.pieces(name, reports, prefer, { most: ALL, enoughBytes: BYTES_OF_PIECE }, take)) {
+            yield checked(answer);
         }
-        const answer = this.#engine.call(name, reports, prefer, piece, take);
-        if (answer.outcome === OUTCOME.noMemory) {
-            throw new NoMemoryError();
-        }
-        return answer;
     }
+}
+
+function checkLengths(reports) {
+    if (reports.some((report) => report.length > MOST_BYTES)) {
+        throw new TooLongError();
+    }
+}
+
+function checked(answer) {
+    if (answer.outcome === OUTCOME.noMemory) {
+        throw new NoMemoryError();
+    }
+    return answer;
 }
 
 /** The call of each command. */

@@ -181,3 +181,35 @@ def test_the_first_repeated_names():
     assert len(erd.repeated_names(report)) == 1000
     assert len(erd.repeated_names(report, most=None)) == 1001
     assert erd.repeated_names(report, most=2)[1].place == (1, 'a')
+    assert (erd.repeated_names(report).all_names, erd.repeated_names(report).more) == (1001, True)
+    assert not erd.repeated_names(report, most=None).more
+
+
+def test_repeated_names_with_long_places_are_fewer():
+    # Together, their places are as long as the square of the report.
+    report = '{"' + 'n' * 400_000 + '":[' + ','.join(['{"a":1,"a":2}'] * 3000) + ']}'
+    found = erd.repeated_names(report)
+    assert (len(found), found.all_names, found.more) == (3, 3000, True)
+    assert [name.place[1] for name in erd.repeated_names(report, most=None)] == list(range(3000))
+
+
+class Counted:
+    """The library, which counts the calls of one function."""
+
+    def __init__(self, library, name):
+        self.library, self.name, self.count = library, name, 0
+
+    def __getattr__(self, name):
+        self.count += name == self.name
+        return getattr(self.library, name)
+
+
+def test_a_list_is_judged_once_for_many_pieces(top, monkeypatch):
+    # 300,000 faults are ten pieces and more. Each call for a piece would judge the report again.
+    report = (top / 'examples' / 'one-unit.json').read_text('utf-8').replace('{', '{"Remarks":[' + ','.join(['1.5'] * 300_000) + '],', 1)
+    from erd import library
+    counted = Counted(library.library(), 'erd_open')
+    counted_calls = Counted(counted, 'erd_check_data_piece')
+    monkeypatch.setattr(library, 'library', lambda: counted_calls)
+    assert len(erd.check(report, most_faults=None).faults) == 300_000
+    assert (counted.count, counted_calls.count) == (1, 0)

@@ -138,8 +138,8 @@ class Difference:
     selections: Optional[Tuple[SelectionDifference, ...]] = None
     """What differs inside the selections of a contest, in rising order of names and then of members, if the member is
     `ContestSelection`. Only `differences` tells it. It is None too where the names of selections and of what differs, from the first
-    difference of the list on, have more than a megabyte together; if all differences are asked for, this holds for each piece of
-    the list."""
+    difference of the list on, have more than a megabyte together; if all differences are asked for, this holds for as much of the
+    list as is kept at a time: at least 16 megabytes."""
 
     @property
     def line(self) -> str:
