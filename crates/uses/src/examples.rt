@@ -7,6 +7,7 @@ mod index;
 mod pieces;
 mod reports;
 mod shapes;
+mod shown;
 mod tables;
 mod text_pieces;
 mod texts;
