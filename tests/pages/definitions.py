@@ -33,8 +33,9 @@ KNOWING = {
     'saying': ['erd_normal'],
 }
 # Where such a word has a second sense: in `erd_check` what a visitor knows of the value that it is at, in `erd_index` the whole
-# blocks of a text that is hashed, and in `erd_canon` and `erd_program` what has been written of an answer.
-SECOND = {('position', 'erd_check'), ('part', 'erd_index'), ('part', 'erd_canon'), ('part', 'erd_program')}
+# blocks of a text that is hashed, in `erd_prepare` an object of a class of the table, and in `erd_canon` and `erd_program` what
+# has been written of an answer.
+SECOND = {('position', 'erd_check'), ('part', 'erd_index'), ('part', 'erd_prepare'), ('part', 'erd_canon'), ('part', 'erd_program')}
 HEAD = ['| Definition | What it says | From |', '|---|---|---|']
 CODE = 'What private functions answer, step by step; a reader may skip it. What each file says stands in its first lines.'
 
