@@ -102,7 +102,7 @@ lane 'proved: erd_canon' 'tests/library/c_library.sh' 'python3 tests/library/lis
 lane 'program:' 'tests/program/command.sh' 'tests/pages/manual.sh' 'python3 tests/pages/examples.py' 'tests/program/contrib.sh' \
     'python3 tests/program/agrees_with_reference.py 500' 'python3 tests/program/same_meaning.py' \
     'python3 tests/program/agrees_on_preferences.py' 'conformance/run ./erd' 'tests/program/limits.sh' 'tests/program/confined.sh' \
-    'tests/forms/make_install.sh' 'python3 tests/measures/crowding.py' 'ended: tests/library/c_library.sh' \
+    'tests/forms/make_install.sh' 'python3 tests/measures/crowding.py' 'python3 tests/measures/orders.py' 'ended: tests/library/c_library.sh' \
     'tests/forms/profiled_program.sh' 'python3 tests/measures/instructions.py' 'tests/forms/same_bytes.sh' 'tests:' \
     'tests/program/refusals.sh'
 
