@@ -45,6 +45,9 @@ static size_t room_at_once(const struct erd_list *list) {
     bool is_form = list->it.call == CANONICAL_PIECE || list->it.call == CANONICAL_DATA_PIECE;
     size_t for_list = list->it.left.size + list->it.right.size;
     size_t most = list->room < ROOM_FOR_LIST ? list->room : ROOM_FOR_LIST;
+    /* behind the first entries that are kept, the list is as long as that again, or nearly so */
+    if (list->next > 0)
+        return list->room + for_list + ROOM_FOR_LINES;
     return (is_form ? 2 * list->it.left.size : for_list < most ? for_list : most) + ROOM_FOR_LINES;
 }
 
