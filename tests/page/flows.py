@@ -197,11 +197,14 @@ def refused_texts(session):
 def removed(session):
     """A file that is taken out again."""
     session.judged(SMALL, COUNTY[0])
+    session.equal('what is chosen is one line', [session.text('#files-chosen').strip(), session.browser.script("return document.getElementById('files-open').hidden")],
+                  [f'{SMALL.name}, {COUNTY[0].name}', True])
+    session.click('#choose-others')
     session.click('#remove-0')
     session.becomes('the first file removed', session.verdict, 'Accepted')
     session.equal('the second file is the first now', session.text('#name-0 bdi'), COUNTY[0].name)
     session.click('#remove-0')
-    session.becomes('no file left', lambda: session.text('#result'), '')
+    session.becomes('no file left', lambda: session.text('#result-top') + session.text('#result-rest'), '')
 
 
 def unpacked(stream):

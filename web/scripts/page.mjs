@@ -81,6 +81,7 @@ class Page {
         const isCurrent = this.beginRun();
         this.choice.slots = [null, null];
         this.choice.show();
+        this.choice.folded(files.length);
         $('prefer-choice').hidden = true;
         document.documentElement.dataset.shown = 'many';
         this.setBusy(true);
@@ -103,7 +104,8 @@ class Page {
     beginRun() {
         const run = ++this.run;
         $('trouble').replaceChildren();
-        $('result').replaceChildren();
+        $('result-top').replaceChildren();
+        $('result-rest').replaceChildren();
         if (this.busy) {
             this.client.cancel();
         }
@@ -116,18 +118,20 @@ class Page {
         this.choice.show();
         this.setBusy(this.choice.files.length > 0);
         if (!this.busy) {
+            this.choice.fold(false);
             delete document.documentElement.dataset.shown;
             return;
         }
+        this.choice.folded(0);
         document.documentElement.dataset.shown = 'result';
         this.say(say('progress.start'));
         const { files } = this.choice;
         this.client.open({ files, prefer: this.prefer });
         const result = new Result({
-            client: this.client, data: { ...this.data, fixes: this.data.fixes[document.documentElement.lang] }, holder: $('result'),
+            client: this.client, data: { ...this.data, fixes: this.data.fixes[document.documentElement.lang] }, top: $('result-top'), holder: $('result-rest'),
             names: files.map((file) => file.name), files, prefer: this.prefer,
             isCurrent, tell: (progress) => isCurrent() && this.progress(progress, files),
-            offerTypes: (types) => this.offerTypes(types), prefers: (type) => this.prefers(type),
+            offerTypes: (types, isOpen) => this.offerTypes(types, isOpen), prefers: (type) => this.prefers(type),
             takesCopy: (index, copy) => this.choice.exchange(index, copy), again: () => this.again(),
         });
         await this.shown(result, isCurrent);
@@ -143,7 +147,7 @@ class Page {
             if (isCurrent()) {
                 document.documentElement.dataset.milliseconds = String(Math.round(performance.now() - started));
                 this.say(verdict);
-                $('verdict').scrollIntoView({ block: 'nearest' });
+                $('files-heading').scrollIntoView({ block: 'start' });
                 await result.rest();
             }
         } catch (error) {
@@ -177,7 +181,7 @@ class Page {
         }
         const title = say(cancelled ? 'verdict.cancelled' : 'verdict.failed');
         const sentence = element('p', {}, say(cancelled ? 'sentence.cancelled' : 'sentence.failed'));
-        $('result').replaceChildren(banner({ tone: 'stop', title }, sentence,
+        $('result-top').replaceChildren(banner({ tone: 'stop', title }, sentence,
             cancelled ? null : element('p', {}, theirs(String(error.message)), ' ', button(say('trouble.again'), () => this.again()))));
         this.say(title);
     }
@@ -188,8 +192,8 @@ class Page {
         this.judge();
     }
 
-    /** Offers the types of identifier that the files have. The choice stays as it is while a user goes through it. */
-    offerTypes(types) {
+    /** Offers the types of identifier that the files have, open where another one may help. The choice stays while a user goes through it. */
+    offerTypes(types, isOpen) {
         if (!$('prefer-choice').hidden) {
             return;
         }
@@ -197,6 +201,7 @@ class Page {
         $('prefer').replaceChildren(element('option', { value: '' }, say('prefer.none')), ...options);
         $('prefer').value = this.prefer ?? '';
         $('prefer-choice').hidden = types.length === 0;
+        $('prefer-choice').open = this.prefer !== null || isOpen;
     }
 
     // Tells a screen reader.
