@@ -14,6 +14,7 @@ def run(session):
     three(session)
     replaced(session)
     notices(session)
+    spoken(session)
     tests(session)
 
 
@@ -63,6 +64,20 @@ def notices(session):
     none = answers.say('many.noNotes')
     session.equal('named: the notices', session.browser.script(NOTICES),
                   [answers.say('many.notes', notes='Contest C1 is struck'), none, answers.say('many.repeated') + none, answers.say('many.test')])
+
+
+def spoken(session):
+    """A change of language keeps the table."""
+    text = SMALL.read_text(encoding='utf-8')
+    session.fresh()
+    dropped(session, *((name, text) for name in ('a.json', 'b.json', 'c.json')))
+    waited(session)
+    session.browser.script("""
+        const select = document.getElementById('language');
+        select.value = 'es';
+        select.dispatchEvent(new Event('change'));""")
+    session.equal('named: the table in another language', [[row[0] for row in session.browser.script(ROWS)], session.text('#many')],
+                  [['a.json', 'b.json', 'c.json'], '3 archivos'])
 
 
 def tests(session):

@@ -19,6 +19,8 @@ class Page {
         this.client = new Client(workerOf, this.start());
         this.choice = new Choice(data.examples, { changed: (how) => this.chosen(how), many: (files) => this.survey(files) });
         this.prefer = null;
+        // The table of many files, if one is shown or being made.
+        this.table = null;
         this.run = 0;
     }
 
@@ -32,9 +34,13 @@ class Page {
     speak(language) {
         useLanguage(this.data.texts, language);
         this.client.restart(this.start());
-        $('many-files').replaceChildren();
         $('prefer-choice').hidden = true;
         this.choice.relabel();
+        if (this.table !== null && !this.table.isJudged) {
+            this.survey(this.table.files);
+            return;
+        }
+        this.table?.show();
         this.judge();
     }
 
@@ -52,6 +58,7 @@ class Page {
     chosen({ ofTable = false } = {}) {
         if (!ofTable) {
             $('many-files').replaceChildren();
+            this.table = null;
         }
         this.prefer = null;
         $('prefer-choice').hidden = true;
@@ -85,7 +92,7 @@ class Page {
         $('prefer-choice').hidden = true;
         document.documentElement.dataset.shown = 'many';
         this.setBusy(true);
-        const many = new ManyFiles($('many-files'), files, {
+        const many = this.table = new ManyFiles($('many-files'), files, {
             client: this.client, compare: (pair) => this.choice.pair(pair), say: (text) => this.say(text),
         });
         try {
@@ -118,8 +125,10 @@ class Page {
         this.choice.show();
         this.setBusy(this.choice.files.length > 0);
         if (!this.busy) {
-            this.choice.fold(false);
-            delete document.documentElement.dataset.shown;
+            if (this.table === null) {
+                this.choice.fold(false);
+                delete document.documentElement.dataset.shown;
+            }
             return;
         }
         this.choice.folded(0);
