@@ -81,7 +81,7 @@ def spoken(session):
 
 
 def tests(session):
-    """A file that is marked as a test says so above its verdict."""
+    """A file that is marked as a test says so below its verdict."""
     report = json.loads(SMALL.read_text(encoding='utf-8'))
     session.judged(session.file('test.json', json.dumps(report | {'IsTest': True, 'TestType': 'logic'})))
     session.equal('named: a test', session.texts('.notice h3'), [answers.say('notice.test', name='test.json')])

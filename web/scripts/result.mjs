@@ -96,7 +96,7 @@ export class Result {
         }
     }
 
-    // What stands above the verdict, and the envelopes behind it.
+    // What stands right below the verdict, and the envelopes behind it.
     showNotices() {
         const envelopes = this.sums.map(({ envelope }) => envelope);
         const isCompared = this.answer.comparison !== null && !envelopes.includes(undefined);
