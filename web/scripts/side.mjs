@@ -2,7 +2,7 @@
 import { MOST_BYTES, NoMemoryError } from '../../bindings/js/lib/calls.mjs';
 import { boundedPointer } from './bounded.mjs';
 import { markIn } from './copy_mark.mjs';
-import { repeatedPlaces } from '../../bindings/js/lib/repeated.mjs';
+import { repeatedNames } from '../../bindings/js/lib/repeated.mjs';
 import { whyNotJson } from './diagnosis.mjs';
 import { electionsIn, envelopeIn } from './envelope.mjs';
 import { readExactly } from '../../bindings/js/lib/exact.mjs';
@@ -154,7 +154,7 @@ export class Side {
 
     // The names that are written twice.
     repeated() {
-        return repeatedPlaces(this.bytes, { most: MOST_REPEATED }).map(({ place, times }) => ({ pointer: boundedPointer(place), times }));
+        return repeatedNames(this.bytes, { most: MOST_REPEATED }).map(({ place, times }) => ({ pointer: boundedPointer(place), times }));
     }
 
     // Its notes, where they are a text.
