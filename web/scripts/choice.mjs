@@ -157,7 +157,11 @@ export class Choice {
         const names = files.map(({ name }, side) => element('span', {}, side === 0 ? '' : ', ', theirs(name)));
         $('files-chosen').replaceChildren(...names.length > 0 ? names : [say('many.heading', { count })], ' ');
         $('choose-second').hidden = files.length !== 1;
+        const hadFocus = $('files-open').contains(document.activeElement);
         this.fold(true);
+        if (hadFocus) {
+            $('choose-others').focus();
+        }
     }
 
     show() {
