@@ -197,11 +197,14 @@ def refused_texts(session):
 def removed(session):
     """A file that is taken out again."""
     session.judged(SMALL, COUNTY[0])
+    session.equal('what is chosen is one line', [session.text('#files-chosen').strip(), session.browser.script("return document.getElementById('files-open').hidden")],
+                  [f'{SMALL.name}, {COUNTY[0].name}', True])
+    session.click('#choose-others')
     session.click('#remove-0')
     session.becomes('the first file removed', session.verdict, 'Accepted')
     session.equal('the second file is the first now', session.text('#name-0 bdi'), COUNTY[0].name)
     session.click('#remove-0')
-    session.becomes('no file left', lambda: session.text('#result'), '')
+    session.becomes('no file left', lambda: session.text('#result-top') + session.text('#result-rest'), '')
 
 
 def unpacked(stream):
@@ -218,10 +221,10 @@ def pages_of(pdf):
 
 
 def printed(session):
-    """The record of two files that mean the same is one page, and has what it needs."""
+    """The record of two files that mean the same is two pages at most, and has what it needs."""
     session.judged(*COUNTY)
     pages = pages_of(base64.b64decode(session.browser.command('print')))
-    session.said('the printed record is one page', '' if pages == 1 else '%d pages' % pages)
+    session.said('the printed record is two pages at most', '' if pages <= 2 else '%d pages' % pages)
     labels = session.texts('.record dt')
     wanted = json.loads((ROOT / 'web' / 'texts.en.json').read_text(encoding='utf-8'))
     missing = [key for key in ('verdict', 'file1', 'file2', 'fileSum', 'formSum', 'prefer', 'date', 'version', 'page')

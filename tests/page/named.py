@@ -14,6 +14,7 @@ def run(session):
     three(session)
     replaced(session)
     notices(session)
+    spoken(session)
     tests(session)
 
 
@@ -65,8 +66,22 @@ def notices(session):
                   [answers.say('many.notes', notes='Contest C1 is struck'), none, answers.say('many.repeated') + none, answers.say('many.test')])
 
 
+def spoken(session):
+    """A change of language keeps the table."""
+    text = SMALL.read_text(encoding='utf-8')
+    session.fresh()
+    dropped(session, *((name, text) for name in ('a.json', 'b.json', 'c.json')))
+    waited(session)
+    session.browser.script("""
+        const select = document.getElementById('language');
+        select.value = 'es';
+        select.dispatchEvent(new Event('change'));""")
+    session.equal('named: the table in another language', [[row[0] for row in session.browser.script(ROWS)], session.text('#many')],
+                  [['a.json', 'b.json', 'c.json'], '3 archivos'])
+
+
 def tests(session):
-    """A file that is marked as a test says so above its verdict."""
+    """A file that is marked as a test says so below its verdict."""
     report = json.loads(SMALL.read_text(encoding='utf-8'))
     session.judged(session.file('test.json', json.dumps(report | {'IsTest': True, 'TestType': 'logic'})))
     session.equal('named: a test', session.texts('.notice h3'), [answers.say('notice.test', name='test.json')])

@@ -1,4 +1,4 @@
-"""What stands above the verdict, and the box on what a voter sees."""
+"""What stands right below the verdict, and the box on what a voter sees."""
 import json
 
 import answers
@@ -55,13 +55,13 @@ def envelope(session):
 
 
 def notes(session):
-    """Notes that differ are told above the verdict, whatever it is."""
+    """Notes that differ are told right below the verdict, whatever it is."""
     other = written(session, 'other.json', small(Notes='Contest C1 is struck by court order'))
     session.equal('notes: the verdict', session.judged(SMALL, other), 'These two files define the same ballots')
     session.equal('notes: the notice', headings(session), ['The notes of the two files differ'])
     session.equal('notes: both', session.texts('.notice li'), ['small-ballot.json: not there', 'other.json: Contest C1 is struck by court order'])
-    above = "return document.querySelector('.notice').compareDocumentPosition(document.getElementById('verdict')) === Node.DOCUMENT_POSITION_FOLLOWING"
-    session.equal('notes: above the verdict', session.browser.script(above), True)
+    below = "return document.querySelector('.banner').parentElement.nextElementSibling.contains(document.querySelector('.notice'))"
+    session.equal('notes: right below the verdict', session.browser.script(below), True)
 
 
 def repeated(session):

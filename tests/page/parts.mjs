@@ -19,7 +19,7 @@ import { foundPlaces } from '../../web/scripts/places.mjs';
 import { countsOf } from '../../web/scripts/seen.mjs';
 import { rowsOfContent, rowsOfDifference } from '../../web/scripts/rows.mjs';
 import { piecesOfBoth } from '../../web/scripts/text_changes.mjs';
-import { say, sayIfKnown } from '../../web/scripts/texts.mjs';
+import { languageText, say, sayIfKnown } from '../../web/scripts/texts.mjs';
 import { trailOf } from '../../web/scripts/trail.mjs';
 import { typesIn } from '../../web/scripts/types.mjs';
 import { Values } from '../../web/scripts/values.mjs';
@@ -86,6 +86,8 @@ for (const text of ['9007199254740993', '-9007199254740993', '{"a":[184467440737
 equal('one', say('faults.times', { count: 1 }), '1 time');
 equal('many', say('faults.times', { count: 12345 }), '12,345 times');
 equal('a text in a text', say('value.quoted', { text: '1234' }), '“1234”');
+equal('languages for a reader', ['es', 'xx-none-', 'en-US'].map(languageText),
+    ['Spanish (es)', 'xx-none-', 'American English (en-US)']);
 equal('no text', sayIfKnown('nothing'), undefined);
 equal('a language with a region', firstLanguage(['en', 'es'], ['fr-CA', 'es-MX', 'en'], 'en'), 'es');
 equal('no language that the page has', firstLanguage(['en', 'es'], ['de'], 'en'), 'en');

@@ -540,4 +540,5 @@ def preferences(session):
 
 def remove(session):
     session.browser.script("document.getElementById('verdict').remove();")
+    session.click('#choose-others')
     session.click('#remove-1')

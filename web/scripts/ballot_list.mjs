@@ -3,7 +3,7 @@ import { attempted } from './attempts.mjs';
 import { ballotShown, itemsShown } from './ballot_view.mjs';
 import { button, element, theirs } from './dom.mjs';
 import { GrowingList } from './growing.mjs';
-import { say } from './texts.mjs';
+import { languageText, orderForReader, say } from './texts.mjs';
 import { beginningOf } from './visible.mjs';
 
 const AT_ONCE = 50;
@@ -45,8 +45,8 @@ export class BallotList {
     controls() {
         const filter = element('input', { type: 'search', id: 'ballot-filter', autocomplete: 'off' });
         filter.addEventListener('input', () => this.narrowed(filter.value));
-        const options = ['', ...this.languages].map((lang) => element('option', { value: lang },
-            lang === '' ? say('ballots.allLanguages') : theirs(lang).textContent));
+        const named = this.languages.map((lang) => [lang, theirs(languageText(lang)).textContent]).sort(([, one], [, other]) => orderForReader(one, other));
+        const options = [['', say('ballots.allLanguages')], ...named].map(([lang, name]) => element('option', { value: lang }, name));
         const language = element('select', { id: 'ballot-language' }, ...options);
         language.addEventListener('change', () => this.speak(language.value));
         return element('div', { class: 'controls screen' },

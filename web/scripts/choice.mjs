@@ -25,6 +25,8 @@ export class Choice {
             $(`input-${side}`).addEventListener('change', ({ target }) => this.choose(side, [...target.files]));
             $(`remove-${side}`).addEventListener('click', () => this.remove(side));
         }
+        $('choose-others').addEventListener('click', () => this.focus());
+        $('choose-second').addEventListener('click', () => $('input-1').click());
         for (const id of ['input-many', 'input-folder']) {
             $(id).addEventListener('change', ({ target }) => {
                 const files = [...target.files].map((file) => ({ file, name: file.webkitRelativePath || file.name }));
@@ -137,8 +139,29 @@ export class Choice {
         this.changed();
     }
 
+    /** Shows what files are chosen by, and gives it the focus. */
     focus() {
+        this.fold(false);
         $('input-0').focus();
+    }
+
+    // What is chosen in one line, or all by which files are chosen.
+    fold(isFolded) {
+        $('files-open').hidden = isFolded;
+        $('files-folded').hidden = !isFolded;
+    }
+
+    /** What is chosen in one line: one file or two, or so many. */
+    folded(count) {
+        const { files } = this;
+        const names = files.map(({ name }, side) => element('span', {}, side === 0 ? '' : ', ', theirs(name)));
+        $('files-chosen').replaceChildren(...names.length > 0 ? names : [say('many.heading', { count })], ' ');
+        $('choose-second').hidden = files.length !== 1;
+        const hadFocus = $('files-open').contains(document.activeElement);
+        this.fold(true);
+        if (hadFocus) {
+            $('choose-others').focus();
+        }
     }
 
     show() {

@@ -24,6 +24,8 @@ export class ManyFiles {
     constructor(holder, files, known) {
         Object.assign(this, known);
         this.holder = holder;
+        this.files = files;
+        this.isJudged = false;
         this.rows = files.map(({ file, name, isLeftOut }) => ({ file, name, size: file.size, outcome: isLeftOut === true ? 'leftOut' : null }));
         this.chosen = [];
         this.sorted = { column: 0, falling: false };
@@ -53,6 +55,7 @@ export class ManyFiles {
             return;
         }
         this.group();
+        this.isJudged = true;
         this.show();
         this.say(this.summary());
     }

@@ -19,6 +19,8 @@ class Page {
         this.client = new Client(workerOf, this.start());
         this.choice = new Choice(data.examples, { changed: (how) => this.chosen(how), many: (files) => this.survey(files) });
         this.prefer = null;
+        // The table of many files, if one is shown or being made.
+        this.table = null;
         this.run = 0;
     }
 
@@ -32,9 +34,13 @@ class Page {
     speak(language) {
         useLanguage(this.data.texts, language);
         this.client.restart(this.start());
-        $('many-files').replaceChildren();
         $('prefer-choice').hidden = true;
         this.choice.relabel();
+        if (this.table !== null && !this.table.isJudged) {
+            this.survey(this.table.files);
+            return;
+        }
+        this.table?.show();
         this.judge();
     }
 
@@ -52,6 +58,7 @@ class Page {
     chosen({ ofTable = false } = {}) {
         if (!ofTable) {
             $('many-files').replaceChildren();
+            this.table = null;
         }
         this.prefer = null;
         $('prefer-choice').hidden = true;
@@ -81,10 +88,11 @@ class Page {
         const isCurrent = this.beginRun();
         this.choice.slots = [null, null];
         this.choice.show();
+        this.choice.folded(files.length);
         $('prefer-choice').hidden = true;
         document.documentElement.dataset.shown = 'many';
         this.setBusy(true);
-        const many = new ManyFiles($('many-files'), files, {
+        const many = this.table = new ManyFiles($('many-files'), files, {
             client: this.client, compare: (pair) => this.choice.pair(pair), say: (text) => this.say(text),
         });
         try {
@@ -103,7 +111,8 @@ class Page {
     beginRun() {
         const run = ++this.run;
         $('trouble').replaceChildren();
-        $('result').replaceChildren();
+        $('result-top').replaceChildren();
+        $('result-rest').replaceChildren();
         if (this.busy) {
             this.client.cancel();
         }
@@ -116,18 +125,22 @@ class Page {
         this.choice.show();
         this.setBusy(this.choice.files.length > 0);
         if (!this.busy) {
-            delete document.documentElement.dataset.shown;
+            if (this.table === null) {
+                this.choice.fold(false);
+                delete document.documentElement.dataset.shown;
+            }
             return;
         }
+        this.choice.folded(0);
         document.documentElement.dataset.shown = 'result';
         this.say(say('progress.start'));
         const { files } = this.choice;
         this.client.open({ files, prefer: this.prefer });
         const result = new Result({
-            client: this.client, data: { ...this.data, fixes: this.data.fixes[document.documentElement.lang] }, holder: $('result'),
+            client: this.client, data: { ...this.data, fixes: this.data.fixes[document.documentElement.lang] }, top: $('result-top'), holder: $('result-rest'),
             names: files.map((file) => file.name), files, prefer: this.prefer,
             isCurrent, tell: (progress) => isCurrent() && this.progress(progress, files),
-            offerTypes: (types) => this.offerTypes(types), prefers: (type) => this.prefers(type),
+            offerTypes: (types, isOpen) => this.offerTypes(types, isOpen), prefers: (type) => this.prefers(type),
             takesCopy: (index, copy) => this.choice.exchange(index, copy), again: () => this.again(),
         });
         await this.shown(result, isCurrent);
@@ -143,7 +156,7 @@ class Page {
             if (isCurrent()) {
                 document.documentElement.dataset.milliseconds = String(Math.round(performance.now() - started));
                 this.say(verdict);
-                $('verdict').scrollIntoView({ block: 'nearest' });
+                $('files-heading').scrollIntoView({ block: 'start' });
                 await result.rest();
             }
         } catch (error) {
@@ -177,7 +190,7 @@ class Page {
         }
         const title = say(cancelled ? 'verdict.cancelled' : 'verdict.failed');
         const sentence = element('p', {}, say(cancelled ? 'sentence.cancelled' : 'sentence.failed'));
-        $('result').replaceChildren(banner({ tone: 'stop', title }, sentence,
+        $('result-top').replaceChildren(banner({ tone: 'stop', title }, sentence,
             cancelled ? null : element('p', {}, theirs(String(error.message)), ' ', button(say('trouble.again'), () => this.again()))));
         this.say(title);
     }
@@ -188,8 +201,8 @@ class Page {
         this.judge();
     }
 
-    /** Offers the types of identifier that the files have. The choice stays as it is while a user goes through it. */
-    offerTypes(types) {
+    /** Offers the types of identifier that the files have, open where another one may help. The choice stays while a user goes through it. */
+    offerTypes(types, isOpen) {
         if (!$('prefer-choice').hidden) {
             return;
         }
@@ -197,6 +210,7 @@ class Page {
         $('prefer').replaceChildren(element('option', { value: '' }, say('prefer.none')), ...options);
         $('prefer').value = this.prefer ?? '';
         $('prefer-choice').hidden = types.length === 0;
+        $('prefer-choice').open = this.prefer !== null || isOpen;
     }
 
     // Tells a screen reader.

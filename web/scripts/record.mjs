@@ -12,7 +12,7 @@ const LONGEST_MEMBER = 2000;
  * The section of the record.
  * @param {{files: object[], names: string[], prefer: string | null, version: string, pageSum: string, verdict: string,
  *     date: Date, findings: HTMLElement | null, notices: NodeList[], listed: object | null}} known `findings` are the differences or
- *     the faults, and `notices` what stands above the verdict, both for print; `listed` is what is known of all differences
+ *     the faults, and `notices` what stands below the verdict, both for print; `listed` is what is known of all differences
  * @param {import('./client.mjs').Client} client
  */
 export function recordOf(known, client) {

@@ -13,11 +13,11 @@ import { say } from './texts.mjs';
 import { banner, sentencesOn, verdictOf } from './verdict.mjs';
 
 /** The parts of a result, in their order. */
-const PARTS = ['notices', 'verdict', 'copies', 'seen', 'offer', 'differences', 'troubles', 'ballots', 'note', 'record'];
+const PARTS = ['verdict', 'notices', 'copies', 'seen', 'offer', 'differences', 'troubles', 'ballots', 'note', 'record'];
 
 export class Result {
     /**
-     * @param {{client: import('./client.mjs').Client, again: () => void, data: object, holder: HTMLElement,
+     * @param {{client: import('./client.mjs').Client, again: () => void, data: object, top: HTMLElement, holder: HTMLElement,
      *     names: string[], files: File[], prefer: string | null,
      *     isCurrent: () => boolean, tell: (progress: object) => void, offerTypes: (types: string[]) => void,
      *     prefers: (type: string) => void, takesCopy: (index: number, copy: File) => void}} known `prefers` judges again under a
@@ -44,7 +44,9 @@ export class Result {
         if (this.answer.comparison?.first) {
             this.put('differences', firstDifference(this.answer.comparison.first, this.names));
         }
-        this.holder.replaceChildren(...Object.values(this.parts));
+        const { verdict, notices, ...others } = this.parts;
+        this.top.replaceChildren(verdict, notices);
+        this.holder.replaceChildren(...Object.values(others));
         this.hasVerdict = true;
         return this.verdictShown.title;
     }
@@ -57,7 +59,7 @@ export class Result {
             return;
         }
         this.types = [...new Set(this.sums.flatMap(({ types }) => types ?? []))].sort();
-        this.offerTypes(this.types);
+        this.offerTypes(this.types, this.types.length > 1 && (this.answer.comparison?.same === false || this.answer.files.some(({ outcome }) => outcome === 'refused')));
         this.showNotices();
         this.showCopies();
         await this.showRecord();
@@ -94,7 +96,7 @@ export class Result {
         }
     }
 
-    // What stands above the verdict, and the envelopes behind it.
+    // What stands right below the verdict, and the envelopes behind it.
     showNotices() {
         const envelopes = this.sums.map(({ envelope }) => envelope);
         const isCompared = this.answer.comparison !== null && !envelopes.includes(undefined);

@@ -6,12 +6,32 @@ const LOCALES = { en: 'en-US', es: 'es-US' };
 let table = {};
 let plurals = new Intl.PluralRules('en');
 let numbers = new Intl.NumberFormat('en');
+let languages = new Intl.DisplayNames(['en'], { type: 'language', fallback: 'none' });
+let collator = new Intl.Collator('en', { numeric: true });
 
 /** Takes a table of texts, and the language that it is in. */
 export function useTexts(texts, language) {
     table = texts;
     plurals = new Intl.PluralRules(language);
     numbers = new Intl.NumberFormat(LOCALES[language] ?? language);
+    languages = new Intl.DisplayNames([language], { type: 'language', fallback: 'none' });
+    collator = new Intl.Collator(language, { numeric: true });
+}
+
+/** What a language is called, with its tag; a tag that no language has is itself. */
+export function languageText(tag) {
+    let name;
+    try {
+        name = languages.of(tag);
+    } catch {
+        name = undefined;
+    }
+    return name === undefined ? tag : `${name} (${tag})`;
+}
+
+/** The order in which the language of the page has two texts. */
+export function orderForReader(left, right) {
+    return collator.compare(left, right);
 }
 
 /**
