@@ -88,7 +88,7 @@ export class Erd {
     }
 
     /**
-     * What a command writes, piece by piece, so that no list is in memory as a whole: for each piece the outcome and what `take`
+     * What a command writes, piece by piece, so that no list is in memory as a whole: for each piece the exit status and what `take`
      * makes of the bytes, which stand in the memory of the module until `take` returns. Without `take` it is a copy of them.
      * @param {'check' | 'canon' | 'compare' | 'differences'} command
      */
@@ -96,8 +96,21 @@ export class Erd {
         const { prefer } = askedFor(options, 'mostFaults');
         const bytesOfReports = reports.map((report) => bytesOf(report, 'a report'));
         for (const { outcome, taken } of this.#pieces(COMMANDS[command], bytesOfReports, prefer, take)) {
-            yield { outcome, bytes: taken };
+            yield { status: outcome, bytes: taken };
         }
+    }
+
+    /**
+     * What a command answers as JSON: the exit status, and what `take` makes of the bytes of the whole text, as in `written`.
+     * @param {'check' | 'compare' | 'differences'} command
+     */
+    writtenAsJson(command, reports, options, take = copied) {
+        const { prefer } = askedFor(options, 'mostFaults');
+        const bytesOfReports = reports.map((report) => bytesOf(report, 'a report'));
+        checkLengths(bytesOfReports);
+        const whole = { first: 0, most: ALL, enoughBytes: ALL };
+        const { outcome, taken } = checked(this.#engine.call(JSON_COMMANDS[command], bytesOfReports, prefer, whole, take));
+        return { status: outcome, bytes: taken };
     }
 
     // An answer with so many entries of its list, and how many the list has. Entries whose texts are long are fewer than that; but
@@ -153,6 +166,13 @@ const COMMANDS = {
     canon: 'erd_canonical_piece',
     compare: 'erd_compare_piece',
     differences: 'erd_differences',
+};
+
+/** The call that answers each command with JSON. */
+const JSON_COMMANDS = {
+    check: 'erd_check_data_piece',
+    compare: 'erd_compare_data_piece',
+    differences: 'erd_differences_data',
 };
 
 function copied(bytes) {

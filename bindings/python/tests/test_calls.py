@@ -58,13 +58,29 @@ def test_results(top):
     left = (top / 'examples' / 'county.vendor-a.json').read_bytes()
     other = left.replace(b'Ingrith Sablewood', b'Ingrid Sablewood')
     same, differing = erd.compare(left, left), erd.compare(left, other)
-    assert same and same.status == 0 and same.lines == ('same',)
-    assert not differing and differing.status == 1
+    assert same and (same.status, same.outcome) == (0, 'same') and same.lines == ('same',)
+    assert not differing and (differing.status, differing.outcome) == (1, 'different')
     assert differing.difference == erd.Difference('candidate', ('local-level', '', 'K-12'), 'member', 'BallotName')
     refused = erd.compare(left, b'{}')
     assert (refused.refused, refused.same, refused.status) == ('right', False, 1)
     assert refused.check.faults[0] == erd.Fault((), 2, '@type')
+    assert (refused.outcome, erd.compare(b'{', left).outcome, erd.differences(left, other).outcome) == ('refused', 'not JSON', 'different')
     assert erd.compare(b'{', left).status == 2
+    found = [(it.status, it.outcome) for call in (erd.check, erd.canonical) for it in map(call, (left, b'{}', b'{'))]
+    assert found == [(0, 'accepted'), (1, 'refused'), (2, 'not JSON')] * 2
+
+
+@pytest.mark.parametrize('call', [erd.check, erd.canonical, lambda report: erd.compare(report, '{'), lambda report: erd.differences(report, '{')])
+def test_a_text_that_names_a_file_gets_a_hint(tmp_path, monkeypatch, recwarn, call):
+    monkeypatch.chdir(tmp_path)
+    (tmp_path / 'county.json').write_text('{}')
+    (tmp_path / '5').write_text('{}')
+    with pytest.warns(UserWarning, match="'county.json' is no JSON, and names a file") as found:
+        call('county.json')
+    assert [it.filename for it in found] == [__file__]
+    for report in ('nosuch.json', '5', '{', b'county.json', 'county.json\0', 'x' * 5000):
+        call(report)
+    assert not recwarn.list
 
 
 def many_faults(top, name):

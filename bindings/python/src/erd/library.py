@@ -171,10 +171,17 @@ def pieces(name: str, reports: Tuple[bytes, ...], prefer: Optional[bytes], most:
 
 def first_piece(name: str, reports: Tuple[bytes, ...], prefer: Optional[bytes], most: int, take: Take[Taken]) -> Answer[Taken]:
     """Returns the answer with the first piece of a list, and keeps nothing of the others."""
-    def asked(piece: Any, *text: Any) -> int:
-        return getattr(library(), name)(*(value for report in reports for value in (report, len(report))), prefer, piece, *text)
+    return answer_of(Piece(0, most, BYTES_OF_PIECE), take, functools.partial(getattr(library(), name), *sized(reports), prefer))
 
-    return answer_of(Piece(0, most, BYTES_OF_PIECE), take, asked)
+
+def whole(name: str, reports: Tuple[bytes, ...], prefer: Optional[bytes], take: Take[Taken]) -> Taken:
+    """Returns what is made of a whole answer, which is in memory as a whole."""
+    return answer_of(Piece(0, ALL, ALL), take, functools.partial(getattr(library(), name), *sized(reports), prefer)).taken
+
+
+def sized(reports: Tuple[bytes, ...]) -> Iterator[Any]:
+    """Gives each report with its length."""
+    return (value for report in reports for value in (report, len(report)))
 
 
 def answer_of(piece: Piece, take: Take[Taken], call: Callable[..., int]) -> Answer[Taken]:

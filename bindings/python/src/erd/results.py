@@ -173,6 +173,11 @@ class Check:
         return self.is_json and self.all_faults == 0
 
     @property
+    def outcome(self) -> str:
+        """How it ended: `accepted`, `refused` or `not JSON`."""
+        return ('accepted', 'refused', 'not JSON')[self.status]
+
+    @property
     def status(self) -> int:
         """The exit status of `erd check`: 0 if accepted, 1 if refused, 2 if the bytes are not JSON."""
         if not self.is_json:
@@ -210,6 +215,16 @@ class Canonical:
         """Whether the report is accepted, and so has a canonical form."""
         return self.form is not None
 
+    @property
+    def outcome(self) -> str:
+        """How it ended: `accepted`, `refused` or `not JSON`."""
+        return self.check.outcome
+
+    @property
+    def status(self) -> int:
+        """The exit status of `erd canon`: 0 if accepted, 1 if refused, 2 if the bytes are not JSON."""
+        return self.check.status
+
     def __bool__(self) -> bool:
         return self.accepted
 
@@ -227,6 +242,13 @@ class _OfPair:
     @property
     def _listed(self) -> Tuple[Difference, ...]:
         raise NotImplementedError
+
+    @property
+    def outcome(self) -> str:
+        """How it ended: `same`, `different`, `refused` or `not JSON`."""
+        if self.check is not None:
+            return self.check.outcome
+        return 'same' if self.same else 'different'
 
     @property
     def status(self) -> int:
