@@ -41,14 +41,18 @@ fn object_is(
     Ok(())
 }
 
+fn objects_are(rt: &impl Abort, alloc: Global, report: &Report) -> Result<(), Fail> {
+    no_header(rt, alloc, report)?;
+    object_is(rt, alloc, report, Family::Contest, CONTEST)?;
+    object_is(rt, alloc, report, Family::Style, STYLE)
+}
+
 #[test]
 fn objects(rt: HostRuntime) -> Result<(), Fail> {
     let alloc = rt.alloc();
     let tree = Value::from_str(alloc, BALLOT)?;
     let report = report_of(alloc, &tree)?;
-    no_header(&rt, alloc, &report)?;
-    object_is(&rt, alloc, &report, Family::Contest, CONTEST)?;
-    object_is(&rt, alloc, &report, Family::Style, STYLE)
+    objects_are(&rt, alloc, &report)
 }
 
 #[test]
