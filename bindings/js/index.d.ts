@@ -9,7 +9,7 @@ export interface Preference {
 export interface Options extends Preference {
     /**
      * The most faults that are listed: 1,000 if it is left out, and all if it is null. They are fewer if their texts together have
-     * more than a megabyte, since the list of all faults can be as long as the square of the report.
+     * more than a megabyte, since the list of all faults can grow with the square of the report's size.
      */
     mostFaults?: number | null;
 }

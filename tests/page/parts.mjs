@@ -13,7 +13,7 @@ import { firstLanguage } from '../../web/scripts/languages.mjs';
 import { Meaning } from '../../web/scripts/meaning.mjs';
 import { foundPlaces } from '../../web/scripts/places.mjs';
 import { countsOf } from '../../web/scripts/seen.mjs';
-import { rowsOfDifference } from '../../web/scripts/rows.mjs';
+import { rowsOfContent, rowsOfDifference } from '../../web/scripts/rows.mjs';
 import { piecesOfBoth } from '../../web/scripts/text_changes.mjs';
 import { say, sayIfKnown } from '../../web/scripts/texts.mjs';
 import { trailOf } from '../../web/scripts/trail.mjs';
@@ -21,6 +21,7 @@ import { typesIn } from '../../web/scripts/types.mjs';
 import { Values } from '../../web/scripts/values.mjs';
 import { beginningOf, endOf, piecesOf } from '../../web/scripts/visible.mjs';
 import { counts, equal } from './counted.mjs';
+import { identified, label, typed } from './made.mjs';
 
 const encoder = new TextEncoder();
 const bytesOf = (value) => encoder.encode(typeof value === 'string' ? value : JSON.stringify(value));
@@ -102,10 +103,6 @@ equal('how many of each word', countsOf(['seen', 'unseen', 'seen']), { seen: 2, 
 
 // ---- values and ballots
 
-const typed = (name, members) => ({ '@type': `ElectionResults.${name}`, ...members });
-const identified = (value, type = 'local-level', more = {}) => [typed('ExternalIdentifier', { Type: type, ...more, Value: value })];
-const label = (...texts) => typed('InternationalizedText', { Text: texts.map(([Language, Content]) => typed('LanguageString', { Content, Language })) });
-
 function report(change = () => {}) {
     const made = typed('ElectionReport', {
         GpUnit: [typed('ReportingUnit', { '@id': 'gp1', ExternalIdentifier: identified('U1', 'other', { OtherType: 'ward' }), Name: 'East' }),
@@ -136,7 +133,8 @@ function report(change = () => {}) {
 const meaning = report();
 const style = meaning.thing('style', ['local-level', '', 'S1']);
 const values = new Values(meaning);
-equal('lines of a ballot', values.ofMember(style, 'OrderedContent').map(({ text, indent, number }) => [text, indent, number]), [
+const content = values.content(style.object.OrderedContent);
+equal('lines of a ballot', rowsOfContent(content, [], 0).map(({ left: { text, indent, number } }) => [text, indent, number]), [
     ['Header “State” (local-level H1)', 0, 1], ['Contest “Governor” (local-level C1)', 1, 1], ['Selection: Candidate “Cy” (local-level K3)', 2, 1],
     ['Selection: Candidate “Ann” (local-level K1) + Candidate “Bo” (local-level K2)', 2, 2]]);
 equal('a set in the order of its keys', values.ofMember(style, 'GpUnitIds').map(({ text }) => text), ['Unit “East” (other ward U1)', 'Unit “West” (other ward U2)']);
@@ -195,7 +193,9 @@ const writeIn = (code) => report((_made, election) => {
     election.BallotStyle[0].OrderedContent[0].OrderedContent[0].OrderedContestSelectionIds = ['cs3'];
 });
 equal('lines that only an identifier tells apart', rowsOfDifference([writeIn('W1'), writeIn('W2')],
-    { part: 'style', key: ['local-level', '', 'S1'], how: 'member', member: 'OrderedContent' }).rows.map(({ same }) => same), [false]);
+    { part: 'style', key: ['local-level', '', 'S1'], how: 'member', member: 'OrderedContent' }).rows
+        .filter(({ same }) => !same).map(({ left, right }) => [left?.text ?? null, right?.text ?? null]),
+    [['Selection: write-in (local-level W1)', null], [null, 'Selection: write-in (local-level W2)']]);
 
 // ---- causes
 

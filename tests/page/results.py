@@ -411,12 +411,13 @@ def parts_of(name, found, wanted):
 def values_filed(entry):
     """The values of a difference as the printed record has them."""
     nothing = say('difference.notThere')
+    below = ''.join(say('record.below', head=head) for head in entry.get('below', ()))
     for row in entry.get('values', ()):
         if nothing in row or not any('≠' in value for value in row):
             continue
         left, right = (value.replace('≠', '') for value in row)
         moved = re.fullmatch(r'\d+\. (.*)(moved from \d+ to \d+)', right)
-        yield f'{moved[1]} {moved[2]}' if moved else f'{left or nothing} / {right or nothing}'
+        yield below + (f'{moved[1]} {moved[2]}' if moved else f'{left or nothing} / {right or nothing}')
 
 
 def sign():

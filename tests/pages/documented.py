@@ -11,6 +11,9 @@ import re
 import sys
 
 ROOT = pathlib.Path(__file__).resolve().parents[2]
+sys.path.append(str(ROOT / 'tests' / 'shared'))
+from cases import tell_cases  # noqa: E402
+
 CRATES = ['erd_tables', 'erd_index', 'erd_check', 'erd_text', 'erd_meaning', 'erd_normal', 'erd_compare', 'erd_canon']
 CALL = re.compile(r'^( *)(pub )?fn (\w+)(?:<[^(]*>)?\(([^)]*)', re.M)
 OWNER = re.compile(r"^(?:impl(?:<[^{]*?>)? (?:\w+(?:<[^{]*>)? for )?|pub trait )(\w+)", re.M)
@@ -59,24 +62,15 @@ def calls_of(crate):
                 yield f'{crate}::{owner.group(1) + "::" if owner else ""}{name}', doc_before(text, call.start())
 
 
-def main():
+def cases():
     sources = [bare(path.read_text(encoding='utf-8')) for path in (ROOT / 'crates' / 'uses' / 'src').rglob('*.rt')]
-    passed = failed = 0
     for crate in CRATES:
         for name, doc in calls_of(crate):
             examples = re.findall(r'^```\n(.*?)^```$', doc, re.M | re.S)
-            if not examples:
-                why = 'has no example'
-            elif not all(any(bare(example) in source for source in sources) for example in examples):
-                why = 'has an example that is not in the crate uses'
-            else:
-                passed += 1
-                continue
-            failed += 1
-            print(f'FAILED  {name} {why}')
-    print(f'{passed} passed, {failed} failed')
-    return int(failed > 0 or passed == 0)
+            yield f'{name} has an example', True, bool(examples)
+            missing = [example for example in examples if not any(bare(example) in source for source in sources)]
+            yield f'{name}: what is not in the crate uses', [], missing
 
 
 if __name__ == '__main__':
-    sys.exit(main())
+    sys.exit(tell_cases([('there are public calls', True, any(True for crate in CRATES for _ in calls_of(crate))), *cases()]))

@@ -13,13 +13,13 @@ from cases import tell_cases  # noqa: E402
 COSTS = ROOT / 'out' / 'gate-costs'
 # One machine takes two fifths more than another, and a part of some seconds varies by more than that.
 MOST, SLACK = 1.5, 15
-EDITS = 'tests/bodies/try_edits.py --gate CRATE'
+EDITS = 'tests/bodies/try_wrong.py --gate CRATE'
 
 
 def plain(command):
     """A command as the page has it."""
     command = re.sub(r'^python3 ', '', command)
-    return EDITS if command.startswith('tests/bodies/try_edits.py --gate') else command
+    return EDITS if command.startswith('tests/bodies/try_wrong.py --gate erd_') else command
 
 
 def rows():
@@ -39,8 +39,8 @@ def minutes():
 def parts():
     """The commands of the gate's lanes."""
     text = (ROOT / 'tests' / 'gate.sh').read_text(encoding='utf-8')
-    found = {plain(command) for line in re.findall(r"^(?:lane| {4}).*'.*$", text, re.M)
-             for command in re.findall(r"'([^']*)'", line) if '/' in command and ': ' not in command}
+    found = {plain(command) for line in re.findall(r"^(?:lane|first|proof| {4}).*'.*$", text, re.M)
+             for command in re.findall(r"'([^']*)'", line) if '/' in command and ': ' not in command and 'lists/' not in command}
     return found | {EDITS}
 
 

@@ -1,4 +1,5 @@
 // The section of ballots: a list of ballot styles that can be narrowed by a precinct, each built when it is opened.
+import { attempted } from './attempts.mjs';
 import { ballotShown } from './ballot_view.mjs';
 import { button, element, theirs } from './dom.mjs';
 import { GrowingList } from './growing.mjs';
@@ -27,7 +28,7 @@ export class BallotList {
     /** The section. Its content is made when it is opened. */
     section() {
         const details = element('details', { id: 'ballots' }, element('summary', {}, element('h3', {}, say('ballots.heading'))), this.holder);
-        details.addEventListener('toggle', () => this.begin(), { once: true });
+        details.addEventListener('toggle', () => attempted(this.holder, () => this.begin()), { once: true });
         return element('section', { class: 'ballots', 'aria-label': say('ballots.heading') }, details);
     }
 
@@ -55,7 +56,7 @@ export class BallotList {
     // Waits until a reader has stopped typing.
     narrowed(words) {
         clearTimeout(this.waiting);
-        this.waiting = setTimeout(() => this.fill(words), 200);
+        this.waiting = setTimeout(() => attempted(this.lists, () => this.fill(words)), 200);
     }
 
     async fill(words = '') {
@@ -95,7 +96,7 @@ export class BallotList {
             this.isPair ? element('span', { class: `badge ${mark}`.trim() }, say(`ballots.mark.${mark}`)) : null);
         const holder = element('div', {});
         const details = element('details', { class: 'style', 'data-key': key }, summary, holder);
-        details.addEventListener('toggle', () => this.build(key, holder), { once: true });
+        details.addEventListener('toggle', () => attempted(holder, () => this.build(key, holder)), { once: true });
         return element('li', {}, details);
     }
 

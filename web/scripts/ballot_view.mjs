@@ -32,7 +32,8 @@ function selectionsShown({ selections, unlisted, ordered }) {
 
 // Whether the item was added, removed or moved.
 function markOf({ mark, from, to }) {
-    return mark === '' ? null : element('span', { class: 'ballot-mark' }, say(`ballot.${mark}`, { from, to }));
+    const key = mark === 'moved' && from === to ? 'movedElsewhere' : mark;
+    return mark === '' ? null : element('span', { class: 'ballot-mark' }, say(`ballot.${key}`, { from, to }));
 }
 
 function lineShown(line) {

@@ -12,6 +12,9 @@ import { trailOf } from './trail.mjs';
 /** The most bytes of two canonical forms of which values are shown beside each other. */
 const MOST_WITH_VALUES = 80_000_000;
 
+/** The most differences that are listed. Each call lists a mebibyte of them, and compares the files anew. */
+const MOST_LISTED = 20_000;
+
 /** A judgement of one file or two, under one preference. */
 export class Judgement {
     /**
@@ -84,22 +87,32 @@ export class Judgement {
 
     /** What is known of all differences: the proved list, and what helps to read it. Null where there is no memory for the list. */
     list(_question, tell) {
-        tell({ stage: 'listing' });
-        const found = this.differencesUnder(this.prefer, null);
-        if (found === null) {
-            return null;
-        }
-        const forms = this.sides.map((side) => side.canonical(this.erd, this.prefer, tell));
-        const isShown = !forms.includes(null) && forms[0].length + forms[1].length <= MOST_WITH_VALUES;
-        this.differences = new Differences(found.differences, isShown ? this.meanings(tell) : null, this.seen);
-        return this.differences.told();
+        return this.differencesKept(tell)?.told() ?? null;
     }
 
-    // The proved list under a type of identifier; null if there is no memory for it.
-    differencesUnder(prefer, mostDifferences) {
+    // The differences, which a worker that has begun anew lists again.
+    differencesKept(tell) {
+        if (this.differences === undefined) {
+            tell({ stage: 'listing' });
+            const found = this.differencesUnder(this.prefer, MOST_LISTED);
+            this.differences = found === null ? null : this.differencesOf(found, tell);
+        }
+        return this.differences;
+    }
+
+    differencesOf({ differences, allDifferences }, tell) {
+        const forms = this.sides.map((side) => side.canonical(this.erd, this.prefer, tell));
+        const isShown = !forms.includes(null) && forms[0].length + forms[1].length <= MOST_WITH_VALUES;
+        return new Differences(differences, allDifferences, isShown ? this.meanings(tell) : null, this.seen);
+    }
+
+    // The proved list under a type of identifier, or its beginning if it is longer than `most`; null if there is no memory for it.
+    differencesUnder(prefer, most) {
         const [left, right] = this.sides;
+        const asked = (mostDifferences) => this.erd.differences(left.bytes, right.bytes, { prefer, mostDifferences });
         try {
-            return this.erd.differences(left.bytes, right.bytes, { prefer, mostDifferences });
+            const found = asked(most);
+            return found.side === null && found.differences.length < found.allDifferences && found.allDifferences <= most ? asked(null) : found;
         } catch (error) {
             if (isNoMemory(error)) {
                 return null;
@@ -115,14 +128,14 @@ export class Judgement {
     }
 
     /** Some of the differences of a group, as what the page shows. */
-    more(question) {
-        return this.differences.some(question);
+    more(question, tell) {
+        return this.differencesKept(tell).some(question);
     }
 
     /** The types of identifier that lead to fewer differences, the one with the fewest first. */
     types({ types }, tell) {
         tell({ stage: 'types' });
-        return this.differences.underTypes(types.filter((type) => type !== this.prefer), (type) => this.countUnder(type));
+        return this.differencesKept(tell).underTypes(types.filter((type) => type !== this.prefer), (type) => this.countUnder(type));
     }
 
     // What the canonical forms say.

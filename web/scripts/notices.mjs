@@ -46,9 +46,10 @@ export function notesNotice(envelopes, names) {
     return notice('notes-differ', say('notice.notes'), element('p', {}, say('notice.notesMore')), element('ul', {}, ...lines));
 }
 
-/** Notices on one file: names that are written twice, and a preference that none of its identifiers has. */
-export function fileNotices({ repeated, types }, name, index, prefer) {
+/** Notices on one file: that it is one of a test, names that are written twice, and a preference that none of its identifiers has. */
+export function fileNotices({ repeated, types, isTest }, name, index, prefer) {
     return [
+        isTest ? notice(`test-${index}`, saidWith('notice.test', { name: theirs(name) })) : null,
         repeated?.length > 0 ? repeatedNotice(repeated, name, index) : null,
         prefer !== null && types !== undefined && !types.includes(prefer) ? notice(`unused-${index}`,
             saidWith('notice.unused', { name: theirs(name), type: theirs(prefer) })) : null,

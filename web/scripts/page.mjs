@@ -1,4 +1,5 @@
 // The page: it asks the worker about the files that are chosen, and shows what it answers.
+import { showTroubles } from './attempts.mjs';
 import { Choice } from './choice.mjs';
 import { Cancelled, Client } from './client.mjs';
 import { element, saidWith, theirs } from './dom.mjs';
@@ -43,6 +44,7 @@ class Page {
         offerLicences($('licences'));
         $('cancel').addEventListener('click', () => this.cancel());
         $('prefer').addEventListener('change', ({ target }) => this.preferred(target));
+        showTroubles($('trouble'));
         document.documentElement.dataset.ready = 'yes';
     }
 
@@ -100,6 +102,7 @@ class Page {
     // Gives up what was asked before. Tells whether nothing else was asked since.
     beginRun() {
         const run = ++this.run;
+        $('trouble').replaceChildren();
         $('result').replaceChildren();
         if (this.busy) {
             this.client.cancel();
@@ -156,8 +159,9 @@ class Page {
         document.documentElement.dataset.busy = busy ? 'yes' : 'no';
     }
 
-    progress({ stage, index, done, total, name = index === undefined ? '' : files[index].name }, files) {
-        $('stage').replaceChildren(saidWith(`progress.${stage}`, { name: theirs(name) }));
+    progress({ stage, index, done, total, name }, files) {
+        const shown = name ?? files[index]?.name ?? '';
+        $('stage').replaceChildren(saidWith(`progress.${stage}`, { name: theirs(shown) }));
         if (total > 0) {
             $('meter').value = done / total;
         } else {

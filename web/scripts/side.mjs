@@ -2,7 +2,7 @@
 import { MOST_BYTES, NoMemoryError } from '../../bindings/js/lib/calls.mjs';
 import { repeatedNames } from '../../bindings/js/lib/repeated.mjs';
 import { whyNotJson } from './diagnosis.mjs';
-import { envelopeIn } from './envelope.mjs';
+import { electionsIn, envelopeIn } from './envelope.mjs';
 import { readExactly } from '../../bindings/js/lib/exact.mjs';
 import { excerptOf, Lines } from './excerpt.mjs';
 import { kindsOf } from './fault_kinds.mjs';
@@ -150,11 +150,11 @@ export class Side {
         };
     }
 
-    /** The types of its identifiers, the names that are written twice, and its envelope. */
+    /** The types of its identifiers, the names that are written twice, its envelope and its elections. */
     facts() {
         return {
             ...(this.isJson ? { types: typesIn(this.bytes), repeated: repeatedNames(this.bytes, { most: MOST_REPEATED }) } : {}),
-            ...(this.outcome === 'accepted' ? { envelope: envelopeIn(this.bytes) } : {}),
+            ...(this.outcome === 'accepted' ? { envelope: envelopeIn(this.bytes), ...electionsIn(this.bytes) } : {}),
         };
     }
 }

@@ -39,7 +39,7 @@ pub enum Scope {
 
 /// Returns the scope of the members of a value, given what the table asks of the value. The scope is `Nothing` if the value
 /// is not an object.
-pub(crate) fn scope_of(want: Want, value: &Value) -> Scope
+pub fn scope_of(want: Want, value: &Value) -> Scope
     ensures { result ≡ scope_inside want (view value.now) }
 {
     if !value.is_object() {
@@ -57,7 +57,7 @@ pub(crate) fn scope_of(want: Want, value: &Value) -> Scope
 
 /// Returns what the table asks of the member of this name in an object with the scope, or `None` if it asks nothing. If the
 /// class of the object is unknown, the table asks for `@type` alone.
-pub(crate) fn want_in(scope: Scope, name: &str) -> Option<Want>
+pub fn want_in(scope: Scope, name: &str) -> Option<Want>
     ensures { result ≡ want_of_name scope name.now }
 {
     match scope {
@@ -112,7 +112,7 @@ fn want_of_carried(name: &str) -> Want
 
 /// Returns what the table asks of the entries of an array, given what it asks of the array. Returns `None` if it asks
 /// nothing of the entries.
-pub(crate) fn want_of_entry(want: Want) -> Option<Want>
+pub fn want_of_entry(want: Want) -> Option<Want>
     ensures { result ≡ entry_want want }
 {
     match want {
@@ -133,7 +133,7 @@ pub(crate) fn want_of_entry(want: Want) -> Option<Want>
 
 /// Returns `true` if and only if the table asks for a set whose entries are compared with one another: an array of the kind
 /// `Many`, `Identifiers` or `Languages`.
-pub(crate) fn is_set_wanted(want: Want) -> bool
+pub fn is_set_wanted(want: Want) -> bool
     ensures { result ≡ is_compared_set want }
 {
     matches!(

@@ -16,7 +16,7 @@ Each call takes the bytes of a report, or its text, and gives the same result fo
 threads may call at once. `prefer` is the type of identifier that the keys of objects follow, such as `fips`.
 
 A list of faults has at most `most_faults` of them, and fewer if their texts together have more than a megabyte, since the list
-of all can be as long as the square of the report; `all_faults` is how many there are. None asks for all of them. The same holds
+of all can grow with the square of the report's size; `all_faults` is how many there are. None asks for all of them. The same holds
 for `most_differences`.
 
 Each call raises TooLong for a report of more than 67,108,864 bytes, MemoryError if memory runs out, and TypeError for what is
@@ -30,11 +30,11 @@ from typing import Optional, Union
 
 from .library import TooLong, version
 from .listing import MOST_LISTED, listed, utf_8
-from .repeats import RepeatedName, repeated_names
+from .repeats import RepeatedName, RepeatedNames, repeated_names
 from .results import (Canonical, Check, Comparison, Difference, Differences, Fault, SelectionDifference, SelectionName, check_of,
                       comparison_of, differences_of)
 
-__all__ = ['Canonical', 'Check', 'Comparison', 'Difference', 'Differences', 'Fault', 'MOST_LISTED', 'RepeatedName',
+__all__ = ['Canonical', 'Check', 'Comparison', 'Difference', 'Differences', 'Fault', 'MOST_LISTED', 'RepeatedName', 'RepeatedNames',
            'SelectionDifference', 'SelectionName', 'TooLong', 'canonical', 'check', 'compare', 'differences', 'repeated_names', 'version']
 
 Report = Union[bytes, bytearray, memoryview, str]

@@ -1,0 +1,4 @@
+pub mod Rising
+pub mod Adding
+pub mod Untold
+mod Examples

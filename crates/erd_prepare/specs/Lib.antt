@@ -1,0 +1,9 @@
+pub mod Rules
+pub mod Places
+pub mod Changes
+pub mod Nulls
+pub mod Persons
+pub mod Names
+pub mod Local
+pub mod LocalSteps
+pub mod Laws

@@ -1,0 +1,114 @@
+-- Steps that leave out members by what stands there alone.
+use Rattle.std.specs.Prelude.{ℕ, ◌==◌, List, [], Bool, true, false, not, ◌&&◌, ◌||◌, Option, Some, None, codes, option_and_then}
+use Rattle.std.specs.Option.{option_map_or}
+use Rattle.std.specs.Str.{bytes_eq}
+use Rattle.serde_json.specs.Data.{Data, null, boolean, number, string, array, object, Items, no_items, item, Members, no_members, member}
+use Rattle.serde_json.specs.Find.{as_number, as_u64, get}
+use Rattle.erd_tables.specs.Table.{is_required}
+use Rattle.erd_tables.specs.declared.member.MemberKind.TheVariants as kind
+use Rattle.erd_check.specs.Faults.{is_empty_array, is_object}
+use Rattle.erd_check.specs.Wants.{want_of_name}
+use Rattle.erd_check.specs.declared.want.Scope.{Scope}
+use Rattle.erd_check.specs.declared.want.Scope.TheVariants as scope
+use Rattle.erd_check.specs.declared.want.Want.{Want}
+use Rattle.erd_check.specs.declared.want.Want.TheVariants.{Member}
+use Rattle.erd_prepare.specs.Rules.{Rule}
+
+-- A step that leaves out these members and does nothing else.
+abbrev pub dropping : (Scope → List ℕ → Data → Bool) → Rule
+dropping drops = record {
+  shapes = λ p w d. None;
+  wraps = λ p w d. false;
+  drops = λ p s k d. drops s k d;
+  lets_go = λ p w d. false;
+  puts = λ p w d. [];
+}
+
+-- True if the class of the object must have the member.
+abbrev pub is_required_in : Scope → List ℕ → Bool
+is_required_in (scope.Members r (Some c)) name = is_required c name
+is_required_in s name = false
+
+-- True for a member that is outside the profile.
+abbrev pub is_outside_member : Option Want → Bool
+is_outside_member (Some (Member kind.Outside required)) = true
+is_outside_member w = false
+
+-- True for a member with a label.
+abbrev pub is_label : Option Want → Bool
+is_label (Some (Member kind.Label required)) = true
+is_label w = false
+
+-- True for an `@id` where none belongs.
+abbrev pub is_stray_identity : Option Want → Bool
+is_stray_identity (Some (Member kind.StrangeIdentity required)) = true
+is_stray_identity w = false
+
+-- Coordinates of places, which are numbers with fractions.
+abbrev pub is_coordinate : Scope → List ℕ → Data → Bool
+is_coordinate s name d = bytes_eq name (codes "LatLng")
+
+-- The names of members that are on no ballot.
+abbrev pub is_off_ballot_name : List ℕ → Bool
+is_off_ballot_name name = bytes_eq name (codes "OfficeGroup") || (bytes_eq name (codes "ElectionAdministration") || bytes_eq name (codes "PartyRegistration"))
+
+-- Groups of offices, the administration of units and their registered voters.
+abbrev pub is_off_ballot : Scope → List ℕ → Data → Bool
+is_off_ballot s name d = is_off_ballot_name name && (is_outside_member (want_of_name s name) && not (is_empty_array d))
+
+-- Texts without a translation that may be absent.
+abbrev pub is_empty_label : Scope → List ℕ → Data → Bool
+is_empty_label s name d =
+    is_label (want_of_name s name) && (not (is_required_in s name) && (is_object d && option_map_or is_empty_array (get (codes "Text") d) true))
+
+-- System names of objects to which nothing can refer.
+abbrev pub is_stray_id : Scope → List ℕ → Data → Bool
+is_stray_id s name d = bytes_eq name (codes "@id") && is_stray_identity (want_of_name s name)
+
+-- ---- counts
+
+-- True for the whole number zero.
+abbrev pub is_zero : Data → Bool
+is_zero d = option_map_or (λ n. n == 0) (option_and_then as_u64 (as_number d)) false
+
+-- The names of members with counts.
+abbrev pub is_count_name : List ℕ → Bool
+is_count_name name = bytes_eq name (codes "VoteCounts") || bytes_eq name (codes "OtherCounts")
+
+-- True for the number of a round, and for a member that counts nothing.
+abbrev pub member_counts_nothing : List ℕ → Bool → Bool
+member_counts_nothing name nothing = bytes_eq name (codes "Round") || nothing
+
+-- True if every number in the value is zero. The number of a round counts nothing.
+abbrev mutual
+  pub counts_nothing : Data → Bool
+  counts_nothing null = true
+  counts_nothing (boolean b) = true
+  counts_nothing (number n) = is_zero (number n)
+  counts_nothing (string s) = true
+  counts_nothing (array ds) = items_count_nothing ds
+  counts_nothing (object ms) = members_count_nothing ms
+
+  pub items_count_nothing : Items → Bool
+  items_count_nothing no_items = true
+  items_count_nothing (item d ds) = counts_nothing d && items_count_nothing ds
+
+  pub members_count_nothing : Members → Bool
+  members_count_nothing no_members = true
+  members_count_nothing (member k d ms) = member_counts_nothing k (counts_nothing d) && members_count_nothing ms
+
+-- Vote counts of zero, which a system writes before the election.
+abbrev pub is_zero_count : Scope → List ℕ → Data → Bool
+is_zero_count s name d = is_count_name name && (is_outside_member (want_of_name s name) && (not (is_empty_array d) && counts_nothing d))
+
+-- ---- empty lists
+
+-- True for an object of a known class whose class does not require the member, and for carried objects.
+abbrev pub may_lack : Scope → List ℕ → Bool
+may_lack (scope.Members r (Some c)) name = not (is_required c name)
+may_lack scope.Carried name = true
+may_lack s name = false
+
+-- Lists without an entry, where none has to stand.
+abbrev pub is_empty_list : Scope → List ℕ → Data → Bool
+is_empty_list s name d = is_empty_array d && may_lack s name
