@@ -53,7 +53,7 @@ try:
 # neither, all are tried.
 edits:
 	$(call needs,rt python3)
-	@tests/bodies/try_wrong.py $(or $(CRATE) $(LIST),bodies lines)
+	@tests/bodies/try_wrong.py $(or $(strip $(CRATE) $(LIST)),bodies lines)
 
 agree: erd
 	$(call needs,python3)

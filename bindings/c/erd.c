@@ -285,7 +285,7 @@ struct erd_list *erd_open(enum erd_listing listing, const void *left, size_t lef
     static const enum call calls[] = {CHECK_PIECE,      CANONICAL_PIECE,      COMPARE_PIECE,      DIFFERENCES,
                                       CHECK_DATA_PIECE, CANONICAL_DATA_PIECE, COMPARE_DATA_PIECE, DIFFERENCES_DATA};
     bool is_of_pair = listing % 4 >= ERD_LIST_COMPARE;
-    struct erd_list *list = calloc(1, sizeof *list);
+    struct erd_list *list = (unsigned)listing > ERD_LIST_DIFFERENCES_DATA ? NULL : calloc(1, sizeof *list);
     if (list == NULL)
         return NULL;
     list->it = question_of(calls[listing], bytes_of(left, left_size),

@@ -153,13 +153,13 @@ enum erd_listing {
 };
 
 /* A list that erd_open opens, erd_next hands out piece by piece, and erd_close frees. A call for a piece judges its reports each
- * time. A list keeps what was judged: up to `room` bytes of its text and one entry more. So it is judged once if its text has
- * no more than `room` bytes, and otherwise once for each `room` bytes of it. */
+ * time. A list keeps what was judged: up to `room` bytes of its text and one entry more. So it is judged once for each
+ * `room` bytes, and twice where these are more than a mebibyte and than the reports have. */
 struct erd_list;
 
 /* Opens a list. It is judged when its first piece is taken. `left` is the report, or the left one of two; of one report `right` is
  * not read. If `room` is 0, it is 16 mebibytes. The bytes of the reports and of `prefer` must stay as they are until the
- * list is closed. The result is null if out of memory. */
+ * list is closed. The result is null if out of memory, and for a number that no listing has. */
 struct erd_list *erd_open(enum erd_listing listing, const void *left, size_t left_size, const void *right, size_t right_size,
                           const char *prefer, size_t room);
 

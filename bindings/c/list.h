@@ -40,14 +40,20 @@ static size_t entry_length(const char *entry, bool is_data) {
     return i;
 }
 
+/* Room for what is kept, so that most lists are judged once: as many bytes as the reports have. The call makes a mebibyte at least. */
+static size_t room_at_once(const struct erd_list *list) {
+    bool is_form = list->it.call == CANONICAL_PIECE || list->it.call == CANONICAL_DATA_PIECE;
+    size_t for_list = list->it.left.size + list->it.right.size;
+    size_t most = list->room < ROOM_FOR_LIST ? list->room : ROOM_FOR_LIST;
+    return (is_form ? 2 * list->it.left.size : for_list < most ? for_list : most) + ROOM_FOR_LINES;
+}
+
 /* Judges, and keeps the entries that come next: those that have room, or only those of the piece if they can't be told apart. */
 static enum erd_outcome keep_entries(struct erd_list *list, const struct erd_piece *piece) {
-    bool is_form = list->it.call == CANONICAL_PIECE || list->it.call == CANONICAL_DATA_PIECE;
-    size_t room_for_form = is_form && list->next == 0 ? 2 * list->it.left.size + ROOM_FOR_LINES : 0;
     struct erd_piece wanted = {list->next, SIZE_MAX, list->room, 0, 0};
     for (bool is_bounded = false;; is_bounded = true) {
         free(list->text);
-        list->outcome = call_for_piece(&list->it, room_for_form, &wanted, &list->text, &list->length);
+        list->outcome = call_for_piece(&list->it, room_at_once(list), &wanted, &list->text, &list->length);
         list->kept = list->next + wanted.told;
         list->all = wanted.all;
         list->is_apart = list->outcome <= ERD_NOT_JSON && are_apart(list);

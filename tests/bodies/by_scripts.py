@@ -16,7 +16,7 @@ from wrong_lists import TOP, BadList, batches_of, misfit, texts_with
 LINKED = ('examples', 'crates.txt', 'third_party')
 # Crates that are compiled anew, and those that a line changes, have folders of their own there.
 COMPILED = ('erd', 'erd_c', 'erd_program')
-CHANGED = ('erd_canon', 'erd_index', 'erd_meaning')
+CHANGED = ('erd_canon', 'erd_compare', 'erd_index', 'erd_meaning')
 MADE = ('erd', 'out/c', 'out/conformance', 'out/conformance.made', 'out/portable/erd.wasm', 'out/portable/linux-x86_64',
         *(f'out/portable/parts/program_{machine}_{part}.o' for machine in ('aarch64', 'windows') for part in ('proved', 'heap')))
 
@@ -66,7 +66,7 @@ class Copy:
 
     def run(self, command, cases=()):
         """What a command of the shell says, and its status. A script may leave out what has none of these cases."""
-        more = {'LIBRARY_IS_MADE': 'yes', 'PYTHONDONTWRITEBYTECODE': '1', **({'CASES': '\n'.join(cases)} if cases else {})}
+        more = {'LIBRARY_IS_MADE': 'yes', 'FORMS_ARE_MADE': 'no', 'PYTHONDONTWRITEBYTECODE': '1', **({'CASES': '\n'.join(cases)} if cases else {})}
         return subprocess.run(['bash', '-c', command], cwd=self.top, stdin=subprocess.DEVNULL, stdout=subprocess.PIPE, check=False,
                               stderr=subprocess.STDOUT, text=True, errors='replace', env={**os.environ, **more})
 

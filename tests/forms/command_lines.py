@@ -24,7 +24,7 @@ TOP = pathlib.Path(__file__).resolve().parents[2]
 TABLES = [TOP / 'tests' / 'forms' / name for name in ('command_lines.txt', 'statuses.txt')]
 RULES = ('name', 'command', 'for', 'words', 'env', 'input', 'file', 'streams', 'status', 'out', 'err', 'not', 'only')
 HANDLES = {'in': 0, 'out': 1, 'err': 2}
-BOUND = 3
+BOUND = 2
 SECONDS = 120
 
 

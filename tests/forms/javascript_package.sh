@@ -171,7 +171,7 @@ for words in check canon compare differences; do
     ROOM=$work/room NODE_OPTIONS="--require $work/peak.cjs --v8-pool-size=1" "$erd" "$words" "${files[@]}" > "$work/out" 2> "$work/err"
     status=$?
     most=$(cat "$work/room")
-    said "a square list: $words" "$([ "$status" -eq 1 ] || echo "status $status; ")$([ "$most" -lt 100000 ] || echo "$most kB of memory")"
+    said "a square list: $words" "$([ "$status" -eq 1 ] || echo "status $status; ")$([ "$most" -lt 130000 ] || echo "$most kB of memory")"
 done
 rm "$work/out" "$work/err"
 

@@ -48,8 +48,11 @@ for crate in crates/*/; do
     done
 done
 
-# what `rt ci` or `rt run` has compiled is what packaging/compile.sh compiles, where that has been run
+# What `rt ci` or `rt run` has compiled is what packaging/compile.sh compiles, where that has been run; it may be at work just now.
+exec 8> crates/erd/out/compile.lock
+flock 8
 same_bytes 'the program is the one that is compiled' erd crates/erd/out/erd
+exec 8>&-
 made_elsewhere erd erd crates/erd/out/erd erd packaging/compile.sh erd
 if [ -e out/c/liberd.a ]; then
     rm -f "$copy"/crates/*/out/rlib/stamp

@@ -6,7 +6,9 @@
 
 #pragma GCC diagnostic ignored "-Wunused-parameter"
 
-enum { ENTRIES = 1000 };
+/* So many entries that their text has more than the mebibyte for which a call makes room by itself, and a size of a report that has more.
+ * The report is not read. */
+enum { ENTRIES = 60000, SIZE = 4194304 };
 
 static unsigned judged, passed, failed;
 static size_t entries;
@@ -94,7 +96,7 @@ static void said(const char *why, enum erd_listing listing, const char *what) {
 /* What is wrong in the pieces of a list, each held against what the proved code has for it, or null. */
 static const char *wrong_in(enum erd_listing listing, size_t most, size_t enough, size_t room) {
     static char expected[100 * ENTRIES + 100];
-    struct erd_list *list = erd_open(listing, "", 0, "", 0, NULL, room);
+    struct erd_list *list = erd_open(listing, "", SIZE, "", 0, NULL, room);
     size_t first = 0, told, most_told;
     const char *why = NULL;
     for (bool is_over = false; !is_over && why == NULL;) {
@@ -133,11 +135,11 @@ static void pieces(enum erd_listing listing) {
 /* A list is judged once, and once for each `room` bytes if it has more; the same piece comes again after no memory. */
 static void judgings(enum erd_listing listing) {
     judged = 0;
-    wrong_in(listing, 1, SIZE_MAX, 0);
+    wrong_in(listing, 50, SIZE_MAX, 0);
     said(judged == 1 ? NULL : "it was judged more than once", listing, "piece by piece");
     judged = 0;
-    wrong_in(listing, 1, SIZE_MAX, 5000);
-    said(judged <= 100 ? NULL : "it was judged for fewer bytes than have room", listing, "in little room");
+    wrong_in(listing, 50, SIZE_MAX, 5000);
+    said(judged <= 1000 ? NULL : "it was judged for fewer bytes than have room", listing, "in little room");
     struct erd_list *list = erd_open(listing, "", 0, "", 0, NULL, 0);
     struct erd_piece piece = {0, 1, SIZE_MAX, 0, 0};
     char *text;
@@ -164,6 +166,7 @@ int main(void) {
         has_side = has_line_feed = false;
     }
     erd_close(NULL);
+    said(erd_open((enum erd_listing)8, "", 0, "", 0, NULL, 0) == NULL ? NULL : "it was opened", (enum erd_listing)8, "another number");
     printf("%u passed, %u failed\n", passed, failed);
     return failed != 0;
 }

@@ -1,9 +1,9 @@
 """Holds `check` against files that crowd an index under a salt that was known before their texts were chosen: for each index, under no
 salt, under fixed ones, and under a salt that leaves out what tells the keys of this index apart; and `compare` against the names of
-both reports, and against the numbers that these names get. Each takes at most 1.2 times the instructions of a file of the same size
-whose keys crowd nothing. An index whose salt is like one of these takes several times as many. Beside that it compares the salt that
-tests/reports/colliding.py works out with the one that the tests of the program know, and looks for indexes that hash without a salt.
-Needs valgrind, `./erd` and a C compiler. One line a case.
+both reports, also under the salt of the left one alone, and against the numbers that these names get. Each takes at most 1.2 times
+the instructions of a file of the same size whose keys crowd nothing. An index whose salt is like one of these takes several times as
+many. Beside that it compares the salt that tests/reports/colliding.py works out with the one that the tests of the program know, and
+looks for indexes that hash without a salt. Needs valgrind, `./erd` and a C compiler. One line a case.
 
 usage: crowding.py [INDEX ..]; where CASES in the environment has lines, each a case, only these are tried
 """
@@ -129,6 +129,25 @@ def is_wanted(case):
     return not wanted or case in wanted
 
 
+def compared(left, right, folder):
+    """The instructions of `compare` on two reports."""
+    paths = [os.path.join(folder, name) for name in ("left", "right")]
+    for path, made in zip(paths, (left, right)):
+        with open(path, "w", encoding="utf-8") as file:
+            json.dump(made, file)
+    return instructions(["./erd", "compare", *paths], statuses=(1,))
+
+
+def names_held(folder):
+    """Whether names of the right report that crowd an index under the salt of the left one alone take no longer than others."""
+    case = "compared names that crowd an index under the salt of the left report"
+    if is_wanted(case):
+        left = write_ins(colliding.NAME.others(1))
+        crowded = colliding.crowded(COUNT, colliding.salt_of(left), colliding.NAME, is_tagged=True)
+        ratio = compared(left, write_ins(crowded), folder) / compared(left, write_ins(colliding.NAME.others(COUNT)), folder)
+        yield tell(ratio <= MOST, "%s: %.2f times the instructions of others" % (case, ratio))
+
+
 def is_known_salt():
     """Whether the number that the test of the program has is that of the salt that is worked out here."""
     with open(SMALL_BALLOT, encoding="utf-8") as file:
@@ -146,6 +165,7 @@ def main():
         with tempfile.TemporaryDirectory() as folder:
             results += [result for index in chosen for result in held(index, folder)]
             results += numbers_held(folder)
+            results += names_held(folder)
     else:
         print("skipped the files that crowd an index: install the package valgrind")
     print("%d passed, %d failed" % (sum(results), len(results) - sum(results)))

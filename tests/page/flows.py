@@ -218,7 +218,7 @@ def pages_of(pdf):
 
 
 def printed(session):
-    """The record is one page, and has what it needs."""
+    """The record of two files that mean the same is one page, and has what it needs."""
     session.judged(*COUNTY)
     pages = pages_of(base64.b64decode(session.browser.command('print')))
     session.said('the printed record is one page', '' if pages == 1 else '%d pages' % pages)

@@ -1,6 +1,4 @@
 """Lists that grow: each difference is shown once, whatever a user clicks meanwhile, and what fails is told."""
-import json
-
 import answers
 from made import identified, report, style, typed, written
 
@@ -9,12 +7,12 @@ BUTTON = "[...document.querySelectorAll('.others > p > button')].at(-1)"
 SENTENCES = "return [...document.querySelectorAll('.others > .differences > li')].map((one) => (one.querySelector('summary') ?? one).textContent)"
 
 
-def units(name, count=COUNT, types=1):
-    """A report with so many units of this name, each with so many identifiers."""
+def units(name):
+    """A report with many units of this name."""
     made = report([], [style('BS-1', [])], ['East'])
     del made['Election'][0]['BallotStyle'][0]['OrderedContent']
-    made['GpUnit'] += [typed('ReportingUnit', id=f'u-{number}', Type='precinct', Name=f'{name} {number}', ExternalIdentifier=[
-        one for kind in range(types) for one in identified(f'N{number:04}', f'type-{kind}')]) for number in range(count)]
+    made['GpUnit'] += [typed('ReportingUnit', id=f'u-{number}', Type='precinct', Name=f'{name} {number}', ExternalIdentifier=identified(f'N{number:04}'))
+                      for number in range(COUNT)]
     return made
 
 
@@ -43,15 +41,11 @@ def clicked_twice(session):
 
 
 def cancelled(session):
-    """The list is cancelled while other types of identifier are tried: the button still works."""
-    many = 11
-    session.fresh()
-    session.choose(0, written(session, 'left.json', units('Ward', 1950, many)), written(session, 'right.json', units('Precinct', 1950, many)))
-    session.browser.until(f"return {BUTTON} !== undefined && document.documentElement.dataset.busy === 'yes'", seconds=120)
+    """The worker is ended when the list is there: the button for more still works."""
+    session.judged(written(session, 'left.json', units('Ward')), written(session, 'right.json', units('Precinct')))
     session.browser.script("document.getElementById('cancel').click()")
-    session.becomes('growing: cancelled', lambda: session.text('#stopped'), answers.say('sentence.restCancelled'))
     session.browser.script(f'{BUTTON}.click()')
-    session.becomes('growing: more after that', lambda: len(session.browser.script(SENTENCES)), 100, seconds=120)
+    session.becomes('growing: more after that', lambda: len(session.browser.script(SENTENCES)), 100)
     session.equal('growing: nothing has failed', session.texts('.trouble'), [])
 
 

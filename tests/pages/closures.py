@@ -17,7 +17,7 @@ sys.path.append(str(ROOT / 'tests' / 'shared'))
 from cases import differing_lines, tell_cases  # noqa: E402
 
 PAGE = ROOT / 'docs' / 'DEFINITIONS.md'
-CRATES = ['erd_tables', 'erd_index', 'erd_check', 'erd_prepare', 'erd_text', 'erd_meaning', 'erd_normal', 'erd_compare', 'erd_canon', 'erd_program', 'erd_c']
+CRATES = ['erd_tables', 'erd_index', 'erd_check', 'erd_prepare', 'erd_text', 'erd_meaning', 'erd_normal', 'erd_shown', 'erd_compare', 'erd_canon', 'erd_program', 'erd_c']
 # Definitions of the kit that a reader has to know too.
 KIT = ['clap']
 BEGIN, END = '<!-- the lists begin -->\n', '<!-- the lists end -->\n'

@@ -22,7 +22,7 @@ sys.path.append(str(ROOT / 'tests' / 'shared'))
 from cases import differing_lines, tell_cases  # noqa: E402
 
 PAGE = ROOT / 'docs' / 'DEFINITIONS.md'
-CRATES = ['erd_tables', 'erd_index', 'erd_check', 'erd_prepare', 'erd_text', 'erd_meaning', 'erd_normal', 'erd_compare', 'erd_canon', 'erd_program', 'erd_c']
+CRATES = ['erd_tables', 'erd_index', 'erd_check', 'erd_prepare', 'erd_text', 'erd_meaning', 'erd_normal', 'erd_shown', 'erd_compare', 'erd_canon', 'erd_program', 'erd_c']
 # Words of the table in docs/ARCHITECTURE.md, with the crates whose files, functions, types and definitions may be named by them.
 KNOWING = {
     'position': ['erd_index', 'erd_meaning', 'erd_normal', 'erd_compare'],
@@ -94,7 +94,11 @@ SOURCES = {
     'erd_prepare/Nulls': 'docs/FIXES.md',
     'erd_prepare/Persons': 'docs/FIXES.md',
     'erd_prepare/Places': 'this project',
+    'erd_prepare/Plans': 'this project',
     'erd_prepare/Rules': 'this project',
+    'erd_prepare/Steps': 'this project',
+    'erd_prepare/Styles': 'docs/FIXES.md',
+    'erd_meaning/SaltWrites': 'this project',
     'erd_program/Files': 'this project',
     'erd_program/Messages': 'this project',
     'erd_program/Program': 'this project',

@@ -1,6 +1,7 @@
 """Holds the examples in doc comments against the crate `uses`: each public call of the library has one, and its lines stand
-one after another in a source of `uses`, where they are run. Only white space may differ. One line a case that fails, and at the
-end the counts.
+one after another in a source of `uses`, where they are run. Only white space may differ, and `assert_eq!` of two values may stand in
+`uses` as `assert!` that they are equal: the first one prints both, which costs more to prove than the rest of an example. One line a
+case that fails, and at the end the counts.
 
 A public call is a function or a method of a type or trait that the root of a crate names. Laws take no arguments and run
 nothing, and a `Log` is seen by contracts alone, so these have no example.
@@ -14,13 +15,25 @@ ROOT = pathlib.Path(__file__).resolve().parents[2]
 sys.path.append(str(ROOT / 'tests' / 'shared'))
 from cases import tell_cases  # noqa: E402
 
-CRATES = ['erd_tables', 'erd_index', 'erd_check', 'erd_text', 'erd_meaning', 'erd_normal', 'erd_compare', 'erd_canon']
+CRATES = ['erd_tables', 'erd_index', 'erd_check', 'erd_text', 'erd_meaning', 'erd_normal', 'erd_shown', 'erd_compare', 'erd_canon']
 CALL = re.compile(r'^( *)(pub )?fn (\w+)(?:<[^(]*>)?\(([^)]*)', re.M)
 OWNER = re.compile(r"^(?:impl(?:<[^{]*?>)? (?:\w+(?:<[^{]*>)? for )?|pub trait )(\w+)", re.M)
 
 
 def bare(text):
-    return re.sub(r'\s', '', text)
+    """A text without white space, in which `assert!` stands for `assert_eq!`."""
+    parts = re.sub(r'\s', '', text).split('assert_eq!(rt;')
+    return parts[0] + ''.join(map(as_assert, parts[1:]))
+
+
+def as_assert(text):
+    """What stands behind `assert_eq!(rt;`, as `assert!` has it: its first comma outside of brackets and texts stands between the values."""
+    depth = 0
+    for found in re.finditer(r'r#".*?"#|"(?:\\.|[^"\\])*"|[(){}\[\],]', text):
+        if found[0] == ',' and depth == 0:
+            return f'assert!(rt;{text[:found.start()]}=={text[found.end():]}'
+        depth += (found[0] in '([{') - (found[0] in ')]}')
+    return f'assert_eq!(rt;{text}'
 
 
 def names_at_root(crate):

@@ -11,16 +11,35 @@ export function mergedItems(left, right) {
     return orderedChanges(left, right).map(mergedItem);
 }
 
-function mergedItem({ left, right, mark, from, to }) {
+/** One item of the list that `orderedChanges` makes. */
+export function mergedItem({ left, right, mark, from, to, renamed }) {
     const one = left ?? right;
     const other = right ?? left;
     const selections = other.selections === undefined ? {}
-        : { selections: mergedItems(one.selections, other.selections), unlisted: other.unlisted, ordered: one.unlisted === other.unlisted };
-    return { kind: other.kind, depth: other.depth, mark, from, to, lines: mergedLines(one.lines, other.lines), ...selections };
+        : { selections: mergedSelections(one, other), unlisted: other.unlisted, ordered: one.unlisted === other.unlisted };
+    return { kind: other.kind, depth: other.depth, mark, from, to, renamed, lines: mergedLines(one.lines, other.lines), ...selections };
 }
+
+// Selections in no order don't move.
+function mergedSelections(one, other) {
+    const merged = mergedItems(one.selections, other.selections);
+    return one.unlisted && other.unlisted ? merged.map((item) => (item.mark === 'moved' ? { ...item, mark: '' } : item)) : merged;
+}
+
+// What is kept of pairs of lines. A contest stands on many ballots, and may stand on one ballot many times.
+const MERGED = new WeakMap();
 
 /** The lines of two items: those with the same role and place belong together. */
 export function mergedLines(left, right) {
+    const kept = MERGED.get(left) ?? new WeakMap();
+    MERGED.set(left, kept);
+    if (!kept.has(right)) {
+        kept.set(right, linesOfBoth(left, right));
+    }
+    return kept.get(right);
+}
+
+function linesOfBoth(left, right) {
     const [ones, others] = [left, right].map(byRole);
     const keys = [...new Set([...others.keys(), ...ones.keys()])];
     return keys.map((key) => {

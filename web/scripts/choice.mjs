@@ -60,12 +60,14 @@ export class Choice {
 
     // Folders have to be asked for before anything is waited for.
     async takeDropped(slot, transfer) {
-        const dropped = [...transfer.items].filter(({ kind }) => kind === 'file').map((item) => folderOf(item) ?? item.getAsFile()).filter((one) => one !== null);
+        const items = [...transfer.items].filter(({ kind }) => kind === 'file');
+        const dropped = items.map((item) => folderOf(item) ?? item.getAsFile()).filter((one) => one !== null);
         if (dropped.every((one) => one instanceof File)) {
             this.dropped(slot, dropped.length > 0 ? dropped : [...transfer.files]);
             return;
         }
-        const files = await Promise.all(dropped.map(async (one) => (one instanceof File ? [{ file: one, name: one.name }] : ofFolder(await one.files)))).catch(() => null);
+        const filesOf = async (one) => (one instanceof File ? [{ file: one, name: one.name }] : ofFolder(await one.files));
+        const files = await Promise.all(dropped.map(filesOf)).catch(() => null);
         if (files === null) {
             this.tell(say('files.folderNotRead'));
         } else {

@@ -63,8 +63,8 @@ function code(text) {
     return element('code', {}, long(text, LONGEST_TITLE));
 }
 
-// A member in plain words, with the name that the standard has for it. A carried member has its name alone.
-function memberWords(name) {
+/** A member in plain words, with the name that the standard has for it. A carried member has its name alone. */
+export function memberWords(name) {
     const words = sayIfKnown(`member.${name}`);
     return words === undefined ? element('span', {}, code(name)) : element('span', {}, `${words} (`, code(name), ')');
 }

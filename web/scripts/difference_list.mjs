@@ -97,22 +97,18 @@ async function pairsShown(client, pairs, caused, names, counted) {
     })));
     const more = pairs.length > MOST_PAIRS ? element('p', {}, say('pair.more', { count: pairs.length - MOST_PAIRS })) : null;
     const folded = element('details', {}, element('summary', {}, say('pair.caused', { count: caused })));
-    folded.addEventListener('toggle', () => attempted(folded, async () => folded.append(...await growing(client, 'caused', caused, names, counted))), { once: true });
+    const open = async () => folded.append(...await growing(client, 'caused', caused, names, counted));
+    folded.addEventListener('toggle', () => attempted(folded, open), { once: true });
     return [element('section', { class: 'pairs', 'aria-labelledby': 'pairs' }, element('h4', { id: 'pairs' }, say('pair.heading', { count: pairs.length })),
         element('p', {}, say('pair.note')), element('ul', {}, ...items), ...(more === null ? [] : [more]), folded)];
 }
 
 /**
- * The offer of a type of identifier under which there are fewer differences; null if there is none.
- * @param {{type: string, count: number}[]} types
- * @param {number} count how many differences there are now
+ * The offer of a type of identifier under which fewer objects stay unmatched.
+ * @param {{type: string, fewer: number, count: number}} better
  * @param {(type: string) => void} choose
  */
-export function typeOffer(types, count, choose) {
-    if (types.length === 0) {
-        return null;
-    }
-    const [{ type, count: fewer }] = types;
+export function typeOffer({ type, fewer, count }, choose) {
     return element('section', { class: 'offer', 'aria-labelledby': 'offer' }, element('h3', { id: 'offer' }, say('offer.heading')),
         element('p', {}, saidWith('offer.fewer', { type: theirs(type) }, { fewer, count })),
         button(saidWith('offer.choose', { type: theirs(type) }), () => choose(type)));

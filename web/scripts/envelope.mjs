@@ -28,9 +28,10 @@ const ELECTION_MEMBERS = ['Name', 'StartDate', 'EndDate', 'Type'];
  */
 export function electionsIn(bytes) {
     const places = Array.from({ length: MOST_ELECTIONS }, (_, at) => ELECTION_MEMBERS.map((name) => ['Election', at, name])).flat();
-    const found = foundPlaces(bytes, [['IsTest'], ...places]).map((one) => (one === null ? undefined : JSON.parse(textOf(bytes, one.way.at(-1).start, one.way.at(-1).end))));
-    const elections = Array.from({ length: MOST_ELECTIONS }, (_, at) => found.slice(1 + at * ELECTION_MEMBERS.length, 1 + (at + 1) * ELECTION_MEMBERS.length))
-        .filter(([name]) => name !== undefined);
+    const valueOf = ({ start, end }) => JSON.parse(textOf(bytes, start, end));
+    const found = foundPlaces(bytes, [['IsTest'], ...places]).map((one) => (one === null ? undefined : valueOf(one.way.at(-1))));
+    const count = ELECTION_MEMBERS.length;
+    const elections = Array.from({ length: MOST_ELECTIONS }, (_, at) => found.slice(1 + at * count, 1 + (at + 1) * count)).filter(([name]) => name !== undefined);
     return { isTest: found[0] === true, elections: elections.map(([name, start, end, type]) => ({ name: textOfLabel(name) ?? '', start, end, type })) };
 }
 

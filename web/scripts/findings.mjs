@@ -19,8 +19,10 @@ const MOST_INSIDE = 20;
  * @param {string[]} names
  */
 export function differencesFiled(entries, count, names) {
-    const items = entries.map((entry) => element('li', {}, sentence(entry, names), ...linesOf(entry, names).map((line) => element('div', {}, line))));
+    const items = entries.map((entry) => element('li', { value: String(entry.number + 1) }, sentence(entry, names),
+        ...linesOf(entry, names).map((line) => element('div', {}, line))));
     return element('div', { 'data-filed': 'differences' }, element('h4', {}, say('difference.all', { count })),
+        entries[0].word === undefined || count === 1 ? null : element('p', {}, say('record.order')),
         element('ol', {}, ...items), leftOut(count - items.length));
 }
 

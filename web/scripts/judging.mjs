@@ -1,6 +1,7 @@
 // Judges one file or two. It runs in the worker, keeps what it has found, and answers questions about it. Each answer is made
 // when it is asked for, so that the verdict waits for nothing else.
 import { BallotAnswers } from './ballot_answers.mjs';
+import { boundedPointer, LONGEST_POINTER } from './bounded.mjs';
 import { Differences } from './difference_groups.mjs';
 import { excerptOf } from './excerpt.mjs';
 import { Meaning } from './meaning.mjs';
@@ -8,12 +9,22 @@ import { foundPlaces } from './places.mjs';
 import { preparingOf } from './preparing.mjs';
 import { isNoMemory, Side } from './side.mjs';
 import { trailOf } from './trail.mjs';
+import { beginningOf } from './visible.mjs';
 
 /** The most bytes of two canonical forms of which values are shown beside each other. */
 const MOST_WITH_VALUES = 80_000_000;
 
+/** The most characters of a pointer that the page is told. */
+const LONGEST_TOLD = 100_000;
+
 /** The most differences that are listed. Each call lists a mebibyte of them, and compares the files anew. */
 const MOST_LISTED = 20_000;
+
+// A step of a trail, whose name and title may be longer than anybody reads.
+function shortened({ name, number, title }) {
+    const short = (text) => (text !== null && text.length > LONGEST_POINTER ? `${beginningOf(text, LONGEST_POINTER)}…` : text);
+    return { name: short(name), number, title: short(title) };
+}
 
 /** A judgement of one file or two, under one preference. */
 export class Judgement {
@@ -87,7 +98,8 @@ export class Judgement {
 
     /** What is known of all differences: the proved list, and what helps to read it. Null where there is no memory for the list. */
     list(_question, tell) {
-        return this.differencesKept(tell)?.told() ?? null;
+        const differences = this.differencesKept(tell);
+        return differences === null ? null : differences.told(differences.meanings === null ? null : this.ballots(tell).seen());
     }
 
     // The differences, which a worker that has begun anew lists again.
@@ -121,10 +133,9 @@ export class Judgement {
         }
     }
 
-    // How many differences there are under a type; null where the files would be refused.
-    countUnder(type) {
-        const found = this.differencesUnder(type, 1);
-        return found === null || found.side !== null ? null : found.allDifferences;
+    // Whether both files are accepted under a type.
+    isAcceptedUnder(type) {
+        return this.differencesUnder(type, 1)?.side === null;
     }
 
     /** Some of the differences of a group, as what the page shows. */
@@ -132,10 +143,10 @@ export class Judgement {
         return this.differencesKept(tell).some(question);
     }
 
-    /** The types of identifier that lead to fewer differences, the one with the fewest first. */
-    types({ types }, tell) {
+    /** The type of identifier under which fewer objects stay unmatched than now; null if there is none. */
+    betterType({ types }, tell) {
         tell({ stage: 'types' });
-        return this.differencesKept(tell).underTypes(types.filter((type) => type !== this.prefer), (type) => this.countUnder(type));
+        return this.differencesKept(tell).betterType(types.filter((type) => type !== this.prefer), (type) => this.isAcceptedUnder(type));
     }
 
     // What the canonical forms say.
@@ -181,9 +192,11 @@ export class Judgement {
     }
 
     place(side, fault, found) {
-        const trail = trailOf(found, fault.place);
+        const trail = trailOf(found, fault.place).map(shortened);
         const { start, end } = found === null ? { start: 0, end: 0 } : found.range;
-        return { ...fault, trail, start, end, excerpt: found === null ? null : excerptOf(side.lines, start, end) };
+        const { reason, name } = fault;
+        return { reason, ...(name === undefined ? {} : { name }), pointer: boundedPointer(fault.place, LONGEST_TOLD), trail, start, end,
+            excerpt: found === null ? null : excerptOf(side.lines, start, end) };
     }
 
     /** What steps do to a copy of a side; null if it is not JSON. */
@@ -194,7 +207,7 @@ export class Judgement {
 
     /** The copy on which these steps were done. */
     preparedCopy({ index, steps }) {
-        return this.preparing(index).copied(steps);
+        return this.preparing(index).copied(steps, this.sides[index].file.name);
     }
 
     /** Each change of these steps, as JSON. */

@@ -1,4 +1,5 @@
 // What a reader should know beside the verdict: the envelope, which is not compared, and notes that differ.
+import { withoutMark } from './copy_mark.mjs';
 import { element, long, saidWith, theirs } from './dom.mjs';
 import { ENVELOPE } from './envelope.mjs';
 import { say } from './texts.mjs';
@@ -37,7 +38,7 @@ function rowOf(name, values) {
 
 /** A notice if the notes of two files differ; null if they don't. */
 export function notesNotice(envelopes, names) {
-    const notes = envelopes.map((envelope) => envelope.Notes ?? null);
+    const notes = envelopes.map((envelope) => withoutMark(envelope.Notes) ?? null);
     if (notes[0] === notes[1]) {
         return null;
     }

@@ -2,11 +2,12 @@
 // `id`, never by its text. The page has no other way to find what was added, removed or moved.
 
 /**
- * An entry of such a list. `id` is equal for the same one in two files, and entries are counted by their `kind`.
- * @typedef {{id: string, kind: string, depth: number}} Entry
- * An entry of both lists, or of one, with its number in each.
+ * An entry of such a list. `id` is equal for the same one in two files, and entries are counted by their `kind`. `print` is what a
+ * voter reads, where that is known.
+ * @typedef {{id: string, kind: string, depth: number, print?: string}} Entry
+ * An entry of both lists, or of one, with its number in each. It is renamed if the lists have it under two identifiers.
  * @typedef {{left: Entry | null, right: Entry | null, from: number | null, to: number | null,
- *     mark: '' | 'moved' | 'added' | 'removed'}} Change
+ *     mark: '' | 'moved' | 'added' | 'removed', renamed: boolean}} Change
  */
 
 /**
@@ -38,7 +39,8 @@ export function orderedChanges(left, right) {
 }
 
 function changeOf(one, other, mark) {
-    return { left: one?.entry ?? null, right: other?.entry ?? null, from: one?.number ?? null, to: other?.number ?? null, mark };
+    const renamed = one !== null && other !== null && one.entry.id !== other.entry.id;
+    return { left: one?.entry ?? null, right: other?.entry ?? null, from: one?.number ?? null, to: other?.number ?? null, mark, renamed };
 }
 
 // Each entry with its number among those of its kind. A list may have an entry twice, so the second one is another.
@@ -48,10 +50,30 @@ function numbered(entries) {
     return entries.map((entry) => ({ entry, number: count(`kind ${entry.kind}`), like: `${count(`id ${entry.id}`)} ${entry.id}` }));
 }
 
-// For each entry of the right list its place in the left one; null if it is not there.
+// For each entry of the right list its place in the left one; null if it is not there. Of those that are left over, one of each side
+// with the same words may be the same one, under another identifier.
 function placesIn(ones, others) {
     const places = new Map(ones.map(({ like }, place) => [like, place]));
-    return others.map(({ like }) => places.get(like) ?? null);
+    const found = others.map(({ like }) => places.get(like) ?? null);
+    const taken = new Set(found);
+    const left = onlyOnes(ones, (place) => !taken.has(place));
+    const right = onlyOnes(others, (at) => found[at] === null);
+    right.forEach((at, words) => {
+        found[at] = left.get(words) ?? null;
+    });
+    return found;
+}
+
+// The places of the entries whose words no other such entry has.
+function onlyOnes(entries, isLeftOver) {
+    const places = new Map();
+    entries.forEach(({ entry: { kind, depth, print } }, place) => {
+        if (print !== undefined && isLeftOver(place)) {
+            const words = `${kind} ${depth} ${print}`;
+            places.set(words, places.has(words) ? null : place);
+        }
+    });
+    return new Map([...places].filter(([, place]) => place !== null));
 }
 
 // Which places stay in order: the most that can, and of several such choices the one that keeps the earlier entries. `before` tells

@@ -6,4 +6,7 @@ pub mod Persons
 pub mod Names
 pub mod Local
 pub mod LocalSteps
+pub mod Styles
+pub mod Plans
+pub mod Steps
 pub mod Laws

@@ -1,9 +1,11 @@
 -- Steps that leave out members by what stands there alone.
-use Rattle.std.specs.Prelude.{ℕ, ◌==◌, List, [], Bool, true, false, not, ◌&&◌, ◌||◌, Option, Some, None, codes, option_and_then}
+use Rattle.std.specs.Prelude.{ℕ, List, [], Bool, true, false, not, ◌&&◌, ◌||◌, Option, Some, None, codes, option_map}
+use Rattle.std.specs.Float.{float_zero}
+use Rattle.std.specs.Float.Ieee.{eq}
 use Rattle.std.specs.Option.{option_map_or}
 use Rattle.std.specs.Str.{bytes_eq}
 use Rattle.serde_json.specs.Data.{Data, null, boolean, number, string, array, object, Items, no_items, item, Members, no_members, member}
-use Rattle.serde_json.specs.Find.{as_number, as_u64, get}
+use Rattle.serde_json.specs.Find.{as_number, get, to_float}
 use Rattle.erd_tables.specs.Table.{is_required}
 use Rattle.erd_tables.specs.declared.member.MemberKind.TheVariants as kind
 use Rattle.erd_check.specs.Faults.{is_empty_array, is_object}
@@ -67,9 +69,9 @@ is_stray_id s name d = bytes_eq name (codes "@id") && is_stray_identity (want_of
 
 -- ---- counts
 
--- True for the whole number zero.
+-- True for the number zero, as `0`, `0.0` or `-0`.
 abbrev pub is_zero : Data → Bool
-is_zero d = option_map_or (λ n. n == 0) (option_and_then as_u64 (as_number d)) false
+is_zero d = option_map_or (λ x. eq x float_zero) (option_map to_float (as_number d)) false
 
 -- The names of members with counts.
 abbrev pub is_count_name : List ℕ → Bool

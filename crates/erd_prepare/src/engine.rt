@@ -304,15 +304,22 @@ fn push_change(
     ensures { IfOk result (λ _. told_by changes.new.items
         ≡ told_by changes.old.items ++ record { place = steps_of path.now; before = option_map view before; after = option_map view after } ∷ []) }
 {
-    let mut steps = Vec::new(alloc);
-    push_steps(alloc, path, &mut steps)?;
-    let place = Place::of(steps);
+    let place = place_of(alloc, path)?;
     changes.push(Change {
         place,
         before,
         after,
     })?;
     Ok(())
+}
+
+/// Returns the place that a path leads to.
+pub(crate) fn place_of(alloc: Global, path: &Path) -> Result<Place, AllocError>
+    ensures { IfOk result (λ place. place ≡ steps_of path.now) }
+{
+    let mut steps = Vec::new(alloc);
+    push_steps(alloc, path, &mut steps)?;
+    Ok(Place::of(steps))
 }
 
 fn push_steps(alloc: Global, path: &Path, steps: &mut Vec<Step>) -> Result<(), AllocError>

@@ -224,7 +224,10 @@ fn counts_nothing(value: &Value) -> bool
 fn is_zero(value: &Value) -> bool
     ensures { result ≡ is_zero (view value.now) }
 {
-    value.as_u64() == Some(0)
+    match value.as_f64() {
+        Some(number) => number == 0.0,
+        None => false,
+    }
 }
 
 #[cycle(counts)]

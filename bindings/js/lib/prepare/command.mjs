@@ -120,9 +120,9 @@ function counted({ name, made }) {
 }
 
 function repeats(bytes) {
-    const names = repeatedNames(withoutMark(bytes), { most: null });
-    return names.length === 0 ? []
-        : [`${names.length} names are written twice in one object, first ${visible(names[0].pointer)}: the last value of each counts`];
+    const names = repeatedNames(withoutMark(bytes), { most: 1 });
+    return names.allNames === 0 ? []
+        : [`${names.allNames} names are written twice in one object, first ${visible(names[0].pointer)}: the last value of each counts`];
 }
 
 /** What a step did, as lines for a person. */

@@ -70,8 +70,8 @@ def lines_of(done: Done) -> List[str]:
 
 def repeats(data: bytes) -> List[str]:
     """Returns a line about names that are written twice, if there are any."""
-    names = repeated_names(without_mark(data), most=None)
-    return [f'{len(names)} names are written twice in one object, first {visible(names[0].pointer)}: the last value of each counts'
+    names = repeated_names(without_mark(data), most=1)
+    return [f'{names.all_names} names are written twice in one object, first {visible(names[0].pointer)}: the last value of each counts'
             ] if names else []
 
 

@@ -1,14 +1,17 @@
--- What a salt is computed from: all that the indexes hash of the elections and objects of a report. Each part says where it ends,
--- so that no part can take from the next.
-use Rattle.std.specs.Prelude.{ℕ, length, ◌<◌, ◌^◌, ◌+◌, ◌-◌, ◌*◌, cond, is_some, List, [], ◌++◌, true, false, Option, Some, None, IfSome, ⊤}
+-- What the salt of a report is computed from: all that its indexes hash of its elections and objects. Each part says where it
+-- ends, so that no part can take from the next.
+use Rattle.std.specs.Prelude.{◌≡◌, ◌∷◌, codes, map, ℕ, length, ◌<◌, ◌^◌, ◌+◌, ◌-◌, ◌*◌, cond, is_some, List, [], ◌++◌, true, false, Option, Some, None, IfSome, ⊤}
 use Rattle.std.specs.Hash.{HashWrites, i64, u64, usize}
 use Rattle.serde_json.specs.Data.{Num, unsigned, negative, float, Data, null, boolean, number, string, array, object, Items, no_items, item, Members, no_members, member}
-use Rattle.erd_index.specs.Salts.{text_writes}
+use Rattle.std.specs.List.{flat_map, AllByRecursion}
+use Rattle.std.specs.declared.hash.DefaultHasher.{DefaultHasher}
+use Rattle.erd_index.specs.Salts.{bytes_in, fed, salt_start, text_writes, unfed}
 use Rattle.erd_check.specs.Numbers.{IsFittingNumber}
 use Rattle.erd_tables.specs.Classes.{family_number}
 use Rattle.erd_tables.specs.declared.class.Family.{Family}
 use Rattle.erd_tables.specs.declared.class.Family.TheVariants as family
-use Rattle.erd_meaning.specs.code.ObjectWalk.{Met, an_election, an_object}
+use Rattle.erd_meaning.specs.Keys.{Preference, key_of, key_of_family_object}
+use Rattle.erd_meaning.specs.Objects.{Placed, elections, id_of, placed_entries, report_of, selections_of_contest}
 use Rattle.erd_meaning.specs.declared.keys.key.Key.{Key}
 
 -- A number, after one that tells its kind. A name has whole numbers alone.
@@ -56,14 +59,9 @@ pub record Hashed : Type 0 where
   pub selection : Option Data
 
 -- The value if it is a selection.
-abbrev pub selection_in : Family → Data → Option Data
-selection_in family.Selection d = Some d
-selection_in f d = None
-
--- What the indexes hash of what was met.
-abbrev pub hashed : Met → Hashed
-hashed (an_object k) = record { family = Some k.family; id = k.id; key = k.key; selection = selection_in k.family k.value }
-hashed (an_election needed key) = record { family = None; id = None; key = key; selection = None }
+abbrev pub whole_selection : Family → Data → Option Data
+whole_selection family.Selection d = Some d
+whole_selection f d = None
 
 -- The number of the family. Elections have one that no family has.
 abbrev pub hashed_number : Option Family → ℕ
@@ -79,6 +77,7 @@ abbrev pub parts_writes : ℕ → Option (List ℕ) → Option Key → Option Da
 parts_writes n id key selection =
     usize (parts_number n id key selection) ++ (option_writes text_writes id ++ (option_writes triple_writes key ++ option_writes value_writes selection))
 
+-- All that is written of an object or of an election.
 abbrev pub hashed_writes : Hashed → HashWrites
 hashed_writes h = parts_writes (hashed_number h.family) h.id h.key h.selection
 
@@ -115,3 +114,56 @@ pub record FitsHashed (h : Hashed) : Type 0 where
   pub id : IfSome h.id FitsText
   pub key : IfSome h.key FitsKey
   pub selection : IfSome h.selection FitsValue
+
+-- ---- the salt of a report
+
+-- What the indexes hash of an object of the family.
+abbrev pub hashed_object : Preference → Family → Placed → Hashed
+hashed_object π f o = record { family = Some f; id = id_of o.value; key = key_of_family_object π f o.value; selection = whole_selection f o.value }
+
+-- What they hash of objects of one family.
+abbrev pub hashed_objects : Preference → Family → List Placed → List Hashed
+hashed_objects π f os = map (hashed_object π f) os
+
+-- What they hash of an election.
+abbrev pub hashed_election : Preference → Placed → Hashed
+hashed_election π e = record { family = None; id = None; key = key_of π e.value; selection = None }
+
+-- What they hash of a contest, and then of its selections.
+abbrev pub hashed_in_contest : Preference → Placed → List Hashed
+hashed_in_contest π o = hashed_object π family.Contest o ∷ hashed_objects π family.Selection (selections_of_contest o)
+
+-- What they hash of an election, and then of its objects.
+abbrev pub hashed_in_election : Preference → Placed → List Hashed
+hashed_in_election π e =
+    hashed_election π e
+    ∷ (hashed_objects π family.Style (placed_entries (codes "BallotStyle") e)
+    ++ (hashed_objects π family.Candidate (placed_entries (codes "Candidate") e) ++ flat_map (hashed_in_contest π) (placed_entries (codes "Contest") e)))
+
+-- What they hash of the objects that are outside the elections.
+abbrev pub hashed_outside : Preference → Placed → List Hashed
+hashed_outside π r =
+    hashed_objects π family.Unit (placed_entries (codes "GpUnit") r)
+    ++ (hashed_objects π family.Header (placed_entries (codes "Header") r)
+    ++ (hashed_objects π family.Office (placed_entries (codes "Office") r)
+    ++ (hashed_objects π family.Party (placed_entries (codes "Party") r) ++ hashed_objects π family.Person (placed_entries (codes "Person") r))))
+
+-- What they hash of a report: of its elections and objects, in the order of their places.
+abbrev pub all_hashed : Preference → Data → List Hashed
+all_hashed π t = flat_map (hashed_in_election π) (elections t) ++ hashed_outside π (report_of t)
+
+-- What the salt of a report is computed from.
+abbrev pub salt_writes : Preference → Data → HashWrites
+salt_writes π t = flat_map hashed_writes (all_hashed π t)
+
+-- The hasher that the salt of a report starts: the words of the salt are those of two hashers that were given these writes.
+abbrev pub report_start : Preference → Data → DefaultHasher
+report_start π t = salt_start (fed unfed (salt_writes π t))
+
+-- The lengths of the texts fit a word, and the numbers in selections are whole and fit 64 bits.
+abbrev pub AllFit : Preference → Data → Type 0
+AllFit π t = AllByRecursion FitsHashed (all_hashed π t)
+
+-- Whichever report has a salt that is computed from the same bytes as that of this one, its indexes hash the same.
+abbrev pub CoversEachKey : Preference → Data → Type 0
+CoversEachKey π t = (u : Data) → AllFit π t → AllFit π u → bytes_in (salt_writes π t) ≡ bytes_in (salt_writes π u) → all_hashed π t ≡ all_hashed π u

@@ -1,0 +1,110 @@
+//! Lines for candidates who are no longer in the file: they go from their contests, and from the ballots.
+ghost use Rattle.std.specs.Prelude.{◌≡◌, [], Some, IfOk};
+ghost use Rattle.serde_json.specs.View.{view};
+ghost use Rattle.erd_prepare.specs.Steps.{IsStepDone};
+
+use crate::engine::Done;
+use crate::parts::{Part, parts_of};
+use crate::plan::{Edit, Plan, carry_out};
+use erd_check::values::entries_of;
+use erd_check::want::Want;
+use erd_tables::class::{Class, Role};
+use erd_tables::member::MemberKind;
+use serde_json::Value;
+use std::alloc::{AllocError, Global};
+use std::collections::{BTreeMap, BTreeSet};
+
+/// Takes out each line all of whose candidates are nobody's `@id`. A voter no longer sees the line.
+///
+/// # Errors
+///
+/// `AllocError` if out of memory.
+pub fn take_out_gone_candidates(alloc: Global, report: &Value) -> Result<Done, AllocError>
+    ensures done { IfOk result (IsStepDone (view report.now)) }
+{
+    carry_out(alloc, &gone_in(alloc, report)?, report)
+}
+
+fn gone_in(alloc: Global, report: &Value) -> Result<Plan, AllocError> {
+    let mut plan = Plan {
+        edits: BTreeMap::new(alloc),
+    };
+    let parts = parts_of(alloc, report)?;
+    let ids = ids_of(alloc, &parts)?;
+    let mut gone = BTreeSet::new(alloc);
+    let mut others = BTreeSet::new(alloc);
+    for part in &parts {
+        if is_gone(part, &ids) {
+            plan.edits.insert(part.place.clone()?, Edit::LeaveOut)?;
+            add_id(part, &mut gone)?;
+        } else {
+            add_id(part, &mut others)?;
+        }
+    }
+    for part in &parts {
+        plan_lists(alloc, part, &gone, &others, &mut plan)?;
+    }
+    Ok(plan)
+}
+
+/// Returns the `@id`s of all objects of families.
+fn ids_of<'a>(alloc: Global, parts: &Vec<Part<'a>>) -> Result<BTreeSet<&'a str>, AllocError> {
+    let mut ids = BTreeSet::new(alloc);
+    for part in parts {
+        add_id(part, &mut ids)?;
+    }
+    Ok(ids)
+}
+
+/// Adds the `@id` of an object of a family, if it has one.
+fn add_id<'a>(part: &Part<'a>, ids: &mut BTreeSet<&'a str>) -> Result<(), AllocError> {
+    if matches!(part.role, Role::OfFamily(_)) {
+        if let Some(Value::String(id)) = part.members.get("@id") {
+            ids.insert(id.as_str())?;
+        }
+    }
+    Ok(())
+}
+
+/// Returns whether a line names candidates, and none of them is there.
+fn is_gone<'a>(part: &Part<'a>, ids: &BTreeSet<&'a str>) -> bool {
+    if part.class != Class::CandidateSelection {
+        return false;
+    }
+    let Some(candidates) = part.members.get("CandidateIds") else {
+        return false;
+    };
+    let mut is_named = false;
+    for candidate in entries_of(candidates) {
+        if let Value::String(id) = candidate {
+            if ids.contains(&id.as_str()) {
+                return false;
+            }
+            is_named = true;
+        }
+    }
+    is_named
+}
+
+/// Plans that lines that go also go from the lists of a ballot.
+fn plan_lists<'a>(
+    alloc: Global,
+    part: &Part<'a>,
+    gone: &BTreeSet<&'a str>,
+    others: &BTreeSet<&'a str>,
+    plan: &mut Plan,
+) -> Result<(), AllocError> {
+    for (name, member) in part.members.iter() {
+        if let Some(Want::Member(MemberKind::Ordered, _)) = part.want_of(name.as_str()) {
+            for (index, entry) in entries_of(member).iter().enumerate() {
+                if let Value::String(id) = entry {
+                    if gone.contains(&id.as_str()) && !others.contains(&id.as_str()) {
+                        let place = format!(in alloc; "{}/{}/{}", part.place, name, index)?;
+                        plan.edits.insert(place, Edit::LeaveOut)?;
+                    }
+                }
+            }
+        }
+    }
+    Ok(())
+}

@@ -1,0 +1,116 @@
+//! The steps by their names, in the order in which they are done.
+ghost use Rattle.std.specs.Prelude.{◌≡◌, [], Some, IfOk};
+ghost use Rattle.serde_json.specs.View.{view};
+ghost use Rattle.erd_prepare.specs.Steps.{IsStepDone};
+
+use crate::devices::take_out_devices;
+use crate::engine::Done;
+use crate::gone_candidates::take_out_gone_candidates;
+use crate::local::{Local, take_out};
+use crate::names::name_objects;
+use crate::nulls::take_out_nulls;
+use crate::persons::take_out_unused_persons;
+use crate::repeated::take_out_repeated;
+use crate::shared_codes::take_out_shared_codes;
+use crate::styles::take_out_unused_styles;
+use serde_json::Value;
+use std::alloc::{AllocError, Global};
+
+/// A step, by its name.
+#[derive(Clone, Copy, PartialEq, Eq)]
+pub enum StepName {
+    /// Takes out each member whose value is null.
+    Nulls,
+    /// Takes out what is on no ballot: groups of offices, administration and registration.
+    Outside,
+    /// Takes out vote counts of zero.
+    Counts,
+    /// Takes machines out of the units.
+    Devices,
+    /// Takes out coordinates.
+    Coordinates,
+    /// Takes out each `@id` where none belongs.
+    StrayIds,
+    /// Takes out entries that a set has twice.
+    Repeated,
+    /// Takes out lines of candidates who are gone. A voter no longer sees them.
+    GoneCandidates,
+    /// Takes out ballot styles of no unit.
+    UnusedStyles,
+    /// Takes out persons to whom nothing refers.
+    UnusedPersons,
+    /// Takes out lists without an entry.
+    EmptyLists,
+    /// Takes out labels without a translation.
+    EmptyTexts,
+    /// Gives objects without an identifier their name as one.
+    Names,
+    /// Takes out identifiers that several objects share.
+    SharedCodes,
+}
+
+/// The steps, in the order in which they are done.
+pub const STEPS: [StepName; 14] = [
+    StepName::Nulls,
+    StepName::Outside,
+    StepName::Counts,
+    StepName::Devices,
+    StepName::Coordinates,
+    StepName::StrayIds,
+    StepName::Repeated,
+    StepName::GoneCandidates,
+    StepName::UnusedStyles,
+    StepName::UnusedPersons,
+    StepName::EmptyLists,
+    StepName::EmptyTexts,
+    StepName::Names,
+    StepName::SharedCodes,
+];
+
+impl StepName {
+    /// Returns the name by which a caller chooses the step.
+    pub fn text(self) -> &'static str {
+        match self {
+            StepName::Nulls => "nulls",
+            StepName::Outside => "outside",
+            StepName::Counts => "counts",
+            StepName::Devices => "devices",
+            StepName::Coordinates => "coordinates",
+            StepName::StrayIds => "stray-ids",
+            StepName::Repeated => "repeated",
+            StepName::GoneCandidates => "gone-candidates",
+            StepName::UnusedStyles => "unused-styles",
+            StepName::UnusedPersons => "unused-persons",
+            StepName::EmptyLists => "empty-lists",
+            StepName::EmptyTexts => "empty-texts",
+            StepName::Names => "names",
+            StepName::SharedCodes => "shared-codes",
+        }
+    }
+}
+
+/// Does a step on a report, which stays as it is. Whatever the step does, all of it is told, and nothing else changes.
+///
+/// # Errors
+///
+/// `AllocError` if out of memory.
+pub fn do_step(alloc: Global, step: StepName, report: &Value) -> Result<Done, AllocError>
+    ensures done { IfOk result (IsStepDone (view report.now)) }
+{
+    match step {
+        StepName::Nulls => take_out_nulls(alloc, report),
+        StepName::Outside => take_out(alloc, Local::Outside, report),
+        StepName::Counts => take_out(alloc, Local::Counts, report),
+        StepName::Devices => take_out_devices(alloc, report),
+        StepName::Coordinates => take_out(alloc, Local::Coordinates, report),
+        StepName::StrayIds => take_out(alloc, Local::StrayIds, report),
+        StepName::Repeated => take_out_repeated(alloc, report),
+        StepName::GoneCandidates => take_out_gone_candidates(alloc, report),
+        StepName::UnusedStyles => take_out_unused_styles(alloc, report),
+        StepName::UnusedPersons => take_out_unused_persons(alloc, report),
+        StepName::EmptyLists => take_out(alloc, Local::EmptyLists, report),
+        StepName::EmptyTexts => take_out(alloc, Local::EmptyTexts, report),
+        StepName::Names => name_objects(alloc, report),
+        StepName::SharedCodes => take_out_shared_codes(alloc, report),
+    }
+}
