@@ -49,12 +49,11 @@ try:
 	$(call needs,rt cc)
 	@packaging/try.sh "$$FILE" "$$COMMAND"
 
-# CRATE=.. names the crates whose edits are tried, or edits as CRATE/EDIT, and LIST=.. the lists of wrong lines, or lines as LIST/LINE.
-# With neither, all edits and all wrong lines are tried.
+# CRATE=.. and LIST=.. name lists of tests/bodies/lists whose wrong bodies and lines are tried, or one of them as LIST/NAME. With
+# neither, all are tried.
 edits:
 	$(call needs,rt python3)
-	$(if $(LIST),,@tests/bodies/try_edits.py $(CRATE))
-	$(if $(CRATE),,@tests/bodies/wrong_lines.py $(LIST))
+	@tests/bodies/try_wrong.py $(or $(strip $(CRATE) $(LIST)),bodies lines)
 
 agree: erd
 	$(call needs,python3)

@@ -5,16 +5,24 @@
 #
 # It checks each FILE, and each *.json file that stands in a FOLDER itself. For each one that is not accepted it prints the name,
 # and then the lines of `erd check`, each after two spaces. Of a very long list it prints the beginning. It ends with the highest
-# status of `erd check`: 0 if every file is accepted (erd(1) lists the statuses). ERD names the program, if it is not `erd`, and
-# JOBS says how many files are judged at a time, if not one on each processor. Python's `python -m erd.many` is faster, since it
-# starts no program for each file.
+# status of `erd check`: 0 if every file is accepted (erd(1) lists the statuses), and 3 where a file could not be judged, as one
+# that is no regular file, or what is said of it could not be written. ERD names the program, if it is not `erd`, and JOBS says how
+# many files are judged at a time, if not one on each processor. Python's `python -m erd.many` is faster, since it starts no
+# program for each file.
 set -u
+trap '' PIPE
 erd=${ERD:-erd}
 jobs=${JOBS:-$(getconf _NPROCESSORS_ONLN 2> /dev/null || echo 1)}
 most_bytes=100000
 
 usage() {
     echo 'usage: check-folder.sh [--prefer TYPE] [--] FOLDER|FILE ..' >&2
+    exit 3
+}
+
+# stop WORDS: ends with these words and status 3
+stop() {
+    echo "check-folder.sh: $1" >&2
     exit 3
 }
 
@@ -28,23 +36,42 @@ case ${1-} in
     -?*) usage ;;
 esac
 [ $# -gt 0 ] || usage
+case $jobs in
+    *[!0-9]* | ??????*) stop 'JOBS is a whole number from 1 to 99999' ;;
+esac
+[ "$jobs" -gt 0 ] || stop 'JOBS is a whole number from 1 to 99999'
+command -v "$erd" > /dev/null || stop "there is no $erd"
+# A closed standard output would be taken by the next file that is opened.
+{ true 3>&1; } 2> /dev/null || stop 'write failed'
 
-work=$(mktemp -d) || exit 3
+work=$(mktemp -d) || stop 'no folder for what is found can be made'
 workers=
 trap 'rm -rf "$work"' EXIT
 trap 'kill $workers 2> /dev/null; exit 130' INT TERM HUP
 
 # judge FILE: leaves what `erd check` says of it in $lines, as far as it is shown, and sets $status
 judge() {
+    if [ -e "$1" ] && [ ! -f "$1" ]; then
+        status=3
+        echo 'not a regular file' > "$lines"
+        return
+    fi
+    : > "$lines.status"
     {
         "$erd" check ${prefer:+--prefer "$prefer"} -- "$1" 2>&1
         echo "$?" > "$lines.status"
     } | head -c "$most_bytes" > "$lines"
-    read -r status < "$lines.status"
+    status=$(cat "$lines.status")
     # The program can't write what is cut off, and says so by status 3. Only a refused file has so many lines.
-    if [ "$status" -ne 0 ] && is_cut; then
+    if [ "$status" != 0 ] && is_cut; then
         status=1
     fi
+    # A file that was judged and is not accepted has a line.
+    case $status in
+        [034]) ;;
+        [12]) [ -s "$lines" ] || { echo "erd ended with status $status, and no line" > "$lines"; status=3; } ;;
+        *) echo "erd ended with status ${status:-unknown}" >> "$lines"; status=3 ;;
+    esac
 }
 
 is_cut() {
@@ -102,6 +129,7 @@ if [ $# -eq 0 ]; then
     exit 3
 fi
 
+[ "$jobs" -le $# ] || jobs=$#
 number=0
 while [ "$number" -lt "$jobs" ]; do
     work "$number" "$@" &
@@ -111,15 +139,21 @@ done
 wait
 
 at=0
+worst=0
 for file in "$@"; do
-    [ ! -e "$work/file.$at" ] || cat "$work/file.$at"
+    if [ -e "$work/file.$at" ] && ! cat "$work/file.$at" 2> /dev/null; then
+        stop 'write failed'
+    fi
     at=$((at + 1))
 done
-worst=0
 while [ "$number" -gt 0 ]; do
     number=$((number - 1))
-    status=3
+    status=
     [ ! -e "$work/worst.$number" ] || read -r status < "$work/worst.$number"
+    case $status in
+        [0-4]) ;;
+        *) echo 'check-folder.sh: some files were not judged' >&2; status=3 ;;
+    esac
     [ "$status" -le "$worst" ] || worst=$status
 done
 exit "$worst"

@@ -8,18 +8,24 @@ others; another program may read the first. So two files can mean the same to er
 script needs Python 3 and nothing else. It prints a line for each such name: the file, the place as a JSON Pointer, and how
 often the name is written. It is no part of what is proved.
 
-The exit status is 0 if no name is repeated, 1 if one is, 2 if a file is not JSON, and 3 if one cannot be read.
+Of a long list it prints the beginning, and how many names are left.
+
+The exit status is 0 if no name is repeated, 1 if one is, 2 if a file is not JSON, and 3 if one cannot be read, or a write fails.
 """
 
 from __future__ import annotations
 
 import json
+import os
 import sys
 from dataclasses import dataclass
 from typing import Iterator, List, NoReturn, Optional, Tuple, Union
 
 Step = Union[str, int]
 MOST_NAMES = 1000
+# No further name is listed once the places of those before it have so many characters.
+ENOUGH_TEXT = 2 ** 20
+STANDARD_OUTPUT, STANDARD_ERROR = 1, 2
 
 
 @dataclass(frozen=True)
@@ -33,6 +39,18 @@ class RepeatedName:
     def pointer(self) -> str:
         """The place as a JSON Pointer (RFC 6901)."""
         return ''.join('/' + str(step).replace('~', '~0').replace('/', '~1') for step in self.place)
+
+
+class RepeatedNames(List[RepeatedName]):
+    """The names that are listed, and how many there are."""
+
+    all_names: int = 0
+    """How many names are written more than once in one object."""
+
+    @property
+    def more(self) -> bool:
+        """Whether there are more of them than are listed."""
+        return len(self) < self.all_names
 
 
 class _Object:
@@ -92,12 +110,12 @@ def _no_number(word: str) -> NoReturn:
     raise ValueError(f'{word} is not JSON')
 
 
-def repeated_names(report: Union[bytes, bytearray, memoryview, str], *, most: Optional[int] = MOST_NAMES) -> List[RepeatedName]:
-    """Returns the names that are written more than once in one object, in the order in which their objects end; the first
-    `most` of them, or all if that is None.
+def repeated_names(report: Union[bytes, bytearray, memoryview, str], *, most: Optional[int] = MOST_NAMES) -> RepeatedNames:
+    """Returns the names that are written more than once in one object, in the order in which their objects end: the first `most` of
+    them, and fewer if their places together have more than a megabyte; or all if that is None.
 
-    Raises ValueError if the report is not JSON, or is a text that has no form in UTF-8. It says nothing about the meaning of the report: `erd` reads the last value
-    of such a name.
+    Raises ValueError if the report is not JSON, or is a text that has no form in UTF-8. It says nothing about the meaning of the
+    report: `erd` reads the last value of such a name.
 
     >>> [(name.pointer, name.times) for name in repeated_names('{"a": [{"b": 1, "b": 2}], "c": 3}')]
     [('/a/0/b', 2)]
@@ -110,7 +128,14 @@ def repeated_names(report: Union[bytes, bytearray, memoryview, str], *, most: Op
     except RecursionError:
         raise ValueError('nested too deeply') from None
     _leads_on(root, None, ())
-    return [RepeatedName((*node.place(), name), times) for node, name, times in reader.found[:most]]
+    names = RepeatedNames()
+    names.all_names, length = len(reader.found), 0
+    for node, name, times in reader.found[:most]:
+        if most is not None and length >= ENOUGH_TEXT:
+            break
+        names.append(RepeatedName((*node.place(), name), times))
+        length += sum(len(str(step)) + 1 for step in names[-1].place)
+    return names
 
 
 def _nothing(_: str) -> None:
@@ -123,31 +148,59 @@ def visible(text: str) -> str:
 
 
 def lines(name: str) -> Iterator[str]:
-    """Yields a line for each repeated name of a file."""
+    """Yields a line for each repeated name of a file that is listed, and one that says how many are left."""
     with open(name, 'rb') as file:
         report = file.read()
-    for found in repeated_names(report, most=None):
+    names = repeated_names(report)
+    for found in names:
         yield visible(f'{name}: {found.pointer}: written {found.times} times; erd reads the last value')
+    if names.more:
+        yield visible(f'{name}: and {names.all_names - len(names)} more')
+
+
+def write_line(handle: int, line: str) -> None:
+    """Writes a line whole: a descriptor may take a part of it at a time."""
+    left = f'{line}\n'.encode('utf-8', 'backslashreplace')
+    while left:
+        left = left[os.write(handle, left):]
+
+
+def tell(words: str) -> None:
+    """Writes a line to standard error, as far as it can be written."""
+    try:
+        write_line(STANDARD_ERROR, visible(words))
+    except OSError:
+        pass
+
+
+def status_of(name: str) -> int:
+    """Prints the repeated names of a file, and returns the exit status that it has."""
+    status = 0
+    try:
+        for line in lines(name):
+            status = 1
+            write_line(STANDARD_OUTPUT, line)
+        return status
+    except ValueError:
+        why, status = 'not JSON', 2
+    except MemoryError:
+        why, status = 'no memory', 3
+    except OSError as error:
+        why, status = 'write failed' if status == 1 else str(error.strerror), 3
+    tell(f'{name}: {why}')
+    return status
 
 
 def main(names: List[str]) -> int:
     """Prints the repeated names of the files, and returns the exit status."""
-    if not names or names[0] in ('-h', '--help'):
-        print(__doc__.strip(), file=sys.stdout if names else sys.stderr)
-        return 0 if names else 3
-    status = 0
-    for name in names:
-        try:
-            for line in lines(name):
-                print(line)
-                status = max(status, 1)
-        except OSError as error:
-            print(visible(f'{name}: {error.strerror}'), file=sys.stderr)
-            status = 3
-        except ValueError:
-            print(visible(f'{name}: not JSON'), file=sys.stderr)
-            status = max(status, 2)
-    return status
+    try:
+        if not names or names[0] in ('-h', '--help'):
+            write_line(STANDARD_OUTPUT if names else STANDARD_ERROR, (__doc__ or '').strip())
+            return 0 if names else 3
+        return max([status_of(name) for name in names])
+    except OSError:
+        tell('write failed')
+        return 3
 
 
 if __name__ == '__main__':

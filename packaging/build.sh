@@ -66,6 +66,7 @@ tell() {
 }
 
 mapfile -t crates < <(order)
+packaging/room.sh
 tell
 for i in "${!crates[@]}"; do
     crate=${crates[i]}

@@ -87,11 +87,12 @@ def whole(page, title, body, below=''):
         return html.escape(os.path.relpath(place, page.parent))
 
     head = ' '.join('<a href="%s">%s</a>' % (there(html_of(pathlib.PurePosixPath(name))), words) for name, words in HEAD)
-    return ('<!DOCTYPE html>\n<html lang="en">\n<head>\n<meta charset="utf-8">\n'
+    language = 'es' if page.name.endswith('.es.html') else 'en'
+    return ('<!DOCTYPE html>\n<html lang="%s">\n<head>\n<meta charset="utf-8">\n'
             '<meta name="viewport" content="width=device-width, initial-scale=1">\n<title>%s</title>\n'
             '<link rel="stylesheet" href="%s">\n</head>\n<body>\n<header>%s <a href="%s">Everything here</a>\n'
             '<form action="%s"><label>Search <input name="words" type="search"></label></form></header>\n<main>\n%s\n</main>\n%s</body>\n'
-            '</html>\n') % (html.escape(title), there('style.css'), head, there('contents.html'), there('search.html'), body, below)
+            '</html>\n') % (language, html.escape(title), there('style.css'), head, there('contents.html'), there('search.html'), body, below)
 
 
 class Sections(html.parser.HTMLParser):

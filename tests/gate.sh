@@ -18,7 +18,7 @@ is_beside=yes
 
 # is_proved CRATE: whether `rt ci` says so
 is_proved() {
-    grep -aqE "^rt: $1 (proved$|is kept: )" "$results/001/said"
+    grep -aqE "^rt: $1 (proved$|is kept: )" "$proof/said"
 }
 
 # proved CRATE ..: waits until `rt ci` has proved these crates
@@ -26,7 +26,7 @@ proved() {
     local crate
     [ -n "$is_beside" ] || ended tests/prove.sh
     for crate in "$@"; do
-        until is_proved "$crate" || [ -e "$results/001/status" ] || [ -e "$results/001/lost" ]; do sleep 1; done
+        until is_proved "$crate" || [ -e "$proof/status" ] || [ -e "$proof/lost" ]; do sleep 1; done
         is_proved "$crate" || return
     done
 }
@@ -55,48 +55,58 @@ libraries() {
 edits() {
     local crate steps=()
     for crate in "$@"; do
-        steps+=("proved: $(libraries "$crate")" "tests/bodies/try_edits.py --gate $crate")
+        steps+=("proved: $(libraries "$crate")" "tests/bodies/try_wrong.py --gate $crate")
         tried+=" $crate "
     done
     lane "${steps[@]}"
 }
 
+# tests/forms/other_machines.sh and other_programs.sh make each form anew; the release in this folder takes these, and that in another folder
+# makes them once more.
+export FORMS_ARE_MADE=yes
+
 # Without llvm-profdata, what is handed on is made without a profile, and tests/forms/profiled_program.sh says so.
 packaging/profile/flags.sh > /dev/null 2>&1 || export PROFILE=no
 
-# What `rt ci` has proved, compiled and run is what the scripts run, so nothing older may stand there.
+# What `rt ci` has proved, compiled and run is what the scripts run, and a release takes the forms that are made here, so nothing older may
+# stand there. Some kits take no repository with links either, as the folders of these forms have.
 rm -f "$program" "$tests"
-lane 'tests/prove.sh'
+rm -rf out/portable/{linux,windows,program}-* out/portable/erd.wasm
 
-lane 'python3 tests/pages/definitions.py' 'python3 tests/pages/closures.py' 'python3 tests/pages/gate_times.py' 'python3 tests/pages/facts_and_links.py' \
-    'python3 tests/pages/exists.py' \
-    'python3 tests/pages/documented.py' 'python3 tests/pages/quotes.py' 'tests/pages/commit_message.sh' 'tests/pages/version.sh' 'tests/forms/signed_sums.sh' \
-    'python3 tests/bodies/self_test.py' 'tests/bodies/prove_again.sh' 'python3 tests/bodies/wrong_programs.py' \
-    'python3 packaging/notices.py' 'python3 tests/pages/site.py' 'python3 tests/prepare/steps.py' \
-    'tests/forms/make_try.sh' \
+echo "make test with $(rt version), on $(nproc) processors. What each part says goes to out/gate, and its counts and what failed stand here."
+packaging/room.sh
+[ -n "$is_beside" ] || echo 'notice: what needs a crate waits for the end of the proofs, since less than 12 GB are free or earlier libraries are kept'
+echo 'First come the parts that need no proof: for a minute or two they tell whether the pages, the scripts and the lists fit the code.'
+first 'python3 tests/pages/facts_and_links.py' 'python3 tests/pages/definitions.py' 'python3 tests/pages/closures.py' \
+    'python3 tests/pages/exists.py' 'python3 tests/pages/documented.py' 'python3 tests/pages/quotes.py' 'python3 tests/pages/gate_times.py' \
+    'tests/pages/commit_message.sh' 'tests/pages/version.sh' 'tests/forms/signed_sums.sh' 'python3 packaging/notices.py' \
+    'python3 tests/bodies/self_test.py' 'tests/bodies/the_gate.sh' \
     'conformance/run --in-process reference/erd_reference.py' \
     'conformance/run --differences --in-process reference/erd_reference.py' \
-    'conformance/run --entries --in-process reference/erd_reference.py'
+    'conformance/run --entries --in-process reference/erd_reference.py' 'tests/bodies/try_wrong.py programs' \
+    'python3 tests/pages/site.py' 'tests/forms/make_try.sh'
+first 'python3 tests/prepare/steps.py'
+echo 'Beside them `rt ci` proves the crates from the lowest to the highest, and names each one when it is proved.'
+proof 'tests/prove.sh'
 
 edits erd_check erd_text erd_meaning erd_normal
 edits erd_compare erd_canon erd_program
-for crate in $(sed -n 's|^\([a-z_]*\)/.*|\1|p' tests/edits/gate.txt | sort -u); do
-    [[ $tried == *" $crate "* ]] || missing "tests/edits/gate.txt: the edits of $crate are not tried"
+for crate in $(grep -l '^gate: ' $(grep -lx 'noticed by: a contract' tests/bodies/lists/*.txt) | xargs -n 1 basename -s .txt); do
+    [[ $tried == *" $crate "* ]] || missing "tests/bodies/lists/$crate.txt: the wrong bodies of the gate are not tried"
 done
 
 lane 'proved: erd_canon' 'tests/library/c_library.sh' 'python3 tests/library/lists_agree.py 300' 'tests/fuzz/fuzz.sh' 'program:' 'tests/forms/other_machines.sh' 'tests/forms/other_programs.sh' \
     'tests/forms/language_examples.sh' 'tests/forms/javascript_package.sh' 'tests/forms/python_package.sh' 'tests/page/page.sh' \
-    'python3 tests/bodies/wrong_lines.py --gate' 'tests/forms/program_packages.sh' 'tests/forms/release_files.sh' 'tests/forms/installed_alone.sh'
+    'tests/bodies/try_wrong.py --gate lines' 'tests/forms/program_packages.sh' 'tests/forms/release_files.sh' 'tests/forms/installed_alone.sh'
 
 lane 'program:' 'tests/program/command.sh' 'tests/pages/manual.sh' 'python3 tests/pages/examples.py' 'tests/program/contrib.sh' \
     'python3 tests/program/agrees_with_reference.py 500' 'python3 tests/program/same_meaning.py' \
     'python3 tests/program/agrees_on_preferences.py' 'conformance/run ./erd' 'tests/program/limits.sh' 'tests/program/confined.sh' \
-    'tests/forms/make_install.sh' 'python3 tests/measures/crowding.py' 'ended: tests/library/c_library.sh' \
+    'tests/forms/make_install.sh' 'python3 tests/measures/crowding.py' 'python3 tests/measures/orders.py' 'ended: tests/library/c_library.sh' \
     'tests/forms/profiled_program.sh' 'python3 tests/measures/instructions.py' 'tests/forms/same_bytes.sh' 'tests:' \
     'tests/program/refusals.sh'
 
-follow
 await
 # With the proofs that an earlier run has kept, the first part takes some seconds, and docs/GATE.md says what it takes from nothing.
-! grep -aqE '^rt: [a-z_]+ is kept: ' "$results/001/said" || : > "$results/001/is_cheaper"
+! grep -aqE '^rt: [a-z_]+ is kept: ' "$proof/said" || : > "$proof/is_cheaper"
 sum_up

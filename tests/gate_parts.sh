@@ -3,12 +3,12 @@
 #
 # Each part has a folder below $results, numbered in the order of the table at the end. It has the file `command`; once the part
 # has begun, `said` and `process`; at its end `processor`, `clock` and `status`, or `lost` where what ran it has died. With the file
-# `is_cheaper` its cost is shown, but not kept for tests/pages/gate_times.py.
+# `is_cheaper` its cost is shown, but not kept for tests/pages/gate_times.py. What each part said stays in out/gate.
 results=$(mktemp -d) || exit 1
 began=$SECONDS
 count=0
 told=''
-lanes=()
+proof=''
 
 # end_parts: ends what still runs, where the gate itself is ended
 end_parts() {
@@ -47,8 +47,13 @@ run() {
 }
 
 # lane STEP ..: begins to run parts one after another. A step is the text of a command; or, as `proved: erd_c`, a function of the
-# gate and its words, which waits for something. Where that fails, the parts after it are not run. All lanes give way to the first.
+# gate and its words, which waits for something. Where that fails, the parts after it are not run. It gives way to what `first` runs.
 lane() {
+    gives_way=5 first "$@"
+}
+
+# first STEP ..: the same for parts that give way to none
+first() {
     local step steps=()
     for step in "$@"; do
         if [[ ! $step =~ ^[a-z]+: ]]; then
@@ -59,7 +64,7 @@ lane() {
     done
     (
         trap - EXIT
-        [ ${#lanes[@]} -eq 0 ] || renice -n 5 -p "$BASHPID" > /dev/null 2>&1
+        renice -n "${gives_way:-0}" -p "$BASHPID" > /dev/null 2>&1
         for step in "${steps[@]}"; do
             if [ -d "$step" ]; then
                 run "$step"
@@ -69,21 +74,20 @@ lane() {
             fi
         done
     ) &
-    lanes+=($!)
     for step in "${steps[@]}"; do
         [ ! -d "$step" ] || echo $! > "$step/lane"
     done
 }
 
-# follow: shows what the first part says while it says it
-follow() {
-    touch "$results/001/said"
-    tail -n +1 -f --pid="${lanes[0]}" "$results/001/said" &
-    wait $!
-    : > "$results/001/shown"
+# proof COMMAND: begins to run the part that proves, as $proof. What it says is shown while it says it
+proof() {
+    first "$1"
+    proof=$room
+    touch "$proof/said" "$proof/shown"
+    tail -n +1 -f --pid="$(cat "$proof/lane")" "$proof/said" &
 }
 
-# await: waits until all lanes have ended, and shows what a part has said once it has ended
+# await: waits until all lanes have ended, and shows of each part, once it has ended, its counts and what failed
 await() {
     local running=yes folder
     while [ -n "$running" ]; do
@@ -92,11 +96,31 @@ await() {
             if [ ! -e "$folder/status" ]; then
                 grep -qxF "$(cat "$folder/lane")" <<< "$running" || : > "$folder/lost"
             elif [ ! -e "$folder/shown" ]; then
-                cat "$folder/said"
+                show "$folder"
                 : > "$folder/shown"
             fi
         done
         [ -z "$running" ] || sleep 1
+    done
+}
+
+# show FOLDER: when a part ended, its last line, and what failed and was skipped
+show() {
+    echo "$(clock $((SECONDS - began)))  $(cat "$1/command"): $(tail -n 1 "$1/said")"
+    notable "$1"
+}
+
+# notable FOLDER: the lines of a part that say what failed, and what was skipped
+notable() {
+    grep -aE '^(skipped|again:|notice:) |FAILED|NOT REFUSED|NOT PROVED|BAD EDIT' "$1/said" | head -c 2000 | sed "s|^|$(cat "$1/command"): |"
+}
+
+# keep: leaves in out/gate what each part said
+keep() {
+    local folder
+    rm -rf out/gate && mkdir -p out/gate
+    for folder in "$results"/[0-9]*/; do
+        [ ! -e "$folder/said" ] || cp "$folder/said" "out/gate/$(tr -cs 'A-Za-z0-9._\n-' _ < "$folder/command")"
     done
 }
 
@@ -121,7 +145,7 @@ add() {
     [ -e "$1/status" ] || { missing "$command: was lost"; return; }
     status=$(cat "$1/status")
     last=$(grep -aE '^[0-9]+ passed, [0-9]+ failed$' "$1/said" | tail -n 1)
-    lines=$(grep -aE '^(skipped|again:) |FAILED|NOT REFUSED|NOT PROVED|BAD EDIT' "$1/said" | head -c 2000 | sed "s|^|$command: |")
+    lines=$(notable "$1")
     told+=${lines:+$lines$'\n'}
     if [[ $last =~ ^([0-9]+)\ passed,\ ([0-9]+)\ failed$ ]]; then
         passed=$((passed + BASH_REMATCH[1]))
@@ -156,7 +180,8 @@ sum_up() {
         cost "$(spent "$folder/processor")" "$(cat "$folder/clock")" "$(cat "$folder/command")"
         [ -e "$folder/is_cheaper" ] || printf '%s\t%s\n' "$(spent "$folder/processor")" "$(cat "$folder/command")" >> "$results/costs"
     done
-    mkdir -p out && cp "$results/costs" out/gate-costs
+    keep
+    cp "$results/costs" out/gate-costs
     cost "$(cat "$results"/[0-9]*/processor 2> /dev/null | spent -)" $((SECONDS - began)) 'all parts'
     counts
 }

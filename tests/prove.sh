@@ -1,7 +1,7 @@
 #!/usr/bin/env bash
 # Proves every crate, and runs the tests: `rt ci`. Rarely the prover loses a file of its own while other work goes on: it says that
-# a crate is proved, but that it could not write the statements. Where this is all that is wrong, `rt ci` runs once more; what it
-# has proved is kept. A line that begins with `again` says so. Any other failure stands.
+# a crate is proved, but that it could not write the statements. Where this is all that is wrong, `rt ci` runs once more; a kit
+# that keeps what is proved takes it. A line that begins with `again` says so. Any other failure stands.
 set -u
 cd "$(dirname "$0")/.." || exit 1
 said=$(mktemp) || exit 1

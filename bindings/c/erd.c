@@ -35,7 +35,7 @@ piece_of_report erd_tell_check_piece, erd_tell_canonical_piece, erd_tell_check_d
 piece_of_pair erd_tell_compare_piece, erd_tell_differences, erd_tell_compare_data_piece, erd_tell_differences_data;
 struct told erd_tell_command_line(const uint8_t *words, size_t size, uint8_t *room, size_t room_size);
 
-enum { MOST_BYTES = 67108864, ROOM_FOR_LINES = 4096, ROOM_FOR_PIECE = 1048576 };
+enum { MOST_BYTES = 67108864, ROOM_FOR_LINES = 4096, ROOM_FOR_PIECE = 1048576, ROOM_FOR_LIST = 16777216 };
 
 struct bytes {
     const uint8_t *at;
@@ -276,6 +276,58 @@ enum erd_outcome erd_differences_data(const void *left, size_t left_size, const 
                                       const char *prefer, struct erd_piece *piece, char **text, size_t *length) {
     struct question it = question_of(DIFFERENCES_DATA, bytes_of(left, left_size), bytes_of(right, right_size), prefer);
     return call_for_piece(&it, 0, piece, text, length);
+}
+
+#include "list.h"
+
+struct erd_list *erd_open(enum erd_listing listing, const void *left, size_t left_size, const void *right, size_t right_size,
+                          const char *prefer, size_t room) {
+    static const enum call calls[] = {CHECK_PIECE,      CANONICAL_PIECE,      COMPARE_PIECE,      DIFFERENCES,
+                                      CHECK_DATA_PIECE, CANONICAL_DATA_PIECE, COMPARE_DATA_PIECE, DIFFERENCES_DATA};
+    bool is_of_pair = listing % 4 >= ERD_LIST_COMPARE;
+    struct erd_list *list = (unsigned)listing > ERD_LIST_DIFFERENCES_DATA ? NULL : calloc(1, sizeof *list);
+    if (list == NULL)
+        return NULL;
+    list->it = question_of(calls[listing], bytes_of(left, left_size),
+                           is_of_pair ? bytes_of(right, right_size) : bytes_of(NULL, 0), prefer);
+    list->room = room == 0 ? ROOM_FOR_LIST : room;
+    list->is_data = listing >= ERD_LIST_CHECK_DATA;
+    return list;
+}
+
+enum erd_outcome erd_next(struct erd_list *list, struct erd_piece *piece, char **text, size_t *length) {
+    struct erd_piece whole = {0, SIZE_MAX, SIZE_MAX, 0, 0};
+    struct erd_piece *wanted = piece != NULL ? piece : &whole;
+    size_t stop, size = 0;
+    set_to_none(text, length);
+    wanted->first = list->next;
+    wanted->told = wanted->all = 0;
+    if (!list->is_over && list->next == list->kept && keep_entries(list, wanted) > ERD_NOT_JSON)
+        return list->outcome;
+    wanted->all = list->all;
+    if (list->is_over)
+        return list->outcome;
+    size_t told = told_in(list, wanted, &stop);
+    char *found = text_up_to(list, stop, &size);
+    if (found == NULL)
+        return ERD_NO_MEMORY;
+    if (text != NULL)
+        *text = found;
+    else
+        free(found);
+    if (length != NULL)
+        *length = size;
+    wanted->told = told;
+    list->next += told;
+    list->at = stop + (list->is_data && told > 0);
+    list->is_over = list->next == list->all;
+    return list->outcome;
+}
+
+void erd_close(struct erd_list *list) {
+    if (list != NULL)
+        free(list->text);
+    free(list);
 }
 
 enum erd_line erd_command_line(const void *words, size_t size, char **text, size_t *length) {

@@ -1,9 +1,9 @@
 /* erd: canonical form, check and comparison of pre-election ballot definitions.
  *
  * Each call but erd_command_line takes the bytes of one report, or of two, and does what a command of `erd` does. The manual page
- * erd(1) describes the commands, their texts and the preferred type of identifier. A call keeps no state: its result does
- * not depend on earlier calls, and several threads may call at once. It reads only the bytes that it is given, and never
- * ends the program. */
+ * erd(1) describes the commands, their texts and the preferred type of identifier. A call keeps no state but that of the list
+ * that it is given: its result does not depend on other calls, and several threads may call at once, each with lists of its
+ * own. It reads only the bytes that it is given, and never ends the program. */
 #ifndef ERD_H
 #define ERD_H
 
@@ -134,11 +134,45 @@ enum erd_outcome erd_compare_data_piece(const void *left, size_t left_size, cons
  * the same. If a report is refused, the text is that of erd_compare_data_piece.
  *
  * An object for the member `ContestSelection` of a contest has a member `selections` too, with what differs inside. A name of a
- * selection has its keys in full, so this can be as long as the square of the reports. It takes the bytes of all names of both
+ * selection has its keys in full, so this can grow with the square of their sizes. It takes the bytes of all names of both
  * contests, and those of each difference inside. Where these, with those of the objects before them in the piece, are more than
  * `enough_bytes`, that object and all behind it in the piece have no such member. */
 enum erd_outcome erd_differences_data(const void *left, size_t left_size, const void *right, size_t right_size,
                                       const char *prefer, struct erd_piece *piece, char **text, size_t *length);
+
+/* What a list has: the pieces that the call of this name answers with, one behind the other. The numbers begin with 0. */
+enum erd_listing {
+    ERD_LIST_CHECK,            /* erd_check_piece */
+    ERD_LIST_CANONICAL,        /* erd_canonical_piece */
+    ERD_LIST_COMPARE,          /* erd_compare_piece */
+    ERD_LIST_DIFFERENCES,      /* erd_differences */
+    ERD_LIST_CHECK_DATA,       /* erd_check_data_piece */
+    ERD_LIST_CANONICAL_DATA,   /* erd_canonical_data_piece */
+    ERD_LIST_COMPARE_DATA,     /* erd_compare_data_piece */
+    ERD_LIST_DIFFERENCES_DATA  /* erd_differences_data */
+};
+
+/* A list that erd_open opens, erd_next hands out piece by piece, and erd_close frees. A call for a piece judges its reports each
+ * time. A list keeps what was judged: up to `room` bytes of its text and one entry more. So it is judged once for each
+ * `room` bytes, and twice where these are more than a mebibyte and than the reports have. */
+struct erd_list;
+
+/* Opens a list. It is judged when its first piece is taken. `left` is the report, or the left one of two; of one report `right` is
+ * not read. If `room` is 0, it is 16 mebibytes. The bytes of the reports and of `prefer` must stay as they are until the
+ * list is closed. The result is null if out of memory, and for a number that no listing has. */
+struct erd_list *erd_open(enum erd_listing listing, const void *left, size_t left_size, const void *right, size_t right_size,
+                          const char *prefer, size_t room);
+
+/* Hands out the next piece of a list: of the entries that are kept, those that come first, until they are `most` or have
+ * `enough_bytes` bytes; all of them if `piece` is null. It sets `first` to how many entries came before, and `told` and `all`
+ * as the call for a piece does. The text is the one that this call answers with; but of differences as data, an object has its
+ * member `selections` as it has it in a piece of `room` bytes. An answer that is no list is the only piece.
+ *
+ * Behind the last piece `*text` is null and the outcome stays. If out of memory, the same piece comes with the next call. */
+enum erd_outcome erd_next(struct erd_list *list, struct erd_piece *piece, char **text, size_t *length);
+
+/* Closes a list, and frees what it keeps, but no text that was handed out. Null is allowed, and does nothing. */
+void erd_close(struct erd_list *list);
 
 /* What the words of a command line are: with ERD_LINE_HELP and ERD_LINE_WRONG, the exit status of the program. */
 enum erd_line {

@@ -9,7 +9,7 @@ export interface Preference {
 export interface Options extends Preference {
     /**
      * The most faults that are listed: 1,000 if it is left out, and all if it is null. They are fewer if their texts together have
-     * more than a megabyte, since the list of all faults can be as long as the square of the report.
+     * more than a megabyte, since the list of all faults can grow with the square of the report's size.
      */
     mostFaults?: number | null;
 }
@@ -50,7 +50,7 @@ export interface Difference {
      * What differs inside the selections of a contest, in rising order of names and then of members, if the member is
      * `ContestSelection`. Only `differences` tells it. It is left out too where the names of selections and of what differs,
      * from the first difference of the list on, have more than a megabyte together. If all differences are asked for, this holds
-     * for each piece of the list.
+     * for as much of the list as is kept at a time: at least 4 megabytes.
      */
     selections?: SelectionDifference[];
     /** The line that the program writes for the difference, without its line feed. */
@@ -75,6 +75,8 @@ export type SelectionName = [type: string, keys: Key[], isWriteIn: boolean, sequ
 /** The result of `check`. */
 export class Checked {
     readonly outcome: 'accepted' | 'refused' | 'not JSON';
+    /** The exit status of `erd check`: 0 if accepted, 1 if refused, 2 if the bytes are not JSON. */
+    readonly status: 0 | 1 | 2;
     readonly accepted: boolean;
     /** The faults in the order of the program, from the first one on. Empty if the report is accepted or is not JSON. */
     readonly faults: Fault[];
@@ -97,6 +99,8 @@ export class Canonical extends Checked {
 /** The result of `compare`. */
 export class Compared {
     readonly outcome: 'same' | 'different' | 'refused' | 'not JSON';
+    /** The exit status of `erd compare`: 0 if same, 2 if a report is not JSON, otherwise 1. */
+    readonly status: 0 | 1 | 2;
     readonly same: boolean;
     /** The first difference, if the outcome is `different`. */
     readonly difference: Difference | null;
@@ -115,6 +119,8 @@ export class Compared {
 /** The result of `differences`. */
 export class Differences {
     readonly outcome: 'same' | 'different' | 'refused' | 'not JSON';
+    /** The exit status of `erd compare`: 0 if same, 2 if a report is not JSON, otherwise 1. */
+    readonly status: 0 | 1 | 2;
     readonly same: boolean;
     /** The differences in rising order by part, key and member, from the first one on. */
     readonly differences: Difference[];
@@ -166,13 +172,16 @@ export class Erd {
      * What a command writes, piece by piece: the exit status of the command, and the next bytes that it writes. No list of faults is
      * in memory as a whole.
      */
-    written(command: Command, reports: Report[], options?: Preference): Generator<{ outcome: number; bytes: Uint8Array }>;
+    written(command: Command, reports: Report[], options?: Preference): Generator<{ status: number; bytes: Uint8Array }>;
     /**
      * The same, with what `take` returns in place of the bytes. The bytes that `take` is handed stand in the memory of the module;
      * they are others when it has returned. So a caller that only hands them on needs no copy.
      */
-    written<T>(command: Command, reports: Report[], options: Preference | undefined, take: (bytes: Uint8Array, outcome: number) => T):
-        Generator<{ outcome: number; bytes: T }>;
+    written<T>(command: Command, reports: Report[], options: Preference | undefined, take: (bytes: Uint8Array, status: number) => T):
+        Generator<{ status: number; bytes: T }>;
+    /** What `check`, `compare` or `differences` answers as JSON: the exit status, and what `take` returns of the bytes of the text. */
+    writtenAsJson<T>(command: 'check' | 'compare' | 'differences', reports: Report[], options: Preference | undefined,
+        take: (bytes: Uint8Array, status: number) => T): { status: number; bytes: T };
     /**
      * What the words of a command line ask for, as the program parses them. Help and wrong words have the exit status of the program,
      * and the bytes that it writes.
@@ -201,13 +210,21 @@ export interface RepeatedName {
     times: number;
 }
 
+/** The names that are listed, and how many there are. */
+export interface RepeatedNames extends Array<RepeatedName> {
+    readonly allNames: number;
+    /** Whether there are more names than are listed. */
+    readonly more: boolean;
+}
+
 /**
  * The names that are written more than once in one object, in the order in which their objects end. `erd` reads the last value of
  * such a name; another program may read the first. This list is not part of what is proved.
- * @param options `most`: how many are listed; 1,000 if it is left out, and all if it is null
+ * @param options `most`: how many are listed, and fewer if their places together have more than a megabyte; 1,000 if it is left out,
+ * and all if it is null
  * @throws {SyntaxError} if the report is not JSON
  */
-export function repeatedNames(report: Report, options?: { most?: number | null }): RepeatedName[];
+export function repeatedNames(report: Report, options?: { most?: number | null }): RepeatedNames;
 
 /** How many faults, or differences, are listed if the options name no other number: 1,000. */
 export const MOST_LISTED: number;

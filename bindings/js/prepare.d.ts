@@ -37,9 +37,15 @@ export class Preparation {
     prepare(names: Iterable<string>, options?: { tellsOthers?: boolean }): { bytes: Uint8Array; steps: Done[] };
 }
 
-/** What a step did, as plain data: each place as a JSON Pointer, with the compact text of the value before and after. */
+/**
+ * What a step did, as plain data: each place as a JSON Pointer, with the compact text of the value before and after. Of the changes, and
+ * of what is left, these are the first thousand, and fewer if they have more than a megabyte together: `count` and `left_count` are how
+ * many there are, and `more` is whether some are not told.
+ */
 export function told(done: Done): {
     step: string; chosen: boolean; count: number;
     changes: { pointer: string; before: string | null; after: string | null }[];
+    left_count: number;
     left: { pointer: string; why: string }[];
+    more: boolean;
 };

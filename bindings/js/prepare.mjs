@@ -1,31 +1,10 @@
 #!/usr/bin/env node
-// The command `erd-prepare`: writes a copy of a report on which the chosen steps were done, and says what each did.
-import { NotJson } from './lib/scanner.mjs';
-import { Stop, write } from './lib/files.mjs';
-import { PrepareUsage, run } from './lib/prepare/command.mjs';
-
-const STANDARD_ERROR = 2;
-
-function ended(error) {
-    if (error instanceof PrepareUsage || error instanceof Stop) {
-        return { words: error.message, status: 3 };
-    }
-    if (error instanceof NotJson) {
-        return { words: 'not JSON', status: 2 };
-    }
-    throw error;
-}
-
+// The command `erd-prepare`. Node itself ends with 1 where a module can't be loaded, which would say that a file was refused: so both are loaded
+// where that is caught.
 try {
-    process.exitCode = run(process.argv.slice(2));
+    const [{ statusOf }, { run }] = await Promise.all([import('./lib/ending.mjs'), import('./lib/prepare/command.mjs')]);
+    process.exitCode = await statusOf(() => run(process.argv.slice(2)));
 } catch (error) {
-    const { words, status } = ended(error);
-    process.exitCode = status;
-    try {
-        write(STANDARD_ERROR, `${words}\n`);
-    } catch (failed) {
-        if (!(failed instanceof Stop)) {
-            throw failed;
-        }
-    }
+    process.exitCode = 3;
+    console.error(`erd-prepare failed: ${error.name}: the package is not whole, or Node is older than 18`);
 }

@@ -13,6 +13,7 @@ NOTE = re.compile(r"note: (src/\S+):(\d+):\d+: it is not proved that (.*)")
 LINE = re.compile(r"fn \w+::(\S+): (proved|no proof|not proved|could not tell)")
 ERROR = re.compile(r"^(?:\./)?proofs/(\S+)/(\w+)\.antt:\d+:\d+: error: (.*(?:\n  .*)?)", re.M)
 NAMES = re.compile(r"has no field|has no `|that can be named|is not in scope")
+PAIR = re.compile(r"`([^`]*)` \(expected\) and `([^`]*)`\s+\(found\)")
 FOLLOWS = re.compile(r"(was|were) not admitted")
 READS = ("src", "specs", "proofs")
 
@@ -31,7 +32,7 @@ class Checked:
             self.goals[self.as_checked(at_line(sources, note[1], int(note[2])))].append(note[3])
         for path, file, error in ERROR.findall(said):
             if not FOLLOWS.search(error):
-                is_misfit = file == "Invariants" or NAMES.search(error)
+                is_misfit = file == "Invariants" or NAMES.search(error) or is_renumbered(error)
                 (self.misfits if is_misfit else self.goals)[path.replace("/", "::")].append(error.replace("\n ", ""))
 
     def as_checked(self, function):
@@ -57,6 +58,13 @@ class Checked:
         if goals and function in self.lines:
             return True, f"{function} is refused, without a proof that {goals[0]}"
         return False, ""
+
+
+def is_renumbered(error):
+    """Returns whether the two types of an error differ only in the numbers of names, as `push` and `push-2`: a call more or less gives
+    what the proof cites another name, and the contract says nothing against it."""
+    pair = PAIR.search(error)
+    return bool(pair) and pair[1] != pair[2] and re.sub(r"-\d+\b", "", pair[1]) == re.sub(r"-\d+\b", "", pair[2])
 
 
 def at_line(sources, path, number):

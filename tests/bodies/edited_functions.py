@@ -1,10 +1,7 @@
-"""The edits of tests/edits: what they change, and in which functions.
-
-An edit is a file with a line `file: src/a.rt` and then pairs of lines `old: TEXT` and `new: TEXT`. Each old text stands in that
-file exactly once, where the pairs before it were applied. A line `fn: module::name` names the function whose contract has to
-refuse the edit, where what changes stands in no function, or in one that a check calls by another module.
-"""
+"""Wrong bodies: in which functions they stand, and which other functions of the crate can be spared beside them."""
 import re
+
+from wrong_lists import BadList
 
 # Types between signs, which may have such types again.
 TYPES = r"<(?:[^<>]|<(?:[^<>]|<(?:[^<>]|<[^<>]*>)*>)*>)*>"
@@ -14,41 +11,18 @@ FUNCTION = re.compile(r'(    )?(?:pub(?:\(\w+\))? )?(?:unsafe )?(?:extern "C" )?
 BODY = re.compile(r"^(?: *\{|(?: {4})?\S.* \{|.*;)$", re.M)
 
 
-class BadEdit(Exception):
-    """An edit that can't be applied, with the reason."""
-
-
-def applied(text, read):
+def applied(edit, read):
     """Returns the files that the edit changes, as path to text, the functions whose contracts have to refuse it, and those that it
-    changes. `read` gives the text of a path."""
-    path, old, texts, functions, named = None, None, {}, [], []
-    for line in text.splitlines():
-        key, _, value = line.partition(":")
-        value = value.removeprefix(" ")
-        if key == "file":
-            path = value.strip()
-        elif key == "fn":
-            named.append(value.strip())
-        elif key == "old":
-            old = value
-        elif key == "new":
-            whole = texts.get(path) or read(path)
-            at = place_of(old, path, whole)
-            functions.append(function_at(path, whole, at))
-            texts[path] = whole.replace(old, value)
-    if not texts:
-        raise BadEdit("it has no pair of lines 'old:' and 'new:'")
+    changes. Each old text stands in its file once, where the pairs before it were applied. `read` gives the text of a path."""
+    texts, functions = {}, []
+    for path, old, new in edit.changes:
+        whole = texts.get(path) or read(path)
+        if whole.count(old) != 1:
+            raise BadList(f"an old text is in {path} {whole.count(old)} times, and not once")
+        functions.append(function_at(path, whole, whole.index(old) + len(old.rstrip())))
+        texts[path] = whole.replace(old, new)
     changed = list(dict.fromkeys(it for it in functions if it))
-    return texts, list(dict.fromkeys(named)) or changed, changed
-
-
-def place_of(old, path, whole):
-    """Returns where the text ends in the file, if it stands there once."""
-    if not old:
-        raise BadEdit("a 'new:' line stands before any 'old:' line")
-    if whole.count(old) != 1:
-        raise BadEdit(f"an 'old:' text is in {path} {whole.count(old)} times, and not once")
-    return whole.index(old) + len(old.rstrip())
+    return texts, list(dict.fromkeys(edit.functions)) or changed, changed
 
 
 def module_of(path):

@@ -1,12 +1,18 @@
-"""Tries what tests/bodies/try_edits.py makes of an edit and of what a check says, without the prover, and what
-tests/bodies/wrong_lines.py makes of a list and of what a script says. It also holds that each wrong body and each wrong line can be
-put in. One line a case that fails, and at the end the counts."""
+"""Tries what the runner makes of a wrong body and of what a check says, without the prover, and of a list and of what a script says. It
+also holds that all that is wrong can be put in, and stands in a list. One line a case that fails, and at the end the counts."""
 import sys
 
-import check_of_edits
-import edited_functions
-import try_edits
-import wrong_lines
+sys.dont_write_bytecode = True
+import by_scripts  # noqa: E402
+import by_suite  # noqa: E402
+import check_of_edits  # noqa: E402
+import edited_functions  # noqa: E402
+import join  # noqa: E402
+import wrong_lists  # noqa: E402
+from wrong_lists import TOP, BadList, Wrong  # noqa: E402
+
+sys.path.append(str(TOP / 'tests' / 'shared'))
+from cases import tell_cases  # noqa: E402
 
 SOURCE = """//! A file.
 use std::fmt;
@@ -87,6 +93,7 @@ METHOD = "fn some::outer::Outer::size: no proof: expected answers in ./proofs/ou
 METHOD_GOAL = GOAL.replace(":6:1", ":33:5")
 NAME = "./proofs/a/b/counts/Answers.antt:7:15: error: `returns`: record `Lts.After-len`\n  has no field `len`"
 TYPE = "./proofs/a/b/counts/Answers.antt:7:15: error: `returns`: as printed, the two types first differ"
+NUMBER = "./proofs/a/b/counts/Answers.antt:7:15: error: `returns`: the two types are `f c.push.x` (expected) and `f c.push-2.x`\n  (found)"
 INVARIANT = "./proofs/a/b/counts/Invariants.antt:7:15: error: `invariant-loop-at`: as printed, the two types first differ"
 
 
@@ -101,10 +108,10 @@ def judged(*lines, function="a::b::counts"):
     return "yes" if is_refused else "no" if why else "unseen"
 
 
-def applied(edit):
+def applied(text, place="file: src/a/b.rt\n"):
     try:
-        return edited_functions.applied(edit, lambda path: SOURCE)[1]
-    except edited_functions.BadEdit:
+        return edited_functions.applied(wrong_lists.wrong_of(f"name: a\n{place}{text}"), lambda path: SOURCE)[1]
+    except BadList:
         return "bad"
 
 
@@ -118,51 +125,60 @@ BESIDE = (
     "fn two() -> Result<u8, AllocError>\n{\n    three()\n}\n"
 )
 
-# A wrong line, and the cases that three of them break.
+# Something wrong, and the cases that three wrong lines break.
 BLOCK = r"""name: a_name
 case: the case
 batch: 2
-gate: yes
+gate: a reason
+fn: one::two
+each WORD: A:B C
 file: a/b.sh
 old: one\ntwo \\n
 new:"""
 BROKEN = {"one": {"a", "b"}, "two": {"b", "c"}, "three": {"b"}}
 
 
-def line():
-    found = wrong_lines.line_of(BLOCK)
-    return found.name, found.case, found.batch, found.in_gate, found.changes
+def block():
+    found = wrong_lists.wrong_of(BLOCK)
+    return found.name, found.case, found.batch, found.gate, found.functions, found.each, found.changes
 
 
 def batches(*names):
-    lines = [wrong_lines.Line(name, "VERSION", []) for name in names]
-    text = "".join(f"name: {name}\nfile: a\n" for name in names)
-    return wrong_lines.with_batches(text, lines, BROKEN).replace("file: a\n", "").split("\n")[:-1]
+    wanted = wrong_lists.List("some", "a command", None, wrongs=[Wrong(name, []) for name in names])
+    text = "list: other\nname: one\n\nlist: some\n" + "".join(f"name: {name}\n" for name in names)
+    return by_scripts.with_batches(text, wanted, BROKEN).split("\n")[4:-1]
 
 
 def misfit(*news):
-    old = wrong_lines.texts_with([wrong_lines.Line("none", "VERSION", [])])["VERSION"]
-    return wrong_lines.misfit([wrong_lines.Line("a", "VERSION", [(old, new)]) for new in news])[:2]
+    return wrong_lists.misfit([Wrong("a", [("VERSION", "old", new)]) for new in news], lambda file: "an old text")[:2]
 
 
 def lists_that_do_not_fit():
-    """Batches whose lines can't be put in together, by their lists."""
-    found = [wrong_lines.list_of(path) for path in sorted(wrong_lines.LISTS.glob("*.txt"))]
-    return [f"{one.name}/{why}" for one in found for why in map(wrong_lines.misfit, wrong_lines.batches_of(one.lines)) if why]
+    """What can't be put in, or a batch of it, by its list; and wrong bodies that change no function."""
+    for section in wrong_lists.lists():
+        if section.kind == 'bodies':
+            for wrong in section.wrongs:
+                try:
+                    functions = edited_functions.applied(wrong, lambda file, of=section.name: wrong_lists.of_repository(f'crates/{of}/{file}'))[1]
+                    why = '' if functions else 'no function'
+                except (BadList, OSError) as error:
+                    why = error
+                if why:
+                    yield f'{section.name}/{wrong.name}: {why}'
+        else:
+            wrongs = section.wrongs if section.kind == 'lines' else list(by_suite.programs(section.wrongs))
+            yield from (f'{section.name}: {why}' for why in map(wrong_lists.misfit, wrong_lists.batches_of(wrongs)) if why)
 
 
-def edits_that_do_not_fit():
-    """Wrong bodies that can't be put in, or that change no function."""
-    found = []
-    for crate, files in try_edits.chosen(False, ()).items():
-        for file in files:
-            try:
-                functions = edited_functions.applied(
-                    try_edits.text_of(file), lambda path, at=crate: try_edits.text_of(f"{try_edits.TOP}/crates/{at}/{path}"))[1]
-                found += [] if functions else [f"{crate}/{try_edits.name_of(file)}: no function"]
-            except (edited_functions.BadEdit, OSError) as error:
-                found.append(f"{crate}/{try_edits.name_of(file)}: {error}")
-    return found
+def earlier_forms():
+    """What stands in no list yet."""
+    return [str(path.relative_to(TOP)) for path in (join.EDITS, join.LINES, join.PROGRAMS) if path.exists()]
+
+
+def missing_cases():
+    """Programs that no case is known to catch, and cases of none."""
+    programs = {program.name for section in wrong_lists.lists() if section.kind == 'programs' for program in by_suite.programs(section.wrongs)}
+    return sorted(programs ^ set(by_suite.caught_before()))
 
 
 CASES = [
@@ -178,11 +194,12 @@ CASES = [
     ("a cycle", lambda: edited_functions.cycle_of(SOURCE, "a::b::", "a::b::walk"), "a::b::+walk"),
     ("no cycle", lambda: edited_functions.cycle_of(SOURCE, "a::b::", "a::b::counts"), "a::b::counts"),
     ("the root of a crate", lambda: edited_functions.module_of("src/lib.rt"), ""),
-    ("a pair", lambda: applied("file: src/a/b.rt\nold:     text.len()\nnew:     0"), ["a::b::counts"]),
-    ("a named function", lambda: applied("file: src/a/b.rt\nfn: a::c\nold: use std::fmt;\nnew: use std::cmp;"), ["a::c"]),
-    ("a text that stands twice", lambda: applied("file: src/a/b.rt\nold: text\nnew: word"), "bad"),
-    ("a text that stands nowhere", lambda: applied("file: src/a/b.rt\nold: nothing\nnew: word"), "bad"),
-    ("no pair", lambda: applied("file: src/a/b.rt"), "bad"),
+    ("a pair", lambda: applied("old:     text.len()\nnew:     0"), ["a::b::counts"]),
+    ("a named function", lambda: applied("fn: a::c\nold: use std::fmt;\nnew: use std::cmp;"), ["a::c"]),
+    ("a text that stands twice", lambda: applied("old: text\nnew: word"), "bad"),
+    ("a text that stands nowhere", lambda: applied("old: nothing\nnew: word"), "bad"),
+    ("no pair", lambda: applied(""), "bad"),
+    ("no file", lambda: applied("old:     text.len()\nnew:     0", ""), "bad"),
     ("a spared function", lambda: spared()[1], ["a::b::copied"]),
     ("its body", lambda: spared()[0], SOURCE.replace("String::from_str(alloc, text)", "Err(AllocError)")),
     ("a changed function is not spared", lambda: spared("a::b::copied"), (SOURCE, [])),
@@ -195,35 +212,28 @@ CASES = [
     ("nothing", lambda: judged("only=1 proved=0"), "unseen"),
     ("a goal of another function", lambda: judged(CALLS, GOAL.replace(":6:1", ":16:5")), "unseen"),
     ("a method outside its type's module", lambda: judged(METHOD, METHOD_GOAL, function="outer::Outer::size"), "yes"),
-    ("a wrong line", line, ("a_name", "the case", 2, True, [("one\ntwo \\n", "")])),
-    ("a case that failed", lambda: wrong_lines.is_of_case("FAILED  Chromium: a: b, c: 'x'", "a: b, c"), True),
-    ("a case of pytest", lambda: wrong_lines.is_of_case("FAILED tests/a.py::b[c-d] - assert 1 == 2", "tests/a.py::b[c-d]"), True),
-    ("another case", lambda: wrong_lines.is_of_case("FAILED  a: b, cd: x", "a: b, c"), False),
-    ("any case", lambda: wrong_lines.is_of_case("FAILED  a: x", ""), True),
-    ("what a line breaks", lambda: wrong_lines.name_of("FAILED  Firefox: a, b: {'x': 1}", ["a", "a, b"]), "a, b"),
-    ("what it breaks where no case is known", lambda: wrong_lines.name_of("FAILED  a: b: 'x' in place of 'y'", []), "a: b"),
+    ("something wrong", block, ("a_name", "the case", 2, "a reason", ["one::two"], {"WORD": ["A:B", "C"]}, [("a/b.sh", "one\ntwo \\n", "")])),
+    ("a text that is written and read", lambda: wrong_lists.unescaped(wrong_lists.escaped("a\n\\n\\")), "a\n\\n\\"),
+    ("a case that failed", lambda: by_scripts.is_of_case("FAILED  Chromium: a: b, c: 'x'", "a: b, c"), True),
+    ("a case of pytest", lambda: by_scripts.is_of_case("FAILED tests/a.py::b[c-d] - assert 1 == 2", "tests/a.py::b[c-d]"), True),
+    ("another case", lambda: by_scripts.is_of_case("FAILED  a: b, cd: x", "a: b, c"), False),
+    ("any case", lambda: by_scripts.is_of_case("FAILED  a: x", ""), True),
+    ("what a line breaks", lambda: by_scripts.name_of("FAILED  Firefox: a, b: {'x': 1}", ["a", "a, b"]), "a, b"),
+    ("what it breaks where no case is known", lambda: by_scripts.name_of("FAILED  a: b: 'x' in place of 'y'", []), "a: b"),
     ("two that are told apart", lambda: batches("one", "two"), ["name: one", "case: a", "batch: 1", "name: two", "case: c", "batch: 1"]),
     ("two that are not", lambda: batches("one", "three"), ["name: one", "case: a", "batch: 1", "name: three", "case: b", "batch: 2"]),
     ("a line that fits", lambda: misfit("0"), ""),
     ("two lines on one text", lambda: misfit("0", "1"), "a:"),
-    ("each list fits", lists_that_do_not_fit, []),
-    ("each wrong body fits", edits_that_do_not_fit, []),
+    ("each list fits", lambda: list(lists_that_do_not_fit()), []),
+    ("each list is in tests/bodies/lists: python3 tests/bodies/join.py", earlier_forms, []),
+    ("each program has its case", missing_cases, []),
     ("a proof", lambda: judged("fn some::a::b::counts: proved"), "no"),
     ("a missing name", lambda: judged(LINE, NAME), "no"),
     ("a missing name beside an open goal", lambda: judged(LINE, GOAL, NAME), "no"),
     ("an invariant that doesn't fit", lambda: judged(LINE, INVARIANT), "no"),
+    ("an answer that cites another call of one name", lambda: judged(LINE, NUMBER), "no"),
 ]
 
 
-def main():
-    failed = 0
-    for name, found, wanted in CASES:
-        if found() != wanted:
-            failed += 1
-            print(f"FAILED  {name}: {found()!r}, not {wanted!r}")
-    print(f"{len(CASES) - failed} passed, {failed} failed")
-    return failed > 0
-
-
 if __name__ == "__main__":
-    sys.exit(main())
+    sys.exit(tell_cases((name, wanted, found()) for name, found, wanted in CASES))

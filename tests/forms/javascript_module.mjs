@@ -119,6 +119,7 @@ const many = JSON.stringify({
 });
 const some = erd.check(many);
 equal('some of many faults', `${some.outcome} ${some.faults.length > 50 && some.faults.length < 60} ${some.allFaults} ${some.more}`, 'refused true 5001 true');
+equal('the statuses', [erd.check(many), erd.check('{'), erd.compare('{', '{'), erd.differences(many, many)].map(({ status }) => status).join(), '1,2,2,1');
 equal('three faults', erd.check(many, { mostFaults: 3 }).faults.map(({ pointer }) => pointer.slice(-3)).join(), 'ion,n/0,n/1');
 equal('no faults of many', `${erd.check(many, { mostFaults: 0 }).outcome} ${erd.check(many, { mostFaults: 0 }).allFaults}`, 'refused 5001');
 equal('all faults', erd.check(many.replace(/n{20000}/, 'n'), { mostFaults: null }).faults.length, 5001);
@@ -126,7 +127,7 @@ equal('a thousand faults', erd.check(many.replace(/n{20000}/, 'n')).faults.lengt
 const pieces = [...erd.written('check', [many])];
 equal('pieces of the lines', pieces.length > 90, true);
 equal('each piece has its own bytes', new TextDecoder().decode(pieces[0].bytes.subarray(0, 9)), '/Election');
-equal('what is taken of the pieces', [...erd.written('check', [many], {}, (bytes, outcome) => bytes.length * outcome)].map(({ bytes }) => bytes).join(),
+equal('what is taken of the pieces', [...erd.written('check', [many], {}, (bytes, status) => bytes.length * status)].map(({ bytes }) => bytes).join(),
     pieces.map(({ bytes }) => bytes.length).join());
 
 // A list that is longer than a piece: in each of these contests a selection has another note.
@@ -209,6 +210,12 @@ const repeated = `[${Array(1001).fill('{"a":1,"a":2}')}]`;
 equal('the first 1,000 repeated names', repeatedNames(repeated).length, 1000);
 equal('all repeated names', repeatedNames(repeated, { most: null }).length, 1001);
 equal('two repeated names', JSON.stringify(repeatedNames(repeated, { most: 2 }).map(({ place }) => place)), '[[0,"a"],[1,"a"]]');
+// Names below a long one: together, their places are as long as the square of the report.
+const below = `{"${'n'.repeat(5_000_000)}":[${Array(3000).fill('{"a":1,"a":2}').join()}]}`;
+const few = repeatedNames(below);
+equal('repeated names with long places are fewer', JSON.stringify([few.length, few.allNames, few.more]), '[1,3000,true]');
+equal('all repeated names with long places', repeatedNames(below, { most: null }).map(({ place }) => place[1]).join(), [...Array(3000).keys()].join());
+equal('no more repeated names', JSON.stringify([repeatedNames(repeated, { most: null }).more, repeatedNames(repeated).more]), '[false,true]');
 throws('no report with repeated names', TypeError, () => repeatedNames(5));
 
 // The limit on bytes.

@@ -123,7 +123,7 @@ as_program() {
         cmp "$work/out" "$work/wanted_out" 2>&1; cmp "$work/err" "$work/wanted_err" 2>&1)"
 }
 if [ -x erd ]; then
-    python3 tests/forms/command_lines.py --beside ./erd 'the command' package "$erd" > "$work/lines.log"
+    python3 tests/forms/command_lines.py --beside ./erd 'the command' package,javascript "$erd" > "$work/lines.log"
     counted 'the table of command lines' "$work/lines.log"
     truncate -s 67108864 "$work/long"
     as_program check "$work/long"
@@ -133,6 +133,19 @@ if [ -x erd ]; then
 else
     echo 'skipped the program beside the command: make erd has not been run'
 fi
+python3 tests/forms/command_lines.py --command prepare 'erd-prepare' package,javascript "$(dirname "$erd")/${prepare:-erd-prepare}" \
+    > "$work/lines.log"
+counted 'the table of statuses: erd-prepare' "$work/lines.log"
+# A package that is not whole.
+for missing in erd.wasm lib/engine.mjs; do
+    mkdir "$work/part"
+    cp -R "$work/fresh/node_modules/erd/." "$work/part"
+    rm "$work/part/$missing"
+    run node "$work/part/erd.mjs" check examples/one-unit.json
+    expect_text "a package without $missing" 3 ''
+    said 'it says so in one line' "$([ "$(grep -c '^erd failed: ' "$work/err")/$(wc -l < "$work/err")" = 1/1 ] || cat "$work/err")"
+    rm -r "$work/part"
+done
 # The command with less memory for the proved code.
 mkdir "$work/poor"
 cp -R bindings/js/. "$work/poor"
@@ -158,7 +171,7 @@ for words in check canon compare differences; do
     ROOM=$work/room NODE_OPTIONS="--require $work/peak.cjs --v8-pool-size=1" "$erd" "$words" "${files[@]}" > "$work/out" 2> "$work/err"
     status=$?
     most=$(cat "$work/room")
-    said "a square list: $words" "$([ "$status" -eq 1 ] || echo "status $status; ")$([ "$most" -lt 100000 ] || echo "$most kB of memory")"
+    said "a square list: $words" "$([ "$status" -eq 1 ] || echo "status $status; ")$([ "$most" -lt 130000 ] || echo "$most kB of memory")"
 done
 rm "$work/out" "$work/err"
 

@@ -28,11 +28,16 @@ last=$(tail -n 1 "$work/log")
 
 # The table of command lines, beside the program.
 if [ -x erd ]; then
-    python3 tests/forms/command_lines.py --beside ./erd 'the command' package "$work/venv/bin/python" -m erd > "$work/lines.log"
+    python3 tests/forms/command_lines.py --beside ./erd 'the command' package,python "$work/venv/bin/python" -m erd > "$work/lines.log"
     counted 'the table of command lines' "$work/lines.log"
 else
     echo 'skipped the program beside the command: make erd has not been run'
 fi
+
+for command in prepare many; do
+    python3 tests/forms/command_lines.py --command $command "erd-$command" package,python "$work/venv/bin/erd-$command" > "$work/lines.log"
+    counted "the table of statuses: erd-$command" "$work/lines.log"
+done
 
 # The program of its page writes what stands beside it.
 mkdir "$work/page"

@@ -1,9 +1,9 @@
 #!/usr/bin/env bash
 # Gives the C library random inputs: libFuzzer counts which branches of the proved code each reaches, AddressSanitizer stops at a
 # bad access inside that code and at memory that is not freed, and tests/fuzz/checks.c says what has to hold of the answers. With no
-# MINUTES it takes one minute, always the same inputs in the same order, and then tries whether a fault is found that is planted in
-# the C side. With MINUTES the inputs are others each time, and those that reached something new are kept in out/fuzz/corpus for the
-# next time. An input on which a check fails stays in out/fuzz/findings. Needs Debian's package libclang-rt-22-dev. One line a case.
+# MINUTES it takes 20,000 inputs, always the same in the same order, or as many as it can in a minute, and then tries whether a fault is
+# found that is planted in the C side. With MINUTES the inputs are others each time, and those that reached something new are kept in
+# out/fuzz/corpus for the next time. An input on which a check fails stays in out/fuzz/findings. Needs Debian's package libclang-rt-22-dev. One line a case.
 set -u
 . "$(dirname "$0")/../shared/fixed_places.sh" || exit 1
 . "$(dirname "$0")/../shared/start.sh" || exit 1
@@ -43,10 +43,14 @@ built() {
         llvm clang "${machine[@]}" -fsanitize=fuzzer "${objects[@]}" "$made"/{calls,heap.pic,proved}.o -o "$made/$1"
 }
 
+# The gate takes so many inputs, and a machine that needs more than a minute for them, fewer.
+bound=()
+[ -n "${MINUTES:-}" ] || bound=(-runs=20000)
+
 # tried NAME SECONDS SEED FINDINGS FOLDER ..: the fuzzer on the inputs of the folders and on others. What it says is in
 # $made/NAME.log, and an input on which a check failed in the folder $made/FINDINGS.
 tried() {
-    "$made/$1" -max_total_time="$2" -seed="$3" -max_len=16384 -timeout=300 -rss_limit_mb=8192 -print_final_stats=1 \
+    "$made/$1" -max_total_time="$2" "${bound[@]}" -seed="$3" -max_len=16384 -timeout=300 -rss_limit_mb=8192 -print_final_stats=1 \
         -artifact_prefix="$made/$4/" "${@:5}" > "$made/$1.log" 2>&1
 }
 
@@ -76,7 +80,7 @@ tried fuzz "$seconds" "$seed" findings "$corpus" "$made/seeds"
 status=$?
 runs=$(sed -n 's/^stat::number_of_executed_units: *//p' "$made/fuzz.log")
 reached=$(grep -aoE 'cov: [0-9]+' "$made/fuzz.log" | tail -n 1)
-said "${runs:-no} inputs in $seconds seconds with the seed $seed, ${reached:-cov: 0}" "$([ "$status" -eq 0 ] || finding fuzz)"
+said "${runs:-no} inputs in at most $seconds seconds with the seed $seed, ${reached:-cov: 0}" "$([ "$status" -eq 0 ] || finding fuzz)"
 said 'they reach the proved code' "$([ "${reached#cov: }" -gt 3000 ] 2> /dev/null || echo "${reached:-nothing}")"
 
 # A fuzzer that finds nothing may be one that looks at nothing.

@@ -4,8 +4,7 @@ import sys
 
 ROOT = pathlib.Path(__file__).resolve().parents[2]
 sys.path.insert(0, str(ROOT / 'tests' / 'bodies'))
-import wrong_lines  # noqa: E402
+import wrong_lists  # noqa: E402
 
-wanted = wrong_lines.list_of(wrong_lines.LISTS / 'library.txt')
-line = next(line for line in wanted.lines if line.name == sys.argv[1])
-sys.stdout.write(wrong_lines.changed(line, (ROOT / line.file).read_text(encoding='utf-8')))
+line = next(line for section in wrong_lists.lists() if section.name == 'library' for line in section.wrongs if line.name == sys.argv[1])
+sys.stdout.write(wrong_lists.texts_with([line], wrong_lists.of_repository)[line.changes[0][0]])

@@ -10,6 +10,9 @@ sys.path.insert(0, str(pathlib.Path(__file__).resolve().parents[1] / 'shared'))
 from texts_of_data import check_text, compact, compare_text  # noqa: E402
 
 TEXTLESS = 3
+# The calls whose lists can be opened, by their numbers in `enum erd_listing`.
+LISTINGS = ("erd_check_piece", "erd_canonical_piece", "erd_compare_piece", "erd_differences", "erd_check_data_piece",
+            "erd_canonical_data_piece", "erd_compare_data_piece", "erd_differences_data")
 
 
 class Piece(ctypes.Structure):
@@ -64,6 +67,27 @@ class Library:
     def whole(self, name, reports, prefer):
         """The outcome and the text of the same call without a piece, which has the whole list."""
         return self.asked(name, reports, prefer, None)
+
+    def opened(self, name, reports, prefer, most, enough_bytes, room):
+        """Opens the list of this call, and gives its pieces, one after another: the outcome and the text of each, how many entries
+        came before, how many it has, and how many the list has. A piece without an entry is the last one."""
+        self.library.erd_open.restype = ctypes.c_void_p
+        self.library.erd_open.argtypes = [ctypes.c_int] + [ctypes.c_char_p, ctypes.c_size_t] * 2 + [ctypes.c_char_p, ctypes.c_size_t]
+        self.library.erd_next.argtypes = [ctypes.c_void_p, ctypes.POINTER(Piece), ctypes.POINTER(ctypes.c_void_p),
+                                          ctypes.POINTER(ctypes.c_size_t)]
+        self.library.erd_close.argtypes, self.library.erd_close.restype = [ctypes.c_void_p], None
+        left, right = (*reports, b"")[:2]
+        opened = self.library.erd_open(LISTINGS.index(name), left, len(left), right, len(right), prefer, room)
+        while True:
+            piece, text, length = Piece(77, most, enough_bytes, 78, 79), ctypes.c_void_p(), ctypes.c_size_t()
+            outcome = self.library.erd_next(opened, ctypes.byref(piece), ctypes.byref(text), ctypes.byref(length))
+            found = ctypes.string_at(text, length.value).decode() if text else None
+            self.library.erd_free(text)
+            assert (piece.most, piece.enough_bytes) == (most, enough_bytes), "erd_next changes what is asked for"
+            yield outcome, found, piece.first, piece.told, piece.all
+            if piece.told == 0:
+                break
+        self.library.erd_close(opened)
 
     def asked(self, name, reports, prefer, piece):
         call = getattr(self.library, name)

@@ -18,7 +18,7 @@ chosen() {
     [[ -z ${CASES:-} || $'\n'$CASES$'\n' == *$'\n'"$1"$'\n'* ]]
 }
 
-# tests/bodies/wrong_lines.py makes a library of its own, and says so.
+# tests/bodies/by_scripts.py makes a library of its own, and says so.
 if [ -z "${LIBRARY_IS_MADE:-}" ]; then
     make --no-print-directory library > "$work/out" 2> "$work/err"
     status=$?
@@ -75,6 +75,9 @@ fi
     && "$callers/loop" > "$work/out" 2> "$work/err"
 status=$?
 said "the C side alone: $(tail -n 1 "$work/out")" "$([ "$status" -eq 0 ] || head -qn 3 "$work/out" "$work/err")"
+CC=$compiler tests/library/lists_alone.sh "${sanitizers[@]}" > "$work/out" 2> "$work/err"
+status=$?
+said "what it keeps of lists: $(tail -n 1 "$work/out")" "$([ "$status" -eq 0 ] || head -qn 3 "$work/out" "$work/err")"
 if chosen 'the conformance suite'; then
     conformance/run "$erd" > "$work/suite" 2>&1
     status=$?

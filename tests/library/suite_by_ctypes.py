@@ -156,6 +156,23 @@ def failure_of_list(library, it, name, text_of_entry, is_right):
         found, text, told, count = library.piece(name, it.reports, it.prefer, first, most, enough)
         if (found, told, count) != (it.outcome, len(shown), len(entries)) or not is_right(text, shown):
             return f"{name} of {first}, {most}, {enough}: {found} {text[:200]} {told} {count}"
+    return failure_of_opened(library, it, name, sizes, is_right)
+
+
+def failure_of_opened(library, it, name, sizes, is_right):
+    """What is wrong in the pieces that the opened list hands out, or None. They are those of the call, one behind the other."""
+    entries = entries_in(it.wanted)
+    for most, enough, room in ((1, ALL, 0), (2, ALL, 0), (ALL, sum(sizes[:2]), 0), (ALL, 1, 1), (2, ALL, sum(sizes[:3])), (ALL, ALL, 0)):
+        first = 0
+        for found, text, before, told, count in library.opened(name, it.reports, it.prefer, most, enough, room):
+            shown = entries[first:first + told]
+            is_end = text is None and told == 0 and first == len(entries)
+            fits = told <= most and (told == 0 or sum(sizes[first:first + told - 1]) < enough)
+            if (found, before, count) != (it.outcome, first, len(entries)) or not fits or not (is_end or is_right(text, shown)):
+                return f"{name} opened, {most}, {enough}, {room}: {found} {text} {before} {told} {count}"
+            if told == 0 and first < len(entries):
+                return f"{name} opened, {most}, {enough}, {room}: ends behind {first} entries of {len(entries)}"
+            first += told
     return None
 
 

@@ -1,12 +1,14 @@
 """Holds `check` against files that crowd an index under a salt that was known before their texts were chosen: for each index, under no
 salt, under fixed ones, and under a salt that leaves out what tells the keys of this index apart; and `compare` against the names of
-both reports. Each takes at most 1.2 times the instructions of a file of the same size whose keys crowd nothing. An index whose salt is
-like one of these takes several times as many. Beside that it compares the salt that tests/reports/colliding.py works out with the one
-that the tests of the program know. Needs valgrind, `./erd` and a C compiler. One line a case.
+both reports, also under the salt of the left one alone, and against the numbers that these names get. Each takes at most 1.2 times
+the instructions of a file of the same size whose keys crowd nothing. An index whose salt is like one of these takes several times as
+many. Beside that it compares the salt that tests/reports/colliding.py works out with the one that the tests of the program know, and
+looks for indexes that hash without a salt. Needs valgrind, `./erd` and a C compiler. One line a case.
 
 usage: crowding.py [INDEX ..]; where CASES in the environment has lines, each a case, only these are tried
 """
 import functools
+import glob
 import json
 import os
 import re
@@ -19,13 +21,16 @@ from measuring import instructions
 sys.path.insert(0, os.path.join(os.path.dirname(os.path.abspath(__file__)), os.pardir, "reports"))
 import colliding  # noqa: E402
 import hostile_shapes  # noqa: E402
-from reports import CLASS, election, identifier, report, selection  # noqa: E402
+from reports import CLASS, contest, election, identifier, report, selection  # noqa: E402
 
 MOST = 1.2
 # So many keys, for 128 and 256 places. That of a selection with a label takes more instructions by itself.
 COUNT, LABELS = 1152, 2304
 FIXED = {"no salt": [], "a salt of zeros": [0, 0], "the salt of 1 and 2": [1, 2], "the salt of nothing": colliding.salt_of({"Election": []})}
 SALTED = "crates/erd_rows/src/tests/salts.rt"
+# Groups of places that an index of the numbers of names would have, and contests that repeat the names of the first.
+PLACES, CONTESTS = 256, 16
+NUMBERED = "numbers of names that crowd an index without a salt"
 SMALL_BALLOT = "examples/small-ballot.json"
 
 
@@ -63,6 +68,14 @@ INDEXES.update({kind: (measures(kind), colliding.label_key(hostile_shapes.YES, k
 INDEXES["compared names"] = (write_ins, colliding.NAME, COUNT, {"joined salts of zeros": colliding.joined([0, 0], [0, 0])})
 
 
+def repeated_names(numbers):
+    """A contest with four times as many write-ins as an index of these groups holds, and contests with those that have these numbers
+    among them: the same names, in an order of their own."""
+    names = [("a", range(36 * PLACES))] + [("b%d" % i, numbers) for i in range(CONTESTS)]
+    chosen = [[selection("%s-%d" % (contest, each), "CandidateSelection", IsWriteIn=True, SequenceOrder=each) for each in orders] for contest, orders in names]
+    return hostile_shapes.report_of(hostile_shapes.ONE, Contest=[contest("c%d" % i, "C%d" % i, "u0", each, "CandidateContest") for i, each in enumerate(chosen)])
+
+
 def counted(index, made, folder):
     """The instructions of `check` on a report, or of `compare` on it and a copy with a blank more: equal bytes are judged once."""
     path, copy = os.path.join(folder, "report"), os.path.join(folder, "copy")
@@ -70,7 +83,7 @@ def counted(index, made, folder):
     for name, said in ((path, text), (copy, text + " ")):
         with open(name, "w", encoding="utf-8") as file:
             file.write(said)
-    return instructions(["./erd", "compare", path, copy] if index == "compared names" else ["./erd", "check", path])
+    return instructions(["./erd", "compare", path, copy] if index in ("compared names", NUMBERED) else ["./erd", "check", path])
 
 
 def tell(is_held, words):
@@ -91,9 +104,48 @@ def held(index, folder):
             yield tell(ratio <= MOST, "%s: %.2f times the instructions of others" % (case, ratio))
 
 
+def numbers_held(folder):
+    """Whether names whose numbers crowd one end of an index that has no salt take no longer than others. Each name has the number of its
+    place in the first contest."""
+    if is_wanted(NUMBERED):
+        crowded = sorted(sorted(range(36 * PLACES), key=lambda number: colliding.place_of(number, PLACES))[:9 * PLACES])
+        least = counted(NUMBERED, repeated_names(range(0, 36 * PLACES, 4)), folder)
+        ratio = counted(NUMBERED, repeated_names(crowded), folder) / least
+        yield tell(ratio <= MOST, "%s: %.2f times the instructions of others" % (NUMBERED, ratio))
+
+
+def are_salted():
+    """Whether each index of the code hashes its keys under a salt."""
+    bare = []
+    for path in sorted(glob.glob("crates/*/src/**/*.rt", recursive=True)):
+        with open(path, encoding="utf-8") as file:
+            kinds = re.findall(r"\b(?:IndexMap|IndexSet|HashMap|HashSet)<(?!Salted<)[^;]*", file.read())
+        bare += ["%s in %s" % (kind.split("\n")[0], path) for kind in kinds]
+    return tell(not bare, "each index has a salt" + "".join(": " + each for each in bare))
+
+
 def is_wanted(case):
     wanted = os.environ.get("CASES", "").splitlines()
     return not wanted or case in wanted
+
+
+def compared(left, right, folder):
+    """The instructions of `compare` on two reports."""
+    paths = [os.path.join(folder, name) for name in ("left", "right")]
+    for path, made in zip(paths, (left, right)):
+        with open(path, "w", encoding="utf-8") as file:
+            json.dump(made, file)
+    return instructions(["./erd", "compare", *paths], statuses=(1,))
+
+
+def names_held(folder):
+    """Whether names of the right report that crowd an index under the salt of the left one alone take no longer than others."""
+    case = "compared names that crowd an index under the salt of the left report"
+    if is_wanted(case):
+        left = write_ins(colliding.NAME.others(1))
+        crowded = colliding.crowded(COUNT, colliding.salt_of(left), colliding.NAME, is_tagged=True)
+        ratio = compared(left, write_ins(crowded), folder) / compared(left, write_ins(colliding.NAME.others(COUNT)), folder)
+        yield tell(ratio <= MOST, "%s: %.2f times the instructions of others" % (case, ratio))
 
 
 def is_known_salt():
@@ -108,10 +160,12 @@ def is_known_salt():
 
 def main():
     chosen = sys.argv[1:] or INDEXES
-    results = [is_known_salt()]
+    results = [is_known_salt(), are_salted()]
     if shutil.which("valgrind"):
         with tempfile.TemporaryDirectory() as folder:
             results += [result for index in chosen for result in held(index, folder)]
+            results += numbers_held(folder)
+            results += names_held(folder)
     else:
         print("skipped the files that crowd an index: install the package valgrind")
     print("%d passed, %d failed" % (sum(results), len(results) - sum(results)))

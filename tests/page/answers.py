@@ -86,7 +86,7 @@ class Answer:
     """What the program says of one file. `outcome` is the page's word; a file that no program has judged has one from the row."""
 
     def __init__(self, program, path, prefer, outcome=None):
-        self.name, self.size = path.name, path.stat().st_size
+        self.name, self.path, self.size = path.name, path, path.stat().st_size
         self.faults, self.form, self.types = [], None, set()
         self.outcome = outcome
         self.sum = None if outcome in ('tooLong', 'unreadable') else hashlib.sha256(path.read_bytes()).hexdigest()

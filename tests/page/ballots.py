@@ -182,7 +182,7 @@ def printed(session):
     session.equal('ballots: nothing is left after that', session.browser.script("return document.querySelectorAll('.print-pages').length"), 0)
     session.browser.script("document.querySelector('.style').open = true")
     session.browser.until("return document.querySelector('.style .ballot') !== null")
-    session.browser.script("[...document.querySelectorAll('.style button')].at(-1).click()")
+    session.browser.script("[...document.querySelectorAll('.style > div > p > button')].at(-1).click()")
     session.browser.until('return window.printed === 2')
     session.equal('ballots: one alone', len(session.texts('.print-pages > .ballot')), 1)
     session.browser.script("dispatchEvent(new Event('afterprint'))")

@@ -149,8 +149,7 @@ def dropped(session):
     session.browser.script(DROP, files, 'body')
     session.becomes('two files dropped', session.verdict, 'These two files define the same ballots')
     session.browser.script(DROP, [{'name': 'x.txt', 'data': 'x'}] * 3, 'body')
-    session.equal('three files that are not JSON', session.text('#announcement'), 'There is no file whose name ends in .json.')
-    session.said('three files dropped, shown', '' if session.browser.script("return !document.getElementById('files-message').hidden") else 'no message')
+    session.becomes('three files that are not JSON', lambda: session.text('#announcement'), '0 of 3 are accepted. They have 0 meanings.')
 
 
 def preferred(session):
@@ -219,7 +218,7 @@ def pages_of(pdf):
 
 
 def printed(session):
-    """The record is one page, and has what it needs."""
+    """The record of two files that mean the same is one page, and has what it needs."""
     session.judged(*COUNTY)
     pages = pages_of(base64.b64decode(session.browser.command('print')))
     session.said('the printed record is one page', '' if pages == 1 else '%d pages' % pages)

@@ -74,13 +74,13 @@ def compared(session):
 
 
 def dropped(session):
-    """More than two files are dropped. Those that are not named as JSON are left out; a name can't be a formula."""
+    """More than two files are dropped. Each is judged, whatever its name; a name can't be a formula."""
     one = json.loads((EXAMPLES / 'one-unit.json').read_text(encoding='utf-8'))
     files = [{'name': name, 'data': json.dumps(one)} for name in ('=1+1.json', 'b.json', 'c.JSON', 'notes.txt')]
     session.fresh()
     session.browser.script(DROP, files, 'body')
     waited(session)
-    session.equal('many: dropped', [row[0] for row in session.browser.script(ROWS)], ['=1+1.json', 'b.json', 'c.JSON'])
+    session.equal('many: dropped', [row[0] for row in session.browser.script(ROWS)], ['=1+1.json', 'b.json', 'c.JSON', 'notes.txt'])
     (session.work / 'downloads' / 'ballots.csv').unlink(missing_ok=True)
     session.browser.script("[...document.querySelectorAll('#many-files .buttons button')].at(-1).click()")
     session.said('many: no formula', '' if b"\n'=1+1.json," in session.downloaded('ballots.csv') else 'a formula')
@@ -121,8 +121,11 @@ def folder(session):
         session.browser.script(DROP_FOLDER, one, ['dropped', {'first.json': None, 'notes.txt': None, 'inner': dict.fromkeys(names)}])
     waited(session)
     rows = session.browser.script(ROWS)
-    session.equal('many: a folder dropped', sorted(row[0] for row in rows), ['dropped/first.json', *(f'dropped/inner/{name}' for name in names)])
-    session.equal('many: all of it means the same', {row[3] for row in rows}, {'1: 102 files mean the same'})
+    session.equal('many: a folder dropped', sorted(row[0] for row in rows),
+                  ['dropped/first.json', *(f'dropped/inner/{name}' for name in names), 'dropped/notes.txt'])
+    session.equal('many: all of it means the same', {row[3] for row in rows if row[0].endswith('.json')}, {'1: 102 files mean the same'})
+    session.equal('many: what is left out is named', [row[2:] for row in rows if row[0].endswith('.txt')], [[answers.say('verdict.leftOut'), '']])
+    session.has('many: it is counted', session.text('.many > p'), answers.say('many.leftOut', count=1))
     session.fresh()
     session.browser.script(DROP_FOLDER, one, ['broken', None])
     session.becomes('many: a folder that is not read', lambda: session.text('#files-message'),

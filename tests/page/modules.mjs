@@ -14,7 +14,7 @@ import { Meaning } from '../../web/scripts/meaning.mjs';
 import { kindsOf } from '../../web/scripts/fault_kinds.mjs';
 import { whyAlike } from '../../web/scripts/look_alikes.mjs';
 import { foundPlaces } from '../../web/scripts/places.mjs';
-import { rowsOfDifference, withMoves } from '../../web/scripts/rows.mjs';
+import { rowsOfDifference } from '../../web/scripts/rows.mjs';
 import { wordOf } from '../../web/scripts/seen.mjs';
 import { insideOf } from '../../web/scripts/selection_names.mjs';
 import { codeOf } from '../../web/scripts/sums.mjs';
@@ -130,12 +130,6 @@ const line = (text) => ({ text, like: text, indent: 0 });
 const rows = aligned(['a', 'b', 'c', 'd'].map(line), ['a', 'c', 'x', 'd'].map(line));
 equal('rows', rows.map(({ left, right, same }) => [left?.text ?? null, right?.text ?? null, same]),
     [['a', 'a', true], ['b', null, false], ['c', 'c', true], [null, 'x', false], ['d', 'd', true]]);
-
-// A line that is at another place is one row, and what moved along with it is equal.
-const entry = (text, number, indent = 0) => ({ ...line(text), number, indent });
-const moves = withMoves(aligned([entry('a', 1), entry('x', 1, 1), entry('b', 2), entry('c', 3)], [entry('b', 1), entry('a', 2), entry('x', 1, 1), entry('d', 3)]));
-equal('moves', moves.map(({ left, right, same, moved }) => [left?.text ?? null, right?.text ?? null, same, moved ?? null]),
-    [['b', 'b', false, { from: 2, to: 1 }], ['a', 'a', true, null], ['x', 'x', true, null], ['c', 'd', false, null]]);
 
 // What differs within two texts, and why they look alike.
 const marked = (pieces) => pieces.map(({ text, changed }) => (changed ? `[${text}]` : text)).join('');

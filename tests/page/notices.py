@@ -22,6 +22,7 @@ def run(session):
     long_names(session)
     renamed(session)
     other_type(session)
+    worst_type(session)
 
 
 def small(**changes):
@@ -104,9 +105,9 @@ def seen(session):
         return written(session, 'other.json', report)
 
     cases = {
-        'The ballots differ': lambda report: report['Election'][0]['Contest'][0].update(Name='Mayor'),
-        'The ballots may differ': lambda report: report['GpUnit'][0].update(ContactInformation={'Phone': ['1']}),
-        'No difference touches what a voter sees': lambda report: report['GpUnit'][0].update(IsDistricted=True),
+        answers.say('seen.differ', differing=1, all=1): lambda report: report['Election'][0]['Contest'][0].update(Name='Mayor'),
+        answers.say('seen.shownSame', count=1): lambda report: report['GpUnit'][0].update(ContactInformation={'Phone': ['1']}),
+        answers.say('seen.unseen'): lambda report: report['GpUnit'][0].update(IsDistricted=True),
     }
     for heading, change in cases.items():
         session.judged(SMALL, changed(change))
@@ -114,7 +115,7 @@ def seen(session):
         session.equal('the box of: ' + heading, session.browser.script("return document.querySelector('.seen').className"),
                       'seen quiet' if heading.startswith('No') else 'seen touched')
     session.judged(SMALL, changed(lambda report: report['Person'][0]['ExternalIdentifier'][0].update(Value='new')))
-    session.equal('what a voter sees: another identifier', session.text('.seen h3'), 'The ballots may differ')
+    session.equal('what a voter sees: another identifier', session.text('.seen h3'), answers.say('seen.shownSame', count=1))
 
 
 def look_alikes(session):
@@ -163,7 +164,7 @@ def renamed(session):
     session.judged(COUNTY, session.file('renamed.json', text))
     session.equal('another identifier: the pair', session.texts('.pairs li'),
                   ['Candidate “Ingrith Sablewood”: local-level K-12 in the first file, local-level K-99 in the second'])
-    session.equal('another identifier: what a voter sees', session.text('.seen h3'), 'The ballots may differ')
+    session.equal('another identifier: what a voter sees', session.text('.seen h3'), answers.say('seen.unseen'))
     session.equal('another identifier: nothing else differs', session.texts('.others > .differences > li'), [])
     session.browser.script("document.querySelector('.pairs details').open = true")
     session.becomes('another identifier: what follows', lambda: len(session.texts('.pairs .differences > li')) > 2, True)
@@ -180,10 +181,22 @@ def other_type(session):
     paths = [written(session, 'left.json', with_codes('x')), written(session, 'right.json', with_codes('y'))]
     session.judged(*paths)
     before = len(session.texts('.others tbody tr'))
-    program = answers.Program()
-    counts = [len(program.run(prefer, 'differences', *paths)[1].splitlines()) for prefer in ('local-level', None)]
-    session.equal('another type: it is offered', session.text('.offer p'), answers.say('offer.fewer', type='local-level', fewer=counts[0], count=counts[1]))
+    # Two units, a person and a party of each file have another code.
+    session.equal('another type: it is offered', session.text('.offer p'), answers.say('offer.fewer', type='local-level', fewer=0, count=8))
     session.browser.script("document.querySelector('.offer button').click()")
     session.browser.until("return document.documentElement.dataset.busy === 'no' && document.getElementById('prefer').value === 'local-level'")
     session.said('another type: it is chosen', '' if before > 0 else 'no differences before')
     session.equal('another type: the record says so', session.texts('.record dd bdi')[-1:], ['local-level'])
+
+
+def worst_type(session):
+    """A type under which nothing is matched is not offered, though it has fewer differences than the right one."""
+    def with_codes(codes, name):
+        report = small()
+        for number, unit in enumerate(report['GpUnit'] + report['Party']):
+            unit['ExternalIdentifier'].append({'@type': 'ElectionResults.ExternalIdentifier', 'Type': 'z-vendor', 'Value': '%s%d' % (codes, number)})
+            unit.update({f'Note{member}': name for member in range(9)})
+        return report
+
+    session.judged(written(session, 'left.json', with_codes('x', 1)), written(session, 'right.json', with_codes('y', 2)))
+    session.equal('the worst type is not offered', session.texts('.offer p'), [])

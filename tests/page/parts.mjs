@@ -5,15 +5,19 @@ import { repeatedNames } from '../../bindings/js/lib/repeated.mjs';
 import { aligned } from '../../web/scripts/alignment.mjs';
 import { BallotAnswers } from '../../web/scripts/ballot_answers.mjs';
 import { renamed, talliesOf } from '../../web/scripts/causes.mjs';
+import { boundedPointer, boundedText } from '../../web/scripts/bounded.mjs';
+import { Client } from '../../web/scripts/client.mjs';
+import { markIn, withMark, withoutMark } from '../../web/scripts/copy_mark.mjs';
 import { whyNotJson } from '../../web/scripts/diagnosis.mjs';
 import { envelopeIn } from '../../web/scripts/envelope.mjs';
+import { readTree } from '../../bindings/js/lib/prepare/tree.mjs';
 import { compactText, readExactly } from '../../bindings/js/lib/exact.mjs';
 import { kindsOf } from '../../web/scripts/fault_kinds.mjs';
 import { firstLanguage } from '../../web/scripts/languages.mjs';
 import { Meaning } from '../../web/scripts/meaning.mjs';
 import { foundPlaces } from '../../web/scripts/places.mjs';
 import { countsOf } from '../../web/scripts/seen.mjs';
-import { rowsOfDifference } from '../../web/scripts/rows.mjs';
+import { rowsOfContent, rowsOfDifference } from '../../web/scripts/rows.mjs';
 import { piecesOfBoth } from '../../web/scripts/text_changes.mjs';
 import { say, sayIfKnown } from '../../web/scripts/texts.mjs';
 import { trailOf } from '../../web/scripts/trail.mjs';
@@ -21,6 +25,7 @@ import { typesIn } from '../../web/scripts/types.mjs';
 import { Values } from '../../web/scripts/values.mjs';
 import { beginningOf, endOf, piecesOf } from '../../web/scripts/visible.mjs';
 import { counts, equal } from './counted.mjs';
+import { identified, label, typed } from './made.mjs';
 
 const encoder = new TextEncoder();
 const bytesOf = (value) => encoder.encode(typeof value === 'string' ? value : JSON.stringify(value));
@@ -102,10 +107,6 @@ equal('how many of each word', countsOf(['seen', 'unseen', 'seen']), { seen: 2, 
 
 // ---- values and ballots
 
-const typed = (name, members) => ({ '@type': `ElectionResults.${name}`, ...members });
-const identified = (value, type = 'local-level', more = {}) => [typed('ExternalIdentifier', { Type: type, ...more, Value: value })];
-const label = (...texts) => typed('InternationalizedText', { Text: texts.map(([Language, Content]) => typed('LanguageString', { Content, Language })) });
-
 function report(change = () => {}) {
     const made = typed('ElectionReport', {
         GpUnit: [typed('ReportingUnit', { '@id': 'gp1', ExternalIdentifier: identified('U1', 'other', { OtherType: 'ward' }), Name: 'East' }),
@@ -136,7 +137,8 @@ function report(change = () => {}) {
 const meaning = report();
 const style = meaning.thing('style', ['local-level', '', 'S1']);
 const values = new Values(meaning);
-equal('lines of a ballot', values.ofMember(style, 'OrderedContent').map(({ text, indent, number }) => [text, indent, number]), [
+const content = values.content(style.object.OrderedContent);
+equal('lines of a ballot', rowsOfContent(content, [], 0).map(({ left: { text, indent, number } }) => [text, indent, number]), [
     ['Header “State” (local-level H1)', 0, 1], ['Contest “Governor” (local-level C1)', 1, 1], ['Selection: Candidate “Cy” (local-level K3)', 2, 1],
     ['Selection: Candidate “Ann” (local-level K1) + Candidate “Bo” (local-level K2)', 2, 2]]);
 equal('a set in the order of its keys', values.ofMember(style, 'GpUnitIds').map(({ text }) => text), ['Unit “East” (other ward U1)', 'Unit “West” (other ward U2)']);
@@ -195,7 +197,9 @@ const writeIn = (code) => report((_made, election) => {
     election.BallotStyle[0].OrderedContent[0].OrderedContent[0].OrderedContestSelectionIds = ['cs3'];
 });
 equal('lines that only an identifier tells apart', rowsOfDifference([writeIn('W1'), writeIn('W2')],
-    { part: 'style', key: ['local-level', '', 'S1'], how: 'member', member: 'OrderedContent' }).rows.map(({ same }) => same), [false]);
+    { part: 'style', key: ['local-level', '', 'S1'], how: 'member', member: 'OrderedContent' }).rows
+        .filter(({ same }) => !same).map(({ left, right }) => [left?.text ?? null, right?.text ?? null]),
+    [['Selection: write-in (local-level W1)', null], [null, 'Selection: write-in (local-level W2)']]);
 
 // ---- causes
 
@@ -210,5 +214,50 @@ equal('two persons who could be one', [pairsOf(['A', 'B'], ['C']), pairsOf(['A']
 const member = (code, name) => ({ part: 'unit', key: ['fips', '', code], how: 'member', member: name });
 equal('how many objects differ', talliesOf([member('1', 'Name'), member('1', 'Type'), member('2', 'Name'), ...onlyOf('only right', ['A'])]),
     [{ part: 'unit', 'only left': 0, 'only right': 0, differ: 2, members: 3 }, { part: 'person', 'only left': 0, 'only right': 1, differ: 0, members: 0 }]);
+
+// ---- a worker that ends, or that can't begin
+
+class FakeWorker {
+    static made = [];
+
+    constructor() {
+        this.heard = {};
+        this.asked = [];
+        FakeWorker.made.push(this);
+    }
+
+    addEventListener(kind, listener) {
+        this.heard[kind] = listener;
+    }
+
+    postMessage(message) {
+        this.asked.push(message);
+    }
+
+    terminate() {}
+}
+
+const failure = (promise) => promise.then(() => 'an answer', (error) => error.message);
+const client = new Client(() => new FakeWorker(), {});
+const waiting = failure(client.ask('verdict', {}));
+FakeWorker.made[0].heard.error({ message: 'out of memory' });
+equal('a worker that ends is told, and there is another one', [await waiting, FakeWorker.made.length], ['out of memory', 2]);
+const [begun] = FakeWorker.made[1].asked;
+const next = failure(client.ask('verdict', {}));
+FakeWorker.made[1].heard.message({ data: { number: begun.number, error: 'no module' } });
+equal('a worker that cannot begin is told', [await next, await failure(client.ask('sums', {}))], ['no module', 'no module']);
+client.mend();
+equal('the next one may begin', [FakeWorker.made.length, FakeWorker.made[2].asked[0].kind], [3, 'start']);
+
+// ---- texts that are made only as far as they are shown
+
+const tree = readTree(bytesOf({ a: [1, { b: 'x'.repeat(50) }], c: {} }));
+equal('a text that fits', boundedText(tree, 1000), `{"a":[1,{"b":"${'x'.repeat(50)}"}],"c":{}}`);
+equal('a text that is cut', boundedText(tree, 12), '{"a":[1,{"b"…');
+equal('a pointer that is cut', [boundedPointer(['a/b', 0], 10), boundedPointer(['x'.repeat(30), 'y'], 10)], ['/a~1b/0', `/${'x'.repeat(9)}…`]);
+
+const copied = withMark(bytesOf('{\n "a": 1\n}'), { name: 'a "b".json', original: '0'.repeat(64), steps: [{ name: 'nulls', count: 3 }] });
+equal('the mark of a copy', markIn(JSON.parse(new TextDecoder().decode(copied)).Notes), { name: 'a "b".json', original: '0'.repeat(64), steps: [{ name: 'nulls', count: 3 }] });
+equal('notes without the mark', [withoutMark(`x\n${JSON.parse(new TextDecoder().decode(copied)).Notes}`), withoutMark('y'), markIn('Prepared by hand')], ['x', 'y', null]);
 
 counts();

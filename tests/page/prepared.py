@@ -1,6 +1,7 @@
 """From a refused export to an accepted copy by the page alone: for the exports of the examples, and three more. Each takes at most
 five clicks and no typing. What the page writes and tells is what the Python package writes and tells."""
 import json
+import re
 import sys
 
 from session import EXAMPLES, ROOT, sha256
@@ -53,6 +54,19 @@ class Clicks:
         self.session.browser.until(f"{shown} !== '{before}'")
 
 
+def marked(prepared, name, data, done):
+    """The copy as the page writes it: its notes say where it comes from."""
+    steps = ', '.join(f'{it.name} {len(it.made)}' for it in done if it.made)
+    line = f'Prepared by erd from {json.dumps(name, ensure_ascii=False)} (SHA-256 {sha256(data)}): {steps}.'
+    text = prepared.decode('utf-8')
+    report = json.loads(text)
+    if 'Notes' in report:
+        old = re.search(r'(?<="Notes":)\s*"(?:[^"\\]|\\.)*"', text)
+        return (text[:old.start()] + re.match(r'\s*', old[0])[0] + json.dumps(f'{report["Notes"]}\n{line}', ensure_ascii=False) + text[old.end():]).encode()
+    opening = re.match(r'\{(\s*)', text)
+    return f'{opening[0]}"Notes": {json.dumps(line, ensure_ascii=False)},{opening[1]}{text[opening.end():]}'.encode()
+
+
 def begun(session, path):
     """The steps for a file that was chosen."""
     session.judged(path)
@@ -77,6 +91,7 @@ def accepted(session, name, data):
     session.equal(f'{name}: no step that a voter sees is ticked by itself', [step for step in ticked(session) if step in steps_of('seen')],
                   TICKED.get(name, []))
     previewed(session, name, done)
+    prepared = marked(prepared, name, data, done)
     clicks.on('#prepare-check-0')
     session.becomes(f'{name}: the copy', session.verdict, 'Accepted')
     copy = f'{name.removesuffix(".raw.json")}.prepared.json'
@@ -127,7 +142,8 @@ def unticked(session):
     session.equal('its steps', session.texts('.prepared-copy .steps-done li'), told(done))
     session.becomes('its steps in the record', lambda: session.texts('.record .steps-done li'), told(done))
     saved(session, 'county-general.prepared.json', clicks)
-    session.equal('it is saved as it was judged', sha256(session.downloaded('county-general.prepared.json')), sha256(prepared))
+    session.equal('it is saved as it was judged', sha256(session.downloaded('county-general.prepared.json')),
+                  sha256(marked(prepared, path.name, path.read_bytes(), done)))
 
 
 def two_copies(session):

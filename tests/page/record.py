@@ -51,10 +51,10 @@ def filed_differences(session):
         return session.file(name + '.json', json.dumps(report | {'GpUnit': report['GpUnit'] + more}))
 
     session.judged(with_units('Ward'), with_units('Precinct'))
-    session.equal('record: the differences', len(session.texts('.filed li')), 100)
-    session.equal('record: the first one', session.text('.filed li'),
+    session.equal('record: the differences', len(session.texts('[data-filed] li')), 100)
+    session.equal('record: the first one', session.text('[data-filed] li'),
                   'Unit “Ward 0” (local-level N000) differs in its name (Name).“Ward 0” / “Precinct 0”')
-    session.equal('record: how many more', session.text('[data-filed] > p'), 'and 20 more')
+    session.equal('record: how many more', session.texts('[data-filed] > p')[-1], 'and 20 more')
     session.equal('record: none of it on the screen', session.browser.script("return document.querySelector('.filed').checkVisibility()"), False)
 
 
@@ -62,7 +62,7 @@ def filed_faults(session):
     """The record has the faults as the program writes them."""
     case = SUITE / 'shape-faults-of-the-whole-first-phase'
     session.judged(case / 'input.json')
-    session.equal('record: the faults', session.texts('.filed li'), (case / 'check.txt').read_text(encoding='utf-8').splitlines()[:100])
+    session.equal('record: the faults', session.texts('[data-filed] li'), (case / 'check.txt').read_text(encoding='utf-8').splitlines()[:100])
 
 
 def filed_look_alikes(session):
@@ -70,4 +70,4 @@ def filed_look_alikes(session):
     text = SMALL.read_text(encoding='utf-8')
     session.judged(SMALL, session.file('alike.json', text.replace('"BallotName":"Ann"', '"BallotName":"\u0410nn"')))
     wanted = json.loads((ROOT / 'web' / 'texts.en.json').read_text(encoding='utf-8'))['alike.letters']
-    session.equal('record: names that look alike', session.texts('.filed li div'), ['“Ann” / “\u0410nn”', wanted])
+    session.equal('record: names that look alike', session.texts('[data-filed] li div'), ['“Ann” / “\u0410nn”', wanted])

@@ -31,7 +31,8 @@ const line = (node) => {
     const sum = node.querySelector('.sum');
     return [text(node.querySelector('dt')), ...(sum === null ? [text(node.querySelector('dd'))] : [text(sum), ...texts('.spoken code', node)])];
 };
-const filed = (node) => ({ headings: texts('h4', node), entries: texts('li', node), paragraphs: texts(':scope > p', node) });
+const filed = (node) => ({ headings: texts('h4', node), entries: texts('[data-filed] > ol > li', node),
+    paragraphs: texts(':scope > p, :scope > .signing > p', node) });
 const record = (node) => ({
     heading: text(node.querySelector('h3')), lines: every('dl > div', node, line), filed: filed(node.querySelector('.filed')),
     buttons: texts('.buttons button', node), phone: texts(':scope > p.screen:not(.buttons)', node),

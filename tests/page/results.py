@@ -26,7 +26,8 @@ ENVELOPE = ['Format', 'GeneratedDate', 'Issuer', 'IssuerAbbreviation', 'VendorAp
 LETTERS = '0123456789ABCDEFGHJKMNPQRSTVWXYZ'
 
 # What a voter sees: the words of the profile, the class of each part in the small ballot, and the list that its objects are in.
-WORDS_OF_SEEN = ('seen', 'in doubt', 'unseen')
+SHOWN = {'election': ('Name', 'StartDate'), 'unit': ('Name',), 'party': ('Name',), 'header': ('Name',), 'candidate': ('BallotName', 'PartyId'),
+         'contest': ('Name', 'VotesAllowed', 'ContestSelection'), 'style': ('GpUnitIds', 'PartyIds', 'OrderedContent')}
 CLASSES = {'report': 'ElectionReport', 'unit': 'ReportingUnit', 'party': 'Party', 'person': 'Person', 'office': 'Office', 'header': 'Header',
            'election': 'Election', 'candidate': 'Candidate', 'contest': 'CandidateContest', 'style': 'BallotStyle'}
 LISTS = {'unit': ('ElectionReport', 'GpUnit'), 'party': ('ElectionReport', 'Party'), 'person': ('ElectionReport', 'Person'),
@@ -208,13 +209,32 @@ class Result:
     def notices(self):
         """Two files with the same bytes are told."""
         sums = [it.sum for it in self.answers]
-        return [say('notice.sameBytes')] if len(sums) == 2 and sums[0] is not None and sums[0] == sums[1] else []
+        found = [say('notice.sameBytes')] if len(sums) == 2 and sums[0] is not None and sums[0] == sums[1] else []
+        return found + [say('notice.test', name=it.name) for it in self.answers if it.outcome == 'accepted' and json.loads(it.path.read_bytes()).get('IsTest')]
 
     def seen(self):
-        """The box on what a voter sees: each difference has the word that its member has in the table of the profile."""
+        """The box on what a voter sees: whether the ballots differ, and what they leave out, by the table of the profile."""
         words = [self.word(entry) for entry in self.entries]
-        there = [word for word in WORDS_OF_SEEN if word in words]
-        return [say(f'seen.{there[0]}'), *(say(f'seen.count.{word}', count=words.count(word)) for word in there)]
+        differing = self.row.get('ballots', [int(any(entry['how'] == 'member' and self.is_shown(entry) for entry in self.entries)), 1])
+        left_out = {}
+        for entry, word in zip(self.entries, words):
+            if word != 'unseen' and not (differing[0] and self.is_shown(entry)):
+                kind = (entry['part'], entry['how'] == 'member', entry.get('member'))
+                left_out[kind] = left_out.get(kind, 0) + 1
+        heading = say('seen.differ', differing=differing[0], all=differing[1]) if differing[0] else \
+            say('seen.unseen') if not left_out else say('seen.shownSame', count=differing[1]) if differing[1] else say('seen.noBallots')
+        return [heading, *(self.left_out_line(*kind, count) for kind, count in left_out.items())]
+
+    @staticmethod
+    def left_out_line(part, is_member, member, count):
+        parts = say(f'parts.{part}')
+        return say('seen.leftOut.member', parts=parts, member=member_words(member), count=count) if is_member else \
+            say('seen.leftOut.object', parts=parts, count=count)
+
+    @staticmethod
+    def is_shown(entry):
+        """Whether the ballots of the page show what differs."""
+        return entry['part'] in SHOWN and (entry['how'] != 'member' or entry.get('member') in SHOWN[entry['part']])
 
     def word(self, entry):
         if entry['how'] != 'member':
@@ -315,6 +335,8 @@ class Result:
 
     def record(self, heading):
         lines = [[say('record.verdict'), heading]]
+        if self.is_listed and self.has_values:
+            lines.append([say('record.seen'), self.seen()[0]])
         for number, it in enumerate(self.answers, 1):
             lines += self.record_of(it, number if len(self.answers) == 2 else '')
         lines += [[say('record.prefer'), self.prefer or say('prefer.none')], [say('record.version'), f'erd {answers.VERSION}'],
@@ -335,18 +357,25 @@ class Result:
         entries = [line for it in refused for line in it.lines.decode('utf-8').splitlines()]
         if self.is_listed:
             headings = [say('difference.all', count=len(self.entries))]
-            entries = [self.sentence_on(entry) + ''.join(self.inside(entry)[1:] or values_filed(entry)) for entry in self.entries]
-        return {'headings': headings, 'entries': entries, 'paragraphs': [*self.notices(), say('record.proved'), say('record.notProved')]}
+            ordered = sorted(self.entries, key=lambda entry: ('seen', 'in doubt', 'unseen').index(self.word(entry))) if self.has_values else self.entries
+            entries = [self.sentence_on(entry) + ''.join(self.inside(entry)[1:] or values_filed(entry)) for entry in ordered]
+        left_out = [say('seen.leftOut')] if self.is_listed and self.has_values and len(self.seen()) > 1 else []
+        return {'headings': headings, 'entries': entries, 'paragraphs': [*self.notices(), *left_out, say('record.proved'), say('record.notProved')]}
 
     @staticmethod
     def record_of(it, number):
         lines = [[say(f'record.file{number}'), f'{it.name} ({say("bytes", count=it.size)})']]
+        report = json.loads(it.path.read_bytes()) if it.outcome == 'accepted' else {}
+        lines += [[say('record.election'), election_shown(election)] for election in report.get('Election', [])]
+        lines += [[say('record.test'), say('record.isTest')]] if report.get('IsTest') else []
         if number:
             lines.append([say('record.outcome'), say(f'verdict.{it.outcome}', count=len(it.faults))])
         if it.sum:
             lines.append([say('record.fileSum'), it.sum])
         if it.form is not None:
             lines.append([say('record.formSum'), it.form_sum, code_of(it.form_sum)])
+        if report:
+            lines.append([say('record.envelope'), '; '.join(f'{name}: {member_text(report[name])}' for name in ENVELOPE if name in report) or say('record.none')])
         return lines
 
     def chosen(self):
@@ -408,15 +437,31 @@ def parts_of(name, found, wanted):
         yield name, found, wanted
 
 
+def election_shown(election):
+    """An election as the record has it: its name, in English if it has several, and its days."""
+    name = election['Name']
+    if not isinstance(name, str):
+        texts = [text['Content'] for text in name['Text']]
+        name = next((text['Content'] for text in name['Text'] if text['Language'].lower().startswith('en')), texts[0])
+    days = sorted({election['StartDate'], election['EndDate']})
+    return f'{name}, {" – ".join(days)}'
+
+
+def member_text(value):
+    """A member of the envelope as the record has it."""
+    return '\n'.join(' '.join(filter(None, (one['Type'], one.get('OtherType', ''), one['Value']))) for one in value) if isinstance(value, list) else str(value)
+
+
 def values_filed(entry):
     """The values of a difference as the printed record has them."""
     nothing = say('difference.notThere')
+    below = ''.join(say('record.below', head=head) for head in entry.get('below', ()))
     for row in entry.get('values', ()):
         if nothing in row or not any('≠' in value for value in row):
             continue
         left, right = (value.replace('≠', '') for value in row)
         moved = re.fullmatch(r'\d+\. (.*)(moved from \d+ to \d+)', right)
-        yield f'{moved[1]} {moved[2]}' if moved else f'{left or nothing} / {right or nothing}'
+        yield below + (f'{moved[1]} {moved[2]}' if moved else f'{left or nothing} / {right or nothing}')
 
 
 def sign():

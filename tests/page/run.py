@@ -13,12 +13,17 @@ import time
 
 import accessibility
 import ballots
+import bounds
 import browsers
+import filed
 import flows
+import growing
 import hostile
 import keyboard
 import large
+import lines
 import many
+import named
 import network
 import notices
 import pictures
@@ -27,10 +32,11 @@ import record
 import results
 import spanish
 import views
+import voter
 from session import Session, report_of_units
 
 KINDS = {kind.name: kind for kind in (browsers.Chromium, browsers.Firefox)}
-PARTS = (flows, results, notices, ballots, record, prepared, many, spanish, keyboard, hostile, large, network, accessibility)
+PARTS = (flows, results, notices, lines, growing, voter, ballots, record, filed, prepared, many, named, spanish, keyboard, hostile, bounds, large, network, accessibility)
 # The pictures for a person to look at are made where they are asked for by name.
 DEFAULT = [part.__name__ for part in PARTS]
 # A browser is west of Greenwich, and the other one is east of it.

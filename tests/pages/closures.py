@@ -2,17 +2,24 @@
 
 To trust a promise, one reads the definition that states it, and each definition that this one rests on, down to those of JSON
 and of the standard library. The list of a promise has all of these, in the order of the crates and of their files, with the
-number of lines that they take with their comments. What an earlier list has is not repeated. With `--write` the lists are
-written anew.
+number of lines that they take with their comments. So are the types of the crates that these definitions speak of, as the code
+declares them, and the grammar of `clap`, which the kit has. What an earlier list has is not repeated. With `--write` the lists
+are written anew.
 """
 
 import pathlib
 import re
+import subprocess
 import sys
 
 ROOT = pathlib.Path(__file__).resolve().parents[2]
+sys.path.append(str(ROOT / 'tests' / 'shared'))
+from cases import differing_lines, tell_cases  # noqa: E402
+
 PAGE = ROOT / 'docs' / 'DEFINITIONS.md'
-CRATES = ['erd_tables', 'erd_index', 'erd_check', 'erd_prepare', 'erd_text', 'erd_meaning', 'erd_normal', 'erd_compare', 'erd_canon', 'erd_program', 'erd_c']
+CRATES = ['erd_tables', 'erd_index', 'erd_check', 'erd_prepare', 'erd_text', 'erd_meaning', 'erd_normal', 'erd_shown', 'erd_compare', 'erd_canon', 'erd_program', 'erd_c']
+# Definitions of the kit that a reader has to know too.
+KIT = ['clap']
 BEGIN, END = '<!-- the lists begin -->\n', '<!-- the lists end -->\n'
 
 # The promises, with the definitions that state them.
@@ -25,9 +32,13 @@ PROMISES = [
     ('What the whole program does (`run_program`)', ['erd_program/Program.IsProgramRun']),
     ('Answers as data (`check_data`, `compare_data`, `differences_data`)', [
         'erd_canon/DataAnswers.IsCheckedData', 'erd_canon/DataAnswers.IsComparedData', 'erd_canon/DataAnswers.IsListedData']),
+    ('Pieces of lists (`check_data_piece`, `check_text_piece` and their neighbours)', [
+        'erd_canon/Pieces.IsPieceText', 'erd_canon/Pieces.IsCheckPiece', 'erd_canon/Pieces.IsFormPiece', 'erd_canon/Pieces.IsComparePiece',
+        'erd_canon/Pieces.IsListPiece', 'erd_canon/Pieces.IsCheckLines', 'erd_canon/Pieces.IsFormLines', 'erd_canon/Pieces.IsCompareLines',
+        'erd_canon/Pieces.IsListLines']),
     ('The command line as data (`command_line_data`)', ['erd_canon/LineAnswers.IsLineData']),
     ('What the C library tells', ['erd_c/Told.IsCall', 'erd_c/Told.IsWrong', 'erd_c/Told.HasCanonicalText', 'erd_canon/Run.IsChecked',
-                                  'erd_canon/Run.IsCompared', 'erd_c/Lines.IsLineCall']),
+                                  'erd_canon/Run.IsCompared', 'erd_c/Lines.IsLineCall', 'erd_c/Told.IsPieceCall']),
 ]
 
 USE = re.compile(r'^\s*(?:unfoldable )?(?:pub )?use Rattle\.(\w+)\.specs\.([\w.]+?)(?:\.\{([^}]*)\}| as (\w+))$')
@@ -60,6 +71,20 @@ class File:
             self.imported[other] = (f'{crate}/{module}', None)
 
 
+class Types:
+    """The types that a file of code declares, as blocks: each with its comments and its model, by its name."""
+
+    def __init__(self, key, path):
+        self.key, self.imported, self.defined, self.blocks = key, {}, {}, []
+        text = path.read_text(encoding='utf-8')
+        for head in re.finditer(r'^pub(?:\([a-z]+\))? (?:struct|enum|type) (\w+)', text, re.M):
+            front = re.search(r'(?:^(?:///|#\[).*\n)*\Z', text[:head.start()], re.M)[0]
+            body = re.match(r'[^\n]*;|.*?\n\}', text[head.start():], re.S)[0]
+            model = re.search(rf'^impl\S* Model for {head[1]}\b.*?\n\}}', text, re.M | re.S)
+            self.defined[head[1]] = len(self.blocks)
+            self.blocks.append([line for line in (front + body + (model[0] if model else '')).splitlines() if line.strip()])
+
+
 def names_of(block):
     """The names that a block defines. The parts of a `mutual` block stand in it one after another."""
     is_mutual = any(line.strip() in ('mutual', 'abbrev mutual') for line in block)
@@ -81,7 +106,50 @@ def files():
             if name != 'code':
                 file = File(crate, specs / f'{name}.antt')
                 found[file.key] = file
+        source = ROOT / 'crates' / crate / 'src'
+        for path in sorted(source.rglob('*.rt')):
+            file = Types(f'{crate}/declared.{".".join(path.relative_to(source).with_suffix("").parts)}', path)
+            found[file.key] = file
+    return {**found, **of_the_kit()}
+
+
+def of_the_kit():
+    """The files of definitions of the kit's crates that are counted too."""
+    kit = pathlib.Path(subprocess.run(['rt', 'doc'], stdout=subprocess.PIPE, text=True, check=True).stdout).parent
+    found = {}
+    for crate in KIT:
+        specs = kit / 'rattle' / crate / 'specs'
+        for path in sorted(specs.rglob('*.antt')):
+            file = File(crate, path)
+            file.key = f'{crate}/{".".join(path.relative_to(specs).with_suffix("").parts)}'
+            found[file.key] = file
     return found
+
+
+def passed_on(known, module, name):
+    """Where the name is defined that a file defines or passes on, as the file and the name, or None."""
+    while module in known and name not in known[module].defined:
+        module, name = known[module].imported.get(name, ('', name))
+    return (module, name) if module in known else None
+
+
+def type_at(known, module):
+    """The type that a module declares, as the file and the name, or None."""
+    key, _, name = module.removesuffix('.TheVariants').removesuffix('.TheInside').rpartition('.')
+    return (key, name) if '/declared.' in key and name in getattr(known.get(key), 'defined', ()) else None
+
+
+def types_named(known, key, block):
+    """The types that the declaration of a type names: those of its crate, or else of the first that has one of this name. A type with
+    a model is seen as its value alone."""
+    crate = key.partition('/')[0]
+    lines = [line for line in block if not line.strip().startswith(('//', '#'))]
+    inner = [] if any('Model for' in line for line in lines) else [re.split(r'^[^(:=]*[(:=]', line, maxsplit=1)[-1] for line in lines if re.search(r'[(:=]', line)]
+    for word in set(re.findall(r'\b[A-Z]\w+', '\n'.join(inner))):
+        homes = [other for other, file in known.items() if '/declared.' in other and word in file.defined]
+        homes.sort(key=lambda other: other.partition('/')[0] != crate)
+        if homes:
+            yield homes[0], word
 
 
 def closure(known, roots):
@@ -96,12 +164,18 @@ def closure(known, roots):
         if (key, number) in found:
             continue
         found.add((key, number))
+        if isinstance(file, Types):
+            waiting += types_named(known, key, file.blocks[number])
+            continue
         code = [line for line in file.blocks[number] if not line.strip().startswith('--')]
         for word in set(WORD.findall('\n'.join(code))):
             if word in file.imported:
                 module, origin = file.imported[word]
-                if module in known and origin in known[module].defined:
-                    waiting.append((module, origin))
+                declared = type_at(known, module)
+                if declared:
+                    waiting.append(declared)
+                elif passed_on(known, module, origin):
+                    waiting.append(passed_on(known, module, origin))
             elif word in file.defined:
                 waiting.append((key, word))
     return found
@@ -118,10 +192,11 @@ def lists():
         lines += ['', f'**{words}**: {count:,} lines in {len(found):,} definitions{rest}.', '']
         for key, file in known.items():
             blocks = [number for number in range(len(file.blocks)) if (key, number) in new]
-            names = [f'`{name}`' for number in blocks for name in dict.fromkeys(names_of(file.blocks[number])) if file.defined[name] == number]
+            names = [f'`{name}`' for number in blocks for name, at in file.defined.items() if at == number]
             if names:
                 size = sum(len(file.blocks[number]) for number in blocks)
-                lines.append(f'- {key} ({size}): {", ".join(names)}')
+                words = key.replace('/declared.', '/src/').replace('.', '/') if isinstance(file, Types) else key
+                lines.append(f'- {words} ({size}): {", ".join(names)}')
         before |= found
     return '\n'.join(lines[1:]) + '\n'
 
@@ -136,11 +211,7 @@ def main():
     if '--write' in sys.argv[1:]:
         PAGE.write_text(head + begin + new + end + tail, encoding='utf-8')
         return 0
-    for line in sorted(set(old.splitlines()) ^ set(new.splitlines())):
-        print(f'{"the page" if line in old.splitlines() else "specs/"} alone: {line}')
-    print(f'{"passed" if old == new else "FAILED"}: what to read for each promise')
-    print(f'{int(old == new)} passed, {int(old != new)} failed')
-    return int(old != new)
+    return tell_cases([('what to read for each promise: python3 tests/pages/closures.py --write', new, old)], differing_lines)
 
 
 if __name__ == '__main__':

@@ -8,6 +8,9 @@ what else stands on the page is written by hand.
 A reader may skip `specs/code/`: no clause of a public function or trait cites a definition from there, and no other
 definition in `specs/` does. What a source imports from `specs/Words.antt` is passed on from other files of `specs/`, so that
 file may not name `specs/code/` either: a source then imports from there by lines of its own, which are read here.
+
+The names that the table of words in docs/ARCHITECTURE.md quotes stand in the sources, and a word of it that is used for one
+thing alone stands in the names of the crates that know this thing, and of no other (`KNOWING`).
 """
 
 import pathlib
@@ -15,8 +18,23 @@ import re
 import sys
 
 ROOT = pathlib.Path(__file__).resolve().parents[2]
+sys.path.append(str(ROOT / 'tests' / 'shared'))
+from cases import differing_lines, tell_cases  # noqa: E402
+
 PAGE = ROOT / 'docs' / 'DEFINITIONS.md'
-CRATES = ['erd_tables', 'erd_index', 'erd_check', 'erd_prepare', 'erd_text', 'erd_meaning', 'erd_normal', 'erd_compare', 'erd_canon', 'erd_program', 'erd_c']
+CRATES = ['erd_tables', 'erd_index', 'erd_check', 'erd_prepare', 'erd_text', 'erd_meaning', 'erd_normal', 'erd_shown', 'erd_compare', 'erd_canon', 'erd_program', 'erd_c']
+# Words of the table in docs/ARCHITECTURE.md, with the crates whose files, functions, types and definitions may be named by them.
+KNOWING = {
+    'position': ['erd_index', 'erd_meaning', 'erd_normal', 'erd_compare'],
+    'rank': ['erd_meaning', 'erd_normal', 'erd_compare'],
+    'rising': ['erd_tables', 'erd_text', 'erd_meaning', 'erd_normal', 'erd_compare'],
+    'salt': ['erd_index', 'erd_meaning'],
+    'part': ['erd_compare'],
+    'saying': ['erd_normal'],
+}
+# Where such a word has a second sense: in `erd_check` what a visitor knows of the value that it is at, in `erd_index` the whole
+# blocks of a text that is hashed, and in `erd_canon` and `erd_program` what has been written of an answer.
+SECOND = {('position', 'erd_check'), ('part', 'erd_index'), ('part', 'erd_canon'), ('part', 'erd_program')}
 HEAD = ['| Definition | What it says | From |', '|---|---|---|']
 CODE = 'What private functions answer, step by step; a reader may skip it. What each file says stands in its first lines.'
 
@@ -80,6 +98,7 @@ SOURCES = {
     'erd_prepare/Rules': 'this project',
     'erd_prepare/Steps': 'this project',
     'erd_prepare/Styles': 'docs/FIXES.md',
+    'erd_meaning/SaltWrites': 'this project',
     'erd_program/Files': 'this project',
     'erd_program/Messages': 'this project',
     'erd_program/Program': 'this project',
@@ -207,6 +226,34 @@ def named_twice(page):
     return sorted({name for name in names if names.count(name) > 1})
 
 
+def names_of(crate):
+    """The names of a crate's sources, and of what they and its definitions declare."""
+    folder = ROOT / 'crates' / crate
+    for path in sorted((folder / 'src').rglob('*.rt')):
+        yield path.stem
+        yield from re.findall(r'(?m)^\s*(?:pub(?:\(\w+\))? )?(?:fn|struct|enum|trait|const|type) (\w+)', path.read_text(encoding='utf-8'))
+    for path in sorted((folder / 'specs').rglob('*.antt')):
+        yield from re.findall(r'(?m)^\s*(?:abbrev |unfoldable )?pub (?:record |data )?([^\s:(]+)', path.read_text(encoding='utf-8'))
+
+
+def misused_words():
+    """What stands in no source though the table of words quotes it, and the names that have a word of another crate."""
+    table = (ROOT / 'docs' / 'ARCHITECTURE.md').read_text(encoding='utf-8').split('\n## Words\n')[1].split('\n## ')[0]
+    names = {crate: set(names_of(crate)) for crate in CRATES}
+    known = set(CRATES).union(*names.values())
+    for quoted in re.findall(r'`([^`]+)`', table):
+        if quoted.split('::')[-1] not in known:
+            yield f'docs/ARCHITECTURE.md has the word {quoted}, which no source declares'
+    for word, crates in KNOWING.items():
+        if f'| {word}' not in table and f', {word}' not in table:
+            yield f'docs/ARCHITECTURE.md has no row for the word {word}'
+        for crate in CRATES:
+            if crate not in crates and (word, crate) not in SECOND:
+                for name in sorted(names[crate]):
+                    if word in re.sub(r'([a-z0-9])([A-Z])', r'\1_\2', name).lower().split('_'):
+                        yield f'{crate} has the name {name}, and `{word}` is a word of {", ".join(crates)}'
+
+
 def long_comments():
     """Where a line of comment in the crates is longer than 130 characters."""
     paths = [path for ending in ('rt', 'antt') for path in ROOT.glob(f'crates/**/*.{ending}') if 'out' not in path.parts]
@@ -221,30 +268,13 @@ def main():
     if '--write' in sys.argv[1:]:
         PAGE.write_text(new, encoding='utf-8')
         return 0
-    old_lines, new_lines = set(page.splitlines()), set(new.splitlines())
-    for line in page.splitlines():
-        if line not in new_lines:
-            print(f'docs/DEFINITIONS.md has, and specs/ have not: {line}')
-    for line in new.splitlines():
-        if line not in old_lines:
-            print(f'specs/ have, and docs/DEFINITIONS.md has not: {line}')
-    agree = page == new
-    print(f'{"passed" if agree else "FAILED"}: the definitions of docs/DEFINITIONS.md')
-    cited = code_cited()
-    for line in cited:
-        print(line)
-    print(f'{"FAILED" if cited else "passed"}: public contracts can be read without specs/code')
-    twice = named_twice(new)
-    for name in twice:
-        print(f'{name} is defined twice')
-    print(f'{"FAILED" if twice else "passed"}: one name is one definition')
-    wide = long_comments()
-    for place in wide:
-        print(f'{place} is a comment of more than 130 characters')
-    print(f'{"FAILED" if wide else "passed"}: lines of comments fit')
-    passed = sum((agree, not cited, not twice, not wide))
-    print(f'{passed} passed, {4 - passed} failed')
-    return int(passed < 4)
+    return tell_cases([
+        ('the definitions of docs/DEFINITIONS.md: python3 tests/pages/definitions.py --write', new, page),
+        ('public contracts can be read without specs/code', '', '\n'.join(code_cited())),
+        ('one name is one definition; defined twice', '', '\n'.join(named_twice(new))),
+        ('lines of comments have at most 130 characters', '', '\n'.join(long_comments())),
+        ('a word of docs/ARCHITECTURE.md is used for one thing', '', '\n'.join(misused_words())),
+    ], differing_lines)
 
 
 if __name__ == '__main__':

@@ -1,6 +1,7 @@
 """Holds the examples in doc comments against the crate `uses`: each public call of the library has one, and its lines stand
-one after another in a source of `uses`, where they are run. Only white space may differ. One line a case that fails, and at the
-end the counts.
+one after another in a source of `uses`, where they are run. Only white space may differ, and `assert_eq!` of two values may stand in
+`uses` as `assert!` that they are equal: the first one prints both, which costs more to prove than the rest of an example. One line a
+case that fails, and at the end the counts.
 
 A public call is a function or a method of a type or trait that the root of a crate names. Laws take no arguments and run
 nothing, and a `Log` is seen by contracts alone, so these have no example.
@@ -11,13 +12,28 @@ import re
 import sys
 
 ROOT = pathlib.Path(__file__).resolve().parents[2]
-CRATES = ['erd_tables', 'erd_index', 'erd_check', 'erd_text', 'erd_meaning', 'erd_normal', 'erd_compare', 'erd_canon']
+sys.path.append(str(ROOT / 'tests' / 'shared'))
+from cases import tell_cases  # noqa: E402
+
+CRATES = ['erd_tables', 'erd_index', 'erd_check', 'erd_text', 'erd_meaning', 'erd_normal', 'erd_shown', 'erd_compare', 'erd_canon']
 CALL = re.compile(r'^( *)(pub )?fn (\w+)(?:<[^(]*>)?\(([^)]*)', re.M)
 OWNER = re.compile(r"^(?:impl(?:<[^{]*?>)? (?:\w+(?:<[^{]*>)? for )?|pub trait )(\w+)", re.M)
 
 
 def bare(text):
-    return re.sub(r'\s', '', text)
+    """A text without white space, in which `assert!` stands for `assert_eq!`."""
+    parts = re.sub(r'\s', '', text).split('assert_eq!(rt;')
+    return parts[0] + ''.join(map(as_assert, parts[1:]))
+
+
+def as_assert(text):
+    """What stands behind `assert_eq!(rt;`, as `assert!` has it: its first comma outside of brackets and texts stands between the values."""
+    depth = 0
+    for found in re.finditer(r'r#".*?"#|"(?:\\.|[^"\\])*"|[(){}\[\],]', text):
+        if found[0] == ',' and depth == 0:
+            return f'assert!(rt;{text[:found.start()]}=={text[found.end():]}'
+        depth += (found[0] in '([{') - (found[0] in ')]}')
+    return f'assert_eq!(rt;{text}'
 
 
 def names_at_root(crate):
@@ -59,24 +75,15 @@ def calls_of(crate):
                 yield f'{crate}::{owner.group(1) + "::" if owner else ""}{name}', doc_before(text, call.start())
 
 
-def main():
+def cases():
     sources = [bare(path.read_text(encoding='utf-8')) for path in (ROOT / 'crates' / 'uses' / 'src').rglob('*.rt')]
-    passed = failed = 0
     for crate in CRATES:
         for name, doc in calls_of(crate):
             examples = re.findall(r'^```\n(.*?)^```$', doc, re.M | re.S)
-            if not examples:
-                why = 'has no example'
-            elif not all(any(bare(example) in source for source in sources) for example in examples):
-                why = 'has an example that is not in the crate uses'
-            else:
-                passed += 1
-                continue
-            failed += 1
-            print(f'FAILED  {name} {why}')
-    print(f'{passed} passed, {failed} failed')
-    return int(failed > 0 or passed == 0)
+            yield f'{name} has an example', True, bool(examples)
+            missing = [example for example in examples if not any(bare(example) in source for source in sources)]
+            yield f'{name}: what is not in the crate uses', [], missing
 
 
 if __name__ == '__main__':
-    sys.exit(main())
+    sys.exit(tell_cases([('there are public calls', True, any(True for crate in CRATES for _ in calls_of(crate))), *cases()]))

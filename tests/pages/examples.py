@@ -331,7 +331,10 @@ def examples_of_differences(folder):
 def rows_of_letter(folder):
     """Each rule of docs/VENDORS.md: what it calls refused is refused at its place, and what it calls accepted is accepted."""
     base = json.loads(read(BASE))
-    for rule, place, bad, good in re.findall(r'^\| ([^|]*) \| `(\.[^`]*)` \| `([^|]*)` \| `([^|]*)` \|$', read('docs/VENDORS.md'), re.M):
+    page = read('docs/VENDORS.md')
+    rules = re.findall(r'^- (.*?) At `(\.[^`]*)`, `(.*)` is refused, and `(.*)` is accepted\.$', page, re.M)
+    yield 'docs/VENDORS.md: rules with an example', 11, len(rules)
+    for rule, place, bad, good in rules:
         for name, fragment in (('before.json', bad), ('after.json', good)):
             written(folder, name, with_fragment(base, place, fragment, names_of(bad) if name == 'after.json' else ()))
         pointer = ''.join(f'/{step}' for step in steps_of(place))

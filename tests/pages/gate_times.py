@@ -1,6 +1,6 @@
 """Holds the first table of docs/GATE.md and the table of tests/README.md against tests/gate.sh, the seconds of the first against those
 of the last run of the gate here, which leaves them in out/gate-costs, and the minutes that the README tells against those of the
-page. One line a case that fails, and at the end the counts."""
+page. One line a case that fails, and at the end the counts. With --write the seconds of that run are written into the table."""
 import pathlib
 import re
 import sys
@@ -10,23 +10,50 @@ sys.dont_write_bytecode = True
 sys.path.append(str(ROOT / 'tests' / 'shared'))
 from cases import tell_cases  # noqa: E402
 
+PAGE = ROOT / 'docs' / 'GATE.md'
+ROW = re.compile(r'^\| (`.*?) \| ([\d,]+) \|', re.M)
 COSTS = ROOT / 'out' / 'gate-costs'
 # One machine takes two fifths more than another, and a part of some seconds varies by more than that.
 MOST, SLACK = 1.5, 15
-EDITS = 'tests/bodies/try_edits.py --gate CRATE'
+EDITS = 'tests/bodies/try_wrong.py --gate CRATE'
 
 
 def plain(command):
     """A command as the page has it."""
     command = re.sub(r'^python3 ', '', command)
-    return EDITS if command.startswith('tests/bodies/try_edits.py --gate') else command
+    return EDITS if command.startswith('tests/bodies/try_wrong.py --gate erd_') else command
 
 
 def rows():
     """The commands of each row of the page, and its seconds."""
-    table = (ROOT / 'docs' / 'GATE.md').read_text(encoding='utf-8').split('\n\n')[2]
-    for names, seconds in re.findall(r'^\| (`.*?) \| ([\d,]+) \|', table, re.M):
-        yield [plain(name) for name in re.findall(r'`([^`]*)`', names)], int(seconds.replace(',', ''))
+    for names, seconds in ROW.findall(PAGE.read_text(encoding='utf-8').split('\n\n')[2]):
+        yield names_of(names), int(seconds.replace(',', ''))
+
+
+def names_of(cell):
+    """The commands in the first cell of a row."""
+    return [plain(name) for name in re.findall(r'`([^`]*)`', cell)]
+
+
+def spent():
+    """The seconds of each command of the last run."""
+    found = {}
+    for line in COSTS.read_text(encoding='utf-8').splitlines():
+        seconds, command = line.split('\t')
+        found[plain(command)] = found.get(plain(command), 0) + int(seconds)
+    return found
+
+
+def write():
+    """Writes the seconds of the last run into the rows whose commands it has."""
+    costs, parts_of_page = spent(), PAGE.read_text(encoding='utf-8').split('\n\n')
+
+    def with_costs(row):
+        names = names_of(row[1])
+        return f'| {row[1]} | {sum(costs[name] for name in names):,} |' if all(name in costs for name in names) else row[0]
+
+    parts_of_page[2] = ROW.sub(with_costs, parts_of_page[2])
+    PAGE.write_text('\n\n'.join(parts_of_page), encoding='utf-8')
 
 
 def minutes():
@@ -39,8 +66,8 @@ def minutes():
 def parts():
     """The commands of the gate's lanes."""
     text = (ROOT / 'tests' / 'gate.sh').read_text(encoding='utf-8')
-    found = {plain(command) for line in re.findall(r"^(?:lane| {4}).*'.*$", text, re.M)
-             for command in re.findall(r"'([^']*)'", line) if '/' in command and ': ' not in command}
+    found = {plain(command) for line in re.findall(r"^(?:lane|first|proof| {4}).*'.*$", text, re.M)
+             for command in re.findall(r"'([^']*)'", line) if '/' in command and ': ' not in command and 'lists/' not in command}
     return found | {EDITS}
 
 
@@ -61,13 +88,10 @@ def cases():
     if not COSTS.exists():
         print('skipped the seconds of the gate: there is no run of it here')
         return
-    spent = {}
-    for line in COSTS.read_text(encoding='utf-8').splitlines():
-        seconds, command = line.split('\t')
-        spent[plain(command)] = spent.get(plain(command), 0) + int(seconds)
+    costs = spent()
     for names, told in rows():
-        found = sum(spent.get(name, 0) for name in names)
-        is_near = not all(name in spent for name in names) or found <= told * MOST + SLACK and told <= found * MOST + SLACK
+        found = sum(costs.get(name, 0) for name in names)
+        is_near = not all(name in costs for name in names) or found <= told * MOST + SLACK and told <= found * MOST + SLACK
         yield 'the seconds of %s' % ', '.join(names), told if is_near else found, told
 
 
@@ -77,4 +101,4 @@ def why(wanted, found):
 
 
 if __name__ == '__main__':
-    sys.exit(tell_cases(cases(), why))
+    sys.exit(write() if '--write' in sys.argv[1:] else tell_cases(cases(), why))

@@ -20,8 +20,8 @@ QUOTES = (
     ('docs/ARCHITECTURE.md', 'pub record Headline', 'crates/erd_canon/specs/*.antt'),
     ('docs/ARCHITECTURE.md', 'TellsMeanings ', 'crates/erd_canon/specs/*.antt'),
     ('conformance/README.md', 'case identity-', 'conformance/cases/*.txt'),
-    ('CONTRIBUTING.md', 'file: src/', 'tests/edits/*/*.edit'),
-    ('CONTRIBUTING.md', 'name: green_', 'tests/bodies/wrong_lines/*.txt'),
+    ('CONTRIBUTING.md', 'name: position_', 'tests/bodies/lists/*.txt'),
+    ('CONTRIBUTING.md', 'name: green_', 'tests/bodies/lists/*.txt'),
 )
 # The pages that cite names of the code, and where these stand.
 CITING = ('docs/ARCHITECTURE.md', 'docs/DECISIONS.md', 'docs/PROMISES.md', 'docs/REFUSALS.md', 'docs/DATA.md', 'CONTRIBUTING.md')

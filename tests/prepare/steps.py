@@ -5,6 +5,7 @@
 - Each raw example is accepted after the steps, and so is each rearrangement, which then means the same.
 - On the examples, on each damage and on random damaged reports both write the same bytes and tell the same changes.
 - The command writes what it says, and numbers stay as they are.
+- What a step does on a report twice as large is at most a little more than twice as much, by counts, on the reports of growth.py.
 
 `steps.py COUNT SEED` tries COUNT damaged reports in place of 500, and `steps.py COUNT SEED agreement` only whether both agree. The verdicts
 are those of the reference program.
@@ -24,6 +25,7 @@ EXAMPLES = ROOT / 'examples'
 sys.path[:0] = [str(ROOT / folder) for folder in ('bindings/python/src', 'reference', 'tests/reports', 'tests/shared')]
 sys.dont_write_bytecode = True
 import damages  # noqa: E402
+import growth  # noqa: E402
 import small_reports  # noqa: E402
 import erd_reference  # noqa: E402
 from cases import tell_cases  # noqa: E402
@@ -316,13 +318,95 @@ def first_difference(here, there):
     return f'{str(here)[:600]!r} in Python, {str(there)[:600]!r} in JavaScript'
 
 
+# ---- how much it grows
+
+
+SIZES = (150, 300)
+MOST_TIMES = 2.4
+
+
+def growth_of_steps():
+    """No step does more than a little more than twice as much on a report twice as large."""
+    for name, make in growth.REPORTS.items():
+        sizes = [json.dumps(make(size)).encode() for size in SIZES]
+        here = [calls_of(lambda data=data: Preparation(data).prepare(ALL)) for data in sizes]
+        yield f'{name}: growth in Python', True, here[1] < MOST_TIMES * here[0] or here
+        if NODE:
+            there = counts_in_node(sizes)
+            yield f'{name}: growth in JavaScript', True, there[1] < MOST_TIMES * there[0] or there
+
+
+# Reports of which a step tells more than is listed: changes below one long name, and nested ones. What is told has a bound, with how many
+# there are.
+LONG = '{"@type":"ElectionResults.ElectionReport","%s":[%s]}' % ('n' * 40000, ','.join(['{"a":null}'] * 3000))
+SHORT = '{"@type":"ElectionResults.ElectionReport","n":[%s]}' % ','.join(['{"a":null}'] * 3000)
+MOST_BYTES_TOLD = 3_000_000
+
+
+def bounds():
+    """What is told of a report has a bound, and says that there is more."""
+    for name, text, told in (('many changes', SHORT, 1000), ('places that are long', LONG, 27)):
+        here = Preparation(text.encode()).prepare(['nulls'])[1][0].told()
+        yield f'a report of {name} in Python', (3000, told, True), (here['count'], len(here['changes']), here['more'])
+        with tempfile.TemporaryDirectory() as folder:
+            file, report = pathlib.Path(folder) / 'file.json', pathlib.Path(folder) / 'report.json'
+            file.write_text(text, encoding='utf-8')
+            for language, command in commands_of_both():
+                ran(command, '--steps', 'nulls', '--report', report, file)
+                there = json.loads(report.read_text(encoding='utf-8'))
+                yield f'a report of {name} in {language}', [here], there
+                yield f'the size of a report of {name} in {language}', True, report.stat().st_size < MOST_BYTES_TOLD
+    twice = '{"%s":[%s]}' % ('n' * 40000, ','.join(['{"a":1,"a":2}'] * 3000))
+    with tempfile.TemporaryDirectory() as folder:
+        file = pathlib.Path(folder) / 'file.json'
+        file.write_text(twice, encoding='utf-8')
+        for language, command in commands_of_both():
+            status, _, told = ran(command, '--steps', 'nulls', file)
+            line = f"3000 names are written twice in one object, first /{'n' * 40000}/0/a: the last value of each counts"
+            yield f'many names that are written twice in {language}', (0, line), (status, told.splitlines()[0])
+
+
+def calls_of(run):
+    """How many functions are called, those of C too."""
+    count = 0
+
+    def counted_call(_, event, __):
+        nonlocal count
+        count += event in ('call', 'c_call')
+
+    sys.setprofile(counted_call)
+    try:
+        run()
+    finally:
+        sys.setprofile(None)
+    return count
+
+
+def counts_in_node(reports):
+    with tempfile.TemporaryDirectory() as folder:
+        jobs = []
+        for number, data in enumerate(reports):
+            path = pathlib.Path(folder) / f'{number}.json'
+            path.write_bytes(data)
+            jobs.append([str(path), ALL])
+        (pathlib.Path(folder) / 'jobs').write_text(json.dumps(jobs), encoding='utf-8')
+        ran = subprocess.run([NODE, str(ROOT / 'tests' / 'prepare' / 'counts.mjs'), str(pathlib.Path(folder) / 'jobs')], capture_output=True, check=True)
+        return [int(line) for line in ran.stdout.split()]
+
+
 # ---- the command
+
+
+def commands_of_both():
+    """The command of each package, by its language."""
+    yield 'Python', [sys.executable, '-m', 'erd.prepare']
+    if NODE:
+        yield 'JavaScript', [NODE, '--max-old-space-size=200', str(ROOT / 'bindings' / 'js' / 'prepare.mjs')]
 
 
 def commands():
     """The commands of both packages."""
-    python = [sys.executable, '-m', 'erd.prepare']
-    for name, command in [('Python', python), *([('JavaScript', [NODE, str(ROOT / 'bindings' / 'js' / 'prepare.mjs')])] if NODE else [])]:
+    for name, command in commands_of_both():
         yield from command_cases(name, command)
 
 
@@ -366,7 +450,7 @@ def command_cases(name, command):
 
 def main(count=500, seed=1, part=None):
     dice = random.Random(int(seed))
-    cases = [] if part else [tables(), words(), numbers(), left_alone(), laws_of_steps(dice), laws_of_examples(dice), commands()]
+    cases = [] if part else [tables(), words(), numbers(), left_alone(), laws_of_steps(dice), laws_of_examples(dice), growth_of_steps(), bounds(), commands()]
     if NODE:
         cases.append(agreement(int(count), dice))
     else:

@@ -38,6 +38,14 @@ with_or_without() {
     MEMORY=100000000 TIME=2 OUTPUT=2000000000 confined "$1: 10 GB of lines" 124 check "$work/name.json"
     MEMORY=100000000 OUTPUT=100000 confined "$1: the beginning of 10 GB" 125 check "$work/name.json"
     ERD=$work/spins TIME=1 confined "$1: a program without end" 124 check "$one"
+    ERD=$work/complains OUTPUT=1000 confined "$1: errors without end" 125 canon "$one"
+    equal "$1: their beginning" "$(stat -c %s "$work/err")" 1000
+    confined "$1: a pipe" 0 check <(cat "$one")
+    confined "$1: two pipes" 1 compare <(cat "$one") <(cat examples/small-ballot.json)
+    confined "$1: more bytes than erd reads, through a pipe" 3 check <(head -c 67108865 /dev/zero)
+    equal "$1: its words" "$(cat "$work/err")" 'too long'
+    python3 tests/forms/command_lines.py --command confined "$1" script contrib/confined.sh > "$work/lines"
+    counted "$1: the table of statuses" "$work/lines"
 }
 
 python3 - "$work" << 'END' || exit 1
@@ -56,11 +64,15 @@ printf '#!/bin/sh\nwhile :; do :; done\n' > "$work/spins"
 cat > "$work/writes" << 'END'
 #!/bin/bash
 { echo x > /tmp/erd-was-here; echo x > "$HOME/erd-was-here"; } 2> /dev/null && echo 'it wrote a file'
+for folder in / /tmp /dev /dev/shm /dev/pts /proc /left /usr; do
+    { echo x > "$folder/erd-was-here"; } 2> /dev/null && echo "it wrote a file in $folder"
+done
 { exec 9<> "/dev/tcp/127.0.0.1/$ERD_PORT"; } 2> /dev/null && echo 'it opened a connection'
 [ ! -e /home ] && [ ! -e /etc/passwd ] || echo 'it sees other files'
 exit 0
 END
-chmod +x "$work/spins" "$work/writes"
+printf '#!/bin/sh\nexec yes complaint >&2\n' > "$work/complains"
+chmod +x "$work/spins" "$work/writes" "$work/complains"
 
 export SANDBOX=no
 with_or_without 'limits alone'
@@ -73,4 +85,36 @@ else
     echo 'skipped the room: there is no bwrap, or it may not run here'
     SANDBOX=yes confined 'no room, where one is asked for' 3 check "$one"
 fi
+
+# The recipe for systemd of docs/SERVICE.md, with a program in the place of systemd-run that does as it does: it ends with the status of
+# what it started, but with 1 where that took too long or too much memory or did not begin, and with 255 after a signal.
+mkdir "$work/bin"
+cat > "$work/bin/systemd-run" << 'END'
+#!/bin/bash
+while [[ $1 == -* ]]; do
+    [ "$1" != -p ] || shift
+    shift
+done
+case $ENDS in
+    by-itself) exec "$@" ;;
+    killed) "$@" > /dev/null 2>&1; exit 1 ;;
+    signal) exit 255 ;;
+    not-begun) exit 1 ;;
+esac
+END
+chmod +x "$work/bin/systemd-run"
+{
+    block docs/SERVICE.md sh 2 | sed "s|/usr/share/doc/erd/contrib|$PWD/contrib|; s|upload\.json|\"\$UPLOAD\"|; s|lines\.txt|\"\$LINES\"|"
+    echo 'exit "$status"'
+} > "$work/recipe"
+said 'the recipe for systemd is there' "$(grep -q 'systemd-run .*' "$work/recipe" && grep -q 'confined.sh check "$UPLOAD" > "$LINES"' "$work/recipe" || cat "$work/recipe")"
+sed 's/pre-election/certified/' "$one" > "$work/refused.json"
+for row in "by-itself $one 0" "by-itself $work/refused.json 1" 'by-itself README.md 2' 'by-itself nosuch 3' "killed $one 3" "signal $one 3" \
+    "not-begun $one 3"; do
+    read -r ends upload wanted <<< "$row"
+    run env PATH="$work/bin:$PATH" SANDBOX=no ENDS="$ends" UPLOAD="$upload" LINES="$work/lines" sh "$work/recipe"
+    said "the recipe for systemd: $ends, $(basename "$upload")" "$([ "$status" -eq "$wanted" ] || echo "status $status, not $wanted")"
+done
+run env PATH="$work/bin:$PATH" SANDBOX=no ENDS=by-itself OUTPUT=5 UPLOAD="$one" LINES="$work/lines" sh "$work/recipe"
+said 'the recipe for systemd: more output than it may have' "$([ "$status" -eq 3 ] || echo "status $status")"
 counts

@@ -114,6 +114,13 @@ expect 'repeated names of a file that is not there' 3
 run contrib/repeated-names.py
 expect 'repeated names without a file' 3
 
+# ---- the statuses of these scripts, in each state of the streams
+for script in check-folder repeated-names git-textconv; do
+    file=$(echo contrib/$script.*)
+    python3 tests/forms/command_lines.py --command $script "" script "$file" > "$work/lines"
+    counted "the table of statuses: $script" "$work/lines"
+done
+
 # ---- git-textconv.sh
 clone=$work/clone
 git init -q "$clone"
@@ -161,6 +168,7 @@ equal 'a control character in a form without Python' "$control" 1
 mv "$work/bin/erd" "$work/bin/away"
 run git diff
 said 'without the program git says so' "$(grep -q 'there is no erd' "$work/err" || cat "$work/out" "$work/err")"
+expect 'and ends with a status of its own' 128
 mv "$work/bin/away" "$work/bin/erd"
 git checkout -q ballots
 
@@ -178,6 +186,32 @@ expect 'what is staged is refused, whatever the file is now' 1
 equal 'the hook says why' "$(cat "$work/err")" \
     $'ballots/two words.json is not accepted:\n  /Odd^[/@id: carried identity\n  /Status: not pre-election'
 git reset -q
+
+# What could not be judged is not refused: the hook ends with 3, which stops git too.
+for program in nosuch /bin/false "$work/ends"; do
+    printf '#!/bin/sh\nkill -9 $$\n' > "$work/ends"
+    chmod +x "$work/ends"
+    cp "$top/examples/small-ballot.json" ballots/unjudged.json
+    git add -A
+    run env ERD="$program" .git/hooks/pre-commit
+    expect "the hook with ERD=$program" 3
+    said 'it calls nothing refused' "$(grep 'is not accepted' "$work/err")"
+    run env ERD="$program" git commit -qm 'Add what is not judged'
+    expect "git stops with ERD=$program" 1
+    git reset -q --hard
+done
+cp "$top/examples/small-ballot.json" ballots/unjudged.json
+faulty ballots/refused.json
+git add -A
+run env TMPDIR=/nosuch .git/hooks/pre-commit
+expect 'the hook without a folder for its work' 3
+blob=$(git rev-parse :ballots/unjudged.json)
+rm -f ".git/objects/${blob%"${blob#??}"}/${blob#??}"
+run .git/hooks/pre-commit
+expect 'the hook where git has lost a version' 3
+equal 'it says which is lost, and which is refused' "$(sed -n '/^ballots/p' "$work/err")" \
+    $'ballots/refused.json is not accepted:\nballots/unjudged.json could not be judged:'
+git reset -q --hard
 
 # refused NAME WHY ..: what is staged is refused for these files, one a line as git writes their names, and is taken back
 refused() {

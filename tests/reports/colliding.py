@@ -63,6 +63,12 @@ def after(*writes):
     return state
 
 
+def place_of(number, places):
+    """The place of a number in an index that hashes it without a salt."""
+    mixed = after(number_write(number))
+    return (mixed ^ mixed >> 32) & (places - 1)
+
+
 def text_writes(text):
     """What the hasher is given of a text."""
     return [text.encode(), b'\xff']

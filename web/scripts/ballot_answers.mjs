@@ -1,9 +1,14 @@
 // What the worker answers on the ballots of one file or two: which styles there are, which of them differ, and one ballot.
 import { orderOfKeys } from '../../bindings/js/lib/order.mjs';
-import { mergedItems, mergedLines } from './ballot_changes.mjs';
+import { mergedItem, mergedLines } from './ballot_changes.mjs';
 import { Ballots } from './ballots.mjs';
+import { orderedChanges } from './order_changes.mjs';
 
 const LANGUAGE_STRING = 'ElectionResults.LanguageString';
+
+/** How many lines of a ballot are shown at once. A long text counts as several. */
+const MOST_LINES = 500;
+const CHARACTERS_OF_LINE = 500;
 
 export class BallotAnswers {
     /** @param {import('./meaning.mjs').Meaning[]} meanings of one file, or of the left and the right one */
@@ -28,18 +33,32 @@ export class BallotAnswers {
     styles({ words, group, from, count }) {
         const fitting = this.heads().filter((head) => hasWords(head, words));
         const counts = { all: fitting.length, differing: 0, same: 0 };
-        fitting.forEach(({ mark }) => counts[mark === '' ? 'same' : 'differing']++);
-        const chosen = group === 'all' ? fitting : fitting.filter(({ mark }) => (mark === '') === (group === 'same'));
+        fitting.forEach(({ mark }) => counts[isSame(mark) ? 'same' : 'differing']++);
+        const chosen = group === 'all' ? fitting : fitting.filter(({ mark }) => isSame(mark) === (group === 'same'));
         return { counts, entries: group === null ? [] : chosen.slice(from, from + count) };
     }
 
-    // The head of each style, with whether it differs.
+    /** How many ballot styles there are, and how many of them a voter sees differ. */
+    seen() {
+        return this.styles({ words: '', group: null, from: 0, count: 0 }).counts;
+    }
+
+    // The head of each style, with whether it differs. A style under another code that shows the same stands once.
     heads() {
-        this.keptHeads ??= this.keys.map((key) => {
-            const heads = this.sides.map((side) => side.head(key));
-            return { key, ...(heads.at(-1) ?? heads[0]), mark: this.markOf(key, heads) };
-        });
+        this.keptHeads ??= this.madeHeads();
         return this.keptHeads;
+    }
+
+    madeHeads() {
+        const heads = this.keys.map((key) => {
+            const some = this.sides.map((side) => side.head(key));
+            return { key, ...(some.at(-1) ?? some[0]), mark: this.markOf(key, some) };
+        });
+        const removed = onlyOnes(heads.filter(({ mark }) => mark === 'removed'), ({ key }) => this.fingerprint(this.sides[0], key));
+        const added = onlyOnes(heads.filter(({ mark }) => mark === 'added'), ({ key }) => this.fingerprint(this.sides[1], key));
+        this.renamed = new Map([...added].filter(([shown]) => removed.has(shown)).map(([shown, { key }]) => [key, removed.get(shown).key]));
+        const gone = new Set(this.renamed.values());
+        return heads.filter(({ key }) => !gone.has(key)).map((head) => (this.renamed.has(head.key) ? { ...head, mark: 'renamed' } : head));
     }
 
     markOf(key, heads) {
@@ -50,36 +69,92 @@ export class BallotAnswers {
         return right === undefined || left === right ? '' : 'changed';
     }
 
-    // One text for all that a ballot shows. A contest stands on many ballots, so it counts by a number.
+    // One text for all that a ballot shows, and not for identifiers. A contest stands on many ballots, so it counts by a number.
     fingerprint(side, key) {
-        const items = side.items(key).map(({ id, depth, unlisted, selections, lines }) => [depth, unlisted, this.numberOf(id, lines),
-            (selections ?? []).map((selection) => this.numberOf(selection.id, selection.lines))]);
+        const items = side.items(key).map(({ print, depth, unlisted, selections }) => [depth, unlisted, this.numberOf(print),
+            this.numberOfList(selections ?? [], unlisted)]);
         return JSON.stringify([side.lines(key), items]);
     }
 
-    numberOf(id, lines) {
-        const text = this.textOf(id, lines);
+    // The number of a list of selections, which has no order if it is that of a contest as a whole. Many ballots have that, so it is kept.
+    numberOfList(selections, unlisted) {
+        this.lists ??= new WeakMap();
+        if (!this.lists.has(selections)) {
+            const numbers = selections.map(({ print }) => this.numberOf(print));
+            this.lists.set(selections, this.numberOf(JSON.stringify(unlisted ? numbers.sort((one, other) => one - other) : numbers)));
+        }
+        return this.lists.get(selections);
+    }
+
+    numberOf(text) {
         if (!this.numbers.has(text)) {
             this.numbers.set(text, this.numbers.size);
         }
         return this.numbers.get(text);
     }
 
-    // Lines are kept by the ballots, so each is made a text once.
-    textOf(id, lines) {
-        this.texts ??= new WeakMap();
-        if (!this.texts.has(lines)) {
-            this.texts.set(lines, JSON.stringify([id, lines]));
-        }
-        return this.texts.get(lines);
+    /**
+     * A part of a ballot, with what differs between the files marked. A style that one file lacks is shown as that of the other.
+     * @param {{key: string, next: {item: number, line: number} | null}} question where the part begins; null for the beginning
+     * @returns {{lines: object[], items: object[], next: {item: number, line: number} | null, left: number}} where the next part begins,
+     *     and how many items are left
+     */
+    ballot({ key, next }) {
+        const { lines, changes } = this.changesOf(key);
+        return { lines, ...partOf(changes, next ?? { item: 0, line: 0 }) };
     }
 
-    /** A ballot, with what differs between the files marked. A style that one file lacks is shown as that of the other. */
-    ballot({ key }) {
-        const there = this.sides.filter((side) => side.head(key) !== null);
-        const [left, right] = [there[0], there.at(-1)];
-        return { lines: mergedLines(left.lines(key), right.lines(key)), items: mergedItems(left.items(key), right.items(key)) };
+    // What changed in a ballot. The last one is kept, since it may be asked for in parts.
+    changesOf(key) {
+        if (this.last?.key !== key) {
+            this.heads();
+            const there = this.sides.map((side, at) => ({ side, key: at === 0 ? this.renamed.get(key) ?? key : key }))
+                .filter((one) => one.side.head(one.key) !== null);
+            const [left, right] = [there[0], there.at(-1)];
+            this.last = { key, lines: mergedLines(left.side.lines(left.key), right.side.lines(right.key)),
+                changes: orderedChanges(left.side.items(left.key), right.side.items(right.key)) };
+        }
+        return this.last;
     }
+}
+
+// Items from a place on, as many as a reader is shown at once. A contest with more lines than that is shown in parts too.
+function partOf(changes, { item, line }) {
+    const items = [];
+    let room = MOST_LINES;
+    let at = item;
+    let from = line;
+    for (; at < changes.length && room > 0; at++, from = 0) {
+        const { selections, ...merged } = mergedItem(changes[at]);
+        room -= 1 + Math.ceil(lengthOf(merged.lines) / CHARACTERS_OF_LINE);
+        if (selections === undefined) {
+            items.push(merged);
+            continue;
+        }
+        const some = selections.slice(from, from + Math.max(room, 1));
+        room -= some.length;
+        items.push({ ...merged, selections: some, first: from });
+        if (from + some.length < selections.length) {
+            return { items, next: { item: at, line: from + some.length }, left: changes.length - at };
+        }
+    }
+    return { items, next: at < changes.length ? { item: at, line: 0 } : null, left: changes.length - at };
+}
+
+function lengthOf(lines) {
+    return lines.reduce((sum, { texts }) => sum + texts.reduce((most, { pieces }) => most + pieces.reduce((all, { text }) => all + text.length, 0), 0), 0);
+}
+
+// What a voter sees is the same, maybe under another code.
+function isSame(mark) {
+    return mark === '' || mark === 'renamed';
+}
+
+// The entries by their texts, where no other entry has the same one.
+function onlyOnes(entries, textOf) {
+    const found = new Map();
+    entries.forEach((entry) => found.set(textOf(entry), found.has(textOf(entry)) ? null : entry));
+    return new Map([...found].filter(([, entry]) => entry !== null));
 }
 
 function hasWords({ code, units, parties }, words) {

@@ -1,5 +1,5 @@
 // One ballot of two files, with what differs marked in place: added, removed, moved, and words that changed.
-import { aligned } from './alignment.mjs';
+import { orderedChanges } from './order_changes.mjs';
 import { mergedText } from './text_changes.mjs';
 
 /**
@@ -8,40 +8,38 @@ import { mergedText } from './text_changes.mjs';
  * @param {import('./ballots.mjs').Item[]} right
  */
 export function mergedItems(left, right) {
-    const [ones, others] = [left, right].map(numbered);
-    const rows = aligned(ones, others);
-    const away = new Map(rows.filter((row) => !row.same && row.left !== null).map(({ left: one }) => [one.like, one]));
-    const come = new Set(rows.filter((row) => !row.same && row.right !== null).map(({ right: one }) => one.like));
-    return rows.flatMap((row) => (row.same ? [mergedItem(row.left, row.right, '')] : changedRow(row, away, come)));
+    return orderedChanges(left, right).map(mergedItem);
 }
 
-// Each item with its number among those of its kind. A ballot may list an item twice, so the second one is another.
-function numbered(items) {
-    const counts = {};
-    return items.map((item) => {
-        counts[item.kind] = (counts[item.kind] ?? 0) + 1;
-        counts[item.id] = (counts[item.id] ?? 0) + 1;
-        return { item, number: counts[item.kind], like: `${counts[item.id]} ${item.id}`, indent: item.depth };
-    });
-}
-
-function changedRow({ left, right }, away, come) {
-    const removed = left === null || come.has(left.like) ? [] : [mergedItem(left, null, 'removed')];
-    const from = right === null ? null : away.get(right.like) ?? null;
-    return right === null ? removed : [...removed, from === null ? mergedItem(null, right, 'added') : mergedItem(from, right, 'moved')];
-}
-
-function mergedItem(left, right, mark) {
-    const one = left?.item ?? right.item;
-    const other = right?.item ?? left.item;
+/** One item of the list that `orderedChanges` makes. */
+export function mergedItem({ left, right, mark, from, to, renamed }) {
+    const one = left ?? right;
+    const other = right ?? left;
     const selections = other.selections === undefined ? {}
-        : { selections: mergedItems(one.selections, other.selections), unlisted: other.unlisted, ordered: one.unlisted === other.unlisted };
-    return { kind: other.kind, depth: other.depth, mark, from: left?.number ?? null, to: right?.number ?? null,
-        lines: mergedLines(one.lines, other.lines), ...selections };
+        : { selections: mergedSelections(one, other), unlisted: other.unlisted, ordered: one.unlisted === other.unlisted };
+    return { kind: other.kind, depth: other.depth, mark, from, to, renamed, lines: mergedLines(one.lines, other.lines), ...selections };
 }
+
+// Selections in no order don't move.
+function mergedSelections(one, other) {
+    const merged = mergedItems(one.selections, other.selections);
+    return one.unlisted && other.unlisted ? merged.map((item) => (item.mark === 'moved' ? { ...item, mark: '' } : item)) : merged;
+}
+
+// What is kept of pairs of lines. A contest stands on many ballots, and may stand on one ballot many times.
+const MERGED = new WeakMap();
 
 /** The lines of two items: those with the same role and place belong together. */
 export function mergedLines(left, right) {
+    const kept = MERGED.get(left) ?? new WeakMap();
+    MERGED.set(left, kept);
+    if (!kept.has(right)) {
+        kept.set(right, linesOfBoth(left, right));
+    }
+    return kept.get(right);
+}
+
+function linesOfBoth(left, right) {
     const [ones, others] = [left, right].map(byRole);
     const keys = [...new Set([...others.keys(), ...ones.keys()])];
     return keys.map((key) => {

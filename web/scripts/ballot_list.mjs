@@ -1,5 +1,6 @@
 // The section of ballots: a list of ballot styles that can be narrowed by a precinct, each built when it is opened.
-import { ballotShown } from './ballot_view.mjs';
+import { attempted } from './attempts.mjs';
+import { ballotShown, itemsShown } from './ballot_view.mjs';
 import { button, element, theirs } from './dom.mjs';
 import { GrowingList } from './growing.mjs';
 import { say } from './texts.mjs';
@@ -8,6 +9,8 @@ import { beginningOf } from './visible.mjs';
 const AT_ONCE = 50;
 const MOST_NAMES = 12;
 const MOST_PRINTED = 2000;
+const PARTS_PRINTED = 10;
+const MOST_NODES = 60_000;
 const LONGEST_NAMES = 400;
 
 /** All that is known and asked for the ballots of one file or two. */
@@ -27,7 +30,7 @@ export class BallotList {
     /** The section. Its content is made when it is opened. */
     section() {
         const details = element('details', { id: 'ballots' }, element('summary', {}, element('h3', {}, say('ballots.heading'))), this.holder);
-        details.addEventListener('toggle', () => this.begin(), { once: true });
+        details.addEventListener('toggle', () => attempted(this.holder, () => this.begin()), { once: true });
         return element('section', { class: 'ballots', 'aria-label': say('ballots.heading') }, details);
     }
 
@@ -49,13 +52,20 @@ export class BallotList {
         return element('div', { class: 'controls screen' },
             element('p', {}, element('label', { for: 'ballot-filter' }, say('ballots.filter')), ' ', filter),
             this.languages.length < 2 ? null : element('p', {}, element('label', { for: 'ballot-language' }, say('ballots.language')), ' ', language),
-            element('p', {}, button(say('ballots.printAll'), () => this.printAll())));
+            this.printControl());
+    }
+
+    printControl() {
+        const holder = element('p', {});
+        const all = button(say('ballots.printAll'), () => attempted(holder, () => this.printAll(all)));
+        holder.append(all);
+        return holder;
     }
 
     // Waits until a reader has stopped typing.
     narrowed(words) {
         clearTimeout(this.waiting);
-        this.waiting = setTimeout(() => this.fill(words), 200);
+        this.waiting = setTimeout(() => attempted(this.lists, () => this.fill(words)), 200);
     }
 
     async fill(words = '') {
@@ -95,20 +105,43 @@ export class BallotList {
             this.isPair ? element('span', { class: `badge ${mark}`.trim() }, say(`ballots.mark.${mark}`)) : null);
         const holder = element('div', {});
         const details = element('details', { class: 'style', 'data-key': key }, summary, holder);
-        details.addEventListener('toggle', () => this.build(key, holder), { once: true });
+        details.addEventListener('toggle', () => attempted(holder, () => this.build(key, holder)), { once: true });
         return element('li', {}, details);
     }
 
     async build(key, holder) {
-        const ballot = await this.ballot(key);
-        const print = button(say('ballots.printOne'), () => this.print([ballot.cloneNode(true)]), { class: 'small screen' });
+        const ballot = await this.ballot(key, 1);
+        const print = button(say('ballots.printOne'), async () => this.print([await this.ballot(key, PARTS_PRINTED)]), { class: 'small screen' });
         holder.replaceChildren(ballot, element('p', { class: 'screen' }, print));
     }
 
-    async ballot(key) {
-        const ballot = ballotShown(await this.client.ask('ballot', { key }, this.tell));
+    // A ballot, with so many of its parts at most. What is left can be shown.
+    async ballot(key, parts) {
+        let part = await this.part(key, null);
+        const ballot = ballotShown(part);
+        for (let shown = 1; part.next !== null && shown < parts; shown++) {
+            part = await this.part(key, part.next);
+            ballot.append(...itemsShown(part));
+        }
+        if (part.next !== null) {
+            ballot.append(this.rest(ballot, key, part));
+        }
         this.spoken(ballot);
         return ballot;
+    }
+
+    part(key, next) {
+        return this.client.ask('ballot', { key, next }, this.tell);
+    }
+
+    rest(ballot, key, { next, left }) {
+        const holder = element('p', { class: 'rest' }, element('strong', {}, say('ballots.left', { count: left })), ' ');
+        holder.append(button(say('ballots.rest'), () => attempted(holder, async () => {
+            const part = await this.part(key, next);
+            holder.replaceWith(...itemsShown(part), ...(part.next === null ? [] : [this.rest(ballot, key, part)]));
+            this.spoken(ballot);
+        }), { class: 'small screen' }));
+        return holder;
     }
 
     /** Shows one language alone, or all. */
@@ -124,13 +157,23 @@ export class BallotList {
         }
     }
 
-    // Prints the ballots that the list has, those that are not shown yet too.
-    async printAll() {
-        const { entries } = await this.styles('all', 0, MOST_PRINTED);
+    // Prints the ballots that the list has, those that are not shown yet too: as many at a time as a browser can take.
+    async printAll(all) {
+        const words = this.words;
+        const begin = this.printed?.words === words ? this.printed.next : 0;
+        const { entries, counts } = await this.styles('all', begin, MOST_PRINTED);
         const ballots = [];
+        let nodes = 0;
         for (const { key } of entries) {
-            ballots.push(await this.ballot(key));
+            ballots.push(await this.ballot(key, PARTS_PRINTED));
+            nodes += ballots.at(-1).querySelectorAll('*').length;
+            if (nodes > MOST_NODES) {
+                break;
+            }
         }
+        const next = begin + ballots.length;
+        this.printed = { words, next: next < counts.all ? next : 0 };
+        all.textContent = next < counts.all ? say('ballots.printNext', { next: next + 1, all: counts.all }) : say('ballots.printAll');
         this.print(ballots);
     }
 

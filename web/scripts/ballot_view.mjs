@@ -16,23 +16,34 @@ export function ballotShown({ lines, items }) {
         items.length === 0 ? element('p', {}, say('ballots.empty')) : null, ...items.map(itemShown));
 }
 
+/** The items of a further part of a ballot. */
+export function itemsShown({ items }) {
+    return items.map(itemShown);
+}
+
 function itemShown(item) {
     const shown = element('div', { class: `${item.kind} ${item.mark}`.trim(), 'data-depth': String(Math.min(item.depth, DEEPEST)) },
         markOf(item), ...item.lines.map(lineShown), ...(item.selections === undefined ? [] : selectionsShown(item)));
     return shown;
 }
 
-function selectionsShown({ selections, unlisted, ordered }) {
+function selectionsShown({ selections, unlisted, ordered, first }) {
     const note = !ordered ? 'ballot.unlistedChanged' : unlisted && selections.length > 1 ? 'ballot.unlisted' : null;
     return [
-        element('ol', {}, ...selections.map((item) => element('li', { class: `selection ${item.mark}`.trim() }, markOf(item), ...item.lines.map(lineShown)))),
+        element('ol', { start: String(first + 1) }, ...selections.map(selectionShown)),
         note === null ? null : element('p', { class: 'own' }, say(note)),
     ].filter((one) => one !== null);
 }
 
-// Whether the item was added, removed or moved.
-function markOf({ mark, from, to }) {
-    return mark === '' ? null : element('span', { class: 'ballot-mark' }, say(`ballot.${mark}`, { from, to }));
+function selectionShown(item) {
+    return element('li', { class: `selection ${item.mark}`.trim() }, markOf(item), ...item.lines.map(lineShown));
+}
+
+// Whether the item was added, removed or moved, and whether it has another identifier.
+function markOf({ mark, from, to, renamed }) {
+    const key = mark === 'moved' && from === to ? 'movedElsewhere' : mark;
+    const words = [...(mark === '' ? [] : [say(`ballot.${key}`, { from, to })]), ...(renamed ? [say('ballot.renamed')] : [])];
+    return words.length === 0 ? null : element('span', { class: 'ballot-mark' }, words.join('; '));
 }
 
 function lineShown(line) {

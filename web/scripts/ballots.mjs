@@ -9,8 +9,8 @@ import { textOfTriple } from './values.mjs';
  * @typedef {{lang: string, text: string}[]} Label
  * A line of what is printed. `own` marks words of the page.
  * @typedef {{role: string, label: Label, own?: boolean}} Line
- * A header, a contest or a selection. `id` is equal for the same one in two files.
- * @typedef {{kind: string, id: string, depth: number, lines: Line[], selections?: Item[], unlisted?: boolean}} Item
+ * A header, a contest or a selection. `id` is equal for the same one in two files, and `print` for the same words.
+ * @typedef {{kind: string, id: string, print: string, depth: number, lines: Line[], selections?: Item[], unlisted?: boolean}} Item
  */
 
 const TITLES = ['BallotTitle', 'Name'];
@@ -66,23 +66,24 @@ export class Ballots {
 
     header({ HeaderId }, depth) {
         const { key, object } = this.meaning.named.get(HeaderId);
-        return { kind: 'header', id: textOfKey(['header', key]), depth, lines: [{ role: 'title', label: labelOf(object.Name) }] };
+        return itemOf('header', textOfKey(['header', key]), depth, [{ role: 'title', label: labelOf(object.Name) }]);
     }
 
     // A contest with those selections that the ballot lists. A ballot that lists none has all of them, in no order.
     contestOn({ ContestId, OrderedContestSelectionIds }, depth) {
-        const { id, lines, selections } = this.contest(ContestId);
+        const { id, print, lines, selections, all } = this.contest(ContestId);
         const unlisted = OrderedContestSelectionIds === undefined;
-        const listed = unlisted ? [...selections.values()] : OrderedContestSelectionIds.map((reference) => selections.get(reference));
-        return { kind: 'contest', id, depth, lines, selections: listed, unlisted };
+        const listed = unlisted ? all : OrderedContestSelectionIds.map((reference) => selections.get(reference));
+        return { kind: 'contest', id, print, depth, lines, selections: listed, unlisted };
     }
 
     // A contest and its selections by their names in the file. Many ballots have the same one.
     contest(reference) {
         if (!this.contests.has(reference)) {
             const { key, object } = this.meaning.named.get(reference);
-            const selections = (object.ContestSelection ?? []).map((selection) => [selection['@id'], this.selection(selection)]);
-            this.contests.set(reference, { id: textOfKey(['contest', key]), lines: this.linesOfContest(object), selections: new Map(selections) });
+            const selections = new Map((object.ContestSelection ?? []).map((selection) => [selection['@id'], this.selection(selection)]));
+            const item = itemOf('contest', textOfKey(['contest', key]), 0, this.linesOfContest(object));
+            this.contests.set(reference, { ...item, selections, all: [...selections.values()] });
         }
         return this.contests.get(reference);
     }
@@ -107,10 +108,7 @@ export class Ballots {
         const names = this.namesOfSelection(selection);
         const writeIn = selection.IsWriteIn === true ? [ownLine('writeIn', say('ballot.writeIn'))] : [];
         const lines = [...names, ...writeIn];
-        return {
-            kind: 'selection', id: this.meaning.selectionName(selection), depth: 0,
-            lines: lines.length > 0 ? lines : [ownLine('writeIn', say('value.noName'))],
-        };
+        return itemOf('selection', this.meaning.selectionName(selection), 0, lines.length > 0 ? lines : [ownLine('writeIn', say('value.noName'))]);
     }
 
     namesOfSelection({ CandidateIds, PartyIds, EndorsementPartyIds, Selection }) {
@@ -127,6 +125,10 @@ export class Ballots {
     party(reference, role) {
         return { role, label: labelOf(this.meaning.named.get(reference).object.Name) };
     }
+}
+
+function itemOf(kind, id, depth, lines) {
+    return { kind, id, print: JSON.stringify(lines), depth, lines };
 }
 
 // The candidates of a selection are a set. Of a ticket, the top comes first.

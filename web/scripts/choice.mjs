@@ -10,8 +10,8 @@ const SIDES = [0, 1];
 export class Choice {
     /**
      * @param {Record<string, string>} examples the texts of the examples
-     * @param {{changed: (how?: {ofTable?: boolean}) => void, many: (files: {file: File, name: string}[]) => void}} told what is
-     *     called when one file or two are chosen, and when more are
+     * @param {{changed: (how?: {ofTable?: boolean}) => void, many: (files: {file: File, name: string, isLeftOut?: boolean}[]) => void}} told
+     *     what is called when one file or two are chosen, and when more are
      */
     constructor(examples, { changed, many }) {
         this.examples = examples;
@@ -27,7 +27,8 @@ export class Choice {
         }
         for (const id of ['input-many', 'input-folder']) {
             $(id).addEventListener('change', ({ target }) => {
-                this.takeMany([...target.files].map((file) => ({ file, name: file.webkitRelativePath || file.name })));
+                const files = [...target.files].map((file) => ({ file, name: file.webkitRelativePath || file.name }));
+                this.takeMany(id === 'input-folder' ? ofFolder(files) : files);
                 target.value = '';
             });
         }
@@ -59,49 +60,52 @@ export class Choice {
 
     // Folders have to be asked for before anything is waited for.
     async takeDropped(slot, transfer) {
-        const files = [...transfer.files];
-        const folders = [...transfer.items].map(folderOf).filter((folder) => folder !== null);
-        if (folders.length === 0) {
-            this.dropped(slot, files);
+        const items = [...transfer.items].filter(({ kind }) => kind === 'file');
+        const dropped = items.map((item) => folderOf(item) ?? item.getAsFile()).filter((one) => one !== null);
+        if (dropped.every((one) => one instanceof File)) {
+            this.dropped(slot, dropped.length > 0 ? dropped : [...transfer.files]);
             return;
         }
-        const named = new Set(folders.map(({ name }) => name));
-        const beside = files.filter(({ name }) => !named.has(name)).map((file) => ({ file, name: file.name }));
-        const inside = await Promise.all(folders.map((folder) => folder.files)).catch(() => null);
-        if (inside === null) {
-            this.tell('files.folderNotRead');
+        const filesOf = async (one) => (one instanceof File ? [{ file: one, name: one.name }] : ofFolder(await one.files));
+        const files = await Promise.all(dropped.map(filesOf)).catch(() => null);
+        if (files === null) {
+            this.tell(say('files.folderNotRead'));
         } else {
-            this.takeMany([...beside, ...inside.flat()]);
+            this.takeMany(files.flat());
         }
     }
 
-    // The files among many that are named as JSON.
+    // Files that came together. Two of them are compared; of more, and where one of a folder is left out, there is a table that names each.
     takeMany(files) {
-        const named = files.filter(({ name }) => /\.json$/i.test(name));
-        this.tell(named.length === 0 ? 'files.noneInFolder' : null);
-        if (named.length > 0 && named.length <= 2) {
-            this.slots = [named[0].file, named[1]?.file ?? null];
+        this.tell(files.length === 0 ? say('files.noneInFolder') : null);
+        if (files.length > 0 && files.length <= 2 && files.every(({ isLeftOut }) => !isLeftOut)) {
+            this.slots = [files[0].file, files[1]?.file ?? null];
             this.changed();
-        } else if (named.length > 2) {
-            this.many(named);
+        } else if (files.length > 0) {
+            this.many(files);
         }
     }
 
-    tell(key) {
-        $('files-message').hidden = key === null;
-        $('files-message').textContent = key === null ? '' : say(key);
-        if (key !== null) {
-            $('announcement').textContent = say(key);
+    tell(text) {
+        $('files-message').hidden = text === null;
+        $('files-message').textContent = text ?? '';
+        if (text !== null) {
+            $('announcement').textContent = text;
         }
     }
 
     // Files that were dropped outside the two slots go into the first free one; if there is none, they begin anew.
     dropped(slot, files) {
+        const before = this.files;
         const free = this.slots.indexOf(null);
         if (slot === null && free < 0) {
             this.slots = [null, null];
         }
         this.choose(slot ?? Math.max(free, 0), files);
+        const gone = before.filter((file) => files.length > 0 && !this.slots.includes(file));
+        if (gone.length > 0) {
+            this.tell(say('files.gone', { names: gone.map(({ name }) => theirs(name).textContent).join(', ') }));
+        }
     }
 
     choose(side, files) {
@@ -165,6 +169,11 @@ export class Choice {
     get files() {
         return this.slots.filter((file) => file !== null);
     }
+}
+
+// The files of a folder. Those that are not named as JSON are left out, and named.
+function ofFolder(files) {
+    return files.map((one) => ({ ...one, isLeftOut: !/\.json$/i.test(one.name) }));
 }
 
 // A folder that was dropped; null if the item is none. Chromium reads no entries of it for a page that was opened from the disk, but

@@ -3,6 +3,9 @@
 /** The worker was ended before it answered. */
 export class Cancelled extends Error {}
 
+/** The worker ended by itself, such as for lack of memory. */
+export class Ended extends Error {}
+
 /** A worker, and another one after each that was ended. */
 export class Client {
     #makeWorker;
@@ -11,6 +14,7 @@ export class Client {
     #waiting = new Map();
     #number = 0;
     #opened = null;
+    #broken = null;
 
     /**
      * @param {() => Worker} makeWorker
@@ -28,8 +32,11 @@ export class Client {
         this.ask('open', opened).catch(() => {});
     }
 
-    /** Asks a question. `tell` is told of progress. */
+    /** Asks a question. `tell` is told of progress. A worker that could not begin answers nothing: the next one may. */
     ask(kind, question, tell = () => {}) {
+        if (this.#broken !== null) {
+            return Promise.reject(this.#broken);
+        }
         const number = ++this.#number;
         return new Promise((resolve, reject) => {
             this.#waiting.set(number, { resolve, reject, tell });
@@ -58,13 +65,32 @@ export class Client {
         this.#end(new Cancelled());
     }
 
+    /** Begins anew if the worker could not begin. */
+    mend() {
+        if (this.#broken !== null) {
+            this.#end(this.#broken);
+        }
+    }
+
     #begin() {
+        this.#broken = null;
         this.#worker = this.#makeWorker();
         this.#worker.addEventListener('message', ({ data }) => this.#heard(data));
-        this.#worker.addEventListener('error', (event) => this.#end(new Error(event.message || 'the worker has ended')));
-        this.ask('start', this.#start).catch(() => {});
+        this.#worker.addEventListener('error', (event) => this.#end(new Ended(event.message || 'the worker has ended')));
+        this.#worker.addEventListener('messageerror', () => this.#end(new Ended('an answer could not be read')));
+        this.ask('start', this.#start).catch((error) => this.#startFailed(error));
         if (this.#opened !== null) {
             this.ask('open', this.#opened).catch(() => {});
+        }
+    }
+
+    // Whoever waits is told why nothing comes.
+    #startFailed(error) {
+        if (!(error instanceof Cancelled) && !(error instanceof Ended)) {
+            this.#broken = error;
+            const waiting = [...this.#waiting.values()];
+            this.#waiting.clear();
+            waiting.forEach(({ reject }) => reject(error));
         }
     }
 

@@ -8,8 +8,6 @@ import { beginningOf, endOf } from './visible.mjs';
 const LONGEST_LINE = 400;
 const AROUND = 80;
 const LONGEST_TITLE = 60;
-const ROWS_AROUND = 2;
-const MOST_ROWS = 400;
 const DEEPEST = 8;
 
 let explanations = null;
@@ -65,8 +63,8 @@ function code(text) {
     return element('code', {}, long(text, LONGEST_TITLE));
 }
 
-// A member in plain words, with the name that the standard has for it. A carried member has its name alone.
-function memberWords(name) {
+/** A member in plain words, with the name that the standard has for it. A carried member has its name alone. */
+export function memberWords(name) {
     const words = sayIfKnown(`member.${name}`);
     return words === undefined ? element('span', {}, code(name)) : element('span', {}, `${words} (`, code(name), ')');
 }
@@ -112,13 +110,12 @@ function textCell(text, texts) {
 }
 
 // The member's value in each file.
-function memberGroups({ how, member, rows, there }) {
+function memberGroups({ how, member, rows, there, lacking }) {
     if (how !== 'member') {
         return [];
     }
-    const lacking = ['left', 'right'].map((side, index) => (rows.every((row) => row[side] === null)
-        ? absent(there[index] ? 'difference.empty' : 'difference.notThere') : null));
-    return [{ heading: memberWords(member), rows: [...lackingRow(lacking), ...shownRows(rows)] }];
+    const words = lacking.map((isLacking, side) => (isLacking ? absent(there[side] ? 'difference.empty' : 'difference.notThere') : null));
+    return [{ heading: memberWords(member), rows: [...lackingRow(words), ...rows.flatMap(rowShown)] }];
 }
 
 function lackingRow(lacking) {
@@ -126,43 +123,29 @@ function lackingRow(lacking) {
         : [element('tr', {}, ...lacking.map((words) => (words === null ? element('td', {}) : element('td', { class: 'changed' }, words))))];
 }
 
-// The rows that differ, with some equal ones around them.
-function shownRows(rows) {
-    const shown = [];
-    let hidden = [];
-    const close = () => {
-        shown.push(...hidden.length === 1 ? rowShown(hidden[0]) : hidden.length > 1 ? [gap('difference.equalLines', hidden.length)] : []);
-        hidden = [];
-    };
-    rows.slice(0, MOST_ROWS).forEach((row, at) => {
-        if (isNearDifference(rows, at)) {
-            close();
-            shown.push(...rowShown(row));
-        } else {
-            hidden.push(row);
-        }
-    });
-    close();
-    return rows.length > MOST_ROWS ? [...shown, gap('difference.moreLines', rows.length - MOST_ROWS)] : shown;
-}
-
-function rowShown({ left, right, same, moved, pieces, alike }) {
+// A row, or how many are left out.
+function rowShown(shown) {
+    const { left, right, same, moved, pieces, alike, equal, more } = shown;
+    if (same === undefined) {
+        return [gap(more === undefined ? 'difference.equalLines' : 'difference.moreLines', more ?? equal)];
+    }
     const row = element('tr', { class: same ? 'same' : 'differs' },
         lineCell(left, same, pieces?.left), lineCell(right, same, pieces?.right));
     if (moved !== undefined) {
-        row.lastElementChild.append(element('div', { class: 'move' }, say('value.moved', moved)));
+        row.lastElementChild.append(element('div', { class: 'move' }, movedWords(moved)));
     }
     return alike === undefined || alike.length === 0 ? [row]
         : [row, element('tr', {}, element('td', { colspan: '2', class: 'alike' }, ...alike.map(whyShown)))];
 }
 
+/** Where a line has moved. Its number may be the same, if it stands below another header now. */
+export function movedWords({ from, to }) {
+    return from === to ? say('value.movedElsewhere') : say('value.moved', { from, to });
+}
+
 // Why two texts look alike, with the explanation of docs/FIXES.md to open.
 function whyShown(way) {
     return element('details', {}, element('summary', {}, say(`alike.${way}`)), ...paragraphs(explanations.alike[way]));
-}
-
-function isNearDifference(rows, at) {
-    return rows.slice(Math.max(0, at - ROWS_AROUND), at + ROWS_AROUND + 1).some((row) => !row.same);
 }
 
 function gap(key, count) {

@@ -1,36 +1,52 @@
 // The proved list of differences in groups: those that stand by themselves, and those that follow from another identifier alone.
 import { renamed, talliesOf } from './causes.mjs';
+import { compactText } from '../../bindings/js/lib/exact.mjs';
 import { rowsOfDifference } from './rows.mjs';
-import { countsOf, wordOf } from './seen.mjs';
+import { countsOf, leftOutOf, wordOf, WORDS } from './seen.mjs';
 import { insideOf } from './selection_names.mjs';
+import { shownRows } from './shown_rows.mjs';
 
-/** The most differences for which objects under another identifier are looked for, and other types of identifier are tried. */
+/** The most differences for which objects under another identifier are looked for. */
 const MOST_PAIRED = 2000;
-const MOST_TYPES = 12;
+
+// An identifier that carries nothing.
+const PLAIN = '{"@type":"ElectionResults.ExternalIdentifier"}';
 
 export class Differences {
     /**
-     * @param {import('../../bindings/js/index.d.ts').Difference[]} entries the proved list
+     * @param {import('../../bindings/js/index.d.ts').Difference[]} entries the proved list, or its beginning if it is very long
+     * @param {number} all how many differences there are
      * @param {import('./meaning.mjs').Meaning[] | null} meanings null where the files are too large for their values to be shown
      * @param {Record<string, Record<string, string>>} seen what a voter sees
      */
-    constructor(entries, meanings, seen) {
+    constructor(entries, all, meanings, seen) {
+        this.all = all;
         this.meanings = meanings;
         const { pairs, isCaused } = meanings === null || entries.length > MOST_PAIRED ? { pairs: [], isCaused: [] } : renamed(meanings, entries);
         this.pairs = pairs;
-        this.entries = meanings === null ? entries
-            : entries.map((entry, index) => ({ ...entry, word: this.wordOf(seen, entry, isCaused[index] === true) }));
+        this.entries = entries.map((entry, number) => ({ ...entry, number,
+            ...(meanings === null ? {} : { word: this.wordOf(seen, entry, isCaused[number] === true), isCaused: isCaused[number] === true }) }));
         this.groups = {
             all: this.entries,
             own: this.entries.filter((_, index) => !isCaused[index]),
             caused: this.entries.filter((_, index) => isCaused[index]),
+            // For a record, which has some: those that weigh most for a voter come first.
+            filed: WORDS.flatMap((word) => this.entries.filter((entry) => entry.word === word)).concat(this.entries.filter(({ word }) => word === undefined)),
         };
     }
 
-    // What follows from another identifier alone is in doubt at most: it may be the same object.
+    // What follows from another identifier alone is in doubt at most: it may be the same object. What is carried inside identifiers is
+    // in doubt, as all that is carried.
     wordOf(seen, entry, isCaused) {
-        const word = wordOf(seen, entry, this.classOf(entry));
+        const word = entry.member === 'ExternalIdentifier' && this.carriesOther(entry) ? 'in doubt' : wordOf(seen, entry, this.classOf(entry));
         return isCaused && word === 'seen' ? 'in doubt' : word;
+    }
+
+    // Whether the identifiers of an object carry something else in the two files.
+    carriesOther({ part, key }) {
+        const carried = this.meanings.map((meaning) => (meaning.thing(part, key).object.ExternalIdentifier ?? [])
+            .map(({ Type: _type, OtherType: _other, Value: _value, ...others }) => compactText(others)).filter((text) => text !== PLAIN).sort());
+        return carried[0].join('\n') !== carried[1].join('\n');
     }
 
     classOf({ part, key }) {
@@ -38,12 +54,17 @@ export class Differences {
         return thing.className;
     }
 
-    /** What is known of all differences together, and the first one. */
-    told() {
+    /**
+     * What is known of all differences together, and the first one.
+     * @param {{all: number, differing: number} | null} ballots how many ballot styles there are, and how many of them differ
+     */
+    told(ballots) {
         return {
-            count: this.entries.length,
+            count: this.all,
+            listed: this.entries.length,
             first: this.shown(this.entries[0]),
-            seen: this.meanings === null ? null : countsOf(this.entries.map(({ word }) => word)),
+            seen: this.meanings === null ? null : { ...countsOf(this.entries.map(({ word }) => word)), ballots,
+                leftOut: leftOutOf(this.entries, ballots.differing > 0) },
             tallies: talliesOf(this.entries),
             pairs: this.pairs,
             counts: { own: this.groups.own.length, caused: this.groups.caused.length },
@@ -58,15 +79,35 @@ export class Differences {
     shown(difference) {
         const { selections: _selections, ...entry } = difference;
         const inside = insideOf(this.meanings, difference);
-        return { ...entry, ...(this.meanings === null ? {} : rowsOfDifference(this.meanings, entry)), ...(inside === undefined ? {} : { inside }) };
+        return { ...entry, ...(this.meanings === null ? {} : this.valuesOf(entry)), ...(inside === undefined ? {} : { inside }) };
     }
 
-    /** How many differences there are under each type, where there are fewer; the fewest first. `countOf` tells how many, or null. */
-    underTypes(types, countOf) {
-        if (this.meanings === null || this.entries.length > MOST_PAIRED || types.length > MOST_TYPES) {
-            return [];
+    // Those rows of both values that a reader needs, and which side has none.
+    valuesOf(entry) {
+        const { rows, ...values } = rowsOfDifference(this.meanings, entry);
+        return rows === null ? { ...values, rows } : { ...values, rows: shownRows(rows),
+            lacking: ['left', 'right'].map((side) => rows.every((row) => row[side] === null)) };
+    }
+
+    /**
+     * The type under which the fewest objects stay unmatched, if they are fewer than now; null if there is none.
+     * @param {string[]} types
+     * @param {(type: string) => boolean} isAccepted whether both files are accepted under it
+     * @returns {{type: string, fewer: number, count: number} | null}
+     */
+    betterType(types, isAccepted) {
+        if (this.meanings === null) {
+            return null;
         }
-        return types.map((type) => ({ type, count: countOf(type) }))
-            .filter(({ count }) => count !== null && count < this.entries.length).sort((one, other) => one.count - other.count);
+        const count = this.unmatched(this.meanings[0].prefer);
+        const better = types.map((type) => ({ type, fewer: this.unmatched(type), count })).filter(({ fewer }) => fewer < count);
+        return better.sort((one, other) => one.fewer - other.fewer).find(({ type }) => isAccepted(type)) ?? null;
+    }
+
+    // How many objects of one file have no object with their key in the other one.
+    unmatched(type) {
+        const [left, right] = this.meanings.map((meaning) => meaning.keysUnder(type));
+        const lacking = (keys, others) => [...keys].filter((key) => !others.has(key)).length;
+        return [...left].reduce((sum, [part, keys]) => sum + lacking(keys, right.get(part)) + lacking(right.get(part), keys), 0);
     }
 }

@@ -1,4 +1,5 @@
 // The list of all differences: how many objects of each kind differ, what is the same under another identifier, and the rest.
+import { attempted } from './attempts.mjs';
 import { differenceEntry, object } from './comparison.mjs';
 import { button, element, saidWith, theirs } from './dom.mjs';
 import { GrowingList } from './growing.mjs';
@@ -19,19 +20,54 @@ export async function differenceList(client, listed, names) {
     if (count === 1) {
         return element('p', {}, say('difference.noOthers'));
     }
-    const own = counts.own === 0 ? [] : await growing(client, 'own', counts.own, names);
+    const counted = new Counted(listed);
+    const own = counts.own === 0 ? [] : await growing(client, 'own', counts.own, names, counted);
     return element('section', { 'aria-labelledby': 'all-differences', class: 'others' },
         element('h3', { id: 'all-differences' }, say('difference.all', { count })),
-        element('p', { class: 'note' }, say('difference.proved')),
+        element('p', { class: 'note' }, say(listed.listed < count ? 'difference.provedPart' : 'difference.proved')),
         seen === null ? null : element('p', { class: 'note' }, say('difference.notProved')),
-        talliesShown(tallies, names), ...own, ...await pairsShown(client, pairs, counts.caused, names));
+        talliesShown(tallies, names), counted.holder, ...own, ...await pairsShown(client, pairs, counts.caused, names, counted));
 }
 
-async function growing(client, group, count, names) {
+// Counts the differences that are shown, each by its number in the proved list, and holds the count against that list.
+class Counted {
+    constructor({ count, listed, counts }) {
+        Object.assign(this, { count, listed });
+        this.numbers = new Set();
+        this.holder = element('div', {});
+        this.isRight = counts.own + counts.caused === listed && listed <= count;
+        this.tell();
+    }
+
+    // Entries of a list that has so many of them now, and `all` in the end.
+    add(entries, list, all) {
+        entries.forEach(({ number }) => this.numbers.add(number));
+        list.numbers = new Set([...list.numbers ?? [], ...entries.map(({ number }) => number)]);
+        list.seen = (list.seen ?? 0) + entries.length;
+        this.isRight &&= list.numbers.size === list.seen && list.seen <= all;
+        this.tell();
+    }
+
+    tell() {
+        const shown = this.numbers.size;
+        this.holder.replaceChildren(...[
+            element('p', { class: 'shown-count' }, say('difference.shown', { shown, all: this.count })),
+            this.listed < this.count ? element('p', { class: 'note' }, say('difference.partListed', { listed: this.listed, all: this.count })) : null,
+            this.isRight ? null : element('p', { class: 'message trouble', role: 'alert' }, say('difference.miscounted', { shown, all: this.count })),
+        ].filter((one) => one !== null));
+    }
+}
+
+async function growing(client, group, count, names, counted) {
+    const own = {};
     const list = new GrowingList(element('ol', { class: 'differences' }), {
         count,
         atOnce: AT_ONCE,
-        entries: async (from, some) => (await client.ask('more', { group, from, count: some })).map((entry) => differenceEntry(entry, names)),
+        entries: async (from, some) => {
+            const entries = await client.ask('more', { group, from, count: some });
+            counted.add(entries, own, count);
+            return entries.map((entry) => differenceEntry(entry, names));
+        },
         label: (some) => say('difference.more', { count: some, all: count }),
         focus: 'summary',
     });
@@ -51,7 +87,7 @@ function talliesShown(tallies, names) {
 }
 
 // Objects that are the same under another identifier, and the differences that follow from this alone.
-async function pairsShown(client, pairs, caused, names) {
+async function pairsShown(client, pairs, caused, names, counted) {
     if (pairs.length === 0) {
         return [];
     }
@@ -61,22 +97,18 @@ async function pairsShown(client, pairs, caused, names) {
     })));
     const more = pairs.length > MOST_PAIRS ? element('p', {}, say('pair.more', { count: pairs.length - MOST_PAIRS })) : null;
     const folded = element('details', {}, element('summary', {}, say('pair.caused', { count: caused })));
-    folded.addEventListener('toggle', async () => folded.append(...await growing(client, 'caused', caused, names)), { once: true });
+    const open = async () => folded.append(...await growing(client, 'caused', caused, names, counted));
+    folded.addEventListener('toggle', () => attempted(folded, open), { once: true });
     return [element('section', { class: 'pairs', 'aria-labelledby': 'pairs' }, element('h4', { id: 'pairs' }, say('pair.heading', { count: pairs.length })),
         element('p', {}, say('pair.note')), element('ul', {}, ...items), ...(more === null ? [] : [more]), folded)];
 }
 
 /**
- * The offer of a type of identifier under which there are fewer differences; null if there is none.
- * @param {{type: string, count: number}[]} types
- * @param {number} count how many differences there are now
+ * The offer of a type of identifier under which fewer objects stay unmatched.
+ * @param {{type: string, fewer: number, count: number}} better
  * @param {(type: string) => void} choose
  */
-export function typeOffer(types, count, choose) {
-    if (types.length === 0) {
-        return null;
-    }
-    const [{ type, count: fewer }] = types;
+export function typeOffer({ type, fewer, count }, choose) {
     return element('section', { class: 'offer', 'aria-labelledby': 'offer' }, element('h3', { id: 'offer' }, say('offer.heading')),
         element('p', {}, saidWith('offer.fewer', { type: theirs(type) }, { fewer, count })),
         button(saidWith('offer.choose', { type: theirs(type) }), () => choose(type)));

@@ -1,8 +1,9 @@
 // What a record has of the differences or the faults, in print: the first hundred, and how many there are.
-import { insideSentence, sentence } from './comparison.mjs';
+import { insideSentence, movedWords, sentence } from './comparison.mjs';
 import { element, saidWith, theirs } from './dom.mjs';
+import { headsOf } from './shown_rows.mjs';
 import { say } from './texts.mjs';
-import { beginningOf } from './visible.mjs';
+import { beginningOf, passageOf } from './visible.mjs';
 
 /** How many of them a record has. */
 export const MOST_FILED = 100;
@@ -18,8 +19,10 @@ const MOST_INSIDE = 20;
  * @param {string[]} names
  */
 export function differencesFiled(entries, count, names) {
-    const items = entries.map((entry) => element('li', {}, sentence(entry, names), ...linesOf(entry, names).map((line) => element('div', {}, line))));
+    const items = entries.map((entry) => element('li', { value: String(entry.number + 1) }, sentence(entry, names),
+        ...linesOf(entry, names).map((line) => element('div', {}, line))));
     return element('div', { 'data-filed': 'differences' }, element('h4', {}, say('difference.all', { count })),
+        entries[0].word === undefined || count === 1 ? null : element('p', {}, say('record.order')),
         element('ol', {}, ...items), leftOut(count - items.length));
 }
 
@@ -33,17 +36,36 @@ function linesOf(entry, names) {
     return count === shown.length ? shown : [...shown, say('inside.more', { count: count - shown.length })];
 }
 
-// The values of a member, where they are short, and why two of them look alike.
+// The values of a member, each with the contest or header that it stands below, and why two of them look alike.
 function valuesOf({ rows }) {
-    const changed = (rows ?? []).filter(({ same }) => !same);
-    return changed.slice(0, MOST_ROWS).flatMap(({ left, right, moved, alike = [] }) => [moved === undefined
-        ? saidWith('record.values', { left: valueOf(left), right: valueOf(right) })
-        : element('span', {}, valueOf(left), ' ', say('value.moved', moved)), ...alike.map((way) => say(`alike.${way}`))]);
+    const changed = changedLines((rows ?? []).filter(({ same }) => same !== undefined));
+    const more = changed.length - MOST_ROWS + (rows?.at(-1)?.more ?? 0);
+    return [...changed.slice(0, MOST_ROWS).flatMap(({ heads, row }) => valueLines(heads, row)), ...(more > 0 ? [say('record.more', { count: more })] : [])];
 }
 
-function valueOf(line) {
-    return line === null ? element('em', {}, say('difference.notThere'))
-        : theirs(line.text.length > LONGEST_VALUE ? `${beginningOf(line.text, LONGEST_VALUE)}…` : line.text);
+function valueLines(heads, { left, right, moved, pieces, alike = [] }) {
+    const place = heads.map((line) => saidWith('record.below', { head: theirs(line.text) }));
+    const told = moved === undefined ? saidWith('record.values', { left: valueOf(left, pieces?.left), right: valueOf(right, pieces?.right) })
+        : element('span', {}, valueOf(left), ' ', movedWords(moved));
+    return [element('span', {}, ...place, told), ...alike.map((way) => say(`alike.${way}`))];
+}
+
+// The rows that differ, each with the lines above it. What stands below a line that only one file has is told with it.
+function changedLines(rows) {
+    const heads = headsOf(rows);
+    const isOneSided = ({ left, right }) => left === null || right === null;
+    const above = (at) => (heads[at] === null ? [] : [...above(heads[at]), heads[at]]);
+    return rows.map((row, at) => ({ row, above: above(at).map((head) => rows[head]) }))
+        .filter(({ row, above: some }) => !row.same && !some.some((head) => !head.same && isOneSided(head)))
+        .map(({ row, above: some }) => ({ row, heads: some.map(({ left, right }) => right ?? left) }));
+}
+
+// A line; of a long one what differs, with some words around it.
+function valueOf(line, pieces) {
+    if (line === null) {
+        return element('em', {}, say('difference.notThere'));
+    }
+    return theirs(line.text.length <= LONGEST_VALUE ? line.text : pieces === undefined ? `${beginningOf(line.text, LONGEST_VALUE)}…` : passageOf(pieces));
 }
 
 /**

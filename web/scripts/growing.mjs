@@ -1,4 +1,5 @@
 // A list that begins with some entries, and shows more when it is asked to.
+import { attempted } from './attempts.mjs';
 import { button, element } from './dom.mjs';
 
 export class GrowingList {
@@ -11,7 +12,12 @@ export class GrowingList {
     constructor(list, of) {
         this.list = list;
         this.of = of;
-        this.shown = 0;
+        this.placed = [];
+    }
+
+    /** How many entries are shown. Each number is there once. */
+    get shown() {
+        return this.placed.length;
     }
 
     /** Shows the first entries. Returns the list, and a button for more if there are more. */
@@ -24,16 +30,39 @@ export class GrowingList {
         return [this.list, element('p', {}, more)];
     }
 
+    // What comes in is placed by its number, so no entry is there twice.
     async showMore() {
-        const made = await this.of.entries(this.shown, this.of.atOnce);
-        this.list.append(...made);
-        this.shown += made.length;
+        const from = this.shown;
+        const made = await this.of.entries(from, this.of.atOnce);
+        if (made.length === 0) {
+            throw new RangeError(`nothing came in behind entry ${from}`);
+        }
+        made.forEach((entry, at) => this.place(from + at, entry));
         return made[0];
     }
 
+    place(number, entry) {
+        if (number < this.placed.length) {
+            this.placed[number].replaceWith(entry);
+        } else {
+            this.list.append(entry);
+        }
+        this.placed[number] = entry;
+    }
+
+    // The button is off while the list grows.
     async grow(more) {
-        const first = await this.showMore();
-        first.querySelector(this.of.focus).focus();
+        more.disabled = true;
+        await attempted(more.parentElement, () => this.grown(more));
+    }
+
+    async grown(more) {
+        try {
+            const first = await this.showMore();
+            first.querySelector(this.of.focus)?.focus();
+        } finally {
+            more.disabled = false;
+        }
         if (this.shown < this.of.count) {
             more.textContent = this.label();
         } else {

@@ -1,6 +1,7 @@
 // Judges one file or two. It runs in the worker, keeps what it has found, and answers questions about it. Each answer is made
 // when it is asked for, so that the verdict waits for nothing else.
 import { BallotAnswers } from './ballot_answers.mjs';
+import { boundedPointer, LONGEST_POINTER } from './bounded.mjs';
 import { Differences } from './difference_groups.mjs';
 import { excerptOf } from './excerpt.mjs';
 import { Meaning } from './meaning.mjs';
@@ -8,9 +9,22 @@ import { foundPlaces } from './places.mjs';
 import { preparingOf } from './preparing.mjs';
 import { isNoMemory, Side } from './side.mjs';
 import { trailOf } from './trail.mjs';
+import { beginningOf } from './visible.mjs';
 
 /** The most bytes of two canonical forms of which values are shown beside each other. */
 const MOST_WITH_VALUES = 80_000_000;
+
+/** The most characters of a pointer that the page is told. */
+const LONGEST_TOLD = 100_000;
+
+/** The most differences that are listed. Each call lists a mebibyte of them, and compares the files anew. */
+const MOST_LISTED = 20_000;
+
+// A step of a trail, whose name and title may be longer than anybody reads.
+function shortened({ name, number, title }) {
+    const short = (text) => (text !== null && text.length > LONGEST_POINTER ? `${beginningOf(text, LONGEST_POINTER)}…` : text);
+    return { name: short(name), number, title: short(title) };
+}
 
 /** A judgement of one file or two, under one preference. */
 export class Judgement {
@@ -84,22 +98,33 @@ export class Judgement {
 
     /** What is known of all differences: the proved list, and what helps to read it. Null where there is no memory for the list. */
     list(_question, tell) {
-        tell({ stage: 'listing' });
-        const found = this.differencesUnder(this.prefer, null);
-        if (found === null) {
-            return null;
-        }
-        const forms = this.sides.map((side) => side.canonical(this.erd, this.prefer, tell));
-        const isShown = !forms.includes(null) && forms[0].length + forms[1].length <= MOST_WITH_VALUES;
-        this.differences = new Differences(found.differences, isShown ? this.meanings(tell) : null, this.seen);
-        return this.differences.told();
+        const differences = this.differencesKept(tell);
+        return differences === null ? null : differences.told(differences.meanings === null ? null : this.ballots(tell).seen());
     }
 
-    // The proved list under a type of identifier; null if there is no memory for it.
-    differencesUnder(prefer, mostDifferences) {
+    // The differences, which a worker that has begun anew lists again.
+    differencesKept(tell) {
+        if (this.differences === undefined) {
+            tell({ stage: 'listing' });
+            const found = this.differencesUnder(this.prefer, MOST_LISTED);
+            this.differences = found === null ? null : this.differencesOf(found, tell);
+        }
+        return this.differences;
+    }
+
+    differencesOf({ differences, allDifferences }, tell) {
+        const forms = this.sides.map((side) => side.canonical(this.erd, this.prefer, tell));
+        const isShown = !forms.includes(null) && forms[0].length + forms[1].length <= MOST_WITH_VALUES;
+        return new Differences(differences, allDifferences, isShown ? this.meanings(tell) : null, this.seen);
+    }
+
+    // The proved list under a type of identifier, or its beginning if it is longer than `most`; null if there is no memory for it.
+    differencesUnder(prefer, most) {
         const [left, right] = this.sides;
+        const asked = (mostDifferences) => this.erd.differences(left.bytes, right.bytes, { prefer, mostDifferences });
         try {
-            return this.erd.differences(left.bytes, right.bytes, { prefer, mostDifferences });
+            const found = asked(most);
+            return found.side === null && found.differences.length < found.allDifferences && found.allDifferences <= most ? asked(null) : found;
         } catch (error) {
             if (isNoMemory(error)) {
                 return null;
@@ -108,21 +133,20 @@ export class Judgement {
         }
     }
 
-    // How many differences there are under a type; null where the files would be refused.
-    countUnder(type) {
-        const found = this.differencesUnder(type, 1);
-        return found === null || found.side !== null ? null : found.allDifferences;
+    // Whether both files are accepted under a type.
+    isAcceptedUnder(type) {
+        return this.differencesUnder(type, 1)?.side === null;
     }
 
     /** Some of the differences of a group, as what the page shows. */
-    more(question) {
-        return this.differences.some(question);
+    more(question, tell) {
+        return this.differencesKept(tell).some(question);
     }
 
-    /** The types of identifier that lead to fewer differences, the one with the fewest first. */
-    types({ types }, tell) {
+    /** The type of identifier under which fewer objects stay unmatched than now; null if there is none. */
+    betterType({ types }, tell) {
         tell({ stage: 'types' });
-        return this.differences.underTypes(types.filter((type) => type !== this.prefer), (type) => this.countUnder(type));
+        return this.differencesKept(tell).betterType(types.filter((type) => type !== this.prefer), (type) => this.isAcceptedUnder(type));
     }
 
     // What the canonical forms say.
@@ -168,9 +192,11 @@ export class Judgement {
     }
 
     place(side, fault, found) {
-        const trail = trailOf(found, fault.place);
+        const trail = trailOf(found, fault.place).map(shortened);
         const { start, end } = found === null ? { start: 0, end: 0 } : found.range;
-        return { ...fault, trail, start, end, excerpt: found === null ? null : excerptOf(side.lines, start, end) };
+        const { reason, name } = fault;
+        return { reason, ...(name === undefined ? {} : { name }), pointer: boundedPointer(fault.place, LONGEST_TOLD), trail, start, end,
+            excerpt: found === null ? null : excerptOf(side.lines, start, end) };
     }
 
     /** What steps do to a copy of a side; null if it is not JSON. */
@@ -181,7 +207,7 @@ export class Judgement {
 
     /** The copy on which these steps were done. */
     preparedCopy({ index, steps }) {
-        return this.preparing(index).copied(steps);
+        return this.preparing(index).copied(steps, this.sides[index].file.name);
     }
 
     /** Each change of these steps, as JSON. */

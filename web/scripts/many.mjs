@@ -1,10 +1,12 @@
 // Many files at once: a table of verdicts, in which files that mean the same are of one group. Any two can be compared.
 import { MOST_BYTES } from '../../bindings/js/lib/calls.mjs';
 import { csvOf } from './csv.mjs';
-import { button, element, save, theirs } from './dom.mjs';
+import { button, element, long, save, saidWith, theirs } from './dom.mjs';
 import { sizeText } from './record.mjs';
 import { codeOf } from './sums.mjs';
 import { say } from './texts.mjs';
+
+const LONGEST_NOTES = 200;
 
 /** The columns, with what each sorts by. */
 const COLUMNS = [
@@ -22,7 +24,7 @@ export class ManyFiles {
     constructor(holder, files, known) {
         Object.assign(this, known);
         this.holder = holder;
-        this.rows = files.map(({ file, name }) => ({ file, name, size: file.size, outcome: null }));
+        this.rows = files.map(({ file, name, isLeftOut }) => ({ file, name, size: file.size, outcome: isLeftOut === true ? 'leftOut' : null }));
         this.chosen = [];
         this.sorted = { column: 0, falling: false };
     }
@@ -30,12 +32,13 @@ export class ManyFiles {
     /** Judges each file, as many at a time as there are workers, and shows what is known. */
     async judge(prefer, tell, isCurrent) {
         const clients = [this.client, ...Array.from({ length: this.workers() - 1 }, () => this.client.another())];
-        const rows = this.rows.values();
+        const judged = this.rows.filter(({ outcome }) => outcome === null);
+        const rows = judged.values();
         let done = 0;
         try {
             await Promise.all(clients.map(async (client) => {
                 for (const row of rows) {
-                    tell({ stage: 'survey', name: row.name, done, total: this.rows.length });
+                    tell({ stage: 'survey', name: row.name, done, total: judged.length });
                     Object.assign(row, await client.ask('survey', { file: row.file, prefer }));
                     done++;
                     if (!isCurrent()) {
@@ -72,8 +75,10 @@ export class ManyFiles {
     }
 
     summary() {
-        const accepted = this.rows.filter(({ outcome }) => outcome === 'accepted').length;
-        return `${say('many.accepted', { count: accepted, all: this.rows.length })} ${say('many.groups', { count: this.groups })}`;
+        const countOf = (wanted) => this.rows.filter(({ outcome }) => outcome === wanted).length;
+        const leftOut = countOf('leftOut');
+        return [say('many.accepted', { count: countOf('accepted'), all: this.rows.length }), say('many.groups', { count: this.groups }),
+            ...(leftOut === 0 ? [] : [say('many.leftOut', { count: leftOut })])].join(' ');
     }
 
     show() {
@@ -88,6 +93,7 @@ export class ManyFiles {
             element('div', { class: 'scrolled', tabindex: '0', role: 'group', 'aria-label': say('many.caption') },
                 element('table', { role: 'table' }, element('caption', { class: 'visually-hidden' }, say('many.caption')),
                     element('thead', { role: 'rowgroup' }, element('tr', { role: 'row' }, ...heads,
+                        element('th', { scope: 'col', role: 'columnheader' }, say('many.notices')),
                         element('th', { scope: 'col', role: 'columnheader', class: 'screen' }, say('many.compare')))), this.table)),
             element('p', { class: 'buttons screen' }, button(say('many.print'), () => this.print(), { class: 'main' }),
                 button(say('many.save'), () => save(new Blob([csvOf(this.records())], { type: 'text/csv' }), 'ballots.csv')))));
@@ -116,7 +122,17 @@ export class ManyFiles {
         return element('tr', { role: 'row', 'data-row': String(this.rows.indexOf(row)) }, element('th', { scope: 'row', role: 'rowheader' }, theirs(name)),
             cell(sizeText(size)), cell(say(`verdict.${outcome}`, { count: faults ?? 0 })),
             cell(group === undefined ? null : groupSize === 1 ? say('many.alone', { group }) : say('many.same', { group, count: groupSize })),
-            cell(canonical === undefined ? null : element('code', {}, codeOf(canonical.sha256))), cell(choose, 'screen'));
+            cell(canonical === undefined ? null : element('code', {}, codeOf(canonical.sha256))), cell(this.noticesOn(row)),
+            cell(outcome === 'leftOut' ? null : choose, 'screen'));
+    }
+
+    // What a reader should know of a file beside its verdict.
+    noticesOn(row) {
+        const others = this.rows.filter((one) => row.group !== undefined && one.group === row.group);
+        const differ = others.some(({ notes }) => notes !== row.notes);
+        const lines = [row.repeated > 0 ? say('many.repeated') : null, row.isTest ? say('many.test') : null,
+            differ ? saidWith(row.notes === null ? 'many.noNotes' : 'many.notes', { notes: long(row.notes ?? '', LONGEST_NOTES) }) : null];
+        return element('div', {}, ...lines.filter((line) => line !== null).map((line) => element('div', {}, line)));
     }
 
     // The second file that is chosen is compared with the first one.
@@ -134,9 +150,9 @@ export class ManyFiles {
     }
 
     records() {
-        const heads = ['file', 'bytes', 'verdict', 'faults', 'group', 'sha256', 'canonical_sha256'];
-        const rows = this.rows.map(({ name, size, outcome, faults, group, sha256, canonical }) => [name, size, outcome, faults ?? '', group ?? '',
-            sha256 ?? '', canonical?.sha256 ?? '']);
+        const heads = ['file', 'bytes', 'verdict', 'faults', 'group', 'sha256', 'canonical_sha256', 'names_written_twice', 'test', 'notes'];
+        const rows = this.rows.map(({ name, size, outcome, faults, group, sha256, canonical, repeated, isTest, notes }) => [name, size, outcome,
+            faults ?? '', group ?? '', sha256 ?? '', canonical?.sha256 ?? '', repeated ?? '', isTest ? 'yes' : '', notes ?? '']);
         return [heads, ...rows];
     }
 

@@ -86,10 +86,15 @@ export class Meaning {
         return this.things.get(part).get(textOfKey(key));
     }
 
+    /** Of each part the keys of its objects under a preferred type, as texts. */
+    keysUnder(prefer) {
+        return new Map([...this.things].map(([part, things]) => [part, new Set([...things.values()].map(({ object }) => textOfKey(this.keyOf(object, prefer))))]));
+    }
+
     /** The key of an object: the least of its triples, or of those of the preferred type. Null without an identifier. */
-    keyOf(object) {
+    keyOf(object, prefer = this.prefer) {
         const triples = (object.ExternalIdentifier ?? []).map(({ Type, OtherType, Value }) => [Type, OtherType ?? '', Value]);
-        const preferred = triples.filter(([type]) => type === this.prefer);
+        const preferred = triples.filter(([type]) => type === prefer);
         return (preferred.length > 0 ? preferred : triples).sort(orderOfKeys)[0] ?? null;
     }
 

@@ -1,4 +1,5 @@
 // What a reader should know beside the verdict: the envelope, which is not compared, and notes that differ.
+import { withoutMark } from './copy_mark.mjs';
 import { element, long, saidWith, theirs } from './dom.mjs';
 import { ENVELOPE } from './envelope.mjs';
 import { say } from './texts.mjs';
@@ -37,7 +38,7 @@ function rowOf(name, values) {
 
 /** A notice if the notes of two files differ; null if they don't. */
 export function notesNotice(envelopes, names) {
-    const notes = envelopes.map((envelope) => envelope.Notes ?? null);
+    const notes = envelopes.map((envelope) => withoutMark(envelope.Notes) ?? null);
     if (notes[0] === notes[1]) {
         return null;
     }
@@ -46,9 +47,10 @@ export function notesNotice(envelopes, names) {
     return notice('notes-differ', say('notice.notes'), element('p', {}, say('notice.notesMore')), element('ul', {}, ...lines));
 }
 
-/** Notices on one file: names that are written twice, and a preference that none of its identifiers has. */
-export function fileNotices({ repeated, types }, name, index, prefer) {
+/** Notices on one file: that it is one of a test, names that are written twice, and a preference that none of its identifiers has. */
+export function fileNotices({ repeated, types, isTest }, name, index, prefer) {
     return [
+        isTest ? notice(`test-${index}`, saidWith('notice.test', { name: theirs(name) })) : null,
         repeated?.length > 0 ? repeatedNotice(repeated, name, index) : null,
         prefer !== null && types !== undefined && !types.includes(prefer) ? notice(`unused-${index}`,
             saidWith('notice.unused', { name: theirs(name), type: theirs(prefer) })) : null,

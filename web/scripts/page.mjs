@@ -1,7 +1,8 @@
 // The page: it asks the worker about the files that are chosen, and shows what it answers.
+import { showTroubles } from './attempts.mjs';
 import { Choice } from './choice.mjs';
 import { Cancelled, Client } from './client.mjs';
-import { element, saidWith, theirs } from './dom.mjs';
+import { button, element, saidWith, theirs } from './dom.mjs';
 import { embedded, offerLicences } from './embedded.mjs';
 import { firstLanguage, offerLanguages, useLanguage } from './languages.mjs';
 import { ManyFiles } from './many.mjs';
@@ -43,6 +44,7 @@ class Page {
         offerLicences($('licences'));
         $('cancel').addEventListener('click', () => this.cancel());
         $('prefer').addEventListener('change', ({ target }) => this.preferred(target));
+        showTroubles($('trouble'));
         document.documentElement.dataset.ready = 'yes';
     }
 
@@ -100,6 +102,7 @@ class Page {
     // Gives up what was asked before. Tells whether nothing else was asked since.
     beginRun() {
         const run = ++this.run;
+        $('trouble').replaceChildren();
         $('result').replaceChildren();
         if (this.busy) {
             this.client.cancel();
@@ -125,7 +128,7 @@ class Page {
             names: files.map((file) => file.name), files, prefer: this.prefer,
             isCurrent, tell: (progress) => isCurrent() && this.progress(progress, files),
             offerTypes: (types) => this.offerTypes(types), prefers: (type) => this.prefers(type),
-            takesCopy: (index, copy) => this.choice.exchange(index, copy),
+            takesCopy: (index, copy) => this.choice.exchange(index, copy), again: () => this.again(),
         });
         await this.shown(result, isCurrent);
         if (isCurrent()) {
@@ -156,8 +159,9 @@ class Page {
         document.documentElement.dataset.busy = busy ? 'yes' : 'no';
     }
 
-    progress({ stage, index, done, total, name = index === undefined ? '' : files[index].name }, files) {
-        $('stage').replaceChildren(saidWith(`progress.${stage}`, { name: theirs(name) }));
+    progress({ stage, index, done, total, name }, files) {
+        const shown = name ?? files[index]?.name ?? '';
+        $('stage').replaceChildren(saidWith(`progress.${stage}`, { name: theirs(shown) }));
         if (total > 0) {
             $('meter').value = done / total;
         } else {
@@ -174,8 +178,14 @@ class Page {
         const title = say(cancelled ? 'verdict.cancelled' : 'verdict.failed');
         const sentence = element('p', {}, say(cancelled ? 'sentence.cancelled' : 'sentence.failed'));
         $('result').replaceChildren(banner({ tone: 'stop', title }, sentence,
-            cancelled ? null : element('p', {}, theirs(String(error.message)))));
+            cancelled ? null : element('p', {}, theirs(String(error.message)), ' ', button(say('trouble.again'), () => this.again()))));
         this.say(title);
+    }
+
+    // Judges the same files again, with another worker if this one could not begin.
+    again() {
+        this.client.mend();
+        this.judge();
     }
 
     /** Offers the types of identifier that the files have. The choice stays as it is while a user goes through it. */

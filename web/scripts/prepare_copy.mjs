@@ -2,7 +2,7 @@
 import { button, element, saidWith, save, theirs } from './dom.mjs';
 import { where } from './faults.mjs';
 import { sumShown } from './sums.mjs';
-import { numberText, say } from './texts.mjs';
+import { numberText, say, sayIfKnown } from './texts.mjs';
 
 const GROUPS = ['taken', 'chosen', 'seen'];
 
@@ -90,7 +90,7 @@ export class CopyMaker {
     async copy() {
         const { bytes, ...known } = await this.client.ask('preparedCopy', this.question());
         const copy = new File([bytes], this.copyName, { type: 'application/json' });
-        COPIES.set(copy, { name: this.name, ...known });
+        COPIES.set(copy, known);
         return copy;
     }
 
@@ -117,7 +117,13 @@ function leftOf({ left, leftCount }) {
     return element('details', {}, element('summary', {}, say('prepare.left', { count: leftCount })), element('ol', {}, ...rows));
 }
 
-/** What stands above the verdict on a copy: where it comes from, and a button that saves it. */
+/** What stands below the verdict on a file whose notes say that it is a copy. */
+export function claimNotice(known) {
+    return element('section', { class: 'prepared-copy', 'aria-label': say('prepare.isCopy') },
+        element('p', {}, saidWith('prepare.claims', { name: theirs(known.name) })), stepsShown(known));
+}
+
+/** What stands below the verdict on a copy: where it comes from, and a button that saves it. */
 export function copyNotice(file, known) {
     return element('section', { class: 'prepared-copy', 'aria-label': say('prepare.isCopy') },
         element('p', {}, saidWith('prepare.copyOf', { name: theirs(known.name) })), stepsShown(known),
@@ -125,7 +131,8 @@ export function copyNotice(file, known) {
 }
 
 function stepsShown({ steps }) {
-    return element('ul', { class: 'steps-done' }, ...steps.map(({ name, count }) => element('li', {}, `${say(`step.${name}`)} (${numberText(count)})`)));
+    return element('ul', { class: 'steps-done' },
+        ...steps.map(({ name, count }) => element('li', {}, `${sayIfKnown(`step.${name}`) ?? name} (${numberText(count)})`)));
 }
 
 /** What the record has of a copy: a label and a value each. */

@@ -1,15 +1,20 @@
 // Prepares a copy of a refused file, in the worker.
+import { boundedPointer, boundedText } from './bounded.mjs';
 import { Changes } from '../../bindings/js/lib/prepare/changes.mjs';
-import { Preparation, STEPS, stepsOf, told } from '../../bindings/js/lib/prepare/prepared.mjs';
+import { Preparation, STEPS, stepsOf } from '../../bindings/js/lib/prepare/prepared.mjs';
 import { compactText } from '../../bindings/js/lib/prepare/tree.mjs';
+import { withMark } from './copy_mark.mjs';
 import { NotJson } from '../../bindings/js/lib/scanner.mjs';
-import { pointerOf } from '../../bindings/js/lib/words.mjs';
 import { sha256 } from './side.mjs';
 import { trailOf } from './trail.mjs';
 
 /** How many changes of a step are shown, and how many characters of a value. */
 const MOST_SHOWN = 5;
 const LONGEST_VALUE = 200;
+
+/** How many characters of a list of changes are saved, and of each of its values. */
+const MOST_SAVED = 20_000_000;
+const LONGEST_SAVED = 2000;
 
 /** Keeps of the first changes what a reader calls their places. */
 class TitledChanges extends Changes {
@@ -76,18 +81,36 @@ export class Preparing {
         return steps.map((step) => toldOfStep(step, kept.get(step.made) ?? { made: [[]], left: [] }));
     }
 
-    /** The copy on which these steps were done, its sum and that of the file. */
-    async copied(names) {
+    /** The copy of a file of this name on which these steps were done, with the mark that says so, and the sum of the file. */
+    async copied(names, name) {
         this.#do(names);
-        const [original, copy] = await Promise.all([sha256(this.bytes), sha256(this.copy)]);
-        return { bytes: this.copy, original, copy, steps: this.done.map(({ name, made }) => ({ name, count: made.length })) };
+        const origin = { name, original: await sha256(this.bytes), steps: this.done.map((step) => ({ name: step.name, count: step.made.length })) };
+        return { ...origin, bytes: withMark(this.copy, origin) };
     }
 
-    /** Each change of these steps, as JSON. */
+    /** Each change of these steps, as JSON in pieces. Texts are cut that are longer than a reader needs, and so is a list that is. */
     changes(names) {
         this.#do(names);
-        return JSON.stringify(this.done.map(told), null, 1);
+        const pieces = [];
+        let length = 0;
+        for (const { name, made } of this.done) {
+            const fits = [];
+            for (const { place, before, after } of length < MOST_SAVED ? made : []) {
+                fits.push(JSON.stringify({ pointer: boundedPointer(place), before: savedText(before), after: savedText(after) }));
+                length += fits.at(-1).length;
+                if (length >= MOST_SAVED) {
+                    break;
+                }
+            }
+            const more = made.length - fits.length;
+            pieces.push(`{"step":${JSON.stringify(name)},"count":${made.length},${more > 0 ? `"more":${more},` : ''}"changes":[\n${fits.join(',\n')}]}`);
+        }
+        return `[${pieces.join(',\n')}]\n`;
     }
+}
+
+function savedText(value) {
+    return value === undefined ? null : boundedText(value, LONGEST_SAVED);
 }
 
 function toldOfStep({ name, chosen, made, left }, trails) {
@@ -95,9 +118,9 @@ function toldOfStep({ name, chosen, made, left }, trails) {
     return {
         name, group, chosen, count: made.length, leftCount: left.length,
         made: made.slice(0, MOST_SHOWN).map(({ place, before, after }, at) => ({
-            pointer: pointerOf(place), trail: trails.made[at], before: valueText(before), after: valueText(after),
+            pointer: boundedPointer(place), trail: trails.made[at], before: valueText(before), after: valueText(after),
         })),
-        left: left.slice(0, MOST_SHOWN).map(({ place, why }, at) => ({ pointer: pointerOf(place), trail: trails.left[at], why })),
+        left: left.slice(0, MOST_SHOWN).map(({ place, why }, at) => ({ pointer: boundedPointer(place), trail: trails.left[at], why })),
     };
 }
 
@@ -106,8 +129,7 @@ function valueText(value) {
     if (value === undefined) {
         return null;
     }
-    const text = compactText(value);
-    return text.length > LONGEST_VALUE ? `${text.slice(0, LONGEST_VALUE)}…` : text;
+    return boundedText(value, LONGEST_VALUE);
 }
 
 /** The preparation of these bytes; null if they are not JSON behind a byte order mark. */

@@ -1,14 +1,18 @@
 // The record of a judgement: what two offices read to each other, and what is printed and filed.
-import { button, element, save, theirs } from './dom.mjs';
+import { button, element, long, save, theirs } from './dom.mjs';
+import { ENVELOPE } from './envelope.mjs';
 import { copyRecorded } from './prepare_copy.mjs';
+import { leftOutShown, seenSentence } from './seen_box.mjs';
 import { sumShown } from './sums.mjs';
 import { numberText, say } from './texts.mjs';
+
+const LONGEST_MEMBER = 2000;
 
 /**
  * The section of the record.
  * @param {{files: object[], names: string[], prefer: string | null, version: string, pageSum: string, verdict: string,
- *     date: Date, findings: HTMLElement | null, notices: NodeList[]}} known `findings` are the differences or the faults, and
- *     `notices` what stands above the verdict, both for print
+ *     date: Date, findings: HTMLElement | null, notices: NodeList[], listed: object | null}} known `findings` are the differences or
+ *     the faults, and `notices` what stands above the verdict, both for print; `listed` is what is known of all differences
  * @param {import('./client.mjs').Client} client
  */
 export function recordOf(known, client) {
@@ -17,17 +21,19 @@ export function recordOf(known, client) {
     return element('section', { class: 'record', 'aria-labelledby': 'record' },
         element('h3', { id: 'record' }, say(names.length === 1 ? 'record.ofCheck' : 'record.ofComparison')),
         files.some((file) => file.canonical) ? element('p', { class: 'screen' }, say('record.phone')) : null,
-        element('dl', {}, ...entry('record.verdict', element('strong', {}, known.verdict)), ...rows.flat(),
+        element('dl', {}, ...entry('record.verdict', element('strong', {}, known.verdict)),
+            ...(known.listed?.seen ? entry('record.seen', element('strong', {}, seenSentence(known.listed))) : []), ...rows.flat(),
             ...entry('record.prefer', known.prefer === null ? say('prefer.none') : theirs(known.prefer)),
             ...entry('record.date', dateText(known.date)), ...entry('record.version', `erd ${known.version}`),
             ...entry('record.page', sumShown(known.pageSum, 'page', false))),
-        filed(known), signatures(), buttons(files, names, client));
+        filed(known), buttons(files, names, client));
 }
 
 // What only the printed record has.
-function filed({ notices, findings }) {
-    return element('div', { class: 'filed' }, ...notices.map((heading) => element('p', {}, element('strong', {}, ...heading))), findings,
-        element('p', {}, say('record.proved')), element('p', {}, say('record.notProved')));
+function filed({ notices, findings, listed }) {
+    return element('div', { class: 'filed' }, ...notices.map((heading) => element('p', {}, element('strong', {}, ...heading))),
+        ...(listed?.seen ? leftOutShown(listed.seen.leftOut) : []), findings,
+        element('div', { class: 'signing' }, element('p', {}, say('record.proved')), element('p', {}, say('record.notProved')), signatures()));
 }
 
 function fileRows(file, name, index, count) {
@@ -35,11 +41,25 @@ function fileRows(file, name, index, count) {
         element('dd', {}, theirs(name), ` (${say('bytes', { count: file.size })})`));
     return [
         heading,
+        ...(file.elections ?? []).flatMap((election) => entry('record.election', electionShown(election))),
+        ...(file.isTest ? entry('record.test', say('record.isTest')) : []),
         ...(count === 1 ? [] : entry('record.outcome', say(`verdict.${file.outcome}`, { count: file.faults ?? 0 }))),
         ...(file.sha256 === undefined ? [] : entry('record.fileSum', sumShown(file.sha256, 'file', false))),
         ...(file.canonical === undefined ? [] : entry('record.formSum', sumShown(file.canonical.sha256, 'form', true))),
         ...(file.copied === undefined ? [] : copyRecorded(file.copied).flatMap(([key, value]) => entry(key, value))),
+        ...(file.envelope === undefined ? [] : entry('record.envelope', envelopeText(file.envelope))),
     ];
+}
+
+function electionShown({ name, start, end }) {
+    return element('span', {}, theirs(name), `, ${theirs(start === end ? start : `${start} – ${end}`).textContent}`);
+}
+
+// The envelope in one paragraph, with its notes.
+function envelopeText(envelope) {
+    const parts = ENVELOPE.filter((name) => Object.hasOwn(envelope, name))
+        .map((name, at) => element('span', {}, at === 0 ? '' : '; ', `${name}: `, long(envelope[name], LONGEST_MEMBER)));
+    return element('span', { class: 'envelope-filed' }, ...parts.length === 0 ? [say('record.none')] : parts);
 }
 
 function entry(key, value) {

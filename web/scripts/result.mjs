@@ -2,10 +2,10 @@
 import { BallotList } from './ballot_list.mjs';
 import { firstDifference, useExplanations } from './comparison.mjs';
 import { differenceList, typeOffer } from './difference_list.mjs';
-import { element, saidWith, theirs } from './dom.mjs';
+import { button, element, saidWith, theirs } from './dom.mjs';
 import { differencesFiled, faultsFiled, MOST_FILED } from './findings.mjs';
 import { envelopeTable, fileNotices, notesNotice, sameBytesNotice } from './notices.mjs';
-import { copyKnown, copyNotice } from './prepare_copy.mjs';
+import { claimNotice, copyKnown, copyNotice } from './prepare_copy.mjs';
 import { recordOf } from './record.mjs';
 import { troublesOf } from './refused.mjs';
 import { seenBox } from './seen_box.mjs';
@@ -17,7 +17,8 @@ const PARTS = ['notices', 'verdict', 'copies', 'seen', 'offer', 'differences', '
 
 export class Result {
     /**
-     * @param {{client: import('./client.mjs').Client, data: object, holder: HTMLElement, names: string[], files: File[], prefer: string | null,
+     * @param {{client: import('./client.mjs').Client, again: () => void, data: object, holder: HTMLElement,
+     *     names: string[], files: File[], prefer: string | null,
      *     isCurrent: () => boolean, tell: (progress: object) => void, offerTypes: (types: string[]) => void,
      *     prefers: (type: string) => void, takesCopy: (index: number, copy: File) => void}} known `prefers` judges again under a
      *     type of identifier, and `takesCopy` judges a prepared copy in place of a file
@@ -58,6 +59,7 @@ export class Result {
         this.types = [...new Set(this.sums.flatMap(({ types }) => types ?? []))].sort();
         this.offerTypes(this.types);
         this.showNotices();
+        this.showCopies();
         await this.showRecord();
         this.showBallots();
         if (this.answer.comparison?.first) {
@@ -86,9 +88,9 @@ export class Result {
         this.put('seen', this.listed.seen === null ? null : seenBox(this.listed));
         this.put('differences', firstDifference(this.listed.first, this.names), await differenceList(this.client, this.listed, this.names));
         await this.showRecord();
-        const types = await this.client.ask('types', { types: this.types }, this.tell);
+        const better = await this.client.ask('betterType', { types: this.types }, this.tell);
         if (this.isCurrent()) {
-            this.put('offer', typeOffer(types, this.listed.count, this.prefers));
+            this.put('offer', better === null ? null : typeOffer(better, this.prefers));
         }
     }
 
@@ -109,16 +111,28 @@ export class Result {
             return;
         }
         this.put('record', recordOf({
-            files: this.answer.files.map((file, index) => ({ ...file, ...this.sums[index], copied: copyKnown(this.files[index]) })), names: this.names, prefer: this.prefer,
-            version: this.data.version, pageSum: this.data.pageSum, verdict: this.verdictShown.title, date: this.date, findings,
+            files: this.answer.files.map((file, index) => ({ ...file, ...this.sums[index], copied: this.originOf(index) })),
+            names: this.names, prefer: this.prefer,
+            version: this.data.version, pageSum: this.data.pageSum, verdict: this.verdictShown.title, date: this.date, findings, listed: this.listed,
             notices: [...this.parts.notices.querySelectorAll('h3')].map((heading) => heading.cloneNode(true).childNodes),
         }, this.client));
+    }
+
+    // A copy that was saved and opened again says so too.
+    showCopies() {
+        const claims = this.sums.filter(({ prepared }, index) => prepared && copyKnown(this.files[index]) === undefined);
+        this.parts.copies.append(...claims.map(({ prepared }) => claimNotice(prepared)));
+    }
+
+    // What is known of a file that is a copy of this page, or says so.
+    originOf(index) {
+        return copyKnown(this.files[index]) ?? this.sums[index].prepared ?? undefined;
     }
 
     // What the record has of the differences or the faults.
     async findings() {
         if (this.listed) {
-            const entries = await this.client.ask('more', { group: 'all', from: 0, count: MOST_FILED });
+            const entries = await this.client.ask('more', { group: 'filed', from: 0, count: MOST_FILED });
             return differencesFiled(entries, this.listed.count, this.names);
         }
         const refused = this.answer.files.map((file, index) => ({ ...file, index })).filter(({ outcome }) => outcome === 'refused');
@@ -131,7 +145,7 @@ export class Result {
     stopped(error) {
         const said = error === null ? say('sentence.restCancelled')
             : saidWith('sentence.restFailed', { error: theirs(String(error.message)) });
-        this.put('note', element('p', { class: 'note', id: 'stopped' }, said));
+        this.put('note', element('p', { class: 'note', id: 'stopped' }, said), element('p', {}, button(say('trouble.again'), this.again)));
     }
 
     put(name, ...nodes) {

@@ -1,6 +1,7 @@
 // A difference with the values of both sides beside each other.
 import { aligned } from './alignment.mjs';
 import { whyAlike } from './look_alikes.mjs';
+import { orderedChanges } from './order_changes.mjs';
 import { piecesOfBoth } from './text_changes.mjs';
 import { jsonLines, Values } from './values.mjs';
 
@@ -20,10 +21,17 @@ export function rowsOfDifference(meanings, { part, key, how, member }) {
 
 // Two values may differ in what the lines for a reader leave out. Then their JSON is shown, with keys in place of references.
 function rowsOfMember(meanings, things, member) {
-    const [left, right] = things.map((thing, side) => new Values(meanings[side]).ofMember(thing, member));
-    const rows = withMoves(aligned(left, right));
+    const rows = rowsForReader(meanings, things, member);
     const isTold = rows.some((row) => !row.same) || things.some((thing) => !isThere(thing, member));
     return isTold ? rows : aligned(...things.map((thing, side) => jsonLines(meanings[side].withKeys(member, thing.object[member]))));
+}
+
+function rowsForReader(meanings, things, member) {
+    const values = meanings.map((meaning) => new Values(meaning));
+    if (member === 'OrderedContent') {
+        return rowsOfContent(...values.map((one, side) => one.content(things[side].object[member] ?? [])), 0);
+    }
+    return aligned(...values.map((one, side) => one.ofMember(things[side], member)));
 }
 
 function isThere(thing, member) {
@@ -31,57 +39,29 @@ function isThere(thing, member) {
 }
 
 /**
- * The rows of lists whose order counts: a line that is on both sides, at another place, is one row that says so.
- * @param {{left: Line | null, right: Line | null, same: boolean}[]} rows
+ * The rows of two lists whose order counts: each entry, and below it its selections and what is carried with it. An entry that is on
+ * both sides, at another place, is one row that says so.
+ * @param {import('./values.mjs').Part[]} left
+ * @param {import('./values.mjs').Part[]} right
+ * @param {number} below how far all of them are indented
  */
-export function withMoves(rows) {
-    const changed = rows.filter(({ same }) => !same);
-    const away = byKey(changed.map(({ left }) => left));
-    const come = byKey(changed.map(({ right }) => right));
-    return joined(rows.flatMap((row) => (row.same ? [row] : movedRow(row, away, come))));
+export function rowsOfContent(left, right, below) {
+    return orderedChanges(left, right).flatMap(({ left: one, right: other, mark, from, to }) => {
+        const indent = below + (other ?? one).depth;
+        const moved = mark === 'moved' ? { moved: { from, to } } : {};
+        const head = { left: lineOf(one, from, indent), right: lineOf(other, to, indent), same: mark === '', ...moved };
+        return [head, ...rowsOfContent(one?.selections ?? [], other?.selections ?? [], indent + 1),
+            ...aligned(one?.carried ?? [], other?.carried ?? []).map((row) => indentedBy(row, indent))];
+    });
 }
 
-// A line of one side alone next to one of the other side alone becomes one row.
-function joined(rows) {
-    const made = [];
-    for (const row of rows) {
-        const last = made.at(-1);
-        const fits = last !== undefined && isOfOneSide(last) && isOfOneSide(row) && (last.left === null) !== (row.left === null);
-        if (fits) {
-            made[made.length - 1] = { left: last.left ?? row.left, right: last.right ?? row.right, same: false };
-        } else {
-            made.push(row);
-        }
-    }
-    return made;
+function lineOf(part, number, indent) {
+    return part === null ? null : { ...part.line, number, indent };
 }
 
-function isOfOneSide({ left, right }) {
-    return left === null || right === null;
-}
-
-function byKey(lines) {
-    return new Map(lines.filter((line) => line?.number !== undefined).map((line) => [keyOf(line), line]));
-}
-
-function keyOf({ like, indent }) {
-    return `${indent} ${like}`;
-}
-
-function movedRow({ left, right, same }, away, come) {
-    const isAway = left !== null && left.number !== undefined && come.has(keyOf(left));
-    const from = right !== null && right.number !== undefined ? away.get(keyOf(right)) : undefined;
-    const kept = { left: isAway ? null : left, right: from === undefined ? right : null, same };
-    return [
-        ...(kept.left === null && kept.right === null ? [] : [kept]),
-        ...(from === undefined ? [] : [moveOf(from, right)]),
-    ];
-}
-
-// What moved along with its contest or its header has the same number as before.
-function moveOf(left, right) {
-    return left.number === right.number ? { left, right, same: true }
-        : { left, right, same: false, moved: { from: left.number, to: right.number } };
+function indentedBy({ left, right, ...row }, indent) {
+    const [one, other] = [left, right].map((line) => (line === null ? null : { ...line, indent: line.indent + indent }));
+    return { left: one, right: other, ...row };
 }
 
 // What differs within two lines, and why they look alike if they do.

@@ -31,3 +31,29 @@ export function wordOf(table, { part, how, member }, className) {
 export function countsOf(words) {
     return Object.fromEntries(WORDS.map((word) => [word, words.filter((one) => one === word).length]));
 }
+
+// What the page shows of ballots: the members of each part.
+const SHOWN = {
+    election: ['Name', 'StartDate'], unit: ['Name'], party: ['Name'], header: ['Name'], candidate: ['BallotName', 'PartyId', 'IsTopTicket'],
+    contest: ['Name', 'BallotTitle', 'BallotSubTitle', 'VotesAllowed', 'VoteVariation', 'OtherVoteVariation', 'ContestSelection', 'CandidateId',
+        'SummaryText', 'FullText', 'ProStatement', 'ConStatement', 'EffectOfAbstain', 'PassageThreshold'],
+    style: ['GpUnitIds', 'PartyIds', 'OrderedContent'],
+};
+
+/**
+ * What a voter may see and the ballots of the page don't show, in groups with their counts.
+ * @param {{part: string, how: string, member?: string, word: string, isCaused: boolean}[]} entries
+ * @param {boolean} isShown whether the ballots that are shown differ. If they don't, they show none of the differences, but for those
+ *     that follow from another identifier alone
+ */
+export function leftOutOf(entries, isShown) {
+    const groups = new Map();
+    for (const { part, how, member = null, word, isCaused } of entries) {
+        const shows = (isShown || isCaused) && Object.hasOwn(SHOWN, part) && (how !== 'member' || SHOWN[part].includes(member));
+        if (word !== 'unseen' && !shows) {
+            const key = JSON.stringify([part, how, member]);
+            groups.set(key, { part, how, member, count: (groups.get(key)?.count ?? 0) + 1 });
+        }
+    }
+    return [...groups.values()].sort((one, other) => other.count - one.count);
+}

@@ -1,14 +1,41 @@
-// Whether any difference touches what a voter sees, in a box of its own: the page sorts them by a table of the profile.
-import { element } from './dom.mjs';
-import { WORDS } from './seen.mjs';
+// Whether a voter sees any difference, in a box of its own: it is told from the ballots that the page shows, and from a table of the
+// profile of what they leave out.
+import { memberWords } from './comparison.mjs';
+import { element, saidWith } from './dom.mjs';
 import { say } from './texts.mjs';
 
+const MOST_LEFT_OUT = 12;
+
+/** The sentence on the ballots of both files. */
+export function seenSentence({ count, seen: { ballots, leftOut } }) {
+    if (ballots.differing > 0) {
+        return say('seen.differ', { differing: ballots.differing, all: ballots.all });
+    }
+    return leftOut.length === 0 ? say('seen.unseen', { count }) : ballots.all === 0 ? say('seen.noBallots') : say('seen.shownSame', { count: ballots.all });
+}
+
 /** The box for the differences that the list has. */
-export function seenBox({ count, seen }) {
-    const most = WORDS.find((word) => seen[word] > 0);
-    const lines = WORDS.filter((word) => seen[word] > 0).map((word) => element('li', {}, say(`seen.count.${word}`, { count: seen[word] })));
-    return element('section', { class: `seen ${most === 'unseen' ? 'quiet' : 'touched'}`, 'aria-labelledby': 'seen' },
-        element('h3', { id: 'seen' }, say(`seen.${most}`)),
-        element('p', {}, say('seen.of', { count })), element('ul', {}, ...lines),
+export function seenBox(listed) {
+    const { count, seen: { ballots, leftOut, unseen } } = listed;
+    const isQuiet = ballots.differing === 0 && leftOut.length === 0;
+    return element('section', { class: `seen ${isQuiet ? 'quiet' : 'touched'}`, 'aria-labelledby': 'seen' },
+        element('h3', { id: 'seen' }, seenSentence(listed)), ...leftOutShown(leftOut),
+        unseen === 0 ? null : element('p', {}, say('seen.count.unseen', { count: unseen }), ' ', say('seen.of', { count })),
         element('p', { class: 'note' }, say('seen.note')));
+}
+
+/** What the ballots of the page leave out, and a voter may see. */
+export function leftOutShown(leftOut) {
+    if (leftOut.length === 0) {
+        return [];
+    }
+    const more = leftOut.slice(MOST_LEFT_OUT).reduce((sum, { count }) => sum + count, 0);
+    const lines = leftOut.slice(0, MOST_LEFT_OUT).map((one) => element('li', {}, leftOutSentence(one)));
+    return [element('p', {}, say('seen.leftOut')), element('ul', { class: 'left-out' }, ...lines,
+        more === 0 ? null : element('li', {}, say('record.more', { count: more })))];
+}
+
+function leftOutSentence({ part, how, member, count }) {
+    const values = { parts: say(`parts.${part}`), count };
+    return how === 'member' ? saidWith('seen.leftOut.member', { member: memberWords(member) }, values) : say('seen.leftOut.object', values);
 }

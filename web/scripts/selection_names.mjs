@@ -1,7 +1,7 @@
 // What differs inside the selections of two contests, with a name of each selection for a reader. What differs comes from the proved
 // list; the names are the page's own.
 import { say } from './texts.mjs';
-import { nameOfThing, textOfTriple, Values } from './values.mjs';
+import { furtherName, nameOfThing, textOfTriple, Values } from './values.mjs';
 
 /** The most of these differences that the page shows of one contest. */
 const MOST_INSIDE = 100;
@@ -35,8 +35,8 @@ function nameOf(meanings, { how, name: [type, keys, isWriteIn, order, label, ide
         ...(isWriteIn ? [say('value.writeIn')] : []),
     ];
     const named = texts.length > 0 ? texts.join(' + ') : say('value.noName');
-    const further = [...(order === null ? [] : [say('inside.order', { order: String(order) })]), ...(identifier === null ? [] : [textOfTriple(identifier)])];
-    return further.length === 0 ? named : `${named} ${say('value.inBrackets', { text: further.join(', ') })}`;
+    const further = furtherName(order, identifier);
+    return further === '' ? named : `${named} ${further}`;
 }
 
 function textOfObject(sides, part, key) {

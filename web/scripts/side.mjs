@@ -1,8 +1,10 @@
 // One file of a judgement. What is known of it is found when it is asked for, and kept.
 import { MOST_BYTES, NoMemoryError } from '../../bindings/js/lib/calls.mjs';
+import { boundedPointer } from './bounded.mjs';
+import { markIn } from './copy_mark.mjs';
 import { repeatedNames } from '../../bindings/js/lib/repeated.mjs';
 import { whyNotJson } from './diagnosis.mjs';
-import { envelopeIn } from './envelope.mjs';
+import { electionsIn, envelopeIn } from './envelope.mjs';
 import { readExactly } from '../../bindings/js/lib/exact.mjs';
 import { excerptOf, Lines } from './excerpt.mjs';
 import { kindsOf } from './fault_kinds.mjs';
@@ -150,11 +152,23 @@ export class Side {
         };
     }
 
-    /** The types of its identifiers, the names that are written twice, and its envelope. */
+    // The names that are written twice.
+    repeated() {
+        return repeatedNames(this.bytes, { most: MOST_REPEATED }).map(({ place, times }) => ({ pointer: boundedPointer(place), times }));
+    }
+
+    // Its notes, where they are a text.
+    notes() {
+        const [found] = foundPlaces(this.bytes, [['Notes']]);
+        const { start, end } = found?.way.at(-1) ?? {};
+        return found !== null && this.bytes[start] === 0x22 ? JSON.parse(textOf(this.bytes, start, end)) : undefined;
+    }
+
+    /** Whether its notes say that it is a prepared copy, the types of its identifiers, the names that are written twice, its envelope and its elections. */
     facts() {
         return {
-            ...(this.isJson ? { types: typesIn(this.bytes), repeated: repeatedNames(this.bytes, { most: MOST_REPEATED }) } : {}),
-            ...(this.outcome === 'accepted' ? { envelope: envelopeIn(this.bytes) } : {}),
+            ...(this.isJson ? { prepared: markIn(this.notes()), types: typesIn(this.bytes), repeated: this.repeated() } : {}),
+            ...(this.outcome === 'accepted' ? { envelope: envelopeIn(this.bytes), ...electionsIn(this.bytes) } : {}),
         };
     }
 }

@@ -1,7 +1,7 @@
 // The verdict on one of many files, of which nothing else is kept.
 import { Side } from './side.mjs';
 
-/** The verdict on a file, and its sums. */
+/** The verdict on a file, its sums, and what a reader should know beside it. */
 export async function surveyed(erd, file, prefer) {
     const side = new Side(file, 0);
     await side.open(() => {});
@@ -9,5 +9,6 @@ export async function surveyed(erd, file, prefer) {
         side.judge(erd, prefer, () => {});
     }
     const { size, outcome, faults } = side.told();
-    return { size, outcome, faults, ...await side.formSums(erd, prefer, () => {}) };
+    const { repeated = [], envelope = {}, isTest = false } = side.facts();
+    return { size, outcome, faults, repeated: repeated.length, notes: envelope.Notes ?? null, isTest, ...await side.formSums(erd, prefer, () => {}) };
 }

@@ -1,13 +1,16 @@
 // The value of a member as lines for a reader: one line for each object that it names, text that it has, or entry of a list.
 import { compactText } from '../../bindings/js/lib/exact.mjs';
 import { isReference } from './meaning.mjs';
-import { orderOfTexts } from '../../bindings/js/lib/order.mjs';
+import { orderOfTexts, textOfKey } from '../../bindings/js/lib/order.mjs';
 import { say } from './texts.mjs';
 
 /**
  * A line of a value. Lines are alike if their objects have equal keys, whatever the objects are called. A line of a list whose
  * order counts has its number in it.
  * @typedef {{text: string, like: string, indent: number, number?: number}} Line
+ * A header, a contest or a selection of a list whose order counts. `id` is equal for the same one in two files, and `carried` has the
+ * lines of what is carried with it.
+ * @typedef {{kind: string, id: string, depth: number, line: Line, selections: Part[], carried: Line[]}} Part
  */
 
 /** Shows values of one report. */
@@ -29,12 +32,6 @@ export class Values {
     lines(name, value) {
         if (name === 'ContestSelection') {
             return value.flatMap((selection) => this.selection(selection));
-        }
-        if (name === 'OrderedContent') {
-            return value.flatMap((entry, index) => this.content(entry, index + 1));
-        }
-        if (name === 'OrderedContestSelectionIds') {
-            return value.map((reference, index) => ({ ...this.reference(reference), number: index + 1 }));
         }
         if (isReference(name)) {
             return [value].flat().map((reference) => this.reference(reference)).sort((one, other) => orderOfTexts(one.like, other.like));
@@ -70,14 +67,27 @@ export class Values {
         return [this.nameOfSelection(selection), ...this.members(members)];
     }
 
-    content(entry, number) {
-        const { ContestId, HeaderId, OrderedContestSelectionIds, OrderedContent, ...others } = entry;
-        const below = [
-            ...this.lines('OrderedContestSelectionIds', OrderedContestSelectionIds ?? []),
-            ...this.lines('OrderedContent', OrderedContent ?? []),
-        ];
-        const carried = Object.entries(others).filter(([name]) => name !== '@type');
-        return [{ ...this.reference(ContestId ?? HeaderId), number }, ...below.map(indented), ...this.members(carried)];
+    /**
+     * What stands on a ballot, in its order: headers and contests, each with its line, and a contest with those of its selections.
+     * @returns {Part[]}
+     */
+    content(entries, depth = 0) {
+        return entries.flatMap((entry) => {
+            const { ContestId, HeaderId, OrderedContestSelectionIds, OrderedContent, ...others } = entry;
+            const carried = this.members(Object.entries(others).filter(([name]) => name !== '@type'));
+            const selections = (OrderedContestSelectionIds ?? []).map((reference) => this.listed(reference));
+            const { part, key } = this.meaning.named.get(ContestId ?? HeaderId);
+            const head = { kind: part, id: textOfKey([part, key]), depth, line: this.reference(ContestId ?? HeaderId), selections, carried };
+            return [head, ...this.content(OrderedContent ?? [], depth + 1)];
+        });
+    }
+
+    listed(reference) {
+        const selection = this.meaning.selections.get(reference);
+        const { text } = this.reference(reference);
+        const further = furtherName(selection.SequenceOrder ?? null, this.meaning.keyOf(selection));
+        const id = this.meaning.selectionName(selection);
+        return { kind: 'selection', id, depth: 0, line: lineOf(further === '' ? text : `${text} ${further}`), selections: [], carried: [] };
     }
 
     identifier(identifier) {
@@ -124,6 +134,12 @@ export function jsonLines(value) {
 /** A key for a reader: its type and its value, and the other type if there is one. */
 export function textOfTriple([type, otherType, value]) {
     return [type, otherType, value].filter((part) => part !== '').join(' ');
+}
+
+/** What else tells a selection from others: its place and its identifier, in brackets. Empty if it has neither. */
+export function furtherName(order, identifier) {
+    const further = [...(order === null ? [] : [say('inside.order', { order: String(order) })]), ...(identifier === null ? [] : [textOfTriple(identifier)])];
+    return further.length === 0 ? '' : say('value.inBrackets', { text: further.join(', ') });
 }
 
 function lineOf(text, like = text) {

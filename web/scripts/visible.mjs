@@ -41,3 +41,20 @@ export function endOf(text, length) {
     const start = text.length - length;
     return text.slice(/[\udc00-\udfff]/.test(text[start]) ? start + 1 : start);
 }
+
+const AROUND = 40;
+const LONGEST_CHANGED = 200;
+
+/**
+ * Of a long text the passages that differ, with some words around each.
+ * @param {import('./text_changes.mjs').Piece[]} pieces
+ */
+export function passageOf(pieces) {
+    return pieces.map(({ text, changed }, at) => {
+        if (changed) {
+            return text.length <= LONGEST_CHANGED ? text : `${beginningOf(text, LONGEST_CHANGED)}…`;
+        }
+        const [behind, before] = [at > 0, at < pieces.length - 1];
+        return text.length <= 2 * AROUND ? text : `${behind ? beginningOf(text, AROUND) : ''}…${before ? endOf(text, AROUND) : ''}`;
+    }).join('');
+}

@@ -88,27 +88,43 @@ export class Erd {
     }
 
     /**
-     * What a command writes, piece by piece, so that no list is in memory as a whole: for each piece the outcome and what `take`
+     * What a command writes, piece by piece, so that no list is in memory as a whole: for each piece the exit status and what `take`
      * makes of the bytes, which stand in the memory of the module until `take` returns. Without `take` it is a copy of them.
      * @param {'check' | 'canon' | 'compare' | 'differences'} command
      */
     *written(command, reports, options, take = copied) {
         const { prefer } = askedFor(options, 'mostFaults');
         const bytesOfReports = reports.map((report) => bytesOf(report, 'a report'));
-        for (const { outcome, taken } of this.#pieces(COMMANDS[command], bytesOfReports, prefer, ALL, take)) {
-            yield { outcome, bytes: taken };
+        for (const { outcome, taken } of this.#pieces(COMMANDS[command], bytesOfReports, prefer, take)) {
+            yield { status: outcome, bytes: taken };
         }
+    }
+
+    /**
+     * What a command answers as JSON: the exit status, and what `take` makes of the bytes of the whole text, as in `written`.
+     * @param {'check' | 'compare' | 'differences'} command
+     */
+    writtenAsJson(command, reports, options, take = copied) {
+        const { prefer } = askedFor(options, 'mostFaults');
+        const bytesOfReports = reports.map((report) => bytesOf(report, 'a report'));
+        checkLengths(bytesOfReports);
+        const whole = { first: 0, most: ALL, enoughBytes: ALL };
+        const { outcome, taken } = checked(this.#engine.call(JSON_COMMANDS[command], bytesOfReports, prefer, whole, take));
+        return { status: outcome, bytes: taken };
     }
 
     // An answer with so many entries of its list, and how many the list has. Entries whose texts are long are fewer than that; but
     // all of them are there if the caller asked for all.
     #list(call, reports, { prefer, most }) {
         const isForm = (outcome) => call === 'erd_canonical_data_piece' && outcome === OUTCOME.good;
-        const pieces = this.#pieces(call, reports, prefer, most ?? ALL,
-            (bytes, outcome) => (isForm(outcome) ? copied(bytes) : readExactly(bytes)));
+        const take = (bytes, outcome) => (isForm(outcome) ? copied(bytes) : readExactly(bytes));
+        if (most !== null) {
+            return this.#first(call, reports, prefer, most, take);
+        }
+        const pieces = this.#pieces(call, reports, prefer, take);
         const { value: answer } = pieces.next();
         const entries = entriesOf(answer.taken);
-        for (const piece of most === null ? pieces : []) {
+        for (const piece of pieces) {
             for (const entry of entriesOf(piece.taken)) {
                 entries.push(entry);
             }
@@ -116,26 +132,32 @@ export class Erd {
         return answer;
     }
 
-    // The answers with one piece of a list after another.
-    *#pieces(call, reports, prefer, most, take) {
-        for (let first = 0, isLast = false; !isLast;) {
-            const answer = this.#call(call, reports, prefer, { first, most, enoughBytes: BYTES_OF_PIECE }, take);
-            yield answer;
-            first += answer.told;
-            isLast = first >= answer.all || answer.told === 0;
-        }
+    // The answer with the first piece of a list. Nothing is kept of the others.
+    #first(name, reports, prefer, most, take) {
+        checkLengths(reports);
+        return checked(this.#engine.call(name, reports, prefer, { first: 0, most, enoughBytes: BYTES_OF_PIECE }, take));
     }
 
-    #call(name, reports, prefer, piece, take) {
-        if (reports.some((report) => report.length > MOST_BYTES)) {
-            throw new TooLongError();
+    // The answers with one piece of a list after another.
+    *#pieces(name, reports, prefer, take) {
+        checkLengths(reports);
+        for (const answer of this.#engine.pieces(name, reports, prefer, { most: ALL, enoughBytes: BYTES_OF_PIECE }, take)) {
+            yield checked(answer);
         }
-        const answer = this.#engine.call(name, reports, prefer, piece, take);
-        if (answer.outcome === OUTCOME.noMemory) {
-            throw new NoMemoryError();
-        }
-        return answer;
     }
+}
+
+function checkLengths(reports) {
+    if (reports.some((report) => report.length > MOST_BYTES)) {
+        throw new TooLongError();
+    }
+}
+
+function checked(answer) {
+    if (answer.outcome === OUTCOME.noMemory) {
+        throw new NoMemoryError();
+    }
+    return answer;
 }
 
 /** The call of each command. */
@@ -144,6 +166,13 @@ const COMMANDS = {
     canon: 'erd_canonical_piece',
     compare: 'erd_compare_piece',
     differences: 'erd_differences',
+};
+
+/** The call that answers each command with JSON. */
+const JSON_COMMANDS = {
+    check: 'erd_check_data_piece',
+    compare: 'erd_compare_data_piece',
+    differences: 'erd_differences_data',
 };
 
 function copied(bytes) {

@@ -6,6 +6,18 @@ export const OUTCOME = { good: 0, bad: 1, notJson: 2, wrong: 3, noMemory: 4 };
 /** What the words of a command line are: help and wrong words by the exit status of the program. */
 export const LINE = { help: 0, request: 1, wrong: 3, noMemory: 4 };
 
+const NO_MEMORY = { outcome: OUTCOME.noMemory, taken: undefined, told: 0, all: 0 };
+
+// The calls for a piece of a list, in the order of `enum erd_listing` of erd.h.
+const LISTINGS = ['erd_check_piece', 'erd_canonical_piece', 'erd_compare_piece', 'erd_differences', 'erd_check_data_piece',
+    'erd_canonical_data_piece', 'erd_compare_data_piece', 'erd_differences_data'];
+
+// An open list keeps so many bytes of what was judged: some for each byte of the reports, as a judging itself takes, and never more
+// than the last number. Reports are judged once for so much of a list.
+const LEAST_KEPT = 2 ** 22;
+const KEPT_FOR_A_BYTE = 16;
+const MOST_KEPT = 2 ** 28;
+
 // Memory of WebAssembly can't shrink. So an instance whose memory has grown beyond this is not kept for the next call.
 const BYTES_KEPT = 64 * 1024 * 1024;
 
@@ -44,12 +56,34 @@ export class Engine {
         const instance = this.#taken();
         const answer = instance === null ? null : answerOf(instance.exports, name, reports, prefer, piece, take);
         if (answer === null) {
-            return { outcome: OUTCOME.noMemory, taken: undefined, told: 0, all: 0 };
+            return NO_MEMORY;
         }
         if (answer.outcome !== OUTCOME.noMemory && instance.exports.memory.buffer.byteLength <= BYTES_KEPT) {
             this.#instance = instance;
         }
         return answer;
+    }
+
+    /**
+     * Hands out one piece of a list after another. The reports are judged once, but for a list that is longer than what is kept of it.
+     * The parameters are those of `call`, and so is each answer. An answer without a list is the only one.
+     * @template T
+     */
+    *pieces(name, reports, prefer, piece, take) {
+        const instance = this.#taken();
+        const list = instance === null ? null : orNull(() => new OpenList(instance.exports, name, reports, prefer));
+        try {
+            for (let first = 0, isLast = false; !isLast;) {
+                const answer = (list && orNull(() => list.next(piece, take))) ?? NO_MEMORY;
+                yield answer;
+                first += answer.told;
+                isLast = first >= answer.all || answer.told === 0;
+            }
+        } finally {
+            if (list !== null && orNull(() => list.close()) !== null && instance.exports.memory.buffer.byteLength <= BYTES_KEPT) {
+                this.#instance = instance;
+            }
+        }
     }
 
     /**
@@ -111,11 +145,18 @@ function lineOf(exports, words) {
 
 // What a function gives that takes memory of the module, which is then given back; null if there is too little memory.
 function withRoom(exports, called) {
-    try {
+    return orNull(() => {
         const room = new Room(exports);
         const answer = called(room);
         room.givenBack();
         return answer;
+    });
+}
+
+// What a function gives; null if there is too little memory.
+function orNull(called) {
+    try {
+        return called();
     } catch (error) {
         if (error instanceof RoomError || error instanceof RangeError) {
             return null;
@@ -132,6 +173,45 @@ function takenAt(exports, places, outcome, take) {
     const taken = start === 0 ? undefined : take(text, outcome);
     exports.erd_free(start);
     return taken;
+}
+
+/** A list that the module keeps, and hands out piece by piece. */
+class OpenList {
+    #exports;
+    #room;
+    #list;
+    #piece;
+    #places;
+
+    constructor(exports, name, reports, prefer) {
+        this.#exports = exports;
+        this.#room = new Room(exports);
+        const size = reports.reduce((sum, report) => sum + report.length, 0);
+        const words = reports.flatMap((report) => [this.#room.filledWith(report), report.length]);
+        const preferred = prefer === null ? 0 : this.#room.filledWith(prefer, 1);
+        const kept = Math.min(Math.max(LEAST_KEPT, KEPT_FOR_A_BYTE * size), MOST_KEPT);
+        this.#piece = this.#room.taken(20);
+        this.#places = this.#room.taken(8);
+        this.#list = exports.erd_open(LISTINGS.indexOf(name), ...words, ...(reports.length === 1 ? [0, 0] : []), preferred, kept) >>> 0;
+        if (this.#list === 0) {
+            throw new RoomError();
+        }
+    }
+
+    /** The next piece, as `answerOf` gives an answer. */
+    next({ most, enoughBytes }, take) {
+        const exports = this.#exports;
+        new Uint32Array(exports.memory.buffer, this.#piece, 5).set([0, most, enoughBytes, 0, 0]);
+        const outcome = exports.erd_next(this.#list, this.#piece, this.#places, this.#places + 4);
+        const [told, all] = new Uint32Array(exports.memory.buffer.slice(this.#piece + 12, this.#piece + 20));
+        return { outcome, taken: takenAt(exports, this.#places, outcome, take), told, all };
+    }
+
+    close() {
+        this.#exports.erd_close(this.#list);
+        this.#room.givenBack();
+        return this;
+    }
 }
 
 /** The module has no memory left for what a call is handed. */

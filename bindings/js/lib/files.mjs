@@ -1,13 +1,21 @@
 // Reads and writes as the program does, with its words for what went wrong.
-import { closeSync, openSync, readSync, writeSync } from 'node:fs';
+import { closeSync, fstatSync, openSync, readFileSync, readSync, statSync, writeSync } from 'node:fs';
 import { MOST_BYTES } from './calls.mjs';
 
 const STANDARD_INPUT = 0;
+export const STANDARD_OUTPUT = 1;
+export const STANDARD_ERROR = 2;
+const NULL_DEVICE = '/dev/null';
 const BLOCK = 1 << 20;
 const MILLISECONDS = 5;
 
-/** The command ends here, with these words on standard error and status 3. */
-export class Stop extends Error {}
+/** The command ends here, with these words on standard error and this status. */
+export class Stop extends Error {
+    constructor(words, status = 3) {
+        super(words);
+        this.status = status;
+    }
+}
 
 /** Opens the files of a command, all before one of them is read. No file is standard input. */
 export function opened(names) {
@@ -51,6 +59,47 @@ function readSome(handle, part) {
         }
         throw new Stop('read failed');
     }
+}
+
+/**
+ * Stops if what is written here goes nowhere because it was closed. Node opens the null device in the place of a closed stream, for
+ * reading and writing, before it runs the command; what a shell opens by `> /dev/null` can't be read.
+ */
+export function checkThere(handle) {
+    if (process.platform !== 'win32' && isNullDevice(handle) && canBeRead(handle)) {
+        throw new Stop('write failed');
+    }
+}
+
+function isNullDevice(handle) {
+    const found = fstatSync(handle);
+    return found.isCharacterDevice() && found.rdev === statSync(NULL_DEVICE).rdev;
+}
+
+function canBeRead(handle) {
+    try {
+        readSync(handle, Buffer.alloc(1));
+        return true;
+    } catch {
+        return false;
+    }
+}
+
+/** The version of this package. */
+export function versionOfPackage() {
+    return JSON.parse(readFileSync(new URL('../package.json', import.meta.url), 'utf8')).version;
+}
+
+/** Writes a text to a file of this name. */
+export function writeFile(name, text) {
+    let handle;
+    try {
+        handle = openSync(name, 'w');
+    } catch {
+        throw new Stop('cannot open');
+    }
+    write(handle, text);
+    closeSync(handle);
 }
 
 /** Writes all bytes of a text or of an array. */

@@ -1,11 +1,15 @@
 // The results of the calls. They are made from the JSON text that the proved code answers, and never from lines.
 import { lineOfDifference, lineOfFault, pointerOf, wordsOf } from './words.mjs';
 
+/** The exit status of the program for each outcome. */
+const STATUSES = { accepted: 0, same: 0, refused: 1, different: 1, 'not JSON': 2 };
+
 /** How a call that reads one report ended. */
 export class Checked {
     /** @param {'accepted' | 'refused' | 'not JSON'} outcome */
     constructor(outcome, faults, allFaults) {
         this.outcome = outcome;
+        this.status = STATUSES[outcome];
         this.accepted = outcome === 'accepted';
         this.faults = faults;
         this.allFaults = allFaults;
@@ -37,6 +41,7 @@ export class Compared {
     /** @param {'same' | 'different' | 'refused' | 'not JSON'} outcome */
     constructor(outcome, { difference = null, side = null, faults = [], allFaults = 0 }) {
         this.outcome = outcome;
+        this.status = STATUSES[outcome];
         this.same = outcome === 'same';
         this.difference = difference;
         this.side = side;
@@ -56,6 +61,7 @@ export class Differences {
     /** @param {'same' | 'different' | 'refused' | 'not JSON'} outcome */
     constructor(outcome, { differences = [], allDifferences = 0, side = null, faults = [], allFaults = 0 }) {
         this.outcome = outcome;
+        this.status = STATUSES[outcome];
         this.same = outcome === 'same';
         this.differences = differences;
         this.allDifferences = allDifferences;

@@ -73,3 +73,8 @@ export function lineOfDifference({ part, key, how, member }) {
 function compactText(value) {
     return JSON.stringify(value);
 }
+
+/** The text with each character that a terminal may act on as an escape: a stranger's names may hold such characters. */
+export function visible(text) {
+    return text.replace(/[\p{C}\p{Zl}\p{Zp}]/gu, (letter) => `\\u{${letter.codePointAt(0).toString(16)}}`);
+}

@@ -58,13 +58,29 @@ def test_results(top):
     left = (top / 'examples' / 'county.vendor-a.json').read_bytes()
     other = left.replace(b'Ingrith Sablewood', b'Ingrid Sablewood')
     same, differing = erd.compare(left, left), erd.compare(left, other)
-    assert same and same.status == 0 and same.lines == ('same',)
-    assert not differing and differing.status == 1
+    assert same and (same.status, same.outcome) == (0, 'same') and same.lines == ('same',)
+    assert not differing and (differing.status, differing.outcome) == (1, 'different')
     assert differing.difference == erd.Difference('candidate', ('local-level', '', 'K-12'), 'member', 'BallotName')
     refused = erd.compare(left, b'{}')
     assert (refused.refused, refused.same, refused.status) == ('right', False, 1)
     assert refused.check.faults[0] == erd.Fault((), 2, '@type')
+    assert (refused.outcome, erd.compare(b'{', left).outcome, erd.differences(left, other).outcome) == ('refused', 'not JSON', 'different')
     assert erd.compare(b'{', left).status == 2
+    found = [(it.status, it.outcome) for call in (erd.check, erd.canonical) for it in map(call, (left, b'{}', b'{'))]
+    assert found == [(0, 'accepted'), (1, 'refused'), (2, 'not JSON')] * 2
+
+
+@pytest.mark.parametrize('call', [erd.check, erd.canonical, lambda report: erd.compare(report, '{'), lambda report: erd.differences(report, '{')])
+def test_a_text_that_names_a_file_gets_a_hint(tmp_path, monkeypatch, recwarn, call):
+    monkeypatch.chdir(tmp_path)
+    (tmp_path / 'county.json').write_text('{}')
+    (tmp_path / '5').write_text('{}')
+    with pytest.warns(UserWarning, match="'county.json' is no JSON, and names a file") as found:
+        call('county.json')
+    assert [it.filename for it in found] == [__file__]
+    for report in ('nosuch.json', '5', '{', b'county.json', 'county.json\0', 'x' * 5000):
+        call(report)
+    assert not recwarn.list
 
 
 def many_faults(top, name):
@@ -181,3 +197,35 @@ def test_the_first_repeated_names():
     assert len(erd.repeated_names(report)) == 1000
     assert len(erd.repeated_names(report, most=None)) == 1001
     assert erd.repeated_names(report, most=2)[1].place == (1, 'a')
+    assert (erd.repeated_names(report).all_names, erd.repeated_names(report).more) == (1001, True)
+    assert not erd.repeated_names(report, most=None).more
+
+
+def test_repeated_names_with_long_places_are_fewer():
+    # Together, their places are as long as the square of the report.
+    report = '{"' + 'n' * 400_000 + '":[' + ','.join(['{"a":1,"a":2}'] * 3000) + ']}'
+    found = erd.repeated_names(report)
+    assert (len(found), found.all_names, found.more) == (3, 3000, True)
+    assert [name.place[1] for name in erd.repeated_names(report, most=None)] == list(range(3000))
+
+
+class Counted:
+    """The library, which counts the calls of one function."""
+
+    def __init__(self, library, name):
+        self.library, self.name, self.count = library, name, 0
+
+    def __getattr__(self, name):
+        self.count += name == self.name
+        return getattr(self.library, name)
+
+
+def test_a_list_is_judged_once_for_many_pieces(top, monkeypatch):
+    # 300,000 faults are ten pieces and more. Each call for a piece would judge the report again.
+    report = (top / 'examples' / 'one-unit.json').read_text('utf-8').replace('{', '{"Remarks":[' + ','.join(['1.5'] * 300_000) + '],', 1)
+    from erd import library
+    counted = Counted(library.library(), 'erd_open')
+    counted_calls = Counted(counted, 'erd_check_data_piece')
+    monkeypatch.setattr(library, 'library', lambda: counted_calls)
+    assert len(erd.check(report, most_faults=None).faults) == 300_000
+    assert (counted.count, counted_calls.count) == (1, 0)

@@ -16,11 +16,11 @@ MOST_BYTES = 67108864
 
 
 @pytest.fixture
-def run(capsysbinary):
+def run(capfdbinary):
     """Runs the command, and returns its status and what it wrote."""
     def run(*words):
         status = main(list(map(str, words)))
-        out, err = capsysbinary.readouterr()
+        out, err = capfdbinary.readouterr()
         return status, out.decode('utf-8'), err.decode('utf-8')
     return run
 

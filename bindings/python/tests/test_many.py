@@ -31,9 +31,9 @@ def ballots(top, tmp_path):
 @pytest.fixture
 def run(tmp_path):
     """Runs erd.many with journals of its own."""
-    def run(*words, **more):
+    def run(*words, before=(), text=True, **more):
         environment = {**os.environ, 'XDG_STATE_HOME': str(tmp_path / 'state')}
-        return subprocess.run([sys.executable, '-m', 'erd.many', *map(str, words)], capture_output=True, text=True,
+        return subprocess.run([*before, sys.executable, '-m', 'erd.many', *map(str, words)], capture_output=True, text=text,
                               env=environment, stdin=subprocess.DEVNULL, **more)
     return run
 
@@ -86,7 +86,8 @@ def test_a_group_for_each_meaning(run, top, tmp_path):
     assert [row['group'] for row in rows] == [number % 20 + 1 for number in range(40)]
 
 
-@pytest.mark.parametrize('name', ['=1+1.json', '+1.json', '-1.json', '@x.json', '\t=1.json'])
+@pytest.mark.parametrize('name', ['=1+1.json', '+1.json', '-1.json', '@x.json', '\t=1.json', '\n=1.json', '\uff1d1.json', '\uff0b1.json',
+                                  '\uff0d1.json', '\uff20x.json'])
 def test_no_name_is_a_formula(run, tmp_path, name):
     (tmp_path / name).write_bytes(b'{}')
     row, = csv.DictReader(io.StringIO(run('--csv', '--', name, cwd=tmp_path).stdout, newline=''))
@@ -100,7 +101,8 @@ def test_names_of_files_do_not_paint_the_terminal(run, ballots):
 
 @pytest.mark.parametrize(('words', 'wrong'), [
     ([], 'FOLDER'), (['--json', '--csv', '.'], '--csv'), (['--jobs', 'x', '.'], '--jobs'),
-    (['--prefer', '', '.'], '--prefer: a value is required')], ids=['nothing', 'two-forms', 'no-number', 'empty-type'])
+    (['--prefer', '', '.'], '--prefer: a value is required'), (['--pattern', '/etc/*', '.'], '--pattern'), (['--jobs', '0', '.'], '--jobs')],
+    ids=['nothing', 'two-forms', 'no-number', 'empty-type', 'absolute-pattern', 'no-jobs'])
 def test_usage(run, words, wrong):
     ran = run(*words)
     assert (ran.returncode, ran.stdout) == (3, '')
@@ -112,6 +114,58 @@ def test_what_cannot_be_read_is_a_row(run, ballots):
     (ballots / 'gone.json').symlink_to(ballots / 'nowhere')
     rows = rows_by_name(run('--json', ballots, ballots / 'gone.json'))
     assert rows['gone.json']['verdict'] == 'cannot open'
+
+
+def test_only_regular_files_are_judged_and_the_others_are_named(run, ballots):
+    os.mkfifo(ballots / 'pipe.json')
+    (ballots / 'gone.json').symlink_to(ballots / 'nowhere')
+    (ballots / 'folder.json').mkdir()
+    ran = run('--json', ballots, ballots / 'pipe.json', timeout=60)
+    rows = rows_by_name(ran)
+    assert (rows['pipe.json']['verdict'], rows['gone.json']['verdict'], ran.returncode) == ('not a regular file', 'cannot open', 3)
+    assert 'folder.json' not in rows and rows['a.json']['verdict'] == 'accepted'
+
+
+def test_a_folder_that_cannot_be_listed_is_a_row(run, ballots):
+    (ballots / 'inner').chmod(0)
+    # Root may list every folder, so it gives that up.
+    bare = ['setpriv', '--bounding-set=-dac_override,-dac_read_search', '--inh-caps=-dac_override,-dac_read_search'] if os.getuid() == 0 else []
+    try:
+        ran = run('--csv', ballots, before=bare)
+    finally:
+        (ballots / 'inner').chmod(0o700)
+    assert f'{ballots}/inner,a folder that cannot be listed,0,,\n' in ran.stdout and ran.returncode == 3
+
+
+@pytest.mark.parametrize('name', ['.', './', 'ballots', './ballots', 'ballots/', '../here/ballots//'])
+def test_names_are_as_they_were_written(run, ballots, name):
+    here = ballots.parent / 'here'
+    here.mkdir()
+    ballots.rename(here / 'ballots')
+    top = here / 'ballots' if name.startswith('.') and 'ballots' not in name else here
+    rows = json.loads(run('--json', name, cwd=top).stdout)
+    assert {row['file'] for row in rows} == {os.path.join(name, it) for it in (
+        'a.json', 'c.json', 'empty.json', 'inner/b.json', 'long.json', 'refused.json')}
+
+
+@pytest.mark.parametrize('words', [['--csv'], ['--json'], []])
+def test_a_reader_that_stops_needs_no_word(run, ballots, words):
+    reader, writer = os.pipe()
+    os.close(reader)
+    ran = subprocess.run([sys.executable, '-m', 'erd.many', *words, str(ballots)], stdout=writer, stderr=subprocess.PIPE,
+                         env={**os.environ, 'XDG_STATE_HOME': str(ballots.parent / 'state')})
+    os.close(writer)
+    assert (ran.returncode, ran.stderr) == (3, b'')
+    assert list((ballots.parent / 'state' / 'erd').glob('*.jsonl')), 'what was judged is kept for --resume'
+
+
+def test_a_name_that_is_no_text_stays_as_it_is(run, top, tmp_path):
+    folder = tmp_path / 'odd'
+    folder.mkdir()
+    with open(os.path.join(os.fsencode(folder), b'\xff.json'), 'wb') as file:
+        file.write((top / 'examples' / 'one-unit.json').read_bytes())
+    ran = run('--csv', 'odd', cwd=tmp_path, text=False)
+    assert ran.returncode == 0 and b'\nodd/\xff.json,accepted,' in ran.stdout
 
 
 def test_a_process_that_ends_is_a_row(run, ballots, tmp_path, monkeypatch):
@@ -169,13 +223,22 @@ def test_cluster(run, ballots, tmp_path):
             while not file.exists() and time.time() < deadline:
                 time.sleep(0.1)
         address = json.loads(file.read_text())['address']
-        ran = run('--json', '--scheduler', address, ballots, timeout=300)
+        ran = run('--json', '--scheduler', address, 'ballots', timeout=300, cwd=ballots.parent)
         look_at(rows_by_name(ran))
+        assert {os.path.dirname(row['file']) for row in json.loads(ran.stdout)} == {'ballots', 'ballots/inner'}
+        assert ran.stderr == ''
     finally:
         for it in started:
             it.terminate()
         for it in started:
             it.wait()
+
+
+def test_a_cluster_that_is_not_there(run, ballots):
+    pytest.importorskip('distributed')
+    ran = run('--json', '--scheduler', 'tcp://127.0.0.1:1', ballots, timeout=300)
+    assert (ran.returncode, ran.stdout) == (3, '')
+    assert ran.stderr == 'no scheduler answers at tcp://127.0.0.1:1: OSError\n'
 
 
 def test_prepare(run, top, tmp_path):

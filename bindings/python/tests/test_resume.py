@@ -15,8 +15,8 @@ CUT_AFTER = 3
 class Runs:
     """Runs of erd.many in this process, over one folder, which may be cut off."""
 
-    def __init__(self, folder, monkeypatch, capsys):
-        self.folder, self.capsys = folder, capsys
+    def __init__(self, folder, monkeypatch, capfd):
+        self.folder, self.capfd = folder, capfd
         self.cut_after, self.judged = None, []
         monkeypatch.setattr(many, 'run_here', self.run_here)
 
@@ -32,13 +32,13 @@ class Runs:
         """The rows of a run, by the names of their files; none if it was cut off. `judged` has the files that it read."""
         self.cut_after, self.judged = cut_after, []
         status = many.main(['--json', *words, str(self.folder)])
-        out = self.capsys.readouterr().out
+        out = self.capfd.readouterr().out
         assert (status == 130) == (cut_after is not None)
         return None if status == 130 else {os.path.basename(row['file']): row for row in json.loads(out)}
 
 
 @pytest.fixture
-def runs(top, tmp_path, monkeypatch, capsys):
+def runs(top, tmp_path, monkeypatch, capfd):
     """A run over six files that was cut off after three of them."""
     monkeypatch.setenv('XDG_STATE_HOME', str(tmp_path / 'state'))
     folder = tmp_path / 'ballots'
@@ -46,7 +46,7 @@ def runs(top, tmp_path, monkeypatch, capsys):
     case = top / 'out' / 'conformance' / 'prefer-accepted-under-a-preference'
     for name in FILES:
         (folder / name).write_bytes((case / 'input.json').read_bytes())
-    runs = Runs(folder, monkeypatch, capsys)
+    runs = Runs(folder, monkeypatch, capfd)
     runs.rows(cut_after=CUT_AFTER)
     assert runs.judged == FILES[:CUT_AFTER]
     return runs

@@ -70,8 +70,10 @@ fn order_of_members(left: &Map<String, Value>, right: &Map<String, Value>) -> Or
         let Some((other_name, other)) = others.next() else {
             return Ordering::Greater;
         };
-        let order = name.as_str().cmp(other_name.as_str());
-        let order = order.then(json_order(member, other));
+        let order = match name.as_str().cmp(other_name.as_str()) {
+            Ordering::Equal => json_order(member, other),
+            unlike => unlike,
+        };
         if order.is_ne() {
             return order;
         }

@@ -24,6 +24,11 @@ text_number salt text = finish (write salt.start text)
 abbrev pub keys_in : {K : Type 0} → List (Salted K) → List K
 keys_in keys = map (λ s. s.key) keys
 
+-- What contracts see of a set under a salt: the hasher that its salt starts, and the keys.
+pub record SaltedKeys (K : Type 0) : Type 0 where
+  pub start : DefaultHasher
+  pub keys : List K
+
 -- Each key has the number that the salt gives it.
 abbrev pub AreNumbered : {K : Type 0} → (K → HashWrites) → Salt → List (Salted K) → Type 0
 AreNumbered writes salt keys = AllByRecursion (λ s. s.number ≡ salted_number salt (writes s.key)) keys

@@ -1,7 +1,7 @@
 ghost use Rattle.std.specs.Prelude.{◌≡◌, [], Bool, IsTrue, not, option_copied, position, slice_get, IfOk, OnErr, OnOk};
 ghost use Rattle.std.specs.List.{list_any, position_or_len};
 ghost use Rattle.indexmap.specs.IndexSet.{insert_key};
-ghost use Rattle.erd_index.specs.Salts.{salted_number};
+ghost use Rattle.erd_index.specs.Salts.{salted_number, start_of};
 
 use crate::salt::Salt;
 use crate::salted::Salted;
@@ -91,7 +91,7 @@ impl<K: Eq + Hash, Q: Sought<K>> Equivalent<Salted<K>> for Numbered<Q> {
 }
 
 /// A set whose keys stand in the order in which they came. It hashes them under a salt, so that keys which crowd it are hard
-/// to choose. Contracts see the keys.
+/// to choose. Contracts see the keys, and the hasher that the salt starts.
 #[derive(Debug, Drop)]
 pub struct SaltedSet<K: Eq + Hash> {
     salt: Salt,
@@ -99,15 +99,14 @@ pub struct SaltedSet<K: Eq + Hash> {
 }
 
 impl<K: Eq + Hash> Model for SaltedSet<K> {
-    ghost use Rattle.std.specs.Prelude.{List};
-    ghost use Rattle.std.specs.Coded.{coded_list};
-    ghost use Rattle.erd_index.specs.Salts.{AreNumbered, keys_in};
+    ghost use Rattle.erd_index.specs.Salts.{AreNumbered, SaltedKeys, keys_in, start_of};
 
-    ghost Value = { List K };
+    ghost Value = { SaltedKeys K };
 
-    ghost coded = { coded_list K.code };
-
-    ghost view = { λ s. keys_in s.set.keys };
+    ghost view = { λ s. record {
+      start = start_of s.salt;
+      keys = keys_in s.set.keys;
+    } };
 
     ghost invariant = { λ s. AreNumbered K.hash_input s.salt s.set.keys };
 }
@@ -119,7 +118,8 @@ impl<K: Eq + Hash + Drop> SaltedSet<K> {
     /// let mut numbers = SaltedSet::new(alloc, Salt::of(1, 2));
     /// ```
     pub fn new(alloc: Global, salt: Salt) -> SaltedSet<K>
-        ensures { result ≡ [] }
+        ensures start { result.start ≡ start_of salt }
+        ensures keys { result.keys ≡ [] }
     {
         SaltedSet {
             salt,
@@ -138,9 +138,10 @@ impl<K: Eq + Hash + Drop> SaltedSet<K> {
     /// assert!(rt; !numbers.insert(20)?);
     /// ```
     pub fn insert(&mut self, key: K) -> Result<bool, AllocError>
-        ensures added { IfOk result (λ added. added ≡ not (list_any (K.eq key) self.old)) }
-        ensures keys { OnOk result (self.new ≡ insert_key K.eq self.old key) }
-        ensures kept { OnErr result (self.new ≡ self.old) }
+        ensures added { IfOk result (λ added. added ≡ not (list_any (K.eq key) self.old.keys)) }
+        ensures keys { OnOk result (self.new.keys ≡ insert_key K.eq self.old.keys key) }
+        ensures kept { OnErr result (self.new.keys ≡ self.old.keys) }
+        ensures start { self.new.start ≡ self.old.start }
     {
         let number = self.salt.number(&key);
         Ok(self.set.insert(Salted { number, key })?)
@@ -157,10 +158,11 @@ impl<K: Eq + Hash + Drop> SaltedSet<K> {
     /// assert_eq!(rt; numbers.insert_full(30)?, (1, false));
     /// ```
     pub fn insert_full(&mut self, key: K) -> Result<(usize, bool), AllocError>
-        ensures index { IfOk result (λ r. r.0 ≡ position_or_len (K.eq key) self.old) }
-        ensures added { IfOk result (λ r. r.1 ≡ not (list_any (K.eq key) self.old)) }
-        ensures keys { OnOk result (self.new ≡ insert_key K.eq self.old key) }
-        ensures kept { OnErr result (self.new ≡ self.old) }
+        ensures index { IfOk result (λ r. r.0 ≡ position_or_len (K.eq key) self.old.keys) }
+        ensures added { IfOk result (λ r. r.1 ≡ not (list_any (K.eq key) self.old.keys)) }
+        ensures keys { OnOk result (self.new.keys ≡ insert_key K.eq self.old.keys key) }
+        ensures kept { OnErr result (self.new.keys ≡ self.old.keys) }
+        ensures start { self.new.start ≡ self.old.start }
     {
         let number = self.salt.number(&key);
         Ok(self.set.insert_full(Salted { number, key })?)
@@ -172,7 +174,7 @@ impl<K: Eq + Hash + Drop> SaltedSet<K> {
     /// assert_eq!(rt; numbers.get_index(1), Some(&30));
     /// ```
     pub fn get_index(&self, index: usize) -> Option<&K>
-        ensures { option_copied result ≡ slice_get self.now index }
+        ensures { option_copied result ≡ slice_get self.now.keys index }
     {
         match self.set.get_index(index) {
             Some(salted) => Some(&salted.key),
@@ -186,7 +188,7 @@ impl<K: Eq + Hash + Drop> SaltedSet<K> {
     /// assert_eq!(rt; numbers.position(Number(30)), Some(1));
     /// ```
     pub fn position<Q: Sought<K>>(&self, sought: Q) -> Option<usize>
-        ensures { result ≡ position (Q.finds sought) self.now }
+        ensures { result ≡ position (Q.finds sought) self.now.keys }
     {
         let number = sought.number(&self.salt);
         self.set.get_index_of(Numbered { number, sought })

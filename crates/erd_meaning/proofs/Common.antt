@@ -21,6 +21,7 @@ pub use Rattle.erd_meaning.specs.Records.{json_set, if_carried, carried_members,
 pub use Rattle.erd_meaning.specs.SelectionNames.{key_named, keys_found, keys_named, keys_of_selection, is_write_in, order_of_selection, label_of_selection, name_in_class, selection_role, name_of, class_cmp, name_cmp, name_named}
 pub use Rattle.erd_meaning.specs.code.ChosenKeys.{is_preferred, choice_cmp, choice_of_two, choice_of, choice}
 pub use Rattle.erd_meaning.specs.code.ElectionKeys.{AreSeen, is_seen, seen_with}
+pub use Rattle.erd_meaning.specs.code.Held.{HeldObjects, HeldElections, AreSalted}
 pub use Rattle.erd_meaning.specs.code.Indexed.{same_owned, is_salted_id, is_salted_owned}
 pub use Rattle.erd_meaning.specs.code.KeyOrders.{positioned, seen_keys, keys_seen, lent_key_cmp, AreDistinct, rank_by, positions_by, rank_in_keys, rising_positions, family_keys, HaveDistinctKeys, IsOrder}
 pub use Rattle.erd_meaning.specs.code.ObjectIndexes.{with_place, places_from, rank, number_at, number_of_id, number_of_key, contests_noted, contests_before, is_in_contest, IsStart, number_among}

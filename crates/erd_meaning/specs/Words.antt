@@ -10,6 +10,7 @@ pub use Rattle.serde_json.specs.Data.{Data}
 pub use Rattle.serde_json.specs.Find.{as_str}
 pub use Rattle.serde_json.specs.View.{items_view, view}
 pub use Rattle.serde_json.specs.Written.{has_float}
+pub use Rattle.erd_index.specs.Salts.{joined_start}
 pub use Rattle.erd_tables.specs.Classes.{family_number}
 pub use Rattle.erd_tables.specs.Families.{entry_of}
 pub use Rattle.erd_tables.specs.Faults.{ListsAll}
@@ -33,6 +34,7 @@ pub use Rattle.erd_meaning.specs.NameParts.{NameParts}
 pub use Rattle.erd_meaning.specs.NumberedNames.{numbered_name_cmp, numbered_name_writes, numbered_parts, RankedParts}
 pub use Rattle.erd_meaning.specs.Objects.{elections, id_of, numbered_selections, numbered_selections_of, objects, placed_entries, IsBounded}
 pub use Rattle.erd_meaning.specs.Places.{places_put}
+pub use Rattle.erd_meaning.specs.SaltWrites.{report_start, CoversEachKey}
 pub use Rattle.erd_meaning.specs.RankedNames.{family_chosen, ranked_name_cmp, ranked_name_writes, ranked_selection_in, IsRankedIn}
 pub use Rattle.erd_meaning.specs.SelectionNames.{is_write_in, keys_found, keys_of_selection, label_of_selection, name_cmp, order_of_selection}
 pub use Rattle.erd_meaning.specs.declared.keys.key.Key.{Key}

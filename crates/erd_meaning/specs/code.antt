@@ -16,10 +16,11 @@ pub mod KeyOrders  -- the order of objects by their keys: their positions in ris
 pub mod RanksAmong  -- names with ranks among the objects that the program keeps, which an index compares
 pub mod RankedOrders  -- their order is total, and equal ones are hashed alike
 pub mod Shown  -- what the program's own structs stand for
+pub mod Held  -- what clauses see of the tables under a salt
 pub mod ShownWalks  -- what clauses see of the walks
 pub mod CollectedWalks  -- what clauses see of what is collected
-pub mod SaltWrites  -- what the salt of a report is computed from
-pub mod SaltLaws  -- it covers all that the indexes hash
+pub mod HashedMet  -- what the indexes hash of what the program meets
+pub mod SaltLaws  -- the salt covers the keys of each index
 pub mod Resolved  -- what holds of a report after each phase, and of an accepted one
 pub mod ResolvedElections  -- what holds of the elections that a report keeps
 pub mod ResolvedIndexes  -- what a report holds beside its tree

@@ -1,8 +1,10 @@
 ghost use Rattle.std.specs.Prelude.{◌≡◌, false, List, Some, length, map, option_copied, option_map, slice_get, IfOk};
-ghost use Rattle.erd_meaning.specs.Words.{view, has_float, HasFittingNumbers, IsShallow, IsTree, IsAccepted, FindsId, FindsKey, FindsSelection, election_in, election_key_in, key_in, rising_keys, selection_in, selections_before, IsBounded, elections, objects, ranked_selection_in};
+ghost use Rattle.erd_meaning.specs.Words.{view, has_float, HasFittingNumbers, IsShallow, IsTree, IsAccepted, FindsId, FindsKey, FindsSelection, election_in, election_key_in, key_in, rising_keys, selection_in, selections_before, IsBounded, elections, objects, ranked_selection_in, report_start, CoversEachKey};
+ghost use Rattle.erd_index.specs.Salts.{start_of};
 ghost use Rattle.erd_meaning.specs.code.RanksAmong.{AllAreRanked, names_of};
 ghost use Rattle.erd_meaning.specs.code.Resolved.{IsResolved};
 ghost use Rattle.erd_meaning.specs.code.ResolvedElections.{AreElections};
+ghost use Rattle.erd_meaning.specs.code.ResolvedIndexes.{IsSalted};
 ghost use Rattle.erd_meaning.specs.code.SelectionWalk.{NumberedName};
 ghost use Rattle.erd_meaning.specs.code.Shown.{shown};
 
@@ -83,9 +85,10 @@ impl<'a> Report<'a> {
         prefer: Option<Text>,
         indexes: Indexes<'a>,
     ) -> Result<Report<'a>, AllocError>
-        requires resolved { IsResolved prefer tree.now indexes.objects (names_of indexes.names) }
-        requires ranked { AllAreRanked (map shown indexes.objects) indexes.names }
+        requires resolved { IsResolved prefer tree.now indexes.objects.objects (names_of indexes.names.keys) }
+        requires ranked { AllAreRanked (map shown indexes.objects.objects) indexes.names.keys }
         requires elections { AreElections prefer tree.now indexes.elections }
+        requires salted { IsSalted (report_start prefer (view tree.now)) indexes }
         ensures tree { IfOk result (λ r. r.tree ≡ tree.now) }
         ensures prefer { IfOk result (λ r. r.prefer ≡ prefer) }
     {
@@ -99,14 +102,16 @@ impl<'a> Report<'a> {
     }
 
     fn indexes(&self) -> &Indexes<'a>
-        ensures resolved { IsResolved self.now.prefer self.now.tree result.now.objects (names_of result.now.names) }
-        ensures ranked { AllAreRanked (map shown result.now.objects) result.now.names }
+        ensures resolved { IsResolved self.now.prefer self.now.tree result.now.objects.objects (names_of result.now.names.keys) }
+        ensures ranked { AllAreRanked (map shown result.now.objects.objects) result.now.names.keys }
+        ensures start { result.now.objects.start ≡ report_start self.now.prefer (view self.now.tree) }
     {
         &self.indexes[0]
     }
 
     fn objects(&self) -> &ObjectTable<'a>
-        ensures { (names : List NumberedName) × IsResolved self.now.prefer self.now.tree result.now names }
+        ensures resolved { (names : List NumberedName) × IsResolved self.now.prefer self.now.tree result.now.objects names }
+        ensures start { result.now.start ≡ report_start self.now.prefer (view self.now.tree) }
     {
         self.indexes().objects.table()
     }
@@ -156,7 +161,10 @@ impl<'a> Report<'a> {
     /// ```
     /// let mut numbers = SaltedSet::new(alloc, report.salt().joined(&report.salt()));
     /// ```
-    pub fn salt(&self) -> Salt {
+    pub fn salt(&self) -> Salt
+        ensures start { start_of result ≡ report_start self.now.prefer (view self.now.tree) }
+        ensures covers { CoversEachKey self.now.prefer (view self.now.tree) }
+    {
         self.objects().salt()
     }
 

@@ -1,8 +1,7 @@
 pub mod Common
 pub mod lists
 pub mod texts
-pub mod built
-pub mod throughout
+pub mod inside
 pub mod canonical
 pub mod meaning
 pub mod unique
@@ -10,3 +9,4 @@ pub mod ranks
 pub mod examples
 pub mod rearranged
 pub mod same
+pub mod view

@@ -1,6 +1,7 @@
 -- The reports that say the same: what `SaysTheSame` holds of.
 pub mod Lookups
 pub mod Related
+pub mod ReorderedKeys
 pub mod Owners
 pub mod Examples
 pub mod InTurn
@@ -9,4 +10,3 @@ pub mod IdsOfObjects
 pub mod means
 pub mod complete
 pub mod accepted
-pub mod normal

@@ -1,5 +1,7 @@
 -- The words that the contracts of this crate cite, passed on from one place. Declares nothing.
-pub use Rattle.erd_meaning.specs.Words.{codes, elections, entries_at, entry_of, family_number, has_float, has_keys, items_view, key_in, name_cmp, objects, option_map_or, rank_of, rising_list, view, Data, Family, FindsId, IsAccepted, IsBounded, IsShallow, IsTree, Judged, Preference}
+pub use Rattle.erd_meaning.specs.Words.{codes, elections, entries_at, entry_of, family_number, has_float, has_keys}
+pub use Rattle.erd_meaning.specs.Words.{items_view, key_in, name_cmp, objects, option_map_or, rank_of, rising_list, view}
+pub use Rattle.erd_meaning.specs.Words.{Data, Family, FindsId, IsAccepted, IsBounded, IsShallow, IsTree, Judged, Preference}
 pub use Rattle.std.specs.Option.{option_cmp}
 pub use Rattle.arrayvec.specs.ArrayString.{array_string_len}
 pub use Rattle.json.specs.Token.{key}
@@ -19,7 +21,9 @@ pub use Rattle.erd_meaning.specs.RankedNames.{ranked_name}
 pub use Rattle.erd_meaning.specs.SelectionNames.{name_of, selection_role}
 pub use Rattle.erd_normal.specs.Canonical.{canonical_id, canonical_selection_id, id_prefix, IsCanonicalFormOf}
 pub use Rattle.erd_normal.specs.CanonicalText.{IsCanonicalText}
-pub use Rattle.erd_normal.specs.Laws.{CanonicalFormExists, CanonicalIsUnique, NamesAgree, ObjectsAgree, PreferencesAgree, RearrangedMeansTheSame, ReferencesAgree}
+pub use Rattle.erd_normal.specs.Laws.{CanonicalFormExists, CanonicalIsUnique, NamesAgree, ObjectsAgree}
+pub use Rattle.erd_normal.specs.Laws.{PreferencesAgree, RearrangedMeansTheSame, ReferencesAgree}
 pub use Rattle.erd_normal.specs.MeansTheSame.{SayingTheSameMeansTheSame}
 pub use Rattle.erd_normal.specs.SameForms.{CanonicalSaysTheSame, MeaningTheSameSaysTheSame, SayingAndMeaningAgree}
-pub use Rattle.erd_normal.specs.SameLaws.{ExchangedSaysTheSame, RearrangedSaysTheSame, ReferencesNameTheSame, RenamedSaysTheSame, SameIsAccepted, SaysBack, SaysInTurn, SaysItself}
+pub use Rattle.erd_normal.specs.SameLaws.{ExchangedSaysTheSame, RearrangedSaysTheSame, ReferencesNameTheSame}
+pub use Rattle.erd_normal.specs.SameLaws.{RenamedSaysTheSame, SameIsAccepted, SaysBack, SaysInTurn, SaysItself}

@@ -1,4 +1,5 @@
-ghost use Rattle.erd_normal.specs.Words.{NamesAgree, ReferencesAgree, ObjectsAgree, CanonicalFormExists, CanonicalIsUnique, PreferencesAgree, RearrangedMeansTheSame, SayingTheSameMeansTheSame};
+ghost use Rattle.erd_normal.specs.Words.{NamesAgree, ReferencesAgree, ObjectsAgree, CanonicalFormExists, CanonicalIsUnique};
+ghost use Rattle.erd_normal.specs.Words.{PreferencesAgree, RearrangedMeansTheSame, SayingTheSameMeansTheSame};
 
 /// The law that two canonical reports with the same meaning have the same keys, selection names and `@id` texts, in the same
 /// order. The function does nothing.

@@ -1,4 +1,5 @@
-ghost use Rattle.erd_normal.specs.Words.{CanonicalSaysTheSame, MeaningTheSameSaysTheSame, SayingAndMeaningAgree, ExchangedSaysTheSame, RearrangedSaysTheSame, ReferencesNameTheSame, RenamedSaysTheSame, SameIsAccepted, SaysBack, SaysInTurn, SaysItself};
+ghost use Rattle.erd_normal.specs.Words.{CanonicalSaysTheSame, MeaningTheSameSaysTheSame, SayingAndMeaningAgree, ExchangedSaysTheSame, RearrangedSaysTheSame};
+ghost use Rattle.erd_normal.specs.Words.{ReferencesNameTheSame, RenamedSaysTheSame, SameIsAccepted, SaysBack, SaysInTurn, SaysItself};
 
 /// The law that each report says what it says. The function does nothing.
 pub fn says_itself()

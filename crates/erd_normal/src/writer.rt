@@ -1,18 +1,19 @@
-//! What the canonical form of a report is written from: the report, and the orders of its parts.
+//! What the canonical form of a report is written from: the report, and the orders of its objects.
 ghost use Rattle.std.specs.Prelude.{◌≡◌, ◌==◌, ℕ, List, [], Some, true, false, map, option_map, slice_get, IfOk};
-ghost use Rattle.erd_normal.specs.Words.{option_map_or, string, Value, view, has_float, family_number, IsAccepted, IsBounded, has_keys, FindsId, id_in, key_in, rank_of, contests, elections, objects, canonical_selection_id};
+ghost use Rattle.erd_normal.specs.Words.{option_map_or, string, Value, view, has_float, family_number, IsAccepted, IsBounded, has_keys};
+ghost use Rattle.erd_normal.specs.Words.{FindsId, id_in, key_in, rank_of, contests, elections, objects, canonical_selection_id};
 ghost use denote.Ref.{Bor};
 ghost use Rattle.erd_tables.specs.declared.class.Family.TheVariants as family;
-ghost use Rattle.erd_normal.specs.code.ElectionParts.{objects_in_part, part_seen};
+ghost use Rattle.erd_normal.specs.code.ElectionObjects.{objects_in_election, list_seen};
 ghost use Rattle.erd_normal.specs.code.NormalTree.{normal_selection_reference};
 ghost use Rattle.erd_normal.specs.code.Orders.{AreOrders, rank_named};
 ghost use Rattle.erd_normal.specs.code.SelectionOrders.{rising_selections};
 
-pub(crate) mod election_parts;
+pub(crate) mod election_objects;
 pub(crate) mod ids;
 pub(crate) mod selection_orders;
 
-use crate::writer::election_parts::election_parts;
+use crate::writer::election_objects::election_objects;
 use crate::writer::selection_orders::{SelectionOrders, selection_orders};
 use erd_meaning::{PerFamily, Report};
 use erd_tables::Family;
@@ -20,12 +21,12 @@ use serde_json::Value;
 use std::alloc::{AllocError, Global};
 use std::marker::Model;
 
-/// The orders in which the parts of a report are written, beside those that the report lends.
+/// The orders in which the objects of a report are written, beside those that the report lends.
 #[derive(Drop)]
 pub(crate) struct Orders {
-    /// For each family, the positions of its objects in the order of their keys, in one part for each election. If no election
-    /// holds the family, they are all in the first part.
-    pub(crate) parts: PerFamily<Vec<Vec<usize>>>,
+    /// For each family, the positions of its objects in the order of their keys, in one list for each election. If no election
+    /// holds the family, they are all in the first list.
+    pub(crate) by_election: PerFamily<Vec<Vec<usize>>>,
     pub(crate) selections: SelectionOrders,
 }
 
@@ -51,7 +52,7 @@ impl<'a> Model for Writer<'a> {
     ghost invariant = { λ w. AreOrders w.report.now.prefer (data_of w.report.now.tree) w.orders.now };
 }
 
-/// Returns the orders in which the parts of a report are written.
+/// Returns the orders in which the objects of a report are written.
 pub(crate) fn orders_of(alloc: Global, report: &Report) -> Result<Orders, AllocError>
     requires accepted { IsAccepted report.now.prefer (view report.now.tree) }
     requires bounded { IsBounded (view report.now.tree) }
@@ -59,7 +60,7 @@ pub(crate) fn orders_of(alloc: Global, report: &Report) -> Result<Orders, AllocE
     ensures { IfOk result (AreOrders report.now.prefer (view report.now.tree)) }
 {
     Ok(Orders {
-        parts: election_parts(alloc, report)?,
+        by_election: election_objects(alloc, report)?,
         selections: selection_orders(alloc, report)?,
     })
 }
@@ -86,10 +87,10 @@ impl<'a> Writer<'a> {
 
     /// Returns the positions of the objects of a family that the election at a position holds, in the order of their keys. If no
     /// election holds the family, the positions of all of them are at position 0.
-    pub(crate) fn rising(&self, family: Family, part: usize) -> &[usize]
-        ensures { result.now ≡ map (λ o. o.0) (objects_in_part self.now.prefer (view self.now.tree) family part) }
+    pub(crate) fn rising(&self, family: Family, election: usize) -> &[usize]
+        ensures { result.now ≡ map (λ o. o.0) (objects_in_election self.now.prefer (view self.now.tree) family election) }
     {
-        part_at(self.orders.parts.get(family), part)
+        list_at(self.orders.by_election.get(family), election)
     }
 
     /// Returns the object of the family at the position, if there is one.
@@ -149,15 +150,17 @@ impl<'a> Writer<'a> {
 
     /// Returns the positions of the selections of the contest at a position among them, in the order of their names.
     pub(crate) fn rising_selections(&self, contest: usize) -> &[usize]
-        ensures { result.now ≡ option_map_or (λ o. rising_selections self.now.prefer (view self.now.tree) o.value) (slice_get (contests (view self.now.tree)) contest) [] }
+        ensures { result.now ≡ option_map_or (λ o. rising_selections self.now.prefer (view self.now.tree) o.value)
+            (slice_get (contests (view self.now.tree)) contest) [] }
     {
-        part_at(&self.orders.selections.rising, contest)
+        list_at(&self.orders.selections.rising, contest)
     }
 
     /// Returns the rank of the contest of the selection that has the `@id`, and the rank of the selection there. Returns `None`
     /// if no selection has it.
     pub(crate) fn selection_ranks(&self, id: &str) -> Option<(usize, usize)>
-        ensures { string (option_map_or (λ r. canonical_selection_id r.0 r.1) result []) ≡ normal_selection_reference self.now.prefer (view self.now.tree) (string id.now) }
+        ensures { string (option_map_or (λ r. canonical_selection_id r.0 r.1) result [])
+            ≡ normal_selection_reference self.now.prefer (view self.now.tree) (string id.now) }
     {
         match self.report.target_of(Family::Selection, id) {
             Some((found, position)) => {
@@ -174,7 +177,8 @@ impl<'a> Writer<'a> {
     /// Returns the rank of the contest of the selection at the position, and the rank of the selection there.
     fn ranks_at(&self, position: usize) -> Option<(usize, usize)>
         ensures { (id : List ℕ) → id_in family.Selection (view self.now.tree) position ≡ Some id
-            → string (option_map_or (λ r. canonical_selection_id r.0 r.1) result []) ≡ normal_selection_reference self.now.prefer (view self.now.tree) (string id) }
+            → string (option_map_or (λ r. canonical_selection_id r.0 r.1) result [])
+            ≡ normal_selection_reference self.now.prefer (view self.now.tree) (string id) }
     {
         let (contest, _) = self.report.selection_at(position)?;
         let rank = rank_in(&self.orders.selections.ranks, position)?;
@@ -189,12 +193,12 @@ fn is_same(found: Family, family: Family) -> bool
     found == family
 }
 
-/// Returns the positions of a part, or none if the part is not there.
-fn part_at(parts: &[Vec<usize>], part: usize) -> &[usize]
-    ensures { result.now ≡ part_seen parts.now part }
+/// Returns the positions of a list, or none if the list is not there.
+fn list_at(lists: &[Vec<usize>], number: usize) -> &[usize]
+    ensures { result.now ≡ list_seen lists.now number }
 {
-    if part < parts.len() {
-        parts[part].as_slice()
+    if number < lists.len() {
+        lists[number].as_slice()
     } else {
         &[]
     }

@@ -18,7 +18,7 @@ use serde_json::Value;
 use std::alloc::{AllocError, Global};
 use thiserror::Error;
 
-/// Whether two files define the same ballots, by their canonical bytes. Both are accepted reports. The answer is true if and only
+/// Whether two files mean the same, by their canonical bytes. Both are accepted reports. The answer is true if and only
 /// if they mean the same, and if and only if they say the same: one is the other but for the texts of identifiers, the order of
 /// the entries of sets, members that may be absent, and the envelope.
 pub fn is_same(alloc: Global, left: &[u8], right: &[u8]) -> Result<bool, Refusal>

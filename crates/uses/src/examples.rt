@@ -1,4 +1,5 @@
-//! A short example of each public call, as a caller writes it. The doc comment of the call has the same lines.
+//! A short example of each public call, as a caller writes it. The doc comment of the call has the same lines, where
+//! `assert_eq!` may stand for `assert!`.
 mod bytes;
 mod data;
 mod engines;
@@ -6,6 +7,7 @@ mod index;
 mod pieces;
 mod reports;
 mod shapes;
+mod shown;
 mod tables;
 mod text_pieces;
 mod texts;

@@ -71,6 +71,7 @@ static void tell_at(address place, const struct erd_piece *told) {
     if (place == 0)
         return;
     struct narrow_piece *piece = at(place);
+    piece->first = (uint32_t)told->first;
     piece->told = (uint32_t)told->told;
     piece->all = (uint32_t)told->all;
 }
@@ -113,6 +114,27 @@ PIECE_OF_TWO_REPORTS(erd_compare_piece)
 PIECE_OF_TWO_REPORTS(erd_differences)
 PIECE_OF_TWO_REPORTS(erd_compare_data_piece)
 PIECE_OF_TWO_REPORTS(erd_differences_data)
+
+address exported_erd_open(uint32_t listing, address left, uint32_t left_size, address right, uint32_t right_size, address prefer,
+                          uint32_t room) EXPORTED("erd_open");
+address exported_erd_open(uint32_t listing, address left, uint32_t left_size, address right, uint32_t right_size, address prefer,
+                          uint32_t room) {
+    return address_of(erd_open((enum erd_listing)listing, at(left), left_size, at(right), right_size, at(prefer), room));
+}
+
+uint32_t exported_erd_next(address list, address piece, address text, address length) EXPORTED("erd_next");
+uint32_t exported_erd_next(address list, address piece, address text, address length) {
+    struct answer answer = {NULL, 0};
+    struct erd_piece wide = piece_at(piece);
+    enum erd_outcome outcome = erd_next(at(list), &wide, text != 0 ? &answer.text : NULL, &answer.length);
+    tell_at(piece, &wide);
+    return handed_on(outcome, answer, text, length);
+}
+
+void exported_erd_close(address list) EXPORTED("erd_close");
+void exported_erd_close(address list) {
+    erd_close(at(list));
+}
 
 uint32_t exported_erd_command_line(address words, uint32_t size, address text, address length) EXPORTED("erd_command_line");
 uint32_t exported_erd_command_line(address words, uint32_t size, address text, address length) {

@@ -1,14 +1,11 @@
 // What the command `erd-prepare` reads and writes.
-import { closeSync, openSync } from 'node:fs';
-import { bytesOfFile, opened, Stop, write } from '../files.mjs';
+import { bytesOfFile, checkThere, opened, STANDARD_ERROR, STANDARD_OUTPUT, Stop, versionOfPackage, write, writeFile } from '../files.mjs';
 import { repeatedNames } from '../repeated.mjs';
-import { pointerOf } from '../words.mjs';
+import { pointerOf, visible } from '../words.mjs';
 import { Preparation, STEPS, stepsOf, told } from './prepared.mjs';
 import { GROUP_WORDS, LEFT_WORDS, STEP_WORDS } from './step_words.mjs';
 import { withoutMark } from './tree.mjs';
 
-const STANDARD_OUTPUT = 1;
-const STANDARD_ERROR = 2;
 const MOST_LEFT = 10;
 
 export const USAGE = `Writes a copy of a report on which steps were done that make an export ready for erd
@@ -21,6 +18,7 @@ Usage: erd-prepare [--steps NAMES] [--without NAMES] [--report REPORT] FILE > PR
   --report REPORT  also write each change to this file, as JSON
   --list           list all steps, or those that would do something to FILE
   -h, --help       print this help
+  --version        print the version
 
 The groups are taken (${GROUP_WORDS.taken.toLowerCase()}), chosen (${GROUP_WORDS.chosen.toLowerCase()})
 and seen (${GROUP_WORDS.seen.toLowerCase()}). FILE stays as it is. What was done is told on standard error.
@@ -32,17 +30,18 @@ Exit status:
 `;
 
 /** The arguments are wrong. */
-export class PrepareUsage extends Error {
+export class PrepareUsage extends Stop {
     constructor(message) {
         super(`erd-prepare: ${message}\n\n${USAGE.split('\n').slice(2, 4).join('\n')}`);
     }
 }
 
 const VALUED = ['--steps', '--without', '--report'];
+const PLAIN = { '--list': 'lists', '--help': 'helps', '-h': 'helps', '--version': 'versions' };
 
 /** What the arguments ask for. */
 export function argumentsOf(words) {
-    const asked = { steps: ['taken'], without: [], report: null, lists: false, helps: false, files: [] };
+    const asked = { steps: ['taken'], without: [], report: null, lists: false, helps: false, versions: false, files: [] };
     const left = [...words];
     while (left.length > 0) {
         const [name, ...rest] = left.shift().split('=');
@@ -52,8 +51,8 @@ export function argumentsOf(words) {
                 throw new PrepareUsage(`${name} needs a value`);
             }
             asked[name.slice(2)] = name === '--report' ? value : value.split(',');
-        } else if (name === '--list' || name === '--help' || name === '-h') {
-            asked[name === '--list' ? 'lists' : 'helps'] = true;
+        } else if (Object.hasOwn(PLAIN, name)) {
+            asked[PLAIN[name]] = true;
         } else if (name === '--') {
             asked.files.push(...left.splice(0));
         } else if (name.startsWith('-') && name !== '-') {
@@ -62,7 +61,7 @@ export function argumentsOf(words) {
             asked.files.push([name, ...rest].join('='));
         }
     }
-    if (!asked.helps && (asked.files.length > 1 || (asked.files.length === 0 && !asked.lists))) {
+    if (!asked.helps && !asked.versions && (asked.files.length > 1 || (asked.files.length === 0 && !asked.lists))) {
         throw new PrepareUsage('one FILE is needed');
     }
     return asked;
@@ -83,9 +82,9 @@ export function namesOf(words) {
 
 /** Does what the arguments ask for, and returns the status. */
 export function run(words) {
-    const { steps, without, report, lists, helps, files: [file] } = argumentsOf(words);
-    if (helps) {
-        write(STANDARD_OUTPUT, USAGE);
+    const { steps, without, report, lists, helps, versions, files: [file] } = argumentsOf(words);
+    if (helps || versions) {
+        write(STANDARD_OUTPUT, helps ? USAGE : `erd-prepare ${versionOfPackage()}\n`);
         return 0;
     }
     const not = new Set(namesOf(without));
@@ -106,19 +105,9 @@ export function run(words) {
     if (report !== null) {
         writeFile(report, `${JSON.stringify(done.map(told), null, 1)}\n`);
     }
+    checkThere(STANDARD_OUTPUT);
     write(STANDARD_OUTPUT, prepared);
     return 0;
-}
-
-function writeFile(name, text) {
-    let handle;
-    try {
-        handle = openSync(name, 'w');
-    } catch {
-        throw new Stop('cannot open');
-    }
-    write(handle, text);
-    closeSync(handle);
 }
 
 function listed({ name, group, title, does, loses }) {
@@ -131,9 +120,9 @@ function counted({ name, made }) {
 }
 
 function repeats(bytes) {
-    const names = repeatedNames(withoutMark(bytes), { most: null });
-    return names.length === 0 ? []
-        : [`${names.length} names are written twice in one object, first ${visible(names[0].pointer)}: the last value of each counts`];
+    const names = repeatedNames(withoutMark(bytes), { most: 1 });
+    return names.allNames === 0 ? []
+        : [`${names.allNames} names are written twice in one object, first ${visible(names[0].pointer)}: the last value of each counts`];
 }
 
 /** What a step did, as lines for a person. */
@@ -147,9 +136,4 @@ export function linesOf({ name, made, left }) {
 
 function placeText(place) {
     return place.length === 0 ? 'the file itself' : visible(pointerOf(place));
-}
-
-// A stranger's names may hold what a terminal acts on.
-function visible(text) {
-    return text.replace(/[\p{C}\p{Zl}\p{Zp}]/gu, (letter) => `\\u{${letter.codePointAt(0).toString(16)}}`);
 }

@@ -10,6 +10,8 @@ const ENOUGH = 2;
 export class Counties {
     #around = new Map();
     #byIdentifier = new Map();
+    #of = new Map();
+    #codes = new Map();
 
     /** @param {import('./parts.mjs').Part[]} parts */
     constructor(parts) {
@@ -38,8 +40,15 @@ export class Counties {
         }
     }
 
-    /** The only county that a unit is in, or null. */
+    /** The only county that a unit is in, or null. It is looked for once. */
     of(unit) {
+        if (!this.#of.has(unit)) {
+            this.#of.set(unit, this.#found(unit));
+        }
+        return this.#of.get(unit);
+    }
+
+    #found(unit) {
         const around = this.#around.get(unit) ?? [];
         if (around.length > 0) {
             return around.length === 1 ? around[0] : null;
@@ -49,9 +58,12 @@ export class Counties {
         return named.size === 1 && county !== unit ? county : null;
     }
 
-    /** The code of a county: that of its type `fips`, or else the one in its key. */
-    static code(county) {
-        const fips = triplesOf(county).find(([type]) => type === 'fips');
-        return fips === undefined ? codeOf(county) : fips[2];
+    /** The code of a county as it was at first: that of its type `fips`, or else the one in its key. */
+    code(county) {
+        if (!this.#codes.has(county)) {
+            const fips = triplesOf(county).find(([type]) => type === 'fips');
+            this.#codes.set(county, fips === undefined ? codeOf(county) : fips[2]);
+        }
+        return this.#codes.get(county);
     }
 }

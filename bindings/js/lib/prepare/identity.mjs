@@ -66,9 +66,13 @@ export function textOfLabel(label) {
     return texts[0]?.[1] ?? null;
 }
 
-/** The objects by their `@id`: what each reference of the table can name. */
+/**
+ * The objects by their `@id`: what each reference of the table can name. The key of an object is looked for once, so these serve until
+ * an identifier is changed that they were asked for.
+ */
 export class Names {
     #parts = new Map();
+    #keys = new Map();
 
     /** @param {Iterable<import('./parts.mjs').Part>} parts */
     constructor(parts) {
@@ -91,17 +95,30 @@ export class Names {
         return this.#parts.has(text);
     }
 
+    /** The key of an object of the report; null if it has none. */
+    key(value) {
+        if (!this.#keys.has(value)) {
+            this.#keys.set(value, keyOf(value));
+        }
+        return this.#keys.get(value);
+    }
+
+    /** The code in the key of an object of the report; the empty text if it has none. */
+    code(value) {
+        return this.key(value)?.[2] ?? '';
+    }
+
     /** The codes of the objects that a member names, each once, rising. */
     codes(value, family) {
         const objects = textsOf(value).map((text) => this.named(text, family)).filter((object) => object !== undefined);
-        return [...new Set(objects.map(codeOf))].filter((code) => code !== '').sort(orderOfTexts);
+        return [...new Set(objects.map((object) => this.code(object)))].filter((code) => code !== '').sort(orderOfTexts);
     }
 
     /** The keys of the objects that a member names, as one text each, rising. A reference that names nothing stays a text. */
     keys(value, family) {
         const keyText = (text) => {
             const object = this.named(text, family);
-            return object === undefined ? text : textOfKey(keyOf(object));
+            return object === undefined ? text : textOfKey(this.key(object));
         };
         return [...new Set(textsOf(value).map(keyText))].sort(orderOfTexts);
     }

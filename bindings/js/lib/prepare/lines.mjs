@@ -11,8 +11,8 @@ export class BallotLines {
         const parts = [...partsOf(report)];
         this.names = new Names(parts);
         this.lines = familyOf(parts, 'selection');
-        this.styles = familyOf(parts, 'style').map(({ value }) => value).filter((style) => keyOf(style) !== null)
-            .sort((one, other) => orderOfKeys(keyOf(one), keyOf(other)));
+        this.styles = familyOf(parts, 'style').map(({ value }) => ({ value, key: keyOf(value) })).filter(({ key }) => key !== null)
+            .sort((one, other) => orderOfKeys(one.key, other.key)).map(({ value }) => value);
         this.listings = null;
         this.byContest = new Map();
         this.lines.forEach((part) => addTo(this.byContest, part.contest, part));

@@ -139,13 +139,34 @@ function encoded(mark, tree, hasLines) {
     return hasLines && bytes.length > MOST_BYTES ? encoder.encode(mark + compactText(tree)) : bytes;
 }
 
-/** What a step did, as plain data: each place as a JSON Pointer, with the compact text of the value before and after. */
+const MOST_TOLD = 1000;
+const ENOUGH_TEXT = 2 ** 20;
+
+/**
+ * What a step did, as plain data: each place as a JSON Pointer, with the compact text of the value before and after. Of the changes, and
+ * of what is left, these are the first thousand, and fewer if they have more than a megabyte together: `count` and `left_count` are how
+ * many there are, and `more` is whether some are not told.
+ */
 export function told({ name, chosen, made, left }) {
+    const changes = first(made, ({ place, before, after }) => ({
+        pointer: pointerOf(place), before: textOrNull(before), after: textOrNull(after),
+    }));
+    const stays = first(left, ({ place, why }) => ({ pointer: pointerOf(place), why }));
     return {
-        step: name, chosen, count: made.length,
-        changes: made.map(({ place, before, after }) => ({ pointer: pointerOf(place), before: textOrNull(before), after: textOrNull(after) })),
-        left: left.map(({ place, why }) => ({ pointer: pointerOf(place), why })),
+        step: name, chosen, count: made.length, changes, left_count: left.length, left: stays,
+        more: changes.length < made.length || stays.length < left.length,
     };
+}
+
+// What is made of the first entries: no further one once there are a thousand, or their texts have a megabyte together.
+function first(entries, toldOf) {
+    const found = [];
+    for (let length = 0; found.length < Math.min(entries.length, MOST_TOLD) && length < ENOUGH_TEXT;) {
+        const entry = toldOf(entries[found.length]);
+        found.push(entry);
+        length += Object.values(entry).reduce((sum, text) => sum + (text === null ? 0 : [...text].length), 0);
+    }
+    return found;
 }
 
 function textOrNull(value) {

@@ -16,7 +16,7 @@ Each call takes the bytes of a report, or its text, and gives the same result fo
 threads may call at once. `prefer` is the type of identifier that the keys of objects follow, such as `fips`.
 
 A list of faults has at most `most_faults` of them, and fewer if their texts together have more than a megabyte, since the list
-of all can be as long as the square of the report; `all_faults` is how many there are. None asks for all of them. The same holds
+of all can grow with the square of the report's size; `all_faults` is how many there are. None asks for all of them. The same holds
 for `most_differences`.
 
 Each call raises TooLong for a report of more than 67,108,864 bytes, MemoryError if memory runs out, and TypeError for what is
@@ -26,18 +26,25 @@ neither bytes nor text. A text that has half a surrogate pair in it has no form 
 
 from __future__ import annotations
 
-from typing import Optional, Union
+import os
+import sys
+import warnings
+from typing import Optional, TypeVar, Union
 
 from .library import TooLong, version
 from .listing import MOST_LISTED, listed, utf_8
-from .repeats import RepeatedName, repeated_names
+from .repeats import RepeatedName, RepeatedNames, repeated_names
 from .results import (Canonical, Check, Comparison, Difference, Differences, Fault, SelectionDifference, SelectionName, check_of,
                       comparison_of, differences_of)
 
-__all__ = ['Canonical', 'Check', 'Comparison', 'Difference', 'Differences', 'Fault', 'MOST_LISTED', 'RepeatedName',
+__all__ = ['Canonical', 'Check', 'Comparison', 'Difference', 'Differences', 'Fault', 'MOST_LISTED', 'RepeatedName', 'RepeatedNames',
            'SelectionDifference', 'SelectionName', 'TooLong', 'canonical', 'check', 'compare', 'differences', 'repeated_names', 'version']
 
 Report = Union[bytes, bytearray, memoryview, str]
+OfPair = TypeVar('OfPair', Comparison, Differences)
+
+# No name of a file is longer.
+LONGEST_NAME = 4096
 
 
 def check(report: Report, *, prefer: Optional[str] = None, most_faults: Optional[int] = MOST_LISTED) -> Check:
@@ -47,7 +54,7 @@ def check(report: Report, *, prefer: Optional[str] = None, most_faults: Optional
     ('not JSON',)
     """
     data, count = listed('erd_check_data_piece', (bytes_of(report),), prefer, most_faults)
-    return check_of(data, count)
+    return hinted(report, check_of(data, count))
 
 
 def canonical(report: Report, *, prefer: Optional[str] = None, most_faults: Optional[int] = MOST_LISTED) -> Canonical:
@@ -59,7 +66,7 @@ def canonical(report: Report, *, prefer: Optional[str] = None, most_faults: Opti
     data, count = listed('erd_canonical_data_piece', (bytes_of(report),), prefer, most_faults)
     if isinstance(data, bytes):
         return Canonical(form=data, check=Check(is_json=True))
-    return Canonical(form=None, check=check_of(data, count))
+    return Canonical(form=None, check=hinted(report, check_of(data, count)))
 
 
 def compare(left: Report, right: Report, *, prefer: Optional[str] = None, most_faults: Optional[int] = MOST_LISTED) -> Comparison:
@@ -70,7 +77,7 @@ def compare(left: Report, right: Report, *, prefer: Optional[str] = None, most_f
     ('left: not JSON',)
     """
     data, count = listed('erd_compare_data_piece', (bytes_of(left), bytes_of(right)), prefer, most_faults)
-    return comparison_of(data, count)
+    return hinted_pair(left, right, comparison_of(data, count))
 
 
 def differences(left: Report, right: Report, *, prefer: Optional[str] = None,
@@ -82,7 +89,22 @@ def differences(left: Report, right: Report, *, prefer: Optional[str] = None,
     ('left: not JSON',)
     """
     data, count = listed('erd_differences_data', (bytes_of(left), bytes_of(right)), prefer, most_differences)
-    return differences_of(data, count)
+    return hinted_pair(left, right, differences_of(data, count))
+
+
+def hinted(report: Report, found: Check) -> Check:
+    """Returns what was found. Where a text is no JSON and names a file, the caller is warned: a call takes what is in a file."""
+    if not found.is_json and isinstance(report, str) and len(report) <= LONGEST_NAME and '\0' not in report and os.path.isfile(report):
+        warnings.warn(f'{report!r} is no JSON, and names a file: a call takes the bytes of a file or its text, and no name',
+                      stacklevel=3 + (sys._getframe(1).f_code is hinted_pair.__code__))
+    return found
+
+
+def hinted_pair(left: Report, right: Report, found: OfPair) -> OfPair:
+    """The same for the report that is refused, if one is."""
+    if found.check is not None:
+        hinted(left if found.refused == 'left' else right, found.check)
+    return found
 
 
 def bytes_of(report: Report) -> bytes:

@@ -1,75 +1,23 @@
 """The commands of the program `erd` over the shared library: the same words, texts and exit statuses.
 
-The library parses the words, as the program does. One command is of this package alone. It takes the words of `compare`, and
-lists all differences:
+The library parses the words, as the program does. One command is of this package alone, and so are two options. `differences` takes
+the words of `compare`, and lists all differences. `--json` stands where `--prefer` may, and answers with JSON, on one line:
 
-python -m erd differences [--prefer TYPE] LEFT RIGHT
+python -m erd differences [--json] [--prefer TYPE] LEFT RIGHT
+python -m erd check [--json] [--prefer TYPE] FILE
+python -m erd compare [--json] [--prefer TYPE] LEFT RIGHT
+python -m erd --version
 """
 
 from __future__ import annotations
 
 import contextlib
-import os
 import sys
-from typing import BinaryIO, List, Optional, Tuple
+from typing import List, Optional, Tuple
 
-from . import TooLong
-from .library import ALL, GOOD, LINE_REQUEST, LINE_WRONG, NO_MEMORY, WRONG, Request, command_line, pieces
+from .library import ALL, GOOD, LINE_HELP, LINE_REQUEST, LINE_WRONG, Request, command_line, pieces, version, whole
 from .listing import bytes_of_type
-
-MOST_BYTES = 67108864
-
-
-class Stop(Exception):
-    """An end with a message on standard error and an exit status."""
-
-    def __init__(self, words: str, status: int = WRONG) -> None:
-        super().__init__(words)
-        self.status = status
-
-
-class Input:
-    """A file that is open for reading. A folder opens too, and its reading fails."""
-
-    def __init__(self, name: str) -> None:
-        try:
-            self.handle = os.open(name, os.O_RDONLY | getattr(os, 'O_BINARY', 0))
-        except (OSError, ValueError):
-            raise Stop('cannot open') from None
-
-    def __enter__(self) -> 'Input':
-        return self
-
-    def __exit__(self, *_: object) -> None:
-        os.close(self.handle)
-
-
-def read(handle: int) -> bytes:
-    """Returns the bytes of an open file, or stops if they are too many."""
-    parts: List[bytes] = []
-    left = MOST_BYTES + 1
-    try:
-        while left > 0:
-            part = os.read(handle, min(left, 1 << 20))
-            if not part:
-                break
-            parts.append(part)
-            left -= len(part)
-    except OSError:
-        raise Stop('read failed') from None
-    if left == 0:
-        raise Stop('too long')
-    return b''.join(parts)
-
-
-def write(file: BinaryIO, data: memoryview) -> None:
-    """Writes the bytes."""
-    try:
-        file.write(data)
-        file.flush()
-    except (OSError, ValueError):
-        raise Stop('write failed') from None
-
+from .streams import STANDARD_ERROR, STANDARD_INPUT, STANDARD_OUTPUT, Input, read, status_of, write
 
 # The call of each command.
 CALLS = {
@@ -79,16 +27,56 @@ CALLS = {
     'differences': 'erd_differences',
 }
 
+# The call that answers each command with JSON.
+CALLS_FOR_JSON = {
+    'check': 'erd_check_data_piece',
+    'compare': 'erd_compare_data_piece',
+    'differences': 'erd_differences_data',
+}
+
+# What stands in the help of `differences` in place of what `compare` does, in short and in full.
+SHORT_HELP = b'Lists all differences in meaning of two reports, or says that there is none\n'
+LONG_HELP = b"""Reads the reports in LEFT and RIGHT, and writes to standard output `same`, or a line for each difference
+in what they mean, in rising order. Each line is one that `erd compare` writes, which has the first:
+
+  style ["local-level","","S1"]: member "OrderedContent"
+
+If a report is refused, it writes the lines of `erd check` for that report, each after `left: ` or
+`right: `. The right report is judged only if the left one is accepted.
+"""
+
 
 def write_each(command: str, reports: Tuple[bytes, ...], prefer: Optional[str]) -> int:
     """Writes what the command writes, piece by piece, so that no list is in memory as a whole, and returns the exit status."""
     def written(text: memoryview, outcome: int) -> None:
-        write(sys.stderr.buffer if command == 'canon' and outcome != GOOD else sys.stdout.buffer, text)
+        write(STANDARD_ERROR if command == 'canon' and outcome != GOOD else STANDARD_OUTPUT, text)
 
     status = GOOD
     for piece in pieces(CALLS[command], reports, bytes_of_type(prefer), ALL, written):
         status = piece.outcome
     return status
+
+
+def write_json(command: str, reports: Tuple[bytes, ...], prefer: Optional[str]) -> int:
+    """Writes what the command answers as JSON, with a line feed, and returns the exit status."""
+    def written(text: memoryview, outcome: int) -> int:
+        write(STANDARD_OUTPUT, text)
+        write(STANDARD_OUTPUT, b'\n')
+        return outcome
+
+    return whole(CALLS_FOR_JSON[command], reports, bytes_of_type(prefer), written)
+
+
+def without_json(words: List[str]) -> Tuple[List[str], bool]:
+    """Returns the words of a command without the word `--json`, and whether it stood where an option may: not as the type of
+    `--prefer`, and not behind `--`. A second one stays, and is no word of a command."""
+    if words[:1] and words[0] in CALLS_FOR_JSON:
+        for at, word in enumerate(words[1:], 1):
+            if word == '--':
+                break
+            if word == '--json' and words[at - 1] != '--prefer':
+                return words[:at] + words[at + 1:], True
+    return words, False
 
 
 def requested(words: List[str]) -> Tuple[int, Request]:
@@ -98,43 +86,46 @@ def requested(words: List[str]) -> Tuple[int, Request]:
     line, request = command_line(['compare', *words[1:]] if lists else words)
     if lists and line == LINE_REQUEST:
         request.command = 'differences'
+    elif lists:
+        request.text = of_differences(line, request.text)
     return line, request
 
 
-def answer(request: Request) -> int:
+def of_differences(line: int, text: bytes) -> bytes:
+    """Returns the text about words of `compare` as one about those of `differences`."""
+    does, usage, rest = text.partition(b'\nUsage: ')
+    if line == LINE_HELP:
+        does = LONG_HELP if does.count(b'\n') > 1 else SHORT_HELP
+    return (does + usage + rest).replace(b'erd compare', b'erd differences').replace(
+        b'Each line is one that `erd differences` writes', b'Each line is one that `erd compare` writes')
+
+
+def answer(request: Request, is_json: bool) -> int:
     """Does what the command line asks for, and returns the exit status."""
     if request.command == 'filter':
-        return write_each('canon', (read(0),), None)
+        return write_each('canon', (read(STANDARD_INPUT),), None)
     with contextlib.ExitStack() as opened:
         files = [opened.enter_context(Input(name)) for name in request.files]
         reports = tuple(read(file.handle) for file in files)
-    return write_each(request.command, reports, request.options['prefer'])
+    return (write_json if is_json else write_each)(request.command, reports, request.options['prefer'])
 
 
 def run(words: List[str]) -> int:
     """Runs the command line, and returns the exit status."""
+    if words == ['--version']:
+        write(STANDARD_OUTPUT, f'erd {version()}\n'.encode('ascii'))
+        return GOOD
+    words, is_json = without_json(words)
     line, request = requested(words)
     if line == LINE_REQUEST:
-        return answer(request)
-    write(sys.stderr.buffer if line == LINE_WRONG else sys.stdout.buffer, request.text)
+        return answer(request, is_json)
+    write(STANDARD_ERROR if line == LINE_WRONG else STANDARD_OUTPUT, request.text)
     return line
 
 
 def main(words: Optional[List[str]] = None) -> int:
     """Runs the command line, and returns the exit status. Where it ends early, says why."""
-    try:
-        return run(sys.argv[1:] if words is None else words)
-    except TooLong:
-        stop = Stop('too long')
-    except MemoryError:
-        stop = Stop('no memory', NO_MEMORY)
-    except Stop as caught:
-        stop = caught
-    try:
-        write(sys.stderr.buffer, f'{stop}\n'.encode('utf-8'))
-    except Stop:
-        pass  # nobody can be told
-    return stop.status
+    return status_of(lambda: run(sys.argv[1:] if words is None else words))
 
 
 if __name__ == '__main__':

@@ -10,6 +10,7 @@ from pathlib import Path
 from typing import Dict, Iterable, List, Optional
 
 from . import version
+from .streams import Stop, write
 
 
 def folder() -> Path:
@@ -31,24 +32,47 @@ def stamp(file: str) -> Optional[List[int]]:
 
 
 class Journal:
-    """A file with a line for each row. Its name follows from what the run was asked for, and the version of the library."""
+    """A file with a line for each row. Its name follows from what the run was asked for, and the version of the library. A run
+    that can't keep it stops, and says where it would be."""
 
     def __init__(self, names: Iterable[str], prefer: Optional[str], pattern: str, keeps: bool, steps: Iterable[str] = ()) -> None:
         asked = [[os.path.abspath(name) for name in names], prefer, pattern, version(), *steps]
         name = hashlib.sha256(json.dumps(asked).encode('utf-8', 'surrogatepass')).hexdigest()[:32]
         self.path = folder() / f'{name}.jsonl'
-        self.path.parent.mkdir(parents=True, exist_ok=True)
-        if not keeps:
-            self.remove()
-        self.out = None
+        self.handle: Optional[int] = None
         self.stamps: Dict[str, Optional[List[int]]] = {}
+        try:
+            self.path.parent.mkdir(parents=True, exist_ok=True)
+            if not keeps:
+                self.path.unlink(missing_ok=True)
+            self.handle = os.open(self.path, os.O_WRONLY | os.O_CREAT | os.O_APPEND | getattr(os, 'O_BINARY', 0), 0o666)
+        except OSError:
+            raise self.failed() from None
+        self.write('\n')  # behind a last line that was cut off
 
     def __enter__(self) -> Journal:
         return self
 
     def __exit__(self, *_: object) -> None:
-        if self.out is not None:
-            self.out.close()
+        self.close()
+
+    def failed(self) -> Stop:
+        """Returns what ends a run that can't keep its journal."""
+        variable = 'LOCALAPPDATA' if sys.platform == 'win32' else 'XDG_STATE_HOME'
+        return Stop(f'the journal of the run cannot be kept in {self.path.parent}: let {variable} name a folder for it')
+
+    def write(self, line: str) -> None:
+        """Writes a line."""
+        try:
+            write(self.handle, line.encode('utf-8', 'surrogatepass'))
+        except Stop:
+            raise self.failed() from None
+
+    def close(self) -> None:
+        """Closes the file."""
+        if self.handle is not None:
+            os.close(self.handle)
+            self.handle = None
 
     def look_at(self, files: Iterable[str]) -> None:
         """Takes the stamps of the files of this run, before one of them is read: what changes after that is judged anew."""
@@ -60,7 +84,7 @@ class Journal:
         found: Dict[str, Dict[str, object]] = {}
         try:
             lines = self.path.read_text('utf-8', 'surrogatepass').splitlines()
-        except OSError:
+        except (OSError, ValueError):
             return []
         for line in lines:
             try:
@@ -74,11 +98,9 @@ class Journal:
 
     def add(self, row: Dict[str, object]) -> None:
         """Keeps a row."""
-        if self.out is None:
-            self.out = open(self.path, 'a', encoding='utf-8', errors='surrogatepass', buffering=1)
-            self.out.write('\n')
-        self.out.write(json.dumps({'row': row, 'stamp': self.stamps.get(str(row['file']))}) + '\n')
+        self.write(json.dumps({'row': row, 'stamp': self.stamps.get(str(row['file']))}) + '\n')
 
     def remove(self) -> None:
         """Takes the journal away, once the run is whole."""
+        self.close()
         self.path.unlink(missing_ok=True)

@@ -3,11 +3,14 @@
 from __future__ import annotations
 
 import hashlib
+import os
+import stat
 from dataclasses import dataclass
 from typing import Optional, Sequence
 
-from . import TooLong, __main__ as program, canonical
+from . import TooLong, canonical
 from .prepare import NotJson, prepare
+from .streams import Input, Stop, read
 
 ACCEPTED, REFUSED, NOT_JSON = 'accepted', 'refused', 'not JSON'
 STATUS_OF = {ACCEPTED: 0, REFUSED: 1, NOT_JSON: 2, 'no memory': 4}
@@ -31,12 +34,24 @@ class Row:
         return STATUS_OF.get(self.verdict, 3)
 
 
-def judge(file: str, prefer: Optional[str], steps: Sequence[str] = ()) -> Row:
-    """Reads one file and judges it, or a copy on which these steps were done. Whatever goes wrong is the verdict."""
+def bytes_of_file(path: str) -> bytes:
+    """Returns the bytes of a regular file. Any other could wait for ever, or have no end, so it is not opened."""
+    try:
+        mode = os.stat(path).st_mode
+    except (OSError, ValueError):
+        raise Stop('cannot open') from None
+    if not stat.S_ISREG(mode):
+        raise Stop('a folder that cannot be listed' if stat.S_ISDIR(mode) else 'not a regular file')
+    with Input(path) as opened:
+        return read(opened.handle)
+
+
+def judge(file: str, prefer: Optional[str], steps: Sequence[str] = (), folder: str = '') -> Row:
+    """Reads one file and judges it, or a copy on which these steps were done. Whatever goes wrong is the verdict. A name that
+    begins nowhere is one below the folder."""
     told = None
     try:
-        with program.Input(file) as opened:
-            data = program.read(opened.handle)
+        data = bytes_of_file(os.path.join(folder, file))
         if steps:
             data, done = prepare(data, steps)
             told = ', '.join(f'{step.name} {len(step.made)}' for step in done if step.made)
@@ -47,7 +62,7 @@ def judge(file: str, prefer: Optional[str], steps: Sequence[str] = ()) -> Row:
         return Row(file, 'too long')
     except MemoryError:
         return Row(file, 'no memory')
-    except program.Stop as stop:
+    except Stop as stop:
         return Row(file, str(stop))
     except Exception as error:  # a row of its own, so that one file cannot end the run
         return Row(file, f'{type(error).__name__}: {error}')

@@ -3,6 +3,7 @@
 from __future__ import annotations
 
 import ctypes
+import functools
 import json
 import os
 import sys
@@ -25,6 +26,15 @@ ALL = 2 ** (8 * ctypes.sizeof(ctypes.c_size_t)) - 1
 # No further entry of a list begins once those before it have so many bytes: a list of faults can be as long as the square of its
 # report, so a call asks for one piece after another.
 BYTES_OF_PIECE = 2 ** 20
+
+# The calls for a piece of a list, in the order of `enum erd_listing`.
+LISTINGS = {name: number for number, name in enumerate((
+    'erd_check_piece', 'erd_canonical_piece', 'erd_compare_piece', 'erd_differences', 'erd_check_data_piece', 'erd_canonical_data_piece',
+    'erd_compare_data_piece', 'erd_differences_data'))}
+
+# An open list keeps so many bytes of what was judged: some for each byte of the reports, as a judging itself takes, and never more than
+# the last number. Reports are judged once for so much of a list.
+LEAST_KEPT, KEPT_FOR_A_BYTE, MOST_KEPT = 2 ** 24, 16, 2 ** 28
 
 
 class Piece(ctypes.Structure):
@@ -61,6 +71,12 @@ def load(path: str) -> ctypes.CDLL:
         function = getattr(loaded, call)
         function.argtypes = report * reports + [ctypes.c_char_p, ctypes.POINTER(Piece)] + text
         function.restype = ctypes.c_int
+    loaded.erd_open.argtypes = [ctypes.c_int] + report * 2 + [ctypes.c_char_p, ctypes.c_size_t]
+    loaded.erd_open.restype = ctypes.c_void_p
+    loaded.erd_next.argtypes = [ctypes.c_void_p, ctypes.POINTER(Piece)] + text
+    loaded.erd_next.restype = ctypes.c_int
+    loaded.erd_close.argtypes = [ctypes.c_void_p]
+    loaded.erd_close.restype = None
     loaded.erd_command_line.argtypes = report + text
     loaded.erd_command_line.restype = ctypes.c_int
     loaded.erd_free.argtypes = [ctypes.c_void_p]
@@ -134,21 +150,44 @@ class Answer(Generic[Taken]):
 
 def pieces(name: str, reports: Tuple[bytes, ...], prefer: Optional[bytes], most: int,
            take: Take[Taken]) -> Iterator[Answer[Taken]]:
-    """Gives the answers with one piece of a list after another. An answer without a list is the only one."""
-    first = 0
-    while True:
-        answer = call(name, reports, prefer, Piece(first, most, BYTES_OF_PIECE), take)
-        yield answer
-        first += answer.told
-        if answer.told == 0 or first >= answer.all:
-            return
+    """Gives the answers with one piece of a list after another. An answer without a list is the only one. The reports are judged once,
+    but for a list that is longer than what is kept of it."""
+    left, right = (*reports, b'')[:2]
+    kept = min(max(LEAST_KEPT, KEPT_FOR_A_BYTE * (len(left) + len(right))), MOST_KEPT)
+    opened = library().erd_open(LISTINGS[name], left, len(left), right, len(right), prefer, kept)
+    if not opened:
+        raise MemoryError('out of memory')
+    try:
+        taken = 0
+        while True:
+            answer = answer_of(Piece(0, most, BYTES_OF_PIECE), take, functools.partial(library().erd_next, opened))
+            yield answer
+            taken += answer.told
+            if answer.told == 0 or taken >= answer.all:
+                return
+    finally:
+        library().erd_close(opened)
 
 
-def call(name: str, reports: Tuple[bytes, ...], prefer: Optional[bytes], piece: Piece, take: Take[Taken]) -> Answer[Taken]:
+def first_piece(name: str, reports: Tuple[bytes, ...], prefer: Optional[bytes], most: int, take: Take[Taken]) -> Answer[Taken]:
+    """Returns the answer with the first piece of a list, and keeps nothing of the others."""
+    return answer_of(Piece(0, most, BYTES_OF_PIECE), take, functools.partial(getattr(library(), name), *sized(reports), prefer))
+
+
+def whole(name: str, reports: Tuple[bytes, ...], prefer: Optional[bytes], take: Take[Taken]) -> Taken:
+    """Returns what is made of a whole answer, which is in memory as a whole."""
+    return answer_of(Piece(0, ALL, ALL), take, functools.partial(getattr(library(), name), *sized(reports), prefer)).taken
+
+
+def sized(reports: Tuple[bytes, ...]) -> Iterator[Any]:
+    """Gives each report with its length."""
+    return (value for report in reports for value in (report, len(report)))
+
+
+def answer_of(piece: Piece, take: Take[Taken], call: Callable[..., int]) -> Answer[Taken]:
     """Calls the library, and returns its answer. The text that is taken is gone when `take` has returned."""
     text, length = ctypes.c_void_p(), ctypes.c_size_t()
-    arguments = [value for report in reports for value in (report, len(report))]
-    outcome = getattr(library(), name)(*arguments, prefer, ctypes.byref(piece), ctypes.byref(text), ctypes.byref(length))
+    outcome = call(ctypes.byref(piece), ctypes.byref(text), ctypes.byref(length))
     try:
         if outcome == NO_MEMORY:
             raise MemoryError('out of memory')

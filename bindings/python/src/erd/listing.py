@@ -5,7 +5,7 @@ from __future__ import annotations
 import json
 from typing import Optional, Tuple
 
-from .library import ALL, GOOD, pieces
+from .library import ALL, GOOD, first_piece, pieces
 
 # How many faults, or differences, are listed if the caller names no other number.
 MOST_LISTED = 1000
@@ -18,9 +18,12 @@ def listed(name: str, reports: Tuple[bytes, ...], prefer: Optional[str], most: O
         is_form = name == 'erd_canonical_data_piece' and outcome == GOOD
         return bytes(text) if is_form else json.loads(bytes(text))
 
-    answers = pieces(name, reports, bytes_of_type(prefer), most_of(most), value_of)
+    if most is not None:
+        only = first_piece(name, reports, bytes_of_type(prefer), most_of(most), value_of)
+        return only.taken, only.all
+    answers = pieces(name, reports, bytes_of_type(prefer), ALL, value_of)
     first = next(answers)
-    for more in answers if most is None else ():
+    for more in answers:
         entries_of(first.taken).extend(entries_of(more.taken))
     return first.taken, first.all
 
@@ -30,10 +33,8 @@ def entries_of(data: object) -> list:
     return data['faults'] if isinstance(data, dict) else data
 
 
-def most_of(most: Optional[int]) -> int:
-    """Returns the most entries as the library takes them. None is all of them."""
-    if most is None:
-        return ALL
+def most_of(most: int) -> int:
+    """Returns the most entries as the library takes them."""
     if not isinstance(most, int):
         raise TypeError(f'the bound on a list is a whole number or None, and not {type(most).__name__}')
     if not 0 <= most <= ALL:

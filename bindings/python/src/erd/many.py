@@ -1,8 +1,8 @@
-"""Judges many files at once, and groups those that define the same ballots.
+"""Judges many files at once, and groups those that mean the same.
 
 python -m erd.many FOLDER.. [--json | --csv] [--prefer TYPE] [--prepare STEPS] [--jobs N] [--scheduler ADDRESS] [--resume]
 
-Two accepted files define the same ballots if and only if their canonical forms are equal. So files of one group have one SHA-256
+Two accepted files mean the same if and only if their canonical forms are equal. So files of one group have one SHA-256
 of their canonical forms. A file that cannot be judged is a row with its reason, and the run goes on.
 """
 
@@ -10,26 +10,44 @@ from __future__ import annotations
 
 import argparse
 import csv
+import io
 import json
 import os
 import sys
 from functools import partial
-from pathlib import Path
-from typing import Dict, Iterable, Iterator, List, Optional, TextIO
+from pathlib import PurePath
+from typing import Dict, Iterable, Iterator, List, Optional
 
 from .journal import Journal
 from .judging import Row, judge
-from .parsing import Parser, not_empty
+from .parsing import Done, Parser, Version, above_zero, not_empty
 from .prepare.__main__ import names_of
+from .repeats import visible
 from .running import run_here, run_on_cluster
+from .streams import (INTERRUPTED, STANDARD_ERROR, STANDARD_OUTPUT, ReaderGone, Stop, is_terminal, status_of, tell, write_text)
+
 
 def files_below(names: Iterable[str], pattern: str) -> List[str]:
-    """Returns the files that are named, and those below the folders that are named, each once, in order."""
+    """Returns the files that are named, and what fits the pattern below the folders that are named, each once, in order. Names begin
+    as they were given. A folder that can't be listed is there too: it is a row of its own."""
     found = set()
     for name in names:
-        path = Path(name)
-        found.update(map(str, (it for it in path.rglob(pattern) if it.is_file())) if path.is_dir() else [name])
+        if os.path.isdir(name):
+            found.update(below(name, pattern))
+        else:
+            found.add(name)
     return sorted(found)
+
+
+def below(top: str, pattern: str) -> Iterator[str]:
+    """Gives what fits the pattern below a folder, but for folders, and each folder that can't be listed."""
+    closed: List[str] = []
+    for folder, _, files in os.walk(top, onerror=lambda error: closed.append(error.filename)):
+        for file in files:
+            path = os.path.join(folder, file)
+            if PurePath(os.path.relpath(path, top)).match(pattern):
+                yield path
+    yield from closed
 
 
 def grouped(rows: Iterable[Row]) -> List[Row]:
@@ -41,49 +59,49 @@ def grouped(rows: Iterable[Row]) -> List[Row]:
     return ordered
 
 
-def shown(text: str) -> str:
-    """Returns a file's name with no character that could change what a terminal shows."""
-    return text if text.isprintable() else ''.join(it if it.isprintable() else f'\\u{{{ord(it):x}}}' for it in text)
-
-
 def were_prepared(rows: List[Row]) -> bool:
     """Returns whether copies were judged, on which steps were done."""
     return any(row.prepared is not None for row in rows)
 
 
-def write_table(rows: List[Row], out: TextIO) -> None:
-    """Writes the rows as a table for a person."""
+def table_of(rows: List[Row]) -> str:
+    """Returns the rows as a table for a person, with no character that could change what a terminal shows."""
     heads = ['file', 'verdict', 'faults', 'sha256 of the canonical form', 'group', 'prepared by']
-    lines = [[shown(row.file), shown(row.verdict), str(row.faults or ''), row.sha256 or '', str(row.group or ''), row.prepared or '']
+    lines = [[visible(row.file), visible(row.verdict), str(row.faults or ''), row.sha256 or '', str(row.group or ''), row.prepared or '']
              for row in rows]
     if not were_prepared(rows):
         heads, lines = heads[:-1], [line[:-1] for line in lines]
     widths = [max(map(len, column)) for column in zip(heads, *lines)]
-    for line in (heads, *lines):
-        out.write('  '.join(cell.ljust(width) for cell, width in zip(line, widths)).rstrip() + '\n')
     told = sum(row.group is not None for row in rows)
     groups = max((row.group or 0 for row in rows), default=0)
-    out.write(f'\n{len(rows)} files, {told} accepted, in {groups} {"group" if groups == 1 else "groups"}\n')
+    return ''.join('  '.join(cell.ljust(width) for cell, width in zip(line, widths)).rstrip() + '\n' for line in (heads, *lines)) \
+        + f'\n{len(rows)} files, {told} accepted, in {groups} {"group" if groups == 1 else "groups"}\n'
 
 
-def write_json(rows: List[Row], out: TextIO) -> None:
-    """Writes the rows as a JSON array."""
+def json_of(rows: List[Row]) -> str:
+    """Returns the rows as a JSON array."""
     left_out = () if were_prepared(rows) else ('prepared',)
-    json.dump([{name: value for name, value in vars(row).items() if name not in left_out} for row in rows], out, indent=1)
-    out.write('\n')
+    return json.dumps([{name: value for name, value in vars(row).items() if name not in left_out} for row in rows], indent=1) + '\n'
+
+
+# A spreadsheet takes a cell for a formula if it begins with one of these. Some read the full-width letters as the others, and look behind
+# white space.
+FORMULAS = ('=', '+', '-', '@', '\t', '\r', '\n', '\uff1d', '\uff0b', '\uff0d', '\uff20')
 
 
 def no_formula(text: str) -> str:
     """Returns the text, with an apostrophe before it if a spreadsheet could take it for a formula."""
-    return "'" + text if text.startswith(('=', '+', '-', '@', '\t', '\r')) else text
+    return "'" + text if text.startswith(FORMULAS) else text
 
 
-def write_csv(rows: List[Row], out: TextIO) -> None:
-    """Writes the rows as CSV."""
+def csv_of(rows: List[Row]) -> str:
+    """Returns the rows as CSV."""
     names = ['file', 'verdict', 'faults', 'sha256', 'group', *(['prepared'] if were_prepared(rows) else [])]
+    out = io.StringIO()
     writer = csv.DictWriter(out, names, lineterminator='\n', extrasaction='ignore')
     writer.writeheader()
     writer.writerows({**vars(row), 'file': no_formula(row.file), 'verdict': no_formula(row.verdict)} for row in rows)
+    return out.getvalue()
 
 
 class Progress:
@@ -93,7 +111,7 @@ class Progress:
 
     def __init__(self, all_files: int) -> None:
         self.all_files, self.done, self.drawn = all_files, 0, -1
-        self.is_shown = sys.stderr.isatty() and all_files > 0
+        self.is_shown = is_terminal(STANDARD_ERROR) and all_files > 0
 
     def step(self) -> None:
         """Counts one file, and draws the bar again if it has grown."""
@@ -102,34 +120,42 @@ class Progress:
         if self.is_shown and thousandths != self.drawn:
             self.drawn = thousandths
             full = self.WIDTH * self.done // self.all_files
-            sys.stderr.write(f'\r[{"#" * full}{"." * (self.WIDTH - full)}] {self.done} of {self.all_files}')
-            sys.stderr.flush()
+            write_text(STANDARD_ERROR, f'\r[{"#" * full}{"." * (self.WIDTH - full)}] {self.done} of {self.all_files}')
 
     def end(self) -> None:
         """Clears the line of the bar."""
         if self.is_shown:
-            sys.stderr.write('\r\x1b[K')
-            sys.stderr.flush()
+            write_text(STANDARD_ERROR, '\r\x1b[K')
+
+
+def pattern_of(text: str) -> str:
+    """Returns the pattern, or refuses one that no name below a folder can fit. Folders in front of a name stand for any."""
+    while text.startswith('**/'):
+        text = text[len('**/'):]
+    if not PurePath(text).parts or PurePath(text).anchor:
+        raise argparse.ArgumentTypeError('a pattern for names below a folder is required, such as *.json')
+    return text
 
 
 def parser() -> argparse.ArgumentParser:
     """Returns the parser of the command line."""
     words = Parser(prog='python -m erd.many', allow_abbrev=False, description=(
-        'Judges the files, and the *.json files below the folders, and groups those that define the same ballots. The exit status '
+        'Judges the files, and the *.json files below the folders, and groups those that mean the same. The exit status '
         'is the highest that erd check has for one of them.'))
     words.add_argument('names', nargs='+', metavar='FOLDER', help='a folder or a file')
     form = words.add_mutually_exclusive_group()
-    form.add_argument('--json', dest='write', action='store_const', const=write_json, help='write a JSON array')
-    form.add_argument('--csv', dest='write', action='store_const', const=write_csv, help='write CSV')
+    form.add_argument('--json', dest='text_of', action='store_const', const=json_of, help='write a JSON array')
+    form.add_argument('--csv', dest='text_of', action='store_const', const=csv_of, help='write CSV')
     words.add_argument('--prefer', metavar='TYPE', type=not_empty, help='the type of identifier that keys follow')
     words.add_argument('--prepare', metavar='STEPS', type=names_of, default=[], help='judge a copy of each file on which these steps '
                        'of erd-prepare were done: names of steps or of groups, with commas between them; the files stay as they are')
-    words.add_argument('--pattern', default='*.json', help='which files of a folder are judged (default: %(default)s)')
-    words.add_argument('--jobs', type=int, default=os.cpu_count() or 1, metavar='N', help='how many processes (default: one a core)')
+    words.add_argument('--pattern', default='*.json', type=pattern_of, help='which files of a folder are judged (default: %(default)s)')
+    words.add_argument('--jobs', type=above_zero, default=os.cpu_count() or 1, metavar='N', help='how many processes (default: one a core)')
     words.add_argument('--scheduler', metavar='ADDRESS', help='run on the Dask cluster with this scheduler; its workers open the '
                        'files under the same paths, and have this package')
     words.add_argument('--resume', action='store_true', help='go on where the last run with these words was cut off')
-    words.set_defaults(write=write_table)
+    words.add_argument('--version', action=Version)
+    words.set_defaults(text_of=table_of)
     return words
 
 
@@ -141,21 +167,25 @@ def rows_of(words: argparse.Namespace, files: List[str], journal: Journal) -> It
         known = {it['file']: Row(**it) for it in journal.rows()}
     yield from known.values()
     left = [it for it in files if it not in known]
-    judged = partial(judge, steps=tuple(words.prepare)) if words.prepare else judge
+    more = {'steps': tuple(words.prepare)} if words.prepare else {}
     if words.scheduler:
-        rows = run_on_cluster(words.scheduler, judged, left, words.prefer)
+        rows = run_on_cluster(words.scheduler, partial(judge, folder=os.getcwd(), **more), left, words.prefer)
     else:
-        rows = run_here(words.jobs, judged, left, words.prefer)
+        rows = run_here(words.jobs, partial(judge, **more) if more else judge, left, words.prefer)
     for row in rows:
         journal.add(vars(row))
         yield row
 
 
-def main(arguments: Optional[List[str]] = None) -> int:
-    """Runs the command line, and returns the exit status."""
-    words = parser().parse_args(arguments)
-    files = [os.path.abspath(it) for it in files_below(words.names, words.pattern)] if words.scheduler \
-        else files_below(words.names, words.pattern)
+def run(arguments: Optional[List[str]]) -> int:
+    """Runs the command line, and returns the exit status. The journal goes when all is written."""
+    try:
+        words = parser().parse_args(arguments)
+    except Done:
+        return 0
+    files = files_below(words.names, words.pattern)
+    if not files:
+        raise Stop('there is no file to judge')
     progress = Progress(len(files))
     rows = []
     with Journal(words.names, words.prefer, words.pattern, keeps=words.resume, steps=words.prepare) as journal:
@@ -165,12 +195,20 @@ def main(arguments: Optional[List[str]] = None) -> int:
                 progress.step()
         except KeyboardInterrupt:
             progress.end()
-            sys.stderr.write(f'cut off after {len(rows)} of {len(files)} files; --resume goes on from there\n')
-            return 130
+            tell(f'cut off after {len(rows)} of {len(files)} files; --resume goes on from there')
+            return INTERRUPTED
+        progress.end()
+        try:
+            write_text(STANDARD_OUTPUT, words.text_of(grouped(rows)))
+        except ReaderGone as gone:
+            return gone.status  # who reads no more needs no word
         journal.remove()
-    progress.end()
-    words.write(grouped(rows), sys.stdout)
-    return max((row.status for row in rows), default=0)
+    return max(row.status for row in rows)
+
+
+def main(arguments: Optional[List[str]] = None) -> int:
+    """Runs the command line, and returns the exit status."""
+    return status_of(lambda: run(arguments))
 
 
 if __name__ == '__main__':

@@ -138,8 +138,8 @@ class Difference:
     selections: Optional[Tuple[SelectionDifference, ...]] = None
     """What differs inside the selections of a contest, in rising order of names and then of members, if the member is
     `ContestSelection`. Only `differences` tells it. It is None too where the names of selections and of what differs, from the first
-    difference of the list on, have more than a megabyte together; if all differences are asked for, this holds for each piece of
-    the list."""
+    difference of the list on, have more than a megabyte together; if all differences are asked for, this holds for as much of the
+    list as is kept at a time: at least 16 megabytes."""
 
     @property
     def line(self) -> str:
@@ -171,6 +171,11 @@ class Check:
     def accepted(self) -> bool:
         """Whether the report is accepted."""
         return self.is_json and self.all_faults == 0
+
+    @property
+    def outcome(self) -> str:
+        """How it ended: `accepted`, `refused` or `not JSON`."""
+        return ('accepted', 'refused', 'not JSON')[self.status]
 
     @property
     def status(self) -> int:
@@ -210,6 +215,16 @@ class Canonical:
         """Whether the report is accepted, and so has a canonical form."""
         return self.form is not None
 
+    @property
+    def outcome(self) -> str:
+        """How it ended: `accepted`, `refused` or `not JSON`."""
+        return self.check.outcome
+
+    @property
+    def status(self) -> int:
+        """The exit status of `erd canon`: 0 if accepted, 1 if refused, 2 if the bytes are not JSON."""
+        return self.check.status
+
     def __bool__(self) -> bool:
         return self.accepted
 
@@ -227,6 +242,13 @@ class _OfPair:
     @property
     def _listed(self) -> Tuple[Difference, ...]:
         raise NotImplementedError
+
+    @property
+    def outcome(self) -> str:
+        """How it ended: `same`, `different`, `refused` or `not JSON`."""
+        if self.check is not None:
+            return self.check.outcome
+        return 'same' if self.same else 'different'
 
     @property
     def status(self) -> int:

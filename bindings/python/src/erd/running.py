@@ -2,15 +2,17 @@
 
 from __future__ import annotations
 
+import logging
 import multiprocessing
-import sys
 import uuid
 from concurrent.futures import FIRST_COMPLETED, Future, ProcessPoolExecutor, wait
 from concurrent.futures.process import BrokenProcessPool
 from itertools import islice
-from typing import Callable, Dict, Iterator, List, Optional
+from typing import Any, Callable, Dict, Iterator, List, Optional
 
 from .judging import Row
+from .repeats import visible
+from .streams import Stop
 
 Judge = Callable[[str, Optional[str]], Row]
 
@@ -81,17 +83,27 @@ def alone(judge: Judge, file: str, prefer: Optional[str]) -> Row:
         return Row(file, 'the process ended')
 
 
+def client_of(client: Callable[[str], Any], address: str) -> Any:
+    """Returns a client of the cluster, or stops if none can be had. What the package writes into its log on the way, such as one more
+    line for each try, is no output of this command."""
+    logging.getLogger('distributed').setLevel(logging.CRITICAL)
+    logging.getLogger('asyncio').setLevel(logging.CRITICAL)
+    try:
+        return client(address)
+    except (OSError, ValueError) as error:
+        raise Stop(f'no scheduler answers at {visible(address)}: {type(error).__name__}') from None
+
+
 def run_on_cluster(address: str, judge: Judge, files: List[str], prefer: Optional[str]) -> Iterator[Row]:
     """Gives a row for each file, judged by the workers of a Dask cluster. The files of a task that failed as a whole are judged
     one at a time, and one that fails again has the failure as its verdict."""
     try:
         from distributed import Client, as_completed
     except ImportError:
-        sys.stderr.write("--scheduler needs the package distributed: python -m pip install 'erd[cluster]' installs it\n")
-        raise SystemExit(3) from None
+        raise Stop("--scheduler needs the package distributed: python -m pip install 'erd[cluster]' installs it") from None
 
     run = uuid.uuid4().hex
-    with Client(address) as client:
+    with client_of(Client, address) as client:
         def submitted(task: List[str]) -> Future:
             return client.submit(judge_each, judge, task, prefer, key=f'erd-{run}-{len(task)}-{task[0]}', pure=False)
 

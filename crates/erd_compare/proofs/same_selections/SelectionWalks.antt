@@ -1,6 +1,10 @@
 -- The selections of a contest are put into a map one after another, the first of each name. Names are given by their numbers.
 use Rattle.erd_compare.proofs.Common.{◌≡◌, ℕ, Bool, true, false, cond, List, [], ◌∷◌, map, is_some, ◌==◌, Some, None, Option, option_map, find, sym, refl, ap, ◌∙◌, true≢false, Bor, Decides-eqb, option_eq, option_or, Data, view, Value, Judged, number_of_selection, has_number, IsByNumber, ComparedReport, suc, ◌⊎◌, length, option_and_then, subst, inl, inr, arith, fun_ext, AllByRecursion, Class, Preference, plain_member, selection_record, name_in_class, selection_role, ◌↔◌, IsDistinct, find-Some, SelectionRecord, number_of_name, Decides, IsWholeTree, on_side, numbered_map, Left, Right, In-all, key_named, not, IfSome, IfOk, Ok, Err, Result, array, no_items, item, kind_of_member, family, MemberKind, kind, entries_of, PlainValue, MemberValue, a_plain, NameParts, selection_map, member_value, a_selection_map, plain_found, member_found, is_selections, if_filled, selections_meant}
+use Rattle.std.specs.Cmp.{unsigned_tied}
 use Rattle.std.specs.Map.{lookup, keys_of}
+use Rattle.std.specs.Ordering.{eq_by_cmp, nat_cmp}
+use Rattle.std.proofs.lemmas.Map.Keys.{IsDistinct-from_sorted}
+use Rattle.std.specs.List.Sorted.{IsStrictlySortedBy}
 use Rattle.erd_check.specs.Wants.{class_of_object}
 use Rattle.erd_meaning.proofs.identity.ObjectFamilies.{itself}
 use Rattle.erd_compare.proofs.whole_trees.WholeTrees.{AreWholeTrees}
@@ -18,6 +22,21 @@ at_name m q = lookup (λ l. q == l) m
 
 abbrev pub had : Named → ℕ → Option Data
 had m q = option_map (λ v. view v.now) (at_name m q)
+
+-- numbers are tested by their order
+sorted_tests : eq_by_cmp nat_cmp ≡ ◌==◌
+sorted_tests = fun_ext (λ k. fun_ext (λ q. unsigned_tied k q))
+
+pub sorted_at : (m : Named) (q : ℕ) → lookup (eq_by_cmp nat_cmp q) m ≡ at_name m q
+sorted_at m q = ap (λ (same : ℕ → ℕ → Bool). lookup (same q) m) sorted_tests
+
+-- a value is put there
+pub sorted_update : (m n : Named) (k : ℕ) (w : Option (Bor Value)) → ((q : ℕ) → lookup (eq_by_cmp nat_cmp q) n ≡ cond (eq_by_cmp nat_cmp k q) w (lookup (eq_by_cmp nat_cmp q) m)) → (q : ℕ) → at_name n q ≡ cond (k == q) w (at_name m q)
+sorted_update m n k w h = subst (λ (same : ℕ → ℕ → Bool). (q : ℕ) → lookup (same q) n ≡ cond (same k q) w (lookup (same q) m)) sorted_tests h
+
+-- sorted numbers are distinct
+pub sorted_apart : (m : Named) → IsStrictlySortedBy nat_cmp (keys_of m) → IsDistinct ◌==◌ (keys_of m)
+sorted_apart m h = subst (λ (same : ℕ → ℕ → Bool). IsDistinct same (keys_of m)) sorted_tests (IsDistinct-from_sorted nat_cmp (keys_of m) h)
 
 -- there is the first selection of each name, but for these, which are left
 abbrev pub IsFilling : Judged → Judged → ComparedReport → List Value → List Value → Named → Type 0

@@ -14,9 +14,9 @@ use crate::objects::plain_members::is_same_plain_member;
 use crate::ranks::common_ranks::ComparedReport;
 use erd_check::values::{class_of_object, entries_of, is_empty_array};
 use erd_tables::{Class, Family, Role};
-use indexmap::IndexMap;
 use serde_json::Value;
 use std::alloc::AllocError;
+use std::collections::BTreeMap;
 
 /// The selections of a contest, and the position of the contest.
 #[derive(Clone, Copy)]
@@ -83,7 +83,7 @@ fn is_same_selection_map(
     let ones = by_number(comparer, ComparedReport::Left, ones)?;
     let mut others = by_number(comparer, ComparedReport::Right, others)?;
     for (number, one) in &ones {
-        let Some(other) = others.swap_remove(number) else {
+        let Some(other) = others.remove(number) else {
             return Ok(false);
         };
         if !is_same_selection(comparer, one, other)? {
@@ -93,18 +93,19 @@ fn is_same_selection_map(
     Ok(others.is_empty())
 }
 
-/// Returns the selections of a contest by the numbers of their names. If several have the same name, the first one counts.
+/// Returns the selections of a contest by the numbers of their names. If several have the same name, the first one counts. A
+/// file chooses these numbers, so they are sorted, and no index hashes them.
 fn by_number<'a>(
     comparer: &Comparer,
     side: ComparedReport,
     selections: Selections<'a>,
-) -> Result<IndexMap<usize, &'a Value>, AllocError>
+) -> Result<BTreeMap<usize, &'a Value>, AllocError>
     requires { AreSelectionsIn (on_side side comparer.now.left comparer.now.right) selections.contest (map view selections.values.now) }
     ensures { IfOk result (λ numbered. IsByNumber comparer.now.left comparer.now.right side (map view selections.entry.values.now) numbered.entries) }
 {
     let Selections { values, contest } = selections;
     let start = comparer.on(side).first_selection(contest);
-    let mut numbered = IndexMap::new(comparer.alloc);
+    let mut numbered = BTreeMap::new(comparer.alloc);
     for (index, selection) in values.iter().enumerate() {
         if let Some(number) = comparer.name_number_at(side, start + index) {
             if !numbered.contains_key(&number) {

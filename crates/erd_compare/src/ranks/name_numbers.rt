@@ -1,7 +1,8 @@
 //! Numbers in place of the names of selections. Each name is hashed once. From then on numbers are compared, so it takes no
 //! longer if names are long.
-ghost use Rattle.std.specs.Prelude.{◌≡◌, map, option_and_then, option_map, slice_get, IfOk};
+ghost use Rattle.std.specs.Prelude.{◌≡◌, [], map, option_and_then, option_map, slice_get, IfOk};
 ghost use Rattle.erd_compare.specs.Words.{filter_map, position_or_len, view, insert_all, objects, with_ranks};
+ghost use Rattle.erd_meaning.specs.Words.{joined_start, report_start};
 ghost use Rattle.erd_tables.specs.declared.class.Family.TheVariants as family;
 ghost use Rattle.erd_compare.specs.code.CommonNames.{AreNameNumbers, name_eq, name_told, ranks_told};
 ghost use Rattle.erd_compare.specs.code.CommonRanks.{common_rank_of};
@@ -33,11 +34,22 @@ pub(crate) fn names_of_both<'a>(
     requires common { AreCommonByRank left.now right.now common.now }
     ensures { IfOk result (AreNameNumbers left.now right.now) }
 {
-    let salt = left.salt().joined(&right.salt());
-    let mut names = SaltedSet::new(alloc, salt);
+    let mut names = no_names(alloc, left, right);
     let left = numbers_of_names(alloc, left, common, ComparedReport::Left, &mut names)?;
     let right = numbers_of_names(alloc, right, common, ComparedReport::Right, &mut names)?;
     Ok(NameNumbers { left, right })
+}
+
+/// Returns a set without names, under the salts of both reports.
+fn no_names<'a>(
+    alloc: Global,
+    left: &'a Report,
+    right: &'a Report,
+) -> SaltedSet<RankedName<&'a SelectionName>>
+    ensures start { result.start ≡ joined_start (report_start left.now.prefer (view left.now.tree)) (report_start right.now.prefer (view right.now.tree)) }
+    ensures keys { result.keys ≡ [] }
+{
+    SaltedSet::new(alloc, left.salt().joined(&right.salt()))
 }
 
 /// Returns the numbers of the names of the selections of a report. The number of a name is its position in the set, to which
@@ -49,10 +61,10 @@ fn numbers_of_names<'a>(
     side: ComparedReport,
     names: &mut SaltedSet<RankedName<&'a SelectionName>>,
 ) -> Result<Vec<Option<usize>>, AllocError>
-    ensures names { IfOk result (λ _. map with_ranks names.new
-        ≡ insert_all name_eq (map with_ranks names.old) (filter_map (λ o. name_told common.now side report.now o.value) (objects family.Selection (view report.now.tree)))) }
+    ensures names { IfOk result (λ _. map with_ranks names.new.keys
+        ≡ insert_all name_eq (map with_ranks names.old.keys) (filter_map (λ o. name_told common.now side report.now o.value) (objects family.Selection (view report.now.tree)))) }
     ensures numbers { IfOk result (λ numbers. numbers.items
-        ≡ map (λ o. option_map (λ name. position_or_len (name_eq name) (map with_ranks names.new)) (name_told common.now side report.now o.value)) (objects family.Selection (view report.now.tree))) }
+        ≡ map (λ o. option_map (λ name. position_or_len (name_eq name) (map with_ranks names.new.keys)) (name_told common.now side report.now o.value)) (objects family.Selection (view report.now.tree))) }
 {
     let count = report.count(Family::Selection);
     let mut numbers = Vec::with_capacity(alloc, count)?;

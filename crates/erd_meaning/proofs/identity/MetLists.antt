@@ -121,10 +121,10 @@ seen_more keys seen (Some l) are k =
 filled : (π : Preference) (v : Tables) (t : Data) → met_of v ≡ met_all nothing_met (all_located π t) → WalksAll (met_of v) (all_located π t)
 filled π v t met = subst (λ (m : ObjectsMet). WalksAll m (all_located π t)) (sym met) (walks_all nothing_met (all_located π t) refl refl refl)
 
-pub filled_objects : (π : Preference) (v : Tables) (t : Data) → met_of v ≡ met_all nothing_met (all_located π t) → map shown v.objects ≡ kept_objects π t
+pub filled_objects : (π : Preference) (v : Tables) (t : Data) → met_of v ≡ met_all nothing_met (all_located π t) → map shown v.objects.objects ≡ kept_objects π t
 filled_objects π v t met = (filled π v t met).objects
 
-pub filled_elections : (π : Preference) (v : Tables) (t : Data) → met_of v ≡ met_all nothing_met (all_located π t) → v.elections ≡ election_keys π t
+pub filled_elections : (π : Preference) (v : Tables) (t : Data) → met_of v ≡ met_all nothing_met (all_located π t) → v.elections.keys ≡ election_keys π t
 filled_elections π v t met = (filled π v t met).elections ∙ election_keys_met π t
 
 pub all_told : (π : Preference) (v : Tables) (t : Data) → met_of v ≡ met_all nothing_met (all_located π t) → (fs : List Fault) → fs ≡ v.faults.items → ListsAll (IdentityFault π t) fs

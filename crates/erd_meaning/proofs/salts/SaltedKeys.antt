@@ -12,17 +12,19 @@ use Rattle.erd_meaning.specs.code.ObjectIndexes.{contests_before, contests_noted
 use Rattle.erd_meaning.specs.code.ObjectLookups.{is_of_family, keeps_id, key_among, those_of}
 use Rattle.erd_meaning.specs.code.ObjectWalk.{Kept, Met, an_election, an_object, all_met, elections_among, kept_objects, objects_among}
 use Rattle.erd_meaning.specs.code.RanksAmong.{rank_among, ranked_name_among}
-use Rattle.erd_meaning.specs.code.SaltLaws.{SaltCoversEachKey, all_hashed, family_and_key, selection_names}
-use Rattle.erd_meaning.specs.code.SaltWrites.{Hashed, hashed, selection_in}
+use Rattle.erd_meaning.specs.SaltWrites.{CoversEachKey, Hashed, all_hashed, whole_selection}
+use Rattle.erd_meaning.specs.code.HashedMet.{hashed}
+use Rattle.erd_meaning.specs.code.SaltLaws.{KeepsEachIndex, family_and_key, selection_names}
 use Rattle.erd_meaning.specs.declared.keys.key.Key.{Key}
 use Rattle.erd_meaning.proofs.identity.ObjectFamilies.{election_keys_met}
+use Rattle.erd_meaning.proofs.salts.HashedReports.{hashed_report}
 use Rattle.erd_meaning.proofs.salts.SaltedParts.{hashed_alike}
 
 -- ---- objects without what no index hashes
 
 -- The object without its value, unless it is a selection.
 abbrev bare : Kept → Kept
-bare k = record { family = k.family; value = unwrap_or (selection_in k.family k.value) null; id = k.id; key = k.key; election = None }
+bare k = record { family = k.family; value = unwrap_or (whole_selection k.family k.value) null; id = k.id; key = k.key; election = None }
 
 abbrev bare_of : Hashed → Option Kept
 bare_of h = option_map (λ f. record { family = f; value = unwrap_or h.selection null; id = h.id; key = h.key; election = None }) h.family
@@ -107,11 +109,14 @@ elections_hashed [] = refl
 elections_hashed (an_object k ∷ ms) = elections_hashed ms
 elections_hashed (an_election needed key ∷ ms) = ap (λ ks. key ∷ ks) (elections_hashed ms)
 
--- ---- the law
+-- ---- the laws
 
-pub covers_each_key : SaltCoversEachKey
-covers_each_key π t u p q same =
-    let all = hashed_alike (all_hashed π t) (all_hashed π u) p q same in
+pub covers_each_key : (π : Preference) (t : Data) → CoversEachKey π t
+covers_each_key π t u p q same = hashed_alike (all_hashed π t) (all_hashed π u) p q same
+
+pub keeps_each_index : (π : Preference) (t : Data) → KeepsEachIndex π t
+keeps_each_index π t u p q same =
+    let all : map hashed (all_met π t) ≡ map hashed (all_met π u) = hashed_report π t ∙ covers_each_key π t u p q same ∙ sym (hashed_report π u) in
     let ks = kept_objects π t in
     let ls = kept_objects π u in
     let objects : map bare ks ≡ map bare ls = sym (bare_among (all_met π t)) ∙ ap (filter_map bare_of) all ∙ bare_among (all_met π u) in

@@ -11,7 +11,7 @@ use Rattle.erd_tables.specs.declared.class.Family.TheVariants as family
 use Rattle.std.proofs.lemmas.Bool.Decides.{Decides-eqb}
 use Rattle.std.proofs.lemmas.Grind.{flat_map-append}
 use Rattle.erd_meaning.proofs.identity.ObjectFamilies.{family_exact}
-use Rattle.erd_meaning.specs.code.SaltWrites.{Hashed, value_writes, items_writes, members_writes, option_writes, triple_writes, hashed_writes, hashed_number, parts_number, FitsText, FitsValue, FitsItems, FitsMembers, FitsKey, FitsHashed}
+use Rattle.erd_meaning.specs.SaltWrites.{Hashed, value_writes, items_writes, members_writes, option_writes, triple_writes, hashed_writes, hashed_number, parts_number, FitsText, FitsValue, FitsItems, FitsMembers, FitsKey, FitsHashed}
 
 -- Two values that are written before something, and written alike, are equal.
 abbrev Ends : {T : Type 0} → (T → Type 0) → (T → HashWrites) → Type 0

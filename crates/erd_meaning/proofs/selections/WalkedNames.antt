@@ -131,7 +131,7 @@ one_selection π t c n i j none e g =
 
 -- a walk that began with nothing has met the selections of this report, among these objects
 pub record NamesWalked (π : Preference) (w v : SelectionWalk) (ks : List Kept) (t : Data) : Type 0 where
-  pub no_name : w.names ≡ []
+  pub no_name : w.names.keys ≡ []
   pub no_fault : w.faults.items ≡ []
   pub kept : ks ≡ kept_objects π t
   pub identified : NoneOf (IdentityFault π t)
@@ -149,7 +149,7 @@ walked_faults π w v ks t h =
     ∙ ap (λ (fs : List Fault). fs ++ names_told (name_of π t) [] (numbered_selections t)) h.no_fault
 
 walked_names : (π : Preference) (w v : SelectionWalk) (ks : List Kept) (t : Data) → NamesWalked π w v ks t → v.faults.items ≡ []
-    → names_of v.names ≡ flat_map (name_list (name_of π t)) (numbered_selections t)
+    → names_of v.names.keys ≡ flat_map (name_list (name_of π t)) (numbered_selections t)
 walked_names π w v ks t h none =
     let told : names_told (name_of π t) (names_met w).names (numbered_selections t) ≡ [] =
     ap (λ (ns : List NumberedName). names_told (name_of π t) ns (numbered_selections t)) (ap names_of h.no_name) ∙ sym (walked_faults π w v ks t h) ∙ none in
@@ -157,7 +157,7 @@ walked_names π w v ks t h none =
     ∙ ap (λ (ns : List NumberedName). ns ++ flat_map (name_list (name_of π t)) (numbered_selections t)) (ap names_of h.no_name)
 
 pub names_left : (π : Preference) (w v : SelectionWalk) (ks : List Kept) (t : Data) → NamesWalked π w v ks t → NoneOf (ShapeFault t)
-    → (fs : List Fault) → fs ≡ v.faults.items → length fs ≡ 0 → AreNames π t (names_of v.names)
+    → (fs : List Fault) → fs ≡ v.faults.items → length fs ≡ 0 → AreNames π t (names_of v.names.keys)
 names_left π w v ks t h none fs e empty = subst (AreNames π t) (sym (walked_names π w v ks t h (sym e ∙ nil_from_length fs empty))) (names_listed π t none)
 
 pub twins_left : (π : Preference) (w v : SelectionWalk) (ks : List Kept) (t : Data) → NamesWalked π w v ks t → (fs : List Fault) → fs ≡ v.faults.items → ListsAll (SelectionFault π t) fs

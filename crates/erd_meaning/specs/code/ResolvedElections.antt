@@ -9,5 +9,5 @@ use Rattle.erd_meaning.specs.declared.report.Elections.{Elections}
 
 -- These are the keys of the elections of the report, and their order by these.
 pub record AreElections (π : Preference) (tree : Value) (elections : Elections) : Type 0 where
-  pub keys : elections.keys ≡ election_keys π (view tree)
+  pub keys : elections.keys.keys ≡ election_keys π (view tree)
   pub ordered : IsOrder (election_keys π (view tree)) elections.order

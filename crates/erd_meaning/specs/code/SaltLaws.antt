@@ -1,27 +1,17 @@
 -- What the salt of a report covers: all that its indexes hash.
 use Rattle.std.specs.Prelude.{◌≡◌, List, Option, map}
-use Rattle.std.specs.Hash.{HashWrites}
-use Rattle.std.specs.List.{flat_map, AllByRecursion}
 use Rattle.serde_json.specs.Data.{Data}
 use Rattle.erd_index.specs.Salts.{bytes_in}
 use Rattle.erd_tables.specs.declared.class.Family.{Family}
 use Rattle.erd_tables.specs.declared.class.Family.TheVariants as family
 use Rattle.erd_meaning.specs.Keys.{Preference}
 use Rattle.erd_meaning.specs.NumberedNames.{RankedParts}
+use Rattle.erd_meaning.specs.SaltWrites.{AllFit, salt_writes}
 use Rattle.erd_meaning.specs.code.ObjectIndexes.{contests_before}
 use Rattle.erd_meaning.specs.code.ObjectLookups.{those_of}
-use Rattle.erd_meaning.specs.code.ObjectWalk.{Kept, all_met, election_keys, kept_objects}
+use Rattle.erd_meaning.specs.code.ObjectWalk.{Kept, election_keys, kept_objects}
 use Rattle.erd_meaning.specs.code.RanksAmong.{ranked_name_among}
-use Rattle.erd_meaning.specs.code.SaltWrites.{Hashed, FitsHashed, hashed, hashed_writes}
 use Rattle.erd_meaning.specs.declared.keys.key.Key.{Key}
-
--- What the indexes hash of the elections and objects of a report.
-abbrev pub all_hashed : Preference → Data → List Hashed
-all_hashed π t = map hashed (all_met π t)
-
--- What the salt of a report is computed from.
-abbrev pub salt_writes : Preference → Data → HashWrites
-salt_writes π t = flat_map hashed_writes (all_hashed π t)
 
 -- The names of the selections among the objects, with the ranks of their keys. A selection may have no name.
 abbrev pub selection_names : Preference → List Kept → List (Option RankedParts)
@@ -40,9 +30,6 @@ pub record SameKeys (π : Preference) (t u : Data) : Type 0 where
   pub names : selection_names π (kept_objects π t) ≡ selection_names π (kept_objects π u)
   pub contests : contests_before 0 (kept_objects π t) ≡ contests_before 0 (kept_objects π u)
 
--- Two reports whose salts are computed from the same bytes give each index the same keys, if the lengths of their texts fit a
--- word and the numbers in their selections are whole and fit 64 bits.
-abbrev pub SaltCoversEachKey : Type 0
-SaltCoversEachKey =
-    (π : Preference) (t u : Data) → AllByRecursion FitsHashed (all_hashed π t) → AllByRecursion FitsHashed (all_hashed π u)
-    → bytes_in (salt_writes π t) ≡ bytes_in (salt_writes π u) → SameKeys π t u
+-- Whichever report has a salt that is computed from the same bytes as that of this one, each index is given the same keys.
+abbrev pub KeepsEachIndex : Preference → Data → Type 0
+KeepsEachIndex π t = (u : Data) → AllFit π t → AllFit π u → bytes_in (salt_writes π t) ≡ bytes_in (salt_writes π u) → SameKeys π t u

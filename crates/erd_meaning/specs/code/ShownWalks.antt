@@ -9,8 +9,8 @@ use Rattle.erd_meaning.specs.declared.names.selection_walk.SelectionWalk.{Select
 
 -- What clauses see of the tables of the elections and the objects: how far they are filled.
 abbrev pub met_of : Tables → ObjectsMet
-met_of w = record { objects = map shown w.objects; elections = w.elections; faults = w.faults.items }
+met_of w = record { objects = map shown w.objects.objects; elections = w.elections.keys; faults = w.faults.items }
 
 -- What clauses see of the walk over the selections: how far it has come.
 abbrev pub names_met : SelectionWalk → NamesMet
-names_met w = record { names = names_of w.names; faults = w.faults.items }
+names_met w = record { names = names_of w.names.keys; faults = w.faults.items }

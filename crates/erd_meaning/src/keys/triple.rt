@@ -69,8 +69,8 @@ impl<'a> Triple<'a> {
     {
         self.kind
             .cmp(other.kind)
-            .then(self.other.cmp(other.other))
-            .then(self.value.cmp(other.value))
+            .then_with(|| self.other.cmp(other.other))
+            .then_with(|| self.value.cmp(other.value))
     }
 
     /// Returns whether this triple is a better choice for a key than the other. A triple of the preferred type is

@@ -24,7 +24,7 @@ pub(crate) fn name_of_selection(
     selection: &Value,
 ) -> Result<Option<RankedName<SelectionName>>, AllocError>
     requires whole { has_float (view selection.now) ≡ false }
-    ensures { IfOk result (λ name. name ≡ ranked_name_among keys.now (map shown objects.now) (view selection.now)) }
+    ensures { IfOk result (λ name. name ≡ ranked_name_among keys.now (map shown objects.now.objects) (view selection.now)) }
 {
     let Some(class) = class_of_object(Role::OfFamily(Family::Selection), selection) else {
         return Ok(None);
@@ -52,8 +52,8 @@ fn chosen_keys(
     class: Class,
     selection: &Value,
 ) -> Result<Vec<(usize, SharedKey)>, AllocError>
-    ensures { IfOk result (λ chosen. chosen.items ≡ map (ranked_key (map shown objects.now) (family_chosen class))
-        (rising_list key_cmp (keys_of_selection (key_among (map shown objects.now)) class (view selection.now)))) }
+    ensures { IfOk result (λ chosen. chosen.items ≡ map (ranked_key (map shown objects.now.objects) (family_chosen class))
+        (rising_list key_cmp (keys_of_selection (key_among (map shown objects.now.objects)) class (view selection.now)))) }
 {
     let references = references_chosen(class, selection);
     let chosen = keys_in_turn(alloc, objects, class, references)?;
@@ -90,8 +90,8 @@ fn keys_in_turn(
     class: Class,
     references: &[Value],
 ) -> Result<Vec<(usize, SharedKey)>, AllocError>
-    ensures { IfOk result (λ chosen. chosen.items ≡ map (ranked_key (map shown objects.now) (family_chosen class))
-        (keys_found (key_among (map shown objects.now) (family_chosen class)) (map view references.now))) }
+    ensures { IfOk result (λ chosen. chosen.items ≡ map (ranked_key (map shown objects.now.objects) (family_chosen class))
+        (keys_found (key_among (map shown objects.now.objects) (family_chosen class)) (map view references.now))) }
 {
     let mut chosen = Vec::with_capacity(alloc, references.len())?;
     for reference in references {

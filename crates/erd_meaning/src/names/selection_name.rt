@@ -170,8 +170,8 @@ impl SelectionName {
         self.write_in
             .cmp(&other.write_in)
             .then(self.order.cmp(&other.order))
-            .then(self.label.cmp(&other.label))
-            .then(self.identifier.cmp(&other.identifier))
+            .then_with(|| self.label.cmp(&other.label))
+            .then_with(|| self.identifier.cmp(&other.identifier))
     }
 
     /// Feeds a hasher the parts after the keys.
@@ -205,8 +205,8 @@ pub(crate) fn compare_numbered(
 {
     type_text(one.class)
         .cmp(type_text(other.class))
-        .then(numbers.cmp(others))
-        .then(one.compare_after_keys(other))
+        .then_with(|| numbers.cmp(others))
+        .then_with(|| one.compare_after_keys(other))
 }
 
 impl PartialEq for SelectionName {

@@ -36,10 +36,11 @@ pub(crate) fn meet_selections(
 ) -> Result<(), AllocError>
     requires few { IsBounded (view report.now) }
     requires whole { has_float (view report.now) ≡ false }
-    requires ranked { AllAreRanked (map shown objects.now) walk.old.names }
+    requires ranked { AllAreRanked (map shown objects.now.objects) walk.old.names.keys }
     ensures met { IfOk result (λ _. names_met walk.new
-        ≡ named_all (name_among keys.now (map shown objects.now)) (names_met walk.old) (numbered_selections (view report.now))) }
-    ensures ranked { IfOk result (λ _. AllAreRanked (map shown objects.now) walk.new.names) }
+        ≡ named_all (name_among keys.now (map shown objects.now.objects)) (names_met walk.old) (numbered_selections (view report.now))) }
+    ensures ranked { IfOk result (λ _. AllAreRanked (map shown objects.now.objects) walk.new.names.keys) }
+    ensures start { IfOk result (λ _. walk.new.names.start ≡ walk.old.names.start) }
 {
     let elections = Path::Member(&Path::Root, "Election");
     let mut number = 0;
@@ -62,11 +63,12 @@ fn meet_contests(
 ) -> Result<usize, AllocError>
     requires few { first + length (placed_entries (codes "Contest") (placed_at path.now election.now)) < 2 ^ 64 }
     requires whole { has_float (view election.now) ≡ false }
-    requires ranked { AllAreRanked (map shown objects.now) walk.old.names }
+    requires ranked { AllAreRanked (map shown objects.now.objects) walk.old.names.keys }
     ensures next { IfOk result (λ next. next ≡ first + length (placed_entries (codes "Contest") (placed_at path.now election.now))) }
-    ensures met { IfOk result (λ _. names_met walk.new ≡ named_all (name_among keys.now (map shown objects.now)) (names_met walk.old)
+    ensures met { IfOk result (λ _. names_met walk.new ≡ named_all (name_among keys.now (map shown objects.now.objects)) (names_met walk.old)
         (numbered_from first (placed_entries (codes "Contest") (placed_at path.now election.now)))) }
-    ensures ranked { IfOk result (λ _. AllAreRanked (map shown objects.now) walk.new.names) }
+    ensures ranked { IfOk result (λ _. AllAreRanked (map shown objects.now.objects) walk.new.names.keys) }
+    ensures start { IfOk result (λ _. walk.new.names.start ≡ walk.old.names.start) }
 {
     let contests = Path::Member(&*path, "Contest");
     let entries = entries_at(election, "Contest");
@@ -87,10 +89,11 @@ fn meet_contest(
     walk: &mut SelectionWalk,
 ) -> Result<(), AllocError>
     requires whole { has_float (view contest.now) ≡ false }
-    requires ranked { AllAreRanked (map shown objects.now) walk.old.names }
+    requires ranked { AllAreRanked (map shown objects.now.objects) walk.old.names.keys }
     ensures met { IfOk result (λ _. names_met walk.new
-        ≡ named_all (name_among keys.now (map shown objects.now)) (names_met walk.old) (numbered_selections_of (number, placed_at path.now contest.now))) }
-    ensures ranked { IfOk result (λ _. AllAreRanked (map shown objects.now) walk.new.names) }
+        ≡ named_all (name_among keys.now (map shown objects.now.objects)) (names_met walk.old) (numbered_selections_of (number, placed_at path.now contest.now))) }
+    ensures ranked { IfOk result (λ _. AllAreRanked (map shown objects.now.objects) walk.new.names.keys) }
+    ensures start { IfOk result (λ _. walk.new.names.start ≡ walk.old.names.start) }
 {
     let array = Path::Member(&*path, "ContestSelection");
     for (index, selection) in entries_at(contest, "ContestSelection").iter().enumerate() {
@@ -110,10 +113,11 @@ fn meet_selection(
     walk: &mut SelectionWalk,
 ) -> Result<(), AllocError>
     requires whole { has_float (view selection.now) ≡ false }
-    requires ranked { AllAreRanked (map shown objects.now) walk.old.names }
+    requires ranked { AllAreRanked (map shown objects.now.objects) walk.old.names.keys }
     ensures met { IfOk result (λ _. names_met walk.new
-        ≡ named_one (name_among keys.now (map shown objects.now)) (names_met walk.old) (contest, placed_at path.now selection.now)) }
-    ensures ranked { IfOk result (λ _. AllAreRanked (map shown objects.now) walk.new.names) }
+        ≡ named_one (name_among keys.now (map shown objects.now.objects)) (names_met walk.old) (contest, placed_at path.now selection.now)) }
+    ensures ranked { IfOk result (λ _. AllAreRanked (map shown objects.now.objects) walk.new.names.keys) }
+    ensures start { IfOk result (λ _. walk.new.names.start ≡ walk.old.names.start) }
 {
     match name_of_selection(keys, objects, selection)? {
         Some(name) => meet_name(keys.alloc, contest, name, path, walk),
@@ -130,10 +134,11 @@ fn meet_name(
     path: &Path,
     walk: &mut SelectionWalk,
 ) -> Result<(), AllocError>
-    ensures met { IfOk result (λ _. (ks : List Kept) → AllAreRanked ks walk.old.names → IsRanked ks name
+    ensures met { IfOk result (λ _. (ks : List Kept) → AllAreRanked ks walk.old.names.keys → IsRanked ks name
         → names_met walk.new ≡ with_name (names_met walk.old) (steps_of path.now) contest name.name) }
-    ensures ranked { IfOk result (λ _. (ks : List Kept) → AllAreRanked ks walk.old.names → IsRanked ks name
-        → AllAreRanked ks walk.new.names) }
+    ensures ranked { IfOk result (λ _. (ks : List Kept) → AllAreRanked ks walk.old.names.keys → IsRanked ks name
+        → AllAreRanked ks walk.new.names.keys) }
+    ensures start { IfOk result (λ _. walk.new.names.start ≡ walk.old.names.start) }
 {
     if !walk.names.insert((contest, name))? {
         push_fault(alloc, path, Reason::TwinSelection, &mut walk.faults)?;

@@ -25,8 +25,8 @@ pub(crate) struct SoughtName<'b, 'a> {
 impl<'b, 'a> SoughtName<'b, 'a> {
     /// Returns whether the index has the name as this one.
     fn is_name(&self, name: &RankedName<SelectionName>) -> bool
-        ensures { result ≡ (has_keys_among (map shown self.now.objects.now) self.now.name.now
-            && eq_by_cmp ranked_name_cmp (ranked_parts (map shown self.now.objects.now) self.now.name.now) name.now) }
+        ensures { result ≡ (has_keys_among (map shown self.now.objects.now.objects) self.now.name.now
+            && eq_by_cmp ranked_name_cmp (ranked_parts (map shown self.now.objects.now.objects) self.now.name.now) name.now) }
     {
         if !self.has_ranks(name.ranks()) {
             return false;
@@ -36,7 +36,7 @@ impl<'b, 'a> SoughtName<'b, 'a> {
 
     /// Returns whether each key in the name is that of an object and these are the ranks of the keys.
     fn has_ranks(&self, ranks: &[usize]) -> bool
-        ensures { result ≡ are_ranks_of (map shown self.now.objects.now) (family_chosen self.now.name.now.class) self.now.name.now.keys ranks.now }
+        ensures { result ≡ are_ranks_of (map shown self.now.objects.now.objects) (family_chosen self.now.name.now.class) self.now.name.now.keys ranks.now }
     {
         let name = self.name;
         let keys = &name.keys;
@@ -53,8 +53,8 @@ impl<'b, 'a> SoughtName<'b, 'a> {
 
     /// Returns whether the key is that of an object and this is its rank.
     fn has_rank(&self, key: &Key, rank: usize) -> bool
-        ensures { result ≡ (is_key_among (map shown self.now.objects.now) (family_chosen self.now.name.now.class) key.now
-            && (rank_among (map shown self.now.objects.now) (family_chosen self.now.name.now.class) (Some key.now) == rank)) }
+        ensures { result ≡ (is_key_among (map shown self.now.objects.now.objects) (family_chosen self.now.name.now.class) key.now
+            && (rank_among (map shown self.now.objects.now.objects) (family_chosen self.now.name.now.class) (Some key.now) == rank)) }
     {
         let name = self.name;
         match self.objects.rank_of(name.class, key) {
@@ -66,7 +66,7 @@ impl<'b, 'a> SoughtName<'b, 'a> {
     /// Feeds a hasher the ranks of the keys, and 0 for a key that is of no object.
     fn feed_ranks(&self, hasher: &mut DefaultHasher)
         ensures { hasher.new ≡ fold write hasher.old
-            (flat_map fed.usize (map (fed_rank (map shown self.now.objects.now) (family_chosen self.now.name.now.class)) self.now.name.now.keys)) }
+            (flat_map fed.usize (map (fed_rank (map shown self.now.objects.now.objects) (family_chosen self.now.name.now.class)) self.now.name.now.keys)) }
     {
         let name = self.name;
         for key in &name.keys {
@@ -76,7 +76,7 @@ impl<'b, 'a> SoughtName<'b, 'a> {
 
     /// Returns the rank of the key, or 0 if the key is of no object.
     fn fed_rank(&self, key: &Key) -> usize
-        ensures { result ≡ fed_rank (map shown self.now.objects.now) (family_chosen self.now.name.now.class) key.now }
+        ensures { result ≡ fed_rank (map shown self.now.objects.now.objects) (family_chosen self.now.name.now.class) key.now }
     {
         let name = self.name;
         self.objects.rank_of(name.class, key).unwrap_or_default()
@@ -84,9 +84,9 @@ impl<'b, 'a> SoughtName<'b, 'a> {
 }
 
 impl<'b, 'a> Sought<(usize, RankedName<SelectionName>)> for SoughtName<'b, 'a> {
-    ghost finds = { λ q. is_sought (map shown q.objects.now) q.contest q.name.now };
+    ghost finds = { λ q. is_sought (map shown q.objects.now.objects) q.contest q.name.now };
 
-    ghost respects_eq = { λ q. sought_equal (map shown q.objects.now) q.contest q.name.now };
+    ghost respects_eq = { λ q. sought_equal (map shown q.objects.now.objects) q.contest q.name.now };
 
     fn number(&self, salt: &Salt) -> u64 {
         let name = self.name;

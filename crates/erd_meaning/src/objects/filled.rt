@@ -1,5 +1,7 @@
 ghost use Rattle.std.specs.Prelude.{◌≡◌, ◌<◌, ◌^◌, length, map, IfOk};
+ghost use Rattle.erd_index.specs.Salts.{start_of};
 ghost use Rattle.erd_meaning.specs.code.CollectedWalks.{found};
+ghost use Rattle.erd_meaning.specs.code.Held.{AreSalted};
 ghost use Rattle.erd_meaning.specs.code.ObjectWalk.{met_all, met_one, nothing_met};
 ghost use Rattle.erd_meaning.specs.code.ShownWalks.{met_of};
 
@@ -28,6 +30,7 @@ pub(crate) fn filled<'a>(
 ) -> Result<Tables<'a>, AllocError>
     ensures met { IfOk result (λ tables. met_of tables ≡ met_all nothing_met (map found all.entry.items)) }
     ensures few { IfOk result (λ _. length all.entry.items < 2 ^ 64) }
+    ensures salted { IfOk result (λ tables. AreSalted (start_of salt) tables.objects tables.elections) }
 {
     let mut tables = Tables {
         objects: ObjectTable::with_capacity(alloc, salt, all.len())?,
@@ -44,7 +47,9 @@ impl<'a> Tables<'a> {
     /// Adds an election or an object, and its faults of identity: it lacks a key that it needs, or has the key or the `@id` of
     /// an earlier one. The place of a fault is made of the positions that are kept.
     fn add(&mut self, alloc: Global, one: Found<'a>) -> Result<(), AllocError>
-        ensures { IfOk result (λ _. met_of self.new ≡ met_one (met_of self.old) (found one.entry)) }
+        ensures met { IfOk result (λ _. met_of self.new ≡ met_one (met_of self.old) (found one.entry)) }
+        ensures objects { IfOk result (λ _. self.new.objects.start ≡ self.old.objects.start) }
+        ensures elections { IfOk result (λ _. self.new.elections.start ≡ self.old.elections.start) }
     {
         match one {
             Found::Election {

@@ -23,26 +23,26 @@ pub(crate) struct RankedObjects<'a> {
 }
 
 impl<'a> Model for RankedObjects<'a> {
-    ghost use Rattle.std.specs.Prelude.{◌≡◌, List, map, true};
+    ghost use Rattle.std.specs.Prelude.{◌≡◌, map, true};
     ghost use Rattle.erd_meaning.specs.Words.{entry_of, Family, has_keys, codes};
     ghost use Rattle.serde_json.specs.contracts.value.Value as tree_value;
-    ghost use Rattle.erd_meaning.specs.declared.objects.table.Object.{Object};
+    ghost use Rattle.erd_meaning.specs.code.Held.{HeldObjects};
     ghost use Rattle.erd_meaning.specs.code.KeyOrders.{IsOrder, family_keys};
     ghost use Rattle.erd_meaning.specs.code.Shown.{shown};
 
-    ghost Value = { List Object };
+    ghost Value = { HeldObjects };
 
     ghost coded = { Prim.hlevel (codes, tree_value.the_row.coded) };
 
     ghost view = { λ r. r.table };
 
-    ghost invariant = { λ r. (f : Family) → has_keys f ≡ true → IsOrder (family_keys (map shown r.table) f) (entry_of r.orders f) };
+    ghost invariant = { λ r. (f : Family) → has_keys f ≡ true → IsOrder (family_keys (map shown r.table.objects) f) (entry_of r.orders f) };
 }
 
 impl<'a> RankedObjects<'a> {
     /// Returns the objects, with the order of each family by keys. No two objects of a family have one key.
     pub(crate) fn of(alloc: Global, table: ObjectTable<'a>) -> Result<RankedObjects<'a>, AllocError>
-        requires distinct { HaveDistinctKeys (map shown table) }
+        requires distinct { HaveDistinctKeys (map shown table.objects) }
         ensures { IfOk result (λ ranked. ranked ≡ table.entry) }
     {
         let orders = PerFamily::of(|family| order_of(alloc, &table, family))?;
@@ -59,7 +59,7 @@ impl<'a> RankedObjects<'a> {
     /// Returns the positions of the objects of the family in the order of their keys.
     pub(crate) fn rising(&self, family: Family) -> &[usize]
         requires keyed { has_keys family ≡ true }
-        ensures { result.now ≡ rising_positions (family_keys (map shown self.now) family) }
+        ensures { result.now ≡ rising_positions (family_keys (map shown self.now.objects) family) }
     {
         &self.orders.get(family).rising
     }
@@ -68,7 +68,7 @@ impl<'a> RankedObjects<'a> {
     /// family with lesser keys.
     pub(crate) fn rank_at(&self, family: Family, position: usize) -> Option<usize>
         requires keyed { has_keys family ≡ true }
-        ensures { result ≡ option_map (λ k. rank_among (map shown self.now) family k.key) (slice_get (those_of family (map shown self.now)) position) }
+        ensures { result ≡ option_map (λ k. rank_among (map shown self.now.objects) family k.key) (slice_get (those_of family (map shown self.now.objects)) position) }
     {
         self.orders.get(family).rank_at(position)
     }
@@ -80,8 +80,8 @@ impl<'a> RankedObjects<'a> {
         class: Class,
         reference: &Value,
     ) -> Option<(usize, &SharedKey)>
-        ensures { option_map (λ r. (r.0, r.1.now)) result ≡ option_map (ranked_key (map shown self.now) (family_chosen class))
-            (option_and_then (key_among (map shown self.now) (family_chosen class)) (as_str (view reference.now))) }
+        ensures { option_map (λ r. (r.0, r.1.now)) result ≡ option_map (ranked_key (map shown self.now.objects) (family_chosen class))
+            (option_and_then (key_among (map shown self.now.objects) (family_chosen class)) (as_str (view reference.now))) }
     {
         let family = family_chosen(class);
         let index = self.table.position_in(family, reference.as_str()?)?;
@@ -91,8 +91,8 @@ impl<'a> RankedObjects<'a> {
     /// Returns the key of the object at this position among those that a selection of the class may name, with its rank, if
     /// there is such an object and it has a key.
     fn ranked_at(&self, class: Class, index: usize) -> Option<(usize, &SharedKey)>
-        ensures { option_map (λ r. (r.0, r.1.now)) result ≡ option_map (ranked_key (map shown self.now) (family_chosen class))
-            (option_and_then (λ k. k.key) (slice_get (those_of (family_chosen class) (map shown self.now)) index)) }
+        ensures { option_map (λ r. (r.0, r.1.now)) result ≡ option_map (ranked_key (map shown self.now.objects) (family_chosen class))
+            (option_and_then (λ k. k.key) (slice_get (those_of (family_chosen class) (map shown self.now.objects)) index)) }
     {
         let family = family_chosen(class);
         let key = self.table.shared_key_at(family, index)?;
@@ -102,8 +102,8 @@ impl<'a> RankedObjects<'a> {
 
     /// Returns the rank of a key among those that a selection of the class may name, if one of them is equal to it.
     pub(crate) fn rank_of(&self, class: Class, key: &Key) -> Option<usize>
-        ensures { result ≡ (if is_key_among (map shown self.now) (family_chosen class) key.now
-            then Some (rank_among (map shown self.now) (family_chosen class) (Some key.now)) else None) }
+        ensures { result ≡ (if is_key_among (map shown self.now.objects) (family_chosen class) key.now
+            then Some (rank_among (map shown self.now.objects) (family_chosen class) (Some key.now)) else None) }
     {
         let family = family_chosen(class);
         let index = self.table.position_of_key(family, key)?;
@@ -117,7 +117,7 @@ impl<'a> RankedObjects<'a> {
         alloc: Global,
         family: Family,
     ) -> Result<Vec<(Option<&Key>, usize)>, AllocError>
-        ensures { IfOk result (λ rising. seen_keys rising.items ≡ rising_keys_among (map shown self.now) family) }
+        ensures { IfOk result (λ rising. seen_keys rising.items ≡ rising_keys_among (map shown self.now.objects) family) }
     {
         match family {
             Family::Selection => in_rising_order(keys_of_family(alloc, &self.table, family)?),
@@ -128,8 +128,8 @@ impl<'a> RankedObjects<'a> {
 
 /// Returns the order of the objects of the family by their keys. That of the selections, which have no keys, is empty.
 fn order_of(alloc: Global, objects: &ObjectTable, family: Family) -> Result<Order, AllocError>
-    requires distinct { HaveDistinctKeys (map shown objects.now) }
-    ensures { IfOk result (λ order. has_keys family ≡ true → IsOrder (family_keys (map shown objects.now) family) order) }
+    requires distinct { HaveDistinctKeys (map shown objects.now.objects) }
+    ensures { IfOk result (λ order. has_keys family ≡ true → IsOrder (family_keys (map shown objects.now.objects) family) order) }
 {
     match family {
         Family::Selection => Order::of(alloc, Vec::new(alloc)),
@@ -143,7 +143,7 @@ fn keys_of_family<'b>(
     objects: &'b ObjectTable,
     family: Family,
 ) -> Result<Vec<(Option<&'b Key>, usize)>, AllocError>
-    ensures { IfOk result (λ keys. seen_keys keys.items ≡ positioned 0 (family_keys (map shown objects.now) family)) }
+    ensures { IfOk result (λ keys. seen_keys keys.items ≡ positioned 0 (family_keys (map shown objects.now.objects) family)) }
 {
     let count = objects.count(family);
     let mut keys = Vec::with_capacity(alloc, count)?;
@@ -160,7 +160,7 @@ fn keys_at<'b>(
     family: Family,
     positions: &[usize],
 ) -> Result<Vec<(Option<&'b Key>, usize)>, AllocError>
-    ensures { IfOk result (λ keys. seen_keys keys.items ≡ map (λ i. (key_at_among (map shown objects.now) family i, i)) positions.now) }
+    ensures { IfOk result (λ keys. seen_keys keys.items ≡ map (λ i. (key_at_among (map shown objects.now.objects) family i, i)) positions.now) }
 {
     let mut keys = Vec::with_capacity(alloc, positions.len())?;
     for position in positions {

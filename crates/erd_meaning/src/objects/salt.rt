@@ -3,7 +3,8 @@ ghost use Rattle.std.specs.Prelude.{◌≡◌, ◌<◌, flat_map, map, option_ma
 ghost use Rattle.erd_index.specs.Salts.{fed, salt_start, start_of, text_writes, unfed};
 ghost use Rattle.serde_json.specs.View.{view, items_view, members_view, number_view};
 ghost use Rattle.erd_meaning.specs.code.CollectedWalks.{found};
-ghost use Rattle.erd_meaning.specs.code.SaltWrites.{hashed, hashed_writes, items_writes, triple_writes, members_writes, number_writes, option_writes, parts_writes, selection_in, value_writes};
+ghost use Rattle.erd_meaning.specs.code.HashedMet.{hashed};
+ghost use Rattle.erd_meaning.specs.SaltWrites.{hashed_writes, items_writes, triple_writes, members_writes, number_writes, option_writes, parts_writes, value_writes, whole_selection};
 
 use crate::keys::triple::Triple;
 use crate::objects::collected::Found;
@@ -71,7 +72,7 @@ fn feed_parts(
 
 /// Returns the value if it is a selection.
 fn selection_in(family: Family, value: &Value) -> Option<&Value>
-    ensures { option_map (λ v. view v.now) result ≡ selection_in family (view value.now) }
+    ensures { option_map (λ v. view v.now) result ≡ whole_selection family (view value.now) }
 {
     match family {
         Family::Selection => Some(value),

@@ -1,4 +1,5 @@
 ghost use Rattle.std.specs.Prelude.{◌≡◌, ◌==◌, ◌<◌, ◌+◌, ◌++◌, ◌∷◌, ℕ, List, [], length, map, option_and_then, option_map, slice_get, is_some, bytes_eq, false, true, OnOk, OnErr, IfOk, IfSome, if◌then◌else◌, Some, None, vec_len, vec_capacity, option_copied};
+ghost use Rattle.erd_index.specs.Salts.{start_of};
 ghost use Rattle.erd_meaning.specs.Words.{option_map_or, option_or, get_by, spare, Family, list_any, Key};
 ghost use Rattle.erd_meaning.specs.code.ObjectIndexes.{IsStart, contests_before, contests_noted, is_in_contest, number_among, number_of_id, number_of_key};
 ghost use Rattle.erd_meaning.specs.code.Indexed.{is_salted_id, is_salted_owned, same_owned};
@@ -39,7 +40,8 @@ pub(crate) struct Earlier {
     pub(crate) has_id: bool,
 }
 
-/// The objects of a report in the order of their places, indexed by family, by `@id` and by key. Contracts see the objects.
+/// The objects of a report in the order of their places, indexed by family, by `@id` and by key. Contracts see the objects, and
+/// the hasher that the salt of the indexes starts.
 /// For each selection, the table has the number of contests before it. The last of these is the contest of the selection.
 ///
 /// If several objects have the same `@id`, or several objects of a family have the same key, the indexes have the first.
@@ -55,19 +57,23 @@ pub(crate) struct ObjectTable<'a> {
 }
 
 impl<'a> Model for ObjectTable<'a> {
-    ghost use Rattle.std.specs.Prelude.{List, map};
+    ghost use Rattle.std.specs.Prelude.{map};
+    ghost use Rattle.erd_index.specs.Salts.{start_of};
     ghost use Rattle.erd_meaning.specs.Words.{get_by, codes};
     ghost use Rattle.serde_json.specs.contracts.value.Value as tree_value;
-    ghost use Rattle.erd_meaning.specs.declared.objects.table.Object.{Object};
+    ghost use Rattle.erd_meaning.specs.code.Held.{HeldObjects};
     ghost use Rattle.erd_meaning.specs.code.Indexed.{IsIndexed, is_salted_id, is_salted_owned};
     ghost use Rattle.erd_meaning.specs.code.ObjectIndexes.{list_of};
     ghost use Rattle.erd_meaning.specs.code.Shown.{shown};
 
-    ghost Value = { List Object };
+    ghost Value = { HeldObjects };
 
     ghost coded = { Prim.hlevel (codes, tree_value.the_row.coded) };
 
-    ghost view = { λ t. t.objects.items };
+    ghost view = { λ t. record {
+      start = start_of t.salt;
+      objects = t.objects.items;
+    } };
 
     ghost invariant = { λ t. IsIndexed
         (map shown t.objects.items)
@@ -84,7 +90,8 @@ impl<'a> ObjectTable<'a> {
         salt: Salt,
         capacity: usize,
     ) -> Result<ObjectTable<'a>, AllocError>
-        ensures { IfOk result (λ table. table ≡ []) }
+        ensures start { IfOk result (λ table. table.start ≡ start_of salt) }
+        ensures objects { IfOk result (λ table. table.objects ≡ []) }
     {
         Ok(ObjectTable {
             objects: Vec::with_capacity(alloc, capacity)?,
@@ -104,9 +111,10 @@ impl<'a> ObjectTable<'a> {
         key: Option<Triple<'a>>,
     ) -> Result<Earlier, AllocError>
         requires { key ≡ object.key }
-        ensures pushed { OnOk result (self.new ≡ self.old ++ object.entry ∷ []) }
-        ensures has_key { IfOk result (λ earlier. earlier.has_key ≡ list_any (has_same_key (shown object.entry)) (map shown self.old)) }
-        ensures has_id { IfOk result (λ earlier. earlier.has_id ≡ list_any (has_same_id (shown object.entry)) (map shown self.old)) }
+        ensures pushed { OnOk result (self.new.objects ≡ self.old.objects ++ object.entry ∷ []) }
+        ensures start { OnOk result (self.new.start ≡ self.old.start) }
+        ensures has_key { IfOk result (λ earlier. earlier.has_key ≡ list_any (has_same_key (shown object.entry)) (map shown self.old.objects)) }
+        ensures has_id { IfOk result (λ earlier. earlier.has_id ≡ list_any (has_same_id (shown object.entry)) (map shown self.old.objects)) }
     {
         let family = object.family;
         let number = self.places.of(family).len();
@@ -126,7 +134,9 @@ impl<'a> ObjectTable<'a> {
     }
 
     /// Returns the salt under which the indexes hash their keys.
-    pub(crate) fn salt(&self) -> Salt {
+    pub(crate) fn salt(&self) -> Salt
+        ensures { start_of result ≡ self.now.start }
+    {
         self.salt
     }
 
@@ -137,14 +147,14 @@ impl<'a> ObjectTable<'a> {
 
     /// Returns the number of objects of the family.
     pub(crate) fn count(&self, family: Family) -> usize
-        ensures { result ≡ length (those_of family (map shown self.now)) }
+        ensures { result ≡ length (those_of family (map shown self.now.objects)) }
     {
         self.places.of(family).len()
     }
 
     /// Returns whether the selection is in the contest. Both are given by their position in their family.
     pub(crate) fn is_in_contest(&self, contest: usize, selection: usize) -> bool
-        ensures { result ≡ is_in_contest (map shown self.now) contest selection }
+        ensures { result ≡ is_in_contest (map shown self.now.objects) contest selection }
     {
         match self.contests_before.get(selection) {
             Some(before) => is_next(contest, *before),
@@ -154,7 +164,7 @@ impl<'a> ObjectTable<'a> {
 
     /// Returns the position of the contest of the selection, if there are such.
     pub(crate) fn contest_of(&self, selection: usize) -> Option<usize>
-        ensures { IfSome result (λ contest. is_in_contest (map shown self.now) contest selection ≡ true) }
+        ensures { IfSome result (λ contest. is_in_contest (map shown self.now.objects) contest selection ≡ true) }
     {
         match self.contests_before.get(selection) {
             Some(before) => before.checked_sub(1),
@@ -164,7 +174,7 @@ impl<'a> ObjectTable<'a> {
 
     /// Returns the position of the first selection that is in the contest at the position, or in a later one.
     pub(crate) fn first_selection(&self, contest: usize) -> usize
-        ensures { IsStart (contests_before 0 (map shown self.now)) contest result }
+        ensures { IsStart (contests_before 0 (map shown self.now.objects)) contest result }
     {
         self.contests_before
             .partition_point(|before| *before <= contest)
@@ -172,7 +182,7 @@ impl<'a> ObjectTable<'a> {
 
     /// Returns the object of the family at the position, if there is one.
     pub(crate) fn get(&self, family: Family, index: usize) -> Option<&Object<'a>>
-        ensures { option_map (λ o. shown o.now) result ≡ slice_get (those_of family (map shown self.now)) index }
+        ensures { option_map (λ o. shown o.now) result ≡ slice_get (those_of family (map shown self.now.objects)) index }
     {
         let place = *self.places.of(family).get(index)?;
         let object = self.objects.get(place)?;
@@ -181,7 +191,7 @@ impl<'a> ObjectTable<'a> {
 
     /// Returns whether an object has the `@id`.
     pub(crate) fn has_id(&self, id: &str) -> bool
-        ensures { result ≡ is_known (map shown self.now) id.now }
+        ensures { result ≡ is_known (map shown self.now.objects) id.now }
     {
         let number = self.salt.text_number(id);
         self.ids.contains_key(&Salted { number, key: id })
@@ -189,7 +199,7 @@ impl<'a> ObjectTable<'a> {
 
     /// Returns the key of the object of the family at the position, if there is such an object and it has a key.
     pub(crate) fn key_at(&self, family: Family, index: usize) -> Option<&Key>
-        ensures { option_copied result ≡ option_and_then (λ k. k.key) (slice_get (those_of family (map shown self.now)) index) }
+        ensures { option_copied result ≡ option_and_then (λ k. k.key) (slice_get (those_of family (map shown self.now.objects)) index) }
     {
         match self.shared_key_at(family, index) {
             Some(shared) => Some(shared.key()),
@@ -199,7 +209,7 @@ impl<'a> ObjectTable<'a> {
 
     /// Returns the key of the object, as `key_at` does, in the form in which it can have more owners.
     pub(crate) fn shared_key_at(&self, family: Family, index: usize) -> Option<&SharedKey>
-        ensures { option_copied result ≡ option_and_then (λ k. k.key) (slice_get (those_of family (map shown self.now)) index) }
+        ensures { option_copied result ≡ option_and_then (λ k. k.key) (slice_get (those_of family (map shown self.now.objects)) index) }
     {
         match self.get(family, index) {
             Some(object) => object.key.as_ref(),
@@ -210,7 +220,7 @@ impl<'a> ObjectTable<'a> {
     /// Returns the position of the election that has the object of the family at the position in one of its arrays, if there are
     /// such.
     pub(crate) fn election_of(&self, family: Family, index: usize) -> Option<usize>
-        ensures { result ≡ option_and_then (λ k. k.election) (slice_get (those_of family (map shown self.now)) index) }
+        ensures { result ≡ option_and_then (λ k. k.election) (slice_get (those_of family (map shown self.now.objects)) index) }
     {
         match self.get(family, index) {
             Some(object) => object.election,
@@ -220,7 +230,7 @@ impl<'a> ObjectTable<'a> {
 
     /// Returns the position in the family of the object with the `@id`, if there is such an object and it is of the family.
     pub(crate) fn position_in(&self, family: Family, id: &str) -> Option<usize>
-        ensures { result ≡ number_among (map shown self.now) family id.now }
+        ensures { result ≡ number_among (map shown self.now.objects) family id.now }
     {
         let (own, index) = self.position_of_id(id)?;
         if own == family { Some(index) } else { None }
@@ -228,7 +238,7 @@ impl<'a> ObjectTable<'a> {
 
     /// Returns the position of the object of the family with the key, if there is one.
     pub(crate) fn position_of_key(&self, family: Family, key: &Key) -> Option<usize>
-        ensures { result ≡ number_of_key (map shown self.now) family key.now }
+        ensures { result ≡ number_of_key (map shown self.now.objects) family key.now }
     {
         let key = Triple::of_key(key);
         let number = self.salt.number(&key);
@@ -238,7 +248,7 @@ impl<'a> ObjectTable<'a> {
 
     /// Returns the family of the object with the `@id` and its position there, if there is such an object.
     pub(crate) fn position_of_id(&self, id: &str) -> Option<(Family, usize)>
-        ensures { result ≡ number_of_id (map shown self.now) id.now }
+        ensures { result ≡ number_of_id (map shown self.now.objects) id.now }
     {
         let number = self.salt.text_number(id);
         self.ids.get(&Salted { number, key: id }).copied()

@@ -100,7 +100,7 @@ impl<'a> ObjectTable<'a> {
     /// Returns the family of the object with the `@id` and its position there, as `position_of_id` does, if no two objects have
     /// one `@id`. It looks first at the objects of a family to which the trail leads.
     pub(crate) fn position_on_trail(&self, family: Family, id: &str) -> Option<(Family, usize)>
-        ensures { HaveOwnIds (map shown self.now) → result ≡ number_of_id (map shown self.now) id.now }
+        ensures { HaveOwnIds (map shown self.now.objects) → result ≡ number_of_id (map shown self.now.objects) id.now }
     {
         let trail = self.trail(family);
         let last = trail.last.get();
@@ -116,7 +116,7 @@ impl<'a> ObjectTable<'a> {
     /// Returns the family of the object with the `@id` and its position there. It looks first at the objects of a family at
     /// these positions.
     fn position_near(&self, family: Family, near: &[usize], id: &str) -> Option<(Family, usize)>
-        ensures { HaveOwnIds (map shown self.now) → result ≡ number_of_id (map shown self.now) id.now }
+        ensures { HaveOwnIds (map shown self.now.objects) → result ≡ number_of_id (map shown self.now.objects) id.now }
     {
         for position in near {
             if self.has_id_at(family, *position, id) {
@@ -128,7 +128,7 @@ impl<'a> ObjectTable<'a> {
 
     /// Returns whether the object of the family at the position has the `@id`.
     pub(crate) fn has_id_at(&self, family: Family, position: usize, id: &str) -> bool
-        ensures { result ≡ true → HaveOwnIds (map shown self.now) → number_of_id (map shown self.now) id.now ≡ Some (family, position) }
+        ensures { result ≡ true → HaveOwnIds (map shown self.now.objects) → number_of_id (map shown self.now.objects) id.now ≡ Some (family, position) }
     {
         let Some(object) = self.get(family, position) else {
             return false;

@@ -24,7 +24,7 @@ impl<'b, 'a> ReferenceJudge<'b, 'a> {
         object: &Value,
         items: &[Value],
     ) -> Result<bool, AllocError>
-        ensures { IfOk result (λ clear. IsTrue clear → AreClear (map shown self.now.objects.now) (view object.now) family is_set (items_view items.now)) }
+        ensures { IfOk result (λ clear. IsTrue clear → AreClear (map shown self.now.objects.now.objects) (view object.now) family is_set (items_view items.now)) }
     {
         let mut positions = Vec::new(alloc);
         let mut home = None;
@@ -48,9 +48,9 @@ impl<'b, 'a> ReferenceJudge<'b, 'a> {
         object: &Value,
         item: &Value,
     ) -> Option<usize>
-        requires home { IfSome home.old (IsHome (map shown self.now.objects.now) (view object.now)) }
-        ensures clear { IfSome result (IsClear (map shown self.now.objects.now) (view object.now) family (view item.now)) }
-        ensures home { IfSome home.new (IsHome (map shown self.now.objects.now) (view object.now)) }
+        requires home { IfSome home.old (IsHome (map shown self.now.objects.now.objects) (view object.now)) }
+        ensures clear { IfSome result (IsClear (map shown self.now.objects.now.objects) (view object.now) family (view item.now)) }
+        ensures home { IfSome home.new (IsHome (map shown self.now.objects.now.objects) (view object.now)) }
     {
         let id = item.as_str()?;
         let (own, position) = self.objects.position_on_trail(family, id)?;
@@ -69,9 +69,9 @@ impl<'b, 'a> ReferenceJudge<'b, 'a> {
         home: &mut Option<usize>,
         object: &Value,
     ) -> bool
-        requires home { IfSome home.old (IsHome (map shown self.now.objects.now) (view object.now)) }
-        ensures away { result ≡ (is_selection_family family && is_selection_elsewhere (map shown self.now.objects.now) (view object.now) index) }
-        ensures home { IfSome home.new (IsHome (map shown self.now.objects.now) (view object.now)) }
+        requires home { IfSome home.old (IsHome (map shown self.now.objects.now.objects) (view object.now)) }
+        ensures away { result ≡ (is_selection_family family && is_selection_elsewhere (map shown self.now.objects.now.objects) (view object.now) index) }
+        ensures home { IfSome home.new (IsHome (map shown self.now.objects.now.objects) (view object.now)) }
     {
         if family != Family::Selection {
             return false;
@@ -93,7 +93,7 @@ impl<'b, 'a> ReferenceJudge<'b, 'a> {
     /// `ContestId` of the other object names. If this names no contest, returns `false`. An honest ballot names the contest of
     /// each selection, so its `@id` is compared first, and looked up only if it is another.
     pub(crate) fn is_elsewhere(&self, family: Family, index: usize, object: &Value) -> bool
-        ensures { result ≡ (is_selection_family family && is_selection_elsewhere (map shown self.now.objects.now) (view object.now) index) }
+        ensures { result ≡ (is_selection_family family && is_selection_elsewhere (map shown self.now.objects.now.objects) (view object.now) index) }
     {
         if family != Family::Selection {
             return false;
@@ -110,8 +110,8 @@ impl<'b, 'a> ReferenceJudge<'b, 'a> {
 
     /// Returns whether the selection is in the contest with this `@id`.
     fn is_in_contest_with(&self, selection: usize, id: &str) -> bool
-        ensures { result ≡ true → option_map_or (λ contest. not (is_in_contest (map shown self.now.objects.now) contest selection))
-            (number_among (map shown self.now.objects.now) family.Contest id.now) false ≡ false }
+        ensures { result ≡ true → option_map_or (λ contest. not (is_in_contest (map shown self.now.objects.now.objects) contest selection))
+            (number_among (map shown self.now.objects.now.objects) family.Contest id.now) false ≡ false }
     {
         match self.objects.contest_of(selection) {
             Some(contest) => self.objects.has_id_at(Family::Contest, contest, id),

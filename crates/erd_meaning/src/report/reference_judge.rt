@@ -1,7 +1,7 @@
 ghost use Rattle.std.specs.Prelude.{◌≡◌, ◌++◌, [], map, option_to_list, IfOk, IfErr, IsTrue, true, false, ⊤};
 ghost use Rattle.serde_json.specs.Data.{array, string};
 ghost use Rattle.erd_check.specs.Visits.{IsSilentMember};
-ghost use Rattle.erd_meaning.specs.Words.{Data, view, items_view, ListsAll, IsFaultless, IsShallow, IsTree, steps_of, faults_of, IsFault, ReferenceFault, RefusedFor};
+ghost use Rattle.erd_meaning.specs.Words.{Data, view, items_view, IsFaultless, IsShallow, steps_of, faults_of, IsFault, RefusedFor};
 ghost use Rattle.erd_meaning.specs.code.ObjectWalk.{kept_objects};
 ghost use Rattle.erd_meaning.specs.code.OwnIds.{HaveOwnIds};
 ghost use Rattle.erd_meaning.specs.code.Resolved.{IsIdentified, IsReferred};
@@ -13,41 +13,25 @@ use crate::objects::table::ObjectTable;
 use erd_check::joined_walk::{Visited, shape_with};
 use erd_check::path::{Path, push_fault};
 use erd_check::visitor::{Member, Visit, Visitor};
-use erd_check::walk::walk_report;
 use erd_check::want::Want;
 use erd_check::{CheckError, Shaped, is_among};
 use erd_tables::{Family, Fault, FaultList, MemberKind, Reason, Role};
 use serde_json::Value;
 use std::alloc::{AllocError, Global};
 
-/// Returns all faults of references in a report (reasons 15 to 17, and reason 11 for references), each once, by place
-/// and then by reason. Each reference is looked up in `objects`, which are those of the report.
+/// Returns a report as a `Shaped` if it has no fault of the shape and none of references, or the faults of the first of these two
+/// that has any. Both are judged in one walk, and each reference is looked up in `objects`, which are those of the report. The
+/// faults of references (reasons 15 to 17, and reason 11 for references) stand by place and then by reason.
 ///
 /// The walk passes over identifiers, texts and carried values, in which no reference stands. Only faults and sets of more
 /// than 16 entries take memory.
-pub(crate) fn reference_faults(
-    keys: &KeyRule,
-    tree: &Value,
-    objects: &ObjectTable,
-) -> Result<FaultList, AllocError>
-    requires is_tree { IsTree (view tree.now) }
-    requires kept { map shown objects.now ≡ kept_objects keys.now (view tree.now) }
-    requires identified { IsIdentified keys.now tree.now }
-    ensures { IfOk result (ListsAll (ReferenceFault (view tree.now))) }
-{
-    let found = walk_report(keys.alloc, &ReferenceJudge { objects }, tree)?;
-    Ok(FaultList::of(found))
-}
-
-/// Returns a report as a `Shaped` if it has no fault of the shape and none of references, or the faults of the first of these two
-/// that has any. Both are judged in one walk, and each reference is looked up in `objects`, which are those of the report.
 pub(crate) fn shape_with_references<'a>(
     keys: &KeyRule,
     tree: &'a Value,
     objects: &ObjectTable,
 ) -> Result<Shaped<'a>, CheckError>
     requires nests { IsShallow (view tree.now) }
-    requires kept { map shown objects.now ≡ kept_objects keys.now (view tree.now) }
+    requires kept { map shown objects.now.objects ≡ kept_objects keys.now (view tree.now) }
     requires identified { IsIdentified keys.now tree.now }
     ensures tree { IfOk result (λ s. s ≡ tree.now) }
     ensures faultless { IfOk result (λ _. IsFaultless tree.now) }
@@ -67,11 +51,11 @@ pub(crate) fn shape_with_references<'a>(
 #[derive(Drop)]
 pub(crate) struct ReferenceJudge<'b, 'a> {
     pub(crate) objects: &'b ObjectTable<'a>,
-    ghost told_apart: { HaveOwnIds (map shown objects.now) },
+    ghost told_apart: { HaveOwnIds (map shown objects.now.objects) },
 }
 
 impl<'b, 'a> Visitor for ReferenceJudge<'b, 'a> {
-    ghost tells = { λ j. reference_reasons_told (map shown j.objects.now) };
+    ghost tells = { λ j. reference_reasons_told (map shown j.objects.now.objects) };
 
     ghost Known = { λ _ _ _. ⊤ };
 
@@ -134,7 +118,7 @@ fn may_have_references(want: Want) -> bool
 impl<'b, 'a> ReferenceJudge<'b, 'a> {
     /// Returns `true` only if a member with this text is not a faulty reference.
     fn is_clear_text(&self, want: Want, text: &str) -> bool
-        ensures { result ≡ true → (outer : Data) → reference_reasons_told (map shown self.now.objects.now) outer want false (string text.now) ≡ [] }
+        ensures { result ≡ true → (outer : Data) → reference_reasons_told (map shown self.now.objects.now.objects) outer want false (string text.now) ≡ [] }
     {
         match want {
             Want::Reference(family) => self.is_clear_anywhere(family, text),
@@ -152,7 +136,7 @@ impl<'b, 'a> ReferenceJudge<'b, 'a> {
         items: &[Value],
     ) -> Result<bool, AllocError>
         ensures { IfOk result (λ clear. IsTrue clear
-            → IsSilentMember (reference_reasons_told (map shown self.now.objects.now)) (view owner.now) want (array (items_view items.now))) }
+            → IsSilentMember (reference_reasons_told (map shown self.now.objects.now.objects)) (view owner.now) want (array (items_view items.now))) }
     {
         match want {
             Want::Member(MemberKind::Many(family), _) => {
@@ -168,7 +152,7 @@ impl<'b, 'a> ReferenceJudge<'b, 'a> {
     /// Returns `true` only if a reference to the family with this text has no fault, whatever object has it. Of a selection this
     /// depends on the object.
     fn is_clear_anywhere(&self, family: Family, id: &str) -> bool
-        ensures { result ≡ true → (outer : Data) → id_reasons (map shown self.now.objects.now) outer family id.now ≡ [] }
+        ensures { result ≡ true → (outer : Data) → id_reasons (map shown self.now.objects.now.objects) outer family id.now ≡ [] }
     {
         if family == Family::Selection {
             return false;
@@ -182,7 +166,7 @@ impl<'b, 'a> ReferenceJudge<'b, 'a> {
     /// Returns the reason for which a reference with this text is refused, if there is one, except that it is repeated. If
     /// the reference is an entry of a list, `object` is the object that has the list.
     fn id_reason(&self, family: Family, id: &str, object: &Value) -> Option<Reason>
-        ensures { option_to_list result ≡ id_reasons (map shown self.now.objects.now) (view object.now) family id.now }
+        ensures { option_to_list result ≡ id_reasons (map shown self.now.objects.now.objects) (view object.now) family id.now }
     {
         let Some((own, index)) = self.objects.position_on_trail(family, id) else {
             return Some(Reason::Unresolved);

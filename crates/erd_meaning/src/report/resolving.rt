@@ -1,8 +1,10 @@
 ghost use Rattle.std.specs.Prelude.{◌≡◌, false, map, option_copied, None, IfOk, IfErr};
-ghost use Rattle.erd_meaning.specs.Words.{view, has_float, IsBounded, RefusedFor, IsFaultless, IsTree, IsAccepted, IsFault, IdentityFault, ReferenceFault, SelectionFault};
+ghost use Rattle.erd_meaning.specs.Words.{view, has_float, IsBounded, RefusedFor, IsFaultless, IsAccepted, IsFault, IdentityFault, SelectionFault, report_start};
+ghost use Rattle.erd_meaning.specs.code.Held.{AreSalted};
 ghost use Rattle.erd_meaning.specs.code.ObjectWalk.{election_keys, kept_objects};
 ghost use Rattle.erd_meaning.specs.code.RanksAmong.{AllAreRanked, names_of};
 ghost use Rattle.erd_meaning.specs.code.Resolved.{AreNames, IsIdentified, IsReferred, IsResolved, IsToldApart};
+ghost use Rattle.erd_meaning.specs.code.SaltLaws.{KeepsEachIndex};
 ghost use Rattle.erd_meaning.specs.code.Shown.{shown};
 
 use crate::keys::key_rule::KeyRule;
@@ -15,7 +17,7 @@ use crate::objects::filled::{Tables, filled};
 use crate::objects::ranked_objects::RankedObjects;
 use crate::objects::salt::salt_of;
 use crate::objects::table::ObjectTable;
-use crate::report::reference_judge::reference_faults;
+use crate::report::accepting::accept_with;
 use crate::report::{Elections, Indexes, Report};
 use erd_check::{CheckError, Shaped};
 use erd_index::SaltedSet;
@@ -50,6 +52,8 @@ pub fn resolve<'a>(alloc: Global, shaped: Shaped<'a>) -> Result<Report<'a>, Chec
 /// `Report` has its own copy of the preference. It has indexes of the objects by `@id` and by key, and of the selections by
 /// contest and name.
 ///
+/// It judges as `accept_with` does, which needs no `Shaped`: a caller who has not asked for the shape by itself calls that.
+///
 /// # Errors
 ///
 /// `CheckError::Faults` if the report is not accepted. The list has all faults of the first phase that has any: identity
@@ -73,11 +77,7 @@ pub fn resolve_with<'a>(
     ensures refused { IfErr result (RefusedFor (IsFault (option_copied prefer.entry) (view shaped.entry))) }
 {
     let tree = shaped.tree();
-    let keys = KeyRule { alloc, prefer };
-    let (objects, elections) = objects_told_apart(&keys, tree)?;
-    check_references(&keys, tree, &objects)?;
-    let report = with_names(&keys, shaped, objects, elections)?;
-    Ok(report)
+    accept_with(alloc, tree, prefer)
 }
 
 /// Resolves a report with these objects and elections, of which all is known but that its selections are told apart.
@@ -87,8 +87,9 @@ pub(crate) fn with_names<'a>(
     objects: ObjectTable<'a>,
     elections: ElectionTable<'a>,
 ) -> Result<Report<'a>, CheckError>
-    requires kept { map shown objects ≡ kept_objects keys.now (view shaped) }
-    requires elections { elections ≡ election_keys keys.now (view shaped) }
+    requires kept { map shown objects.objects ≡ kept_objects keys.now (view shaped) }
+    requires elections { elections.keys ≡ election_keys keys.now (view shaped) }
+    requires salted { AreSalted (report_start keys.now (view shaped)) objects elections }
     requires few { IsBounded (view shaped) }
     requires identified { IsIdentified keys.now shaped }
     requires referred { IsReferred shaped }
@@ -111,9 +112,11 @@ fn indexed<'a>(
     names: SaltedSet<(usize, RankedName<SelectionName>)>,
     elections: ElectionTable<'a>,
 ) -> Result<Report<'a>, AllocError>
-    requires resolved { IsResolved keys.now tree.now objects (names_of names) }
-    requires ranked { AllAreRanked (map shown objects) names }
-    requires elections { elections ≡ election_keys keys.now (view tree.now) }
+    requires resolved { IsResolved keys.now tree.now objects.objects (names_of names.keys) }
+    requires ranked { AllAreRanked (map shown objects.objects) names.keys }
+    requires elections { elections.keys ≡ election_keys keys.now (view tree.now) }
+    requires salted { AreSalted (report_start keys.now (view tree.now)) objects elections }
+    requires names_salted { names.start ≡ report_start keys.now (view tree.now) }
     ensures tree { IfOk result (λ r. r.tree ≡ tree.now) }
     ensures prefer { IfOk result (λ r. r.prefer ≡ keys.now) }
 {
@@ -148,9 +151,11 @@ pub(crate) fn objects_told_apart<'a>(
     tree: &'a Value,
 ) -> Result<(ObjectTable<'a>, ElectionTable<'a>), CheckError>
     ensures identified { IfOk result (λ _. IsIdentified keys.now tree.now) }
-    ensures kept { IfOk result (λ r. map shown r.0 ≡ kept_objects keys.now (view tree.now)) }
-    ensures elections { IfOk result (λ r. r.1 ≡ election_keys keys.now (view tree.now)) }
+    ensures kept { IfOk result (λ r. map shown r.0.objects ≡ kept_objects keys.now (view tree.now)) }
+    ensures elections { IfOk result (λ r. r.1.keys ≡ election_keys keys.now (view tree.now)) }
+    ensures salted { IfOk result (λ r. AreSalted (report_start keys.now (view tree.now)) r.0 r.1) }
     ensures few { IfOk result (λ _. IsBounded (view tree.now)) }
+    ensures covers { IfOk result (λ _. KeepsEachIndex keys.now (view tree.now)) }
     ensures refused { IfErr result (RefusedFor (IdentityFault keys.now (view tree.now))) }
 {
     let found = collected(keys, tree)?;
@@ -168,36 +173,21 @@ pub(crate) fn objects_told_apart<'a>(
     }
 }
 
-/// Checks that a report has no faults of references.
-fn check_references(keys: &KeyRule, tree: &Value, objects: &ObjectTable) -> Result<(), CheckError>
-    requires is_tree { IsTree (view tree.now) }
-    requires kept { map shown objects.now ≡ kept_objects keys.now (view tree.now) }
-    requires identified { IsIdentified keys.now tree.now }
-    ensures referred { IfOk result (λ _. IsReferred tree.now) }
-    ensures refused { IfErr result (RefusedFor (ReferenceFault (view tree.now))) }
-{
-    let references = reference_faults(keys, tree, objects)?;
-    if references.len() == 0 {
-        Ok(())
-    } else {
-        Err(CheckError::Faults(references))
-    }
-}
-
 /// Returns the names of the selections of a report, or its faults of selections.
 fn names_told_apart(
     keys: &KeyRule,
     tree: &Value,
     objects: &RankedObjects,
 ) -> Result<SaltedSet<(usize, RankedName<SelectionName>)>, CheckError>
-    requires kept { map shown objects.now ≡ kept_objects keys.now (view tree.now) }
+    requires kept { map shown objects.now.objects ≡ kept_objects keys.now (view tree.now) }
     requires few { IsBounded (view tree.now) }
     requires identified { IsIdentified keys.now tree.now }
     requires faultless { IsFaultless tree.now }
     requires whole { has_float (view tree.now) ≡ false }
     ensures told_apart { IfOk result (λ _. IsToldApart keys.now tree.now) }
-    ensures named { IfOk result (λ names. AreNames keys.now (view tree.now) (names_of names)) }
-    ensures ranked { IfOk result (λ names. AllAreRanked (map shown objects.now) names) }
+    ensures named { IfOk result (λ names. AreNames keys.now (view tree.now) (names_of names.keys)) }
+    ensures ranked { IfOk result (λ names. AllAreRanked (map shown objects.now.objects) names.keys) }
+    ensures start { IfOk result (λ names. names.start ≡ objects.now.start) }
     ensures refused { IfErr result (RefusedFor (SelectionFault keys.now (view tree.now))) }
 {
     let mut walk = SelectionWalk {

@@ -1,15 +1,14 @@
 -- Canonical `@id` texts, elections that are matched, entries that a contest has, and the envelope that is built.
-use Rattle.erd_normal.proofs.Common.{◌≡◌, ℕ, ◌+◌, ◌^◌, ◌<◌, ◌≤◌, List, [], ◌∷◌, ◌++◌, length, take, drop, Some, None, Option, find, flat_map, bytes_eq, unwrap_or, sym, refl, ap, ◌∙◌, subst, ap₂, arith, length-append, Data, families, Family, family, Placed, contests, selections_of_contest, objects, IsBounded, decimal, decimal_is_IsNumeral, decimal_injective, id_prefix, canonical_id, canonical_selection_id, In, inl, inr, true, map, nat_lt, true≢false, false_from_ne_true, tied_itself, length-map, IsDistinct, election_has_identifier, no_identity_fault, distinct_from_one_place, distinct_map, distinct_one, IsAccepted, Preference, key_of, elections, has_several, key_cmp_total, Key, In-map, In-map_from, false, codes, option_and_then, AllByRecursion, array, object, Items, Members, get_member, get_item, as_str, class, role, kind, Step, At, Name, array_from, Within-step, of_role, asked_inside_object, wanted_within, lacks_none, Within, list_of_items, entries_at, text_at, Asked, asked, asked_inside, asked_at, Member, Reference, is_selection_in, owner, asked_at-steps, text_of, Object, no_shape_fault, selected, class_of_node, IsSomeAnd, IsTrue, string, get, Reason, reason, ShapeFault, NoneOf, IsTree, class_of_object, member_want, asked_of_member, asked_from, Want, unsigned, number, is_shape_fault, envelope_rows, HasSoundEnvelope, normal_tree}
+use Rattle.erd_normal.proofs.Common.{HasCanonicalEnvelope, ◌≡◌, ℕ, ◌+◌, ◌^◌, ◌<◌, ◌≤◌, List, [], ◌∷◌, ◌++◌, length, take, drop, Some, None, Option, find, flat_map, bytes_eq, unwrap_or, sym, refl, ap, ◌∙◌, subst, ap₂, arith, length-append, Data, families, Family, family, Placed, contests, selections_of_contest, objects, IsBounded, decimal, decimal_is_IsNumeral, decimal_injective, id_prefix, canonical_id, canonical_selection_id, In, inl, inr, true, map, nat_lt, true≢false, false_from_ne_true, tied_itself, length-map, IsDistinct, election_has_identifier, no_identity_fault, distinct_from_one_place, distinct_map, distinct_one, IsAccepted, Preference, key_of, elections, has_several, key_cmp_total, Key, In-map, In-map_from, false, codes, option_and_then, AllByRecursion, array, object, Items, Members, get_member, get_item, as_str, class, role, kind, Step, At, Name, array_from, Within-step, of_role, asked_inside_object, wanted_within, lacks_none, Within, list_of_items, entries_at, text_at, Asked, asked, asked_inside, asked_at, Member, Reference, is_selection_in, owner, asked_at-steps, text_of, Object, no_shape_fault, selected, class_of_node, IsSomeAnd, IsTrue, string, get, Reason, reason, ShapeFault, class_of_object, member_want, asked_of_member, asked_from, Want, unsigned, number, is_shape_fault, envelope_rows, HasSoundEnvelope}
 use Rattle.std.specs.Char.{digit_value}
 use Rattle.std.specs.Str.Parse.{AllDigits}
 use Rattle.erd_meaning.specs.code.ObjectWalk.{same_key}
 use Rattle.erd_meaning.proofs.finding.Found.{one_election_key}
 use Rattle.erd_meaning.proofs.identity.IdentityFaults.{same_key_from}
 use Rattle.erd_normal.proofs.lists.Matched.{IsEven, Matched, distinct_matched, matched_back, matched_length}
-use Rattle.erd_normal.proofs.built.BuiltFrom.{all_items}
+use Rattle.erd_normal.proofs.inside.Entries.{all_items}
 use Rattle.erd_normal.proofs.same.IdsOfObjects.{Refers, reference_refers}
-use Rattle.erd_normal.proofs.built.BuiltObjects.{class_of_built_report, has_canonical_envelope}
-use Rattle.erd_normal.proofs.throughout.ThroughoutReports.{row_named}
+use Rattle.erd_normal.proofs.inside.Homes.{row_named}
 
 -- ---- canonical `@id` texts tell objects and selections apart, as long as a report has fewer of them than a word counts
 
@@ -203,10 +202,7 @@ whole_sound : (n : ℕ) (q : List Step) (r : Reason) → FaultIn (Some (asked (M
 whole_sound n [] r h = true≢false (sym h ∙ whole_local n r)
 whole_sound n d r h = h
 
-module _ (π : Preference) (t : Data) (clean : NoneOf (ShapeFault t)) (tree : IsTree t) where
-  abbrev u : Data
-  u = normal_tree π t
-
+module _ (u : Data) (known : class_of_object role.Report u ≡ Some class.ElectionReport) (e : HasCanonicalEnvelope u) where
   -- nothing has a fault of shape under the name
   abbrev IsSoundUnder : List ℕ → Type 0
   IsSoundUnder n = (q : List Step) (r : Reason) → ShapeFault u (Name n ∷ q) r → ⊥
@@ -214,7 +210,7 @@ module _ (π : Preference) (t : Data) (clean : NoneOf (ShapeFault t)) (tree : Is
   sound_under : (n : List ℕ) (w : Want) (o : Option Data) → bytes_eq n (codes "@type") ≡ false → member_want class.ElectionReport n ≡ w → get n u ≡ o
       → ((q : List Step) (r : Reason) → FaultIn (asked_of_member (Some w) o) q r → ⊥) → IsSoundUnder n
   sound_under n w o other wants stands sound q r h =
-      sound q r (subst (λ x. FaultIn x q r) (asked_under u n (class_of_built_report π t clean tree) other ∙ ap₂ (λ v x. asked_of_member (Some v) x) wants stands) h)
+      sound q r (subst (λ x. FaultIn x q r) (asked_under u n known other ∙ ap₂ (λ v x. asked_of_member (Some v) x) wants stands) h)
 
   word_under : (n s : List ℕ) → bytes_eq n (codes "@type") ≡ false → member_want class.ElectionReport n ≡ Member kind.Word false → get n u ≡ Some (string s) → IsSoundUnder n
   word_under n s other wants stands = sound_under n (Member kind.Word false) (Some (string s)) other wants stands (word_sound s)
@@ -227,12 +223,11 @@ module _ (π : Preference) (t : Data) (clean : NoneOf (ShapeFault t)) (tree : Is
 
   rows_sound : AllByRecursion (λ row. IsSoundUnder row.name) envelope_rows
   rows_sound =
-      let e = has_canonical_envelope π t clean tree in
       let numbers : AllByRecursion (λ row. IsSoundUnder row.name) (drop 6 envelope_rows) = (whole_under (codes "SequenceStart") _ refl refl e.start, (whole_under (codes "SequenceEnd") _ refl refl e.end, (absent_under (codes "ExternalIdentifier") refl e.identifiers, tt))) in
       let names : AllByRecursion (λ row. IsSoundUnder row.name) (drop 3 envelope_rows) = (word_under (codes "IssuerAbbreviation") _ refl refl e.abbreviation, (word_under (codes "VendorApplicationId") _ refl refl e.application, (absent_under (codes "Notes") refl e.notes, numbers))) in
       (word_under (codes "Format") _ refl refl e.format, (word_under (codes "GeneratedDate") _ refl refl e.date, (word_under (codes "Issuer") _ refl refl e.issuer, names)))
 
   -- the envelope of the report that is built is sound
-  pub sound_envelope_built : HasSoundEnvelope (normal_tree π t)
-  sound_envelope_built (Name n ∷ q) r inside h = row_named IsSoundUnder envelope_rows n rows_sound inside q r h
-  sound_envelope_built d r inside h = let x : false ≡ true = inside in cc
+  pub sound_envelope : HasSoundEnvelope u
+  sound_envelope (Name n ∷ q) r inside h = row_named IsSoundUnder envelope_rows n rows_sound inside q r h
+  sound_envelope d r inside h = let x : false ≡ true = inside in cc

@@ -28,7 +28,7 @@ contest_place c o h =
 
 -- ---- contests
 
-pub never_before_itself : (o : Placed) → IsBefore o o → ⊥
+never_before_itself : (o : Placed) → IsBefore o o → ⊥
 never_before_itself o before = let h : Equal ≡ Less = sym (tied_itself place_cmp_total o.place) ∙ before in cc
 
 module _ (π : Preference) (t : Data) (accepted : IsAccepted π t) where

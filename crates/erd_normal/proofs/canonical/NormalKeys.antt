@@ -1,12 +1,15 @@
 -- The sets and the objects of a report in rising order, and the keys and the `@id`s of those that are built.
-use Rattle.erd_normal.proofs.Common.{◌≡◌, ℕ, Bool, true, false, ◌&&◌, List, IsTrue, Some, Equal, sym, refl, ap, ◌∙◌, subst, ap₂, exact_bytes, IsDistinct, option_cmp, eq_by_cmp, Data, string, array, Items, get_item, compact_text, role_of_class, Class, Family, Role, reason, MemberKind, kind, At, string_from_text, list_of_items-place, list_of_items-tree, text_itself, and_then-Some, In, Within-step, not_within, faultless, wanted_within, unrepeated, Within, is_simple_class, entry_itself, is_shape_fault, AreTrees, is_same_json, list_of_items, entry_want, is_compared_set, asked, is_repeated, Want, Member, Object, Reference, no_shape_fault, no_reference_fault, resolves, one_keyed, owned_by, unrepeated_by_cmp, IsAccepted, has_keys, key_cmp, Preference, key_of, is_reference_fault, id_of, owner, compact_cmp, key_named, key_cmp_exact, Key, reference_cmp, zero, suc, ◌+◌, [], ◌∷◌, ◌++◌, map, slice_get, codes, option_map, is_eq, arith, on_total, Equal-is, IsTotalOrder, options_total, family, Step, entries_at, NameParts, Placed, placed_from, contests, selections_of_contest, objects, rising_list, name_of, name_cmp, key_cmp_total, name_cmp_total, name_cmp_exact, IsStrictlySortedBy, sorted_map, ItemsHaveFittingNumbers, text_of, values_distinct, elections_distinct, no_identity_fault, values-placed_from, stands, one_named, in_at, distinct_from_one_place, distinct_map, rising_strictly, rank_by_at, compact_cmp_total, rank_of_name, by_key, by_name, In-flat_map, ◌^◌, ◌<◌, length, Option, is_lt, tied_back, length-map, slice_get-map, AllByRecursion, role, object_in, ObjectIn, IsTree, class_of_object, rank_of, all_at, within-tree, option_map-Some, values-placed_entries, distinct_one, all_rising, rank_map, canonical_id, canonical_selection_id, HasCanonicalIds, normal_selection, normal_object, normal_tree, In-all, In-from_contains, In-map, In-map_from, all_from_In, same_Some, slice_get_within, option_map_or, position_of, IsBounded, length-rising, id_of_selection, selection_with, normal_selection_reference}
+use Rattle.erd_normal.proofs.Common.{Ordering, ◌≡◌, ℕ, Bool, true, false, ◌&&◌, List, IsTrue, Some, Equal, sym, refl, ap, ◌∙◌, subst, ap₂, exact_bytes, IsDistinct, option_cmp, eq_by_cmp, Data, string, array, Items, get_item, compact_text, role_of_class, Class, Family, Role, reason, MemberKind, kind, At, string_from_text, list_of_items-place, list_of_items-tree, text_itself, and_then-Some, In, Within-step, not_within, faultless, wanted_within, unrepeated, Within, is_simple_class, entry_itself, is_shape_fault, AreTrees, is_same_json, list_of_items, entry_want, is_compared_set, asked, is_repeated, Want, Member, Object, Reference, no_shape_fault, no_reference_fault, resolves, one_keyed, owned_by, unrepeated_by_cmp, IsAccepted, has_keys, key_cmp, Preference, key_of, is_reference_fault, id_of, owner, compact_cmp, key_named, key_cmp_exact, Key, reference_cmp, zero, suc, ◌+◌, [], ◌∷◌, ◌++◌, map, slice_get, codes, option_map, is_eq, arith, on_total, Equal-is, IsTotalOrder, options_total, family, Step, entries_at, NameParts, Placed, placed_from, contests, selections_of_contest, objects, rising_list, name_of, name_cmp, key_cmp_total, name_cmp_total, name_cmp_exact, IsStrictlySortedBy, sorted_map, ItemsHaveFittingNumbers, text_of, values_distinct, elections_distinct, no_identity_fault, values-placed_from, stands, one_named, in_at, distinct_from_one_place, distinct_map, rising_strictly, rank_by_at, compact_cmp_total, rank_of_name, by_key, by_name, In-flat_map, IsTree, values-placed_entries, option_map_or, IsBounded, id_of_selection, selection_with, normal_selection_reference}
 use Rattle.erd_normal.proofs.meaning.MatchedMeanings.{has_name}
 use Rattle.erd_normal.proofs.texts.CompactTexts.{compact_exact, entry-fitting}
-use Rattle.erd_normal.proofs.lists.Lists.{IsPart, part_distinct, all_map, rank_exact, rank_low}
-use Rattle.erd_normal.proofs.lists.Matched.{Matched, distinct_matched, even_order, matched_back, matched_count, matched_length, matched_within, FoundSelection, owner_found}
-use Rattle.erd_normal.proofs.built.BuiltObjects.{key_of_object, IsBuilt, objects_matched, values_of, selections_built}
-use Rattle.erd_normal.proofs.built.NormalTrees.{id_of_object, id_of_built_selection}
-use Rattle.erd_normal.proofs.canonical.CanonicalIds.{few_selections, canonical_selection_id_exact}
+use Rattle.erd_normal.proofs.lists.Lists.{IsPart, part_distinct}
+use Rattle.erd_normal.proofs.lists.Matched.{FoundSelection, owner_found}
+
+-- what has no key twice rises by its keys
+rises : {K : Type 0} (cmp : K → K → Ordering) → IsTotalOrder cmp → (key : Data → K) (ds : List Data) → IsDistinct (eq_by_cmp (λ a b. cmp (key a) (key b))) ds
+    → IsStrictlySortedBy cmp (map key (rising_list (λ a b. cmp (key a) (key b)) ds))
+rises cmp total key ds apart =
+    sorted_map key (λ a b. cmp (key a) (key b)) cmp (λ x y h. h) (rising_list (λ a b. cmp (key a) (key b)) ds) (rising_strictly (on_total key total) ds apart)
 
 -- ---- sets of references
 
@@ -67,8 +70,9 @@ module _ (π : Preference) (t : Data) (accepted : IsAccepted π t) (f : Family) 
       let same : b.0 ≡ a.0 = texts_equal a.0 b.0 a.2 b.2 (sym (ap₂ (reference_cmp π t f) a.1 b.1) ∙ h) in
       ap₂ is_same_json (b.1 ∙ ap string same) a.1 ∙ text_itself a.0
 
-  pub references_distinct : IsDistinct (eq_by_cmp (reference_cmp π t f)) (list_of_items ds)
-  references_distinct = unrepeated_by_cmp (reference_cmp π t f) ds first_of_references equal_references
+  pub references_rise : IsStrictlySortedBy (option_cmp key_cmp) (map (λ d. key_named π t f (text_of d)) (rising_list (reference_cmp π t f) (list_of_items ds)))
+  references_rise =
+      rises (option_cmp key_cmp) (options_total key_cmp_total) (λ d. key_named π t f (text_of d)) (list_of_items ds) (unrepeated_by_cmp (reference_cmp π t f) ds first_of_references equal_references)
 
 -- ---- sets of JSON values
 
@@ -100,6 +104,12 @@ module _ (π : Preference) (t : Data) (accepted : IsAccepted π t) (k : MemberKi
 
   pub json_values_distinct : IsDistinct (eq_by_cmp compact_cmp) (list_of_items ds)
   json_values_distinct = unrepeated_by_cmp compact_cmp ds first_of_values equal_values
+
+pub values_rise : (π : Preference) (t : Data) → IsAccepted π t → (k : MemberKind) (r : Bool) (o : Role) → entry_want (Member k r) ≡ Some (Object o) → is_compared_set (Member k r) ≡ true → ((c : Class) → role_of_class c ≡ o → is_simple_class c ≡ true)
+    → (ds : Items) → Within t (asked (Member k r) (array ds)) → AreTrees ds → ItemsHaveFittingNumbers ds → IsStrictlySortedBy compact_cmp (rising_list compact_cmp (list_of_items ds))
+values_rise π t accepted k r o entries compared simple ds w trees fits =
+    rising_strictly compact_cmp_total (list_of_items ds)
+    (json_values_distinct π t accepted k r o ds w entries compared simple trees (λ d e i j. compact_exact d e (entry-fitting ds d fits i) (entry-fitting ds e fits j)))
 
 -- ---- in an accepted report no two selections of a contest have one name
 
@@ -150,127 +160,29 @@ by_name_total π t = on_total (name_of π t) (options_total name_cmp_total)
 pub reference_cmp_total : (π : Preference) (t : Data) (f : Family) → IsTotalOrder (reference_cmp π t f)
 reference_cmp_total π t f = on_total (λ d. key_named π t f (text_of d)) (options_total key_cmp_total)
 
--- ---- objects of a family
-
--- those of an array among them
+-- objects of a family: those of an array among them
 pub objects_rise : (π : Preference) (t : Data) → IsAccepted π t → (f : Family) → has_keys f ≡ true → (ds : List Data) → IsPart ds (map (λ o. o.value) (objects f t))
     → IsStrictlySortedBy (option_cmp key_cmp) (map (key_of π) (rising_list (by_key π) ds))
 objects_rise π t accepted f keyed ds part =
-    sorted_map (key_of π) (by_key π) (option_cmp key_cmp) (λ x y h. h) (rising_list (by_key π) ds)
-    (rising_strictly (by_key_total π) ds (part_distinct (eq_by_cmp (by_key π)) ds (map (λ o. o.value) (objects f t)) part (values_distinct π t (no_identity_fault π t accepted) f keyed)))
+    rises (option_cmp key_cmp) (options_total key_cmp_total) (key_of π) ds
+    (part_distinct (eq_by_cmp (by_key π)) ds (map (λ o. o.value) (objects f t)) part (values_distinct π t (no_identity_fault π t accepted) f keyed))
 
 -- the elections
 pub elections_rise : (π : Preference) (t : Data) → IsAccepted π t → IsStrictlySortedBy (option_cmp key_cmp) (map (key_of π) (rising_list (by_key π) (entries_at (codes "Election") t)))
-elections_rise π t accepted =
-    sorted_map (key_of π) (by_key π) (option_cmp key_cmp) (λ x y h. h) (rising_list (by_key π) (entries_at (codes "Election") t))
-    (rising_strictly (by_key_total π) (entries_at (codes "Election") t) (elections_distinct π t (no_identity_fault π t accepted)))
+elections_rise π t accepted = rises (option_cmp key_cmp) (options_total key_cmp_total) (key_of π) (entries_at (codes "Election") t) (elections_distinct π t (no_identity_fault π t accepted))
 
 -- ---- selections of a contest
 
 module _ (π : Preference) (t : Data) (accepted : IsAccepted π t) (contest : Placed) (stands : In contest (objects family.Contest t)) where
   pub selections_rise : IsStrictlySortedBy (option_cmp name_cmp) (map (name_of π t) (rising_list (by_name π t) (entries_at (codes "ContestSelection") contest.value)))
   selections_rise =
-      sorted_map (name_of π t) (by_name π t) (option_cmp name_cmp) (λ x y h. h) (rising_list (by_name π t) (entries_at (codes "ContestSelection") contest.value))
-      (rising_strictly (by_name_total π t) (entries_at (codes "ContestSelection") contest.value) (selection_values_distinct π t accepted contest stands))
+      rises (option_cmp name_cmp) (options_total name_cmp_total) (name_of π t) (entries_at (codes "ContestSelection") contest.value) (selection_values_distinct π t accepted contest stands)
 
   -- the selection at a position has that rank
   pub selection_ranks : (i : ℕ) (d : Data) → slice_get (rising_list (by_name π t) (entries_at (codes "ContestSelection") contest.value)) i ≡ Some d
       → rank_of_name π t (entries_at (codes "ContestSelection") contest.value) (name_of π t d) ≡ i
   selection_ranks i d e =
       rank_by_at (name_of π t) (option_cmp name_cmp) (options_total name_cmp_total) (entries_at (codes "ContestSelection") contest.value) i d (selection_values_distinct π t accepted contest stands) e
-
--- ---- sets of references
-
-pub references_rise : (π : Preference) (t : Data) → IsAccepted π t → (f : Family) → has_keys f ≡ true → (r : Bool) (ds : Items) → Within t (asked (Member (kind.Many f) r) (array ds))
-    → IsStrictlySortedBy (option_cmp key_cmp) (map (λ d. key_named π t f (text_of d)) (rising_list (reference_cmp π t f) (list_of_items ds)))
-references_rise π t accepted f keyed r ds w =
-    sorted_map (λ d. key_named π t f (text_of d)) (reference_cmp π t f) (option_cmp key_cmp) (λ x y h. h) (rising_list (reference_cmp π t f) (list_of_items ds))
-    (rising_strictly (reference_cmp_total π t f) (list_of_items ds) (references_distinct π t accepted f keyed r ds w))
-
--- ---- sets of JSON values
-
-pub values_rise : (π : Preference) (t : Data) → IsAccepted π t → (k : MemberKind) (r : Bool) (o : Role) → entry_want (Member k r) ≡ Some (Object o) → is_compared_set (Member k r) ≡ true → ((c : Class) → role_of_class c ≡ o → is_simple_class c ≡ true)
-    → (ds : Items) → Within t (asked (Member k r) (array ds)) → AreTrees ds → ItemsHaveFittingNumbers ds → IsStrictlySortedBy compact_cmp (rising_list compact_cmp (list_of_items ds))
-values_rise π t accepted k r o entries compared simple ds w trees fits =
-    rising_strictly compact_cmp_total (list_of_items ds)
-    (json_values_distinct π t accepted k r o ds w entries compared simple trees (λ d e i j. compact_exact d e (entry-fitting ds d fits i) (entry-fitting ds e fits j)))
-
--- ---- the objects of each family in the report that is built have the keys of those of the report, and each has the `@id` of
--- the rank of its key
-
--- an object of a family: it has a class, and is a tree
-abbrev pub IsClassed : Family → Data → Type 0
-IsClassed f d = (c : Class) × (class_of_object (role.OfFamily f) d ≡ Some c) × IsTree d
-
-module _ (π : Preference) (t : Data) (accepted : IsAccepted π t) (tree : IsTree t) (f : Family) where
-  pub object_classed : (o : Placed) → In o (objects f t) → IsClassed f o.value
-  object_classed o h =
-      let w : Within t (asked (Object (role.OfFamily f)) o.value) = record { place = o.place; is = stands π t accepted f o h } in
-      let i : ObjectIn t (role.OfFamily f) o.value = object_in t (no_shape_fault π t accepted) (role.OfFamily f) o.value w in
-      (i.class, ap (class_of_object (role.OfFamily f)) i.is_object ∙ i.at.among, within-tree t (asked (Object (role.OfFamily f)) o.value) tree w)
-
-  pub values_classed : AllByRecursion (IsClassed f) (values_of f t)
-  values_classed = all_map (λ o. IsClassed f o.value) (IsClassed f) (λ o. o.value) (objects f t) (λ o h. h) (all_from_In (λ o. IsClassed f o.value) (objects f t) object_classed)
-
-  module _ (keyed : has_keys f ≡ true) where
-    -- the objects of the report, and what is built of each
-    abbrev matched : Matched (IsBuilt π t f) (values_of f t) (values_of f (normal_tree π t))
-    matched = objects_matched π t (no_shape_fault π t accepted) tree f keyed
-
-    -- an object of the report that is built is built of one
-    pub object_from : (p : Placed) → In p (objects f (normal_tree π t)) → (o : Placed) × In o (objects f t) × (normal_object π t f o.value ≡ p.value)
-    object_from p h =
-        let d = matched_back p.value matched (In-map (λ (x : Placed). x.value) p (objects f (normal_tree π t)) h) in
-        let o = In-map_from (λ (x : Placed). x.value) (objects f t) d.0 d.1 in
-        (o.0, o.1, ap (normal_object π t f) o.2 ∙ d.2)
-
-    pub as_many : length (objects f (normal_tree π t)) ≡ length (objects f t)
-    as_many = sym (length-map (objects f (normal_tree π t)) (λ o. o.value)) ∙ sym (matched_length matched) ∙ length-map (objects f t) (λ o. o.value)
-
-    -- ---- keys
-
-    key_built : (d e : Data) → In d (values_of f t) → IsBuilt π t f d e → key_of π d ≡ key_of π e
-    key_built d e h is =
-        let k : IsClassed f d = In-all (IsClassed f) d (values_of f t) values_classed h in
-        sym (key_of_object π π t f k.0 d k.2 k.1) ∙ ap (key_of π) is
-
-    -- a key has the same rank in both reports
-    pub rank_kept : (k : Option Key) → rank_of π t f k ≡ rank_of π (normal_tree π t) f k
-    rank_kept k =
-        sym (rank_map (λ (o : Placed). o.value) (key_of π) (option_cmp key_cmp) k (objects f t))
-        ∙ matched_count (λ d. is_lt (option_cmp key_cmp (key_of π d) k)) (λ d. is_lt (option_cmp key_cmp (key_of π d) k))
-        (λ d e same. ap (λ l. is_lt (option_cmp key_cmp l k)) same) (matched_within (λ d e. key_of π d ≡ key_of π e) key_built matched)
-        ∙ rank_map (λ (o : Placed). o.value) (key_of π) (option_cmp key_cmp) k (objects f (normal_tree π t))
-
-    built_distinct : IsDistinct (eq_by_cmp (by_key π)) (values_of f (normal_tree π t))
-    built_distinct =
-        distinct_matched (eq_by_cmp (by_key π)) (eq_by_cmp (by_key π)) (even_order (by_key π) (by_key_total π))
-        (λ d d' e e' i j is is' h. ap₂ (λ k l. is_eq (option_cmp key_cmp k l)) (key_built d e i is) (key_built d' e' j is') ∙ h) matched (values_distinct π t (no_identity_fault π t accepted) f keyed)
-
-    -- objects of the report that is built with keys of one rank are one
-    pub one_ranked_built : (o p : Placed) → In o (objects f (normal_tree π t)) → In p (objects f (normal_tree π t))
-        → rank_of π (normal_tree π t) f (key_of π o.value) ≡ rank_of π (normal_tree π t) f (key_of π p.value) → o ≡ p
-    one_ranked_built o p in_o in_p same =
-        let tied : by_key π o.value p.value ≡ Equal = rank_exact (λ (x : Placed). key_of π x.value) (options_total key_cmp_total) (objects f (normal_tree π t)) o p in_o in_p same in
-        distinct_one (λ (x : Placed). x.value) (eq_by_cmp (by_key π)) (objects f (normal_tree π t)) built_distinct o p in_o in_p (ap is_eq tied)
-        (ap is_eq (tied_back (by_key_total π) o.value p.value tied))
-
-    -- a word counts the ranks, if it counts the objects of the report
-    pub rank_counted : length (objects f t) < 2 ^ 64 → (o : Placed) → In o (objects f (normal_tree π t)) → rank_of π (normal_tree π t) f (key_of π o.value) + 1 < 2 ^ 64
-    rank_counted few o h =
-        let low : rank_of π (normal_tree π t) f (key_of π o.value) < length (objects f (normal_tree π t)) =
-        rank_low (λ (x : Placed). key_of π x.value) (options_total key_cmp_total) (objects f (normal_tree π t)) o h in
-        omega (arith, low, few, as_many)
-
-    -- ---- `@id` texts
-
-    -- what is built of an object has the `@id` of the rank of its key
-    pub ids_by_rank : (p : Placed) → In p (objects f (normal_tree π t)) → id_of p.value ≡ canonical_id f (rank_of π (normal_tree π t) f (key_of π p.value))
-    ids_by_rank p h =
-        let o = object_from p h in
-        let k : IsClassed f o.0.value = object_classed o.0 o.1 in
-        let key : key_of π o.0.value ≡ key_of π p.value = sym (key_of_object π π t f k.0 o.0.value k.2 k.1) ∙ ap (key_of π) o.2 in
-        ap id_of (sym o.2) ∙ id_of_object π t f k.0 o.0.value k.2 k.1 ∙ ap (λ l. canonical_id f (rank_of π t f l)) key ∙ ap (canonical_id f) (rank_kept (key_of π p.value))
 
 -- ---- the selections in the report that is built have canonical ids, by the rank of their contest and their own
 
@@ -282,88 +194,9 @@ pub listed : (contest : Placed) → map (λ o. o.value) (selections_of_contest c
 listed contest = values-placed_entries (codes "ContestSelection") contest
 
 module _ (π : Preference) (t : Data) (accepted : IsAccepted π t) (tree : IsTree t) where
-  module _ (contest : Placed) (of_report : In contest (objects family.Contest t)) where
-    in_report : (o : Placed) → In o (selections_of_contest contest) → In o (objects family.Selection t)
-    in_report o h = In-flat_map selections_of_contest o contest (contests t) of_report h
-
-    pub selections_classed : AllByRecursion (IsClassed family.Selection) (selection_values contest)
-    selections_classed =
-        subst (AllByRecursion (IsClassed family.Selection)) (listed contest)
-        (all_map (λ o. IsClassed family.Selection o.value) (IsClassed family.Selection) (λ o. o.value) (selections_of_contest contest) (λ o h. h)
-        (all_from_In (λ o. IsClassed family.Selection o.value) (selections_of_contest contest) (λ o h. object_classed π t accepted tree family.Selection o (in_report o h))))
-
-    pub built_selection : (j : ℕ) (d : Data) → slice_get (map (normal_selection π t contest.value) (rising_list (by_name π t) (selection_values contest))) j ≡ Some d
-        → id_of d ≡ Some (canonical_selection_id (rank_of π t family.Contest (key_of π contest.value)) j)
-    built_selection j d at =
-        let es : List Data = rising_list (by_name π t) (selection_values contest) in
-        let e = option_map-Some (normal_selection π t contest.value) (slice_get es j) d (sym (slice_get-map (normal_selection π t contest.value) es j) ∙ at) in
-        let k : IsClassed family.Selection e.0 = all_at (IsClassed family.Selection) es j e.0 (all_rising (IsClassed family.Selection) (by_name π t) (selection_values contest) selections_classed) e.1 in
-        ap id_of (sym e.2) ∙ id_of_built_selection π t contest.value k.0 e.0 k.2 k.1
-        ∙ ap (λ n. Some (canonical_selection_id (rank_of π t family.Contest (key_of π contest.value)) n)) (selection_ranks π t accepted contest of_report j e.0 e.1)
-
-  pub selection_ids : (j : ℕ) (contest o : Placed) → In contest (objects family.Contest (normal_tree π t)) → slice_get (selections_of_contest contest) j ≡ Some o
-      → id_of o.value ≡ Some (canonical_selection_id (rank_of π (normal_tree π t) family.Contest (key_of π contest.value)) j)
-  selection_ids j contest o in_built at =
-      let from = object_from π t accepted tree family.Contest refl contest in_built in
-      let k : IsClassed family.Contest from.0.value = object_classed π t accepted tree family.Contest from.0 from.1 in
-      let key : key_of π from.0.value ≡ key_of π contest.value = sym (key_of_object π π t family.Contest k.0 from.0.value k.2 k.1) ∙ ap (key_of π) from.2 in
-      let value : slice_get (entries_at (codes "ContestSelection") contest.value) j ≡ Some o.value =
-      ap (λ xs. slice_get xs j) (sym (values-placed_entries (codes "ContestSelection") contest)) ∙ slice_get-map (λ o. o.value) (selections_of_contest contest) j ∙ ap (option_map (λ o. o.value)) at in
-      let built : slice_get (map (normal_selection π t from.0.value) (rising_list (by_name π t) (entries_at (codes "ContestSelection") from.0.value))) j ≡ Some o.value =
-      ap (λ xs. slice_get xs j) (sym (selections_built π t k.0 from.0.value k.2 k.1) ∙ ap (entries_at (codes "ContestSelection")) from.2) ∙ value in
-      built_selection from.0 from.1 j o.value built
-      ∙ ap (λ n. Some (canonical_selection_id n j)) (ap (rank_of π t family.Contest) key ∙ rank_kept π t accepted tree family.Contest refl (key_of π contest.value))
-
-  -- the objects and selections of the report that is built have canonical ids
-  pub has_canonical_ids : HasCanonicalIds π (normal_tree π t)
-  has_canonical_ids = record {
-    families = λ f o keyed stands. ids_by_rank π t accepted tree f keyed o (In-from_contains o (objects f (normal_tree π t)) stands);
-    selections = λ j contest o stands at. selection_ids j contest o (In-from_contains contest (objects family.Contest (normal_tree π t)) stands) at;
-  }
-
--- ---- what stands in the report that is built
-
-counted : (contest : Placed) → length (selections_of_contest contest) ≡ length (selection_values contest)
-counted contest = sym (length-map (selections_of_contest contest) (λ o. o.value)) ∙ ap length (listed contest)
-
-module _ (π : Preference) (t : Data) (accepted : IsAccepted π t) (tree : IsTree t) where
-  module _ (contest p : Placed) (of_report : In contest (objects family.Contest t)) (is : normal_object π t family.Contest contest.value ≡ p.value) where
-    -- the selections of a contest that is built
-    selections_there : selection_values p ≡ map (normal_selection π t contest.value) (rising_list (by_name π t) (selection_values contest))
-    selections_there =
-        let k : IsClassed family.Contest contest.value = object_classed π t accepted tree family.Contest contest of_report in
-        ap (entries_at (codes "ContestSelection")) (sym is) ∙ selections_built π t k.0 contest.value k.2 k.1
-
-    pub as_many_selections : length (selections_of_contest p) ≡ length (selections_of_contest contest)
-    as_many_selections =
-        let es : List Data = rising_list (by_name π t) (selection_values contest) in
-        counted p ∙ ap length selections_there ∙ length-map es (normal_selection π t contest.value) ∙ length-rising (by_name π t) (selection_values contest) ∙ sym (counted contest)
-
   -- ---- `@id` texts
 
   module _ (bounded : IsBounded t) where
-    selection_low : (p : Placed) → In p (objects family.Contest (normal_tree π t)) → (j : ℕ) (q : Placed) → slice_get (selections_of_contest p) j ≡ Some q → j + 1 < 2 ^ 64
-    selection_low p h j q at =
-        let contest = object_from π t accepted tree family.Contest refl p h in
-        let low : j < length (selections_of_contest p) = slice_get_within (selections_of_contest p) j q at in
-        let few : length (selections_of_contest contest.0) < 2 ^ 64 = few_selections t bounded contest.0 contest.1 in
-        let same : length (selections_of_contest p) ≡ length (selections_of_contest contest.0) = as_many_selections contest.0 p contest.1 contest.2 in
-        omega (arith, low, few, same)
-
-    -- two selections with one `@id` are one
-    pub one_selection : (c d o q : Placed) → In c (objects family.Contest (normal_tree π t)) → In d (objects family.Contest (normal_tree π t)) → In o (selections_of_contest c) → In q (selections_of_contest d)
-        → id_of o.value ≡ id_of q.value → o ≡ q
-    one_selection c d o q in_c in_d in_o in_q same =
-        let j = position_of (selections_of_contest c) o in_o in
-        let l = position_of (selections_of_contest d) q in_q in
-        let first = selection_ids π t accepted tree j.0 c o in_c j.1 in
-        let second = selection_ids π t accepted tree l.0 d q in_d l.1 in
-        let few : length (objects family.Contest t) < 2 ^ 64 = bounded.few family.Contest in
-        let n = canonical_selection_id_exact _ j.0 _ l.0 (rank_counted π t accepted tree family.Contest refl few c in_c) (selection_low c in_c j.0 o j.1)
-        (rank_counted π t accepted tree family.Contest refl few d in_d) (selection_low d in_d l.0 q l.1) (same_Some _ _ (sym first ∙ same ∙ second)) in
-        let one : c ≡ d = one_ranked_built π t accepted tree family.Contest refl c d in_c in_d n.0 in
-        same_Some o q (sym j.1 ∙ ap (λ x. slice_get (selections_of_contest x) j.0) one ∙ ap (slice_get (selections_of_contest d)) n.1 ∙ l.1)
-
     -- ---- references
 
     module _ (r d : Data) (owned : owner t family.Selection (text_of r) ≡ Some d) where

@@ -1,23 +1,24 @@
 -- Whole reports that are canonical, the canonical forms of two, pairs in a stable order, and rearrangements, by computation.
-use Rattle.erd_normal.proofs.Common.{◌≡◌, ℕ, List, [], ◌++◌, None, codes, refl, tree_of, small_ballot, small_ballot_canonical, one_unit, two_elections, three_contests, serde_json_on_literals, digits, identifier, normal_tree, ◌^◌, ◌<◌, false, length, slice_get, bytes_eq, unwrap_or, ap, subst, true≢false, arith, lit<, option_map_or, Data, Family, family, IsAccepted, Placed, report_of, objects, HasFittingNumbers, IsNoDeeper, IsObject, HasCanonicalEnvelope, HasCanonicalIds, IsCanonical, IsCanonicalFormOf, Bool, true, not, ◌&&◌, ◌∷◌, map, Some, Option, is_lt, Ordering, Less, not-true, and_parts, list_all, IsStrictlySortedBy, option_cmp, MemberKind, kind, Step, less, entries_of, Asked, asked_at, key_cmp, compact_cmp, name_of, name_cmp, kind_wanted, HasNoEmptyArray, keys_of, keys_referred, RisesAs, AreSetsInOrder, all_from_In, each_holds, is_empty_array, zero, suc, ◌+◌, ◌≤◌, get_or as slice_index_or, nat_cmp, is_eq, Equal, sym, ◌∙◌, tied_itself, nat_cmp_total, on_total, then_total, nat_list_cmp_total, IsTotalOrder, ordering_reverse, local_key, Key, pairs_of, IsStablySorted, option_map, At, Name, a_key, a_plain, NameParts, contests, members_of, canonical_id, canonical_selection_id, placed_keys, ids_in, names_in, Renaming, renamed, exchanged, HasEntries, a_renaming, an_exchange, changed}
+use Rattle.erd_normal.proofs.Common.{◌≡◌, ℕ, List, [], ◌++◌, None, codes, refl, tree_of, small_ballot, small_ballot_canonical, one_unit, two_elections, three_contests, serde_json_on_literals, digits, identifier, ◌^◌, ◌<◌, false, length, slice_get, bytes_eq, unwrap_or, ap, subst, true≢false, arith, lit<, option_map_or, Data, Family, family, IsAccepted, Placed, report_of, objects, HasFittingNumbers, IsNoDeeper, IsObject, HasCanonicalEnvelope, HasCanonicalIds, IsCanonical, IsCanonicalFormOf, Bool, true, not, ◌&&◌, ◌∷◌, map, Some, Option, is_lt, Ordering, Less, not-true, and_parts, list_all, IsStrictlySortedBy, option_cmp, MemberKind, kind, Step, less, entries_of, Asked, asked_at, key_cmp, compact_cmp, name_of, name_cmp, kind_wanted, HasNoEmptyArray, keys_of, keys_referred, RisesAs, AreSetsInOrder, all_from_In, each_holds, is_empty_array, zero, suc, ◌+◌, ◌≤◌, get_or as slice_index_or, nat_cmp, is_eq, Equal, sym, ◌∙◌, tied_itself, nat_cmp_total, on_total, then_total, nat_list_cmp_total, IsTotalOrder, ordering_reverse, local_key, Key, pairs_of, IsStablySorted, option_map, At, Name, a_key, a_plain, NameParts, contests, members_of, canonical_id, canonical_selection_id, placed_keys, ids_in, names_in, Renaming, renamed, exchanged, HasEntries, a_renaming, an_exchange, changed}
 use Rattle.erd_check.proofs.AskedInside.{AskedPlace, all_asked, tested_at}
 use Rattle.erd_check.proofs.WholeExamples.{IsFaultless, one_unit_is_faultless, small_ballot_is_faultless}
-use Rattle.erd_normal.proofs.canonical.NormalForms.{form_built}
+use Rattle.erd_normal.proofs.view.ViewForms.{form_written}
+use Rattle.erd_normal.specs.code.View.{style_of, whole}
 use Rattle.erd_meaning.proofs.examples.RefusedExamples.{one_unit_is_accepted, small_ballot_is_accepted}
 
 -- the canonical form of the report of one unit
 abbrev pub one_unit_canonical : List ℕ
 one_unit_canonical = codes "{\"@type\":\"ElectionResults.ElectionReport\",\"Election\":[{\"@type\":\"ElectionResults.Election\",\"ElectionScopeId\":\"gp1\",\"EndDate\":\"2026-11-03\",\"Name\":\"Test\",\"StartDate\":\"2026-11-03\",\"Type\":\"general\"}],\"Format\":\"summary-contest\",\"GeneratedDate\":\"2000-01-01T00:00:00Z\",\"GpUnit\":[{\"@id\":\"gp1\",\"@type\":\"ElectionResults.ReportingUnit\",\"ExternalIdentifier\":[{\"@type\":\"ElectionResults.ExternalIdentifier\",\"Type\":\"local-level\",\"Value\":\"U1\"}],\"Type\":\"county\"}],\"Issuer\":\"canonical\",\"IssuerAbbreviation\":\"canonical\",\"SequenceEnd\":1,\"SequenceStart\":1,\"Status\":\"pre-election\",\"VendorApplicationId\":\"canonical\"}"
 
-pub one_unit_built : normal_tree None (tree_of one_unit) ≡ tree_of one_unit_canonical
+pub one_unit_built : whole (style_of None (tree_of one_unit)) (tree_of one_unit) ≡ tree_of one_unit_canonical
 unfolding serde_json_on_literals digits
 one_unit_built = refl
 
-pub small_ballot_built : normal_tree None (tree_of small_ballot) ≡ tree_of small_ballot_canonical
+pub small_ballot_built : whole (style_of None (tree_of small_ballot)) (tree_of small_ballot) ≡ tree_of small_ballot_canonical
 unfolding serde_json_on_literals digits
 small_ballot_built = refl
 
-canonical_built_again : normal_tree None (tree_of small_ballot_canonical) ≡ tree_of small_ballot_canonical
+canonical_built_again : whole (style_of None (tree_of small_ballot_canonical)) (tree_of small_ballot_canonical) ≡ tree_of small_ballot_canonical
 unfolding serde_json_on_literals digits
 canonical_built_again = refl
 
@@ -40,13 +41,13 @@ canonical_with first second =
     ++ codes "],\"Format\":\"summary-contest\",\"GeneratedDate\":\"2000-01-01T00:00:00Z\",\"GpUnit\":[{\"@id\":\"gp1\",\"@type\":\"ElectionResults.ReportingUnit\",\"ExternalIdentifier\":[{\"@type\":\"ElectionResults.ExternalIdentifier\",\"Type\":\"local-level\",\"Value\":\"U1\"}],\"Type\":\"county\"}],\"Issuer\":\"canonical\",\"IssuerAbbreviation\":\"canonical\",\"SequenceEnd\":1,\"SequenceStart\":1,\"Status\":\"pre-election\",\"VendorApplicationId\":\"canonical\"}"
 
 -- the election E1 stands first
-two_elections_built : normal_tree None (tree_of two_elections)
+two_elections_built : whole (style_of None (tree_of two_elections)) (tree_of two_elections)
     ≡ tree_of (canonical_with (rising_election [] (codes "E1") (codes "Other")) (rising_election [] (codes "E2") (codes "Test")))
 unfolding serde_json_on_literals digits
 two_elections_built = refl
 
 -- E1 has the first and the third contest, and E2 the second
-three_contests_built : normal_tree None (tree_of three_contests)
+three_contests_built : whole (style_of None (tree_of three_contests)) (tree_of three_contests)
     ≡ tree_of (canonical_with (rising_election (codes "\"Contest\":[" ++ numbered_contest (codes "co1") (codes "C1") ++ codes "," ++ numbered_contest (codes "co3") (codes "C3") ++ codes "],") (codes "E1") (codes "Other"))
     (rising_election (codes "\"Contest\":[" ++ numbered_contest (codes "co2") (codes "C2") ++ codes "],") (codes "E2") (codes "Test")))
 unfolding serde_json_on_literals digits
@@ -55,8 +56,8 @@ three_contests_built = refl
 -- ---- the tree that is built for a report is its canonical form
 
 form_of : (text form : List ℕ) → IsFaultless text → IsAccepted None (tree_of text) → ((f : Family) → length (objects f (tree_of text)) < 2 ^ 64) → HasFittingNumbers (tree_of text)
-    → normal_tree None (tree_of text) ≡ tree_of form → IsCanonicalFormOf None (tree_of text) (tree_of form)
-form_of text form faultless accepted few fits built = subst (IsCanonicalFormOf None (tree_of text)) built (form_built None (tree_of text) accepted faultless.tree (record { few = few }) fits)
+    → whole (style_of None (tree_of text)) (tree_of text) ≡ tree_of form → IsCanonicalFormOf None (tree_of text) (tree_of form)
+form_of text form faultless accepted few fits built = subst (IsCanonicalFormOf None (tree_of text)) built (form_written None (tree_of text) accepted faultless.tree (record { few = few }) fits)
 
 few : (f : Family) → (length (objects f (tree_of one_unit)) < 2 ^ 64) × (length (objects f (tree_of small_ballot)) < 2 ^ 64)
 unfolding serde_json_on_literals

@@ -1,5 +1,5 @@
 -- Lists: what passes a test, what is built entry by entry, ranks, numbers and rising order.
-use Rattle.erd_normal.proofs.Common.{◌≡◌, zero, suc, Bool, true, false, List, [], ◌∷◌, ◌++◌, Contains, flat_map, sym, refl, ap, ◌∙◌, subst, append_assoc, append-nil, arith, lit<, and_parts, list_all, families, family_number, Family, family, IsDistinct, In, In-all, In-append_left, In-append_right, all_from_In, inl, inr, ℕ, ◌≤◌, map, length, if◌then◌else◌, ◌==◌, Some, None, Option, ap₂, same_Some, AllByRecursion, Data, array, Items, no_items, item, get_item, items_of, IsTree, list_of_items, entries_of, depth, is_array, is_empty_array, AreTrees, ⊤, items_depth, list_of_items-items_of, unless_no_entry, array_of, cond, filter, is_lt, is_gt, Ordering, Less, Equal, Greater, true≢false, IsTotalOrder, all_weakened, with_inserted, rising_list, NeverFalls, rising_never_falls, In-filter, ◌<◌, tied_itself, less, greater_turned, ◌+◌, ◌⊎◌, slice_get, option_map, length-map, slice_get-map, enumerate_from, IsPermutation, IsSorted, option_and_then, nat_cmp, nat_cmp_total, CmpEqualImpliesEq, exact_unsigned, ordering_reverse, as_str, key_cmp, Preference, key_named, keys_named, key_cmp_total, key_cmp_exact, ranked, by_ranked, alike_right, reordered_rising, whole-reordered, rising_from_sort, inserted_exchange, IsPermutation-map, IsPermutation-sym, IsPermutation-trans, reordered_kept}
+use Rattle.erd_normal.proofs.Common.{◌≡◌, zero, suc, Bool, true, false, List, [], ◌∷◌, ◌++◌, Contains, flat_map, sym, refl, ap, ◌∙◌, subst, append_assoc, append-nil, arith, lit<, and_parts, list_all, families, family_number, Family, family, IsDistinct, In, In-all, In-append_left, all_from_In, inl, inr, ℕ, ◌≤◌, map, length, if◌then◌else◌, ◌==◌, Some, None, Option, ap₂, same_Some, AllByRecursion, Data, array, Items, no_items, item, get_item, items_of, IsTree, list_of_items, entries_of, depth, is_array, is_empty_array, AreTrees, items_depth, list_of_items-items_of, unless_no_entry, array_of, cond, filter, is_lt, is_gt, Ordering, Less, Equal, Greater, true≢false, IsTotalOrder, all_weakened, with_inserted, rising_list, NeverFalls, rising_never_falls, In-filter, ◌<◌, tied_itself, less, greater_turned, ◌+◌, ◌⊎◌, slice_get, option_map, length-map, slice_get-map, enumerate_from, IsPermutation, IsSorted, option_and_then, nat_cmp, nat_cmp_total, CmpEqualImpliesEq, exact_unsigned, ordering_reverse, as_str, key_cmp, Preference, key_named, keys_named, key_cmp_total, key_cmp_exact, ranked, by_ranked, alike_right, reordered_rising, whole-reordered, rising_from_sort, inserted_exchange, IsPermutation-map, IsPermutation-sym, IsPermutation-trans, reordered_kept}
 use Rattle.erd_text.proofs.RisingOrders.{more_pass, no_fewer}
 use Rattle.erd_meaning.proofs.selections.ContestSelections.{get_first, get_later, within_or_after}
 
@@ -13,10 +13,6 @@ pub record IsPart {A : Type 0} (part whole : List A) : Type 0 where
 
 pub part_self : {A : Type 0} (xs : List A) → IsPart xs xs
 part_self xs = record { before = []; after = []; is = append-nil xs }
-
--- what stands in the part stands in the list
-pub part_has : {A : Type 0} (part whole : List A) → IsPart part whole → (x : A) → In x part → In x whole
-part_has part whole p x h = subst (λ xs. In x xs) p.is (In-append_right x p.before (part ++ p.after) (In-append_left x part p.after h))
 
 distinct_after : {A : Type 0} (test : A → A → Bool) (xs ys : List A) → IsDistinct test (xs ++ ys) → IsDistinct test ys
 unfolding IsDistinct
@@ -52,17 +48,6 @@ pub is_family : (f : Family) → Contains families f
 is_family family.Unit = (0, lit< tt, refl)
 is_family f = (family_number f, lit< tt, refl)
 
--- ---- any lists
-
--- what holds of a value, if there is one
-abbrev pub IfSome : {A : Type 0} → (A → Type 0) → Option A → Type 0
-IfSome P None = ⊤
-IfSome P (Some x) = P x
-
-pub if_some_is : {A : Type 0} (P : A → Type 0) (o : Option A) (x : A) → IfSome P o → o ≡ Some x → P x
-if_some_is P None x h e = cc
-if_some_is P (Some y) x h e = let same : y ≡ x = cc in subst P same h
-
 pub all_map : {A : Type 0} {B : Type 0} (P : A → Type 0) (Q : B → Type 0) (f : A → B) (xs : List A) → ((x : A) → P x → Q (f x)) → AllByRecursion P xs → AllByRecursion Q (map f xs)
 all_map P Q f [] each all = tt
 all_map P Q f (x ∷ xs) each all = (each x all.0, all_map P Q f xs each all.1)
@@ -97,10 +82,6 @@ items_of-depth (d ∷ ds) n all =
     let here : depth d ≤ n = all.0 in
     let later : items_depth (items_of ds) ≤ n = items_of-depth ds n all.1 in
     omega arith
-
--- a value that stands unless there is no entry
-pub unless_no_entry-holds : (P : Data → Type 0) (d v : Data) → P v → IfSome P (unless_no_entry d v)
-unless_no_entry-holds P d v h = elim (is_empty_array d) as (λ b. IfSome P (if b then None else Some v)) [ true ↦ tt | false ↦ h ]
 
 -- what holds of each entry of a list holds of each of its array
 pub entry_holds : (P : Data → Type 0) (xs : List Data) (i : ℕ) (e : Data) → AllByRecursion P xs → get_item i (items_of xs) ≡ Some e → P e

@@ -101,14 +101,6 @@ matched_none R = record { middle = []; paired = none; reordered = IsPermutation-
 pub matched_then : {A B : Type 0} {R : A → B → Type 0} {xs : List A} {ys zs : List B} → Matched R xs ys → IsPermutation ys zs → Matched R xs zs
 matched_then h k = record { middle = h.middle; paired = h.paired; reordered = IsPermutation-trans _ _ _ h.reordered k }
 
--- the values of a function
-paired_with_values : {A B : Type 0} (f : A → B) (xs : List A) → Paired (λ x y. f x ≡ y) xs (map f xs)
-paired_with_values f [] = none
-paired_with_values f (x ∷ xs) = more refl (paired_with_values f xs)
-
-pub matched_map : {A B : Type 0} (f : A → B) (xs : List A) → Matched (λ x y. f x ≡ y) xs (map f xs)
-matched_map f xs = record { middle = map f xs; paired = paired_with_values f xs; reordered = IsPermutation-refl (map f xs) }
-
 pub matched_within : {A B : Type 0} {R : A → B → Type 0} (S : A → B → Type 0) {xs : List A} {ys : List B} → ((x : A) (y : B) → In x xs → R x y → S x y) → Matched R xs ys → Matched S xs ys
 matched_within S h m = record { middle = m.middle; paired = paired_within S h m.paired; reordered = m.reordered }
 

@@ -9,66 +9,66 @@ use Rattle.erd_normal.proofs.canonical.ContestSelections.{one_contest}
 use Rattle.erd_normal.proofs.lists.Matched.{FoundSelection, owner_found}
 use Rattle.erd_normal.proofs.meaning.MatchedMeanings.{has_name}
 
--- ---- parts that are filled one entry after another: each has those entries that are put into it, in their order
+-- ---- lists that are filled one entry after another: each has those entries that are put into it, in their order
 
--- the entries of a part, or none if the part is not there
-abbrev pub in_part : {T A : Type 0} → (T → List A) → List T → ℕ → List A
-in_part items parts i = option_map_or items (slice_get parts i) []
+-- the entries of a list, or none if the list is not there
+abbrev pub in_list : {T A : Type 0} → (T → List A) → List T → ℕ → List A
+in_list items lists i = option_map_or items (slice_get lists i) []
 
-pub part_set : {T A : Type 0} (items : T → List A) (parts : List T) (i : ℕ) (new : T) → i < length parts → in_part items (slice_set parts i new) i ≡ items new
-part_set items [] i new low = absurd (omega arith)
-part_set items (p ∷ parts) zero new low = refl
-part_set items (p ∷ parts) (suc i) new low = part_set items parts i new (omega arith)
+pub list_set : {T A : Type 0} (items : T → List A) (lists : List T) (i : ℕ) (new : T) → i < length lists → in_list items (slice_set lists i new) i ≡ items new
+list_set items [] i new low = absurd (omega arith)
+list_set items (p ∷ lists) zero new low = refl
+list_set items (p ∷ lists) (suc i) new low = list_set items lists i new (omega arith)
 
-pub part_kept : {T A : Type 0} (items : T → List A) (parts : List T) (i j : ℕ) (new : T) → (j ≡ i → ⊥) → in_part items (slice_set parts i new) j ≡ in_part items parts j
-part_kept items [] zero j new other = refl
-part_kept items [] (suc i) j new other = refl
-part_kept items (p ∷ parts) zero zero new other = absurd (other refl)
-part_kept items (p ∷ parts) zero (suc j) new other = refl
-part_kept items (p ∷ parts) (suc i) zero new other = refl
-part_kept items (p ∷ parts) (suc i) (suc j) new other = part_kept items parts i j new (λ e. other (ap suc e))
+pub list_kept : {T A : Type 0} (items : T → List A) (lists : List T) (i j : ℕ) (new : T) → (j ≡ i → ⊥) → in_list items (slice_set lists i new) j ≡ in_list items lists j
+list_kept items [] zero j new other = refl
+list_kept items [] (suc i) j new other = refl
+list_kept items (p ∷ lists) zero zero new other = absurd (other refl)
+list_kept items (p ∷ lists) zero (suc j) new other = refl
+list_kept items (p ∷ lists) (suc i) zero new other = refl
+list_kept items (p ∷ lists) (suc i) (suc j) new other = list_kept items lists i j new (λ e. other (ap suc e))
 
--- a part that is there
-pub part_is : {T A : Type 0} (items : T → List A) (parts : List T) (i : ℕ) (d : T) → i < length parts → items (slice_index_or parts i d) ≡ in_part items parts i
-part_is items parts i d low = ap (λ x. option_map_or items x []) (sym (slice_get-get_or parts i d low))
+-- a list that is there
+pub list_is : {T A : Type 0} (items : T → List A) (lists : List T) (i : ℕ) (d : T) → i < length lists → items (slice_index_or lists i d) ≡ in_list items lists i
+list_is items lists i d low = ap (λ x. option_map_or items x []) (sym (slice_get-get_or lists i d low))
 
--- a part that is not there
-pub part_missing : {T A : Type 0} (items : T → List A) (parts : List T) (i : ℕ) → length parts ≤ i → in_part items parts i ≡ []
-part_missing items parts i high = ap (λ x. option_map_or items x []) (slice_get_past parts i high)
+-- a list that is not there
+pub list_missing : {T A : Type 0} (items : T → List A) (lists : List T) (i : ℕ) → length lists ≤ i → in_list items lists i ≡ []
+list_missing items lists i high = ap (λ x. option_map_or items x []) (slice_get_past lists i high)
 
 or_none : {A B : Type 0} (f : A → List B) (x : Option A) → option_map_or f x [] ≡ unwrap_or (option_map f x) []
 or_none f None = refl
 or_none f (Some x) = refl
 
--- the parts that a list gives
-pub part_listed : {A B : Type 0} (parts : List (Vec B Global)) (f : A → List B) (xs : List A) (i : ℕ) → map (λ part. part.items) parts ≡ map f xs → in_part (λ part. part.items) parts i ≡ option_map_or f (slice_get xs i) []
-part_listed {A} {B} parts f xs i e =
-    let items : (Vec B Global → List B) = λ part. part.items in
-    or_none items (slice_get parts i)
-    ∙ (ap (λ x. unwrap_or x []) (sym (slice_get-map items parts i) ∙ (ap (λ ys. slice_get ys i) e ∙ slice_get-map f xs i))
+-- the lists that a list gives
+pub lists_given : {A B : Type 0} (lists : List (Vec B Global)) (f : A → List B) (xs : List A) (i : ℕ) → map (λ list. list.items) lists ≡ map f xs → in_list (λ list. list.items) lists i ≡ option_map_or f (slice_get xs i) []
+lists_given {A} {B} lists f xs i e =
+    let items : (Vec B Global → List B) = λ list. list.items in
+    or_none items (slice_get lists i)
+    ∙ (ap (λ x. unwrap_or x []) (sym (slice_get-map items lists i) ∙ (ap (λ ys. slice_get ys i) e ∙ slice_get-map f xs i))
     ∙ sym (or_none f (slice_get xs i)))
 
--- ---- entries that are put into parts one after another
+-- ---- entries that are put into lists one after another
 
-module _ {A : Type 0} (part : A → ℕ) (rising : List A) (count : ℕ) where
-  -- what stands in a part after k entries
+module _ {A : Type 0} (list_of : A → ℕ) (rising : List A) (count : ℕ) where
+  -- what stands in a list after k entries
   abbrev pub put_in : ℕ → ℕ → List A
-  put_in k i = filter (λ x. part x == i) (take k rising)
+  put_in k i = filter (λ x. list_of x == i) (take k rising)
 
   module _ (k : ℕ) (e : A) (low : k < length rising) (is : e ≡ get_or rising k e) (i : ℕ) where
-    next_kept : put_in (k + 1) i ≡ put_in k i ++ cond (part e == i) (e ∷ []) []
+    next_kept : put_in (k + 1) i ≡ put_in k i ++ cond (list_of e == i) (e ∷ []) []
     next_kept =
-        ap (filter (λ x. part x == i)) (take_more rising k e low ∙ ap (λ x. take k rising ++ x ∷ []) (sym is))
-        ∙ filter-append (λ x. part x == i) (take k rising) (e ∷ [])
+        ap (filter (λ x. list_of x == i)) (take_more rising k e low ∙ ap (λ x. take k rising ++ x ∷ []) (sym is))
+        ∙ filter-append (λ x. list_of x == i) (take k rising) (e ∷ [])
 
     pub one_put : (old new : ℕ → List A) → (i < count → old i ≡ put_in k i)
-        → (part e < count → new (part e) ≡ old (part e) ++ e ∷ [])
-        → ((j : ℕ) → (j ≡ part e → ⊥) → new j ≡ old j)
+        → (list_of e < count → new (list_of e) ≡ old (list_of e) ++ e ∷ [])
+        → ((j : ℕ) → (j ≡ list_of e → ⊥) → new j ≡ old j)
         → i < count → new i ≡ put_in (k + 1) i
     one_put old new before here elsewhere inside =
-        (elim (part e == i) as (λ b. (part e == i) ≡ b → new i ≡ put_in k i ++ cond b (e ∷ []) []) [
-          | true ↦ λ same. subst (λ j. j < count → new j ≡ old j ++ e ∷ []) ((Decides-eqb (part e) i).0 same) here inside ∙ ap (λ xs. xs ++ e ∷ []) (before inside)
-          | false ↦ λ other. elsewhere i (λ same. true≢false (sym ((Decides-eqb (part e) i).1 (sym same)) ∙ other)) ∙ (before inside ∙ sym (append-nil (put_in k i)))
+        (elim (list_of e == i) as (λ b. (list_of e == i) ≡ b → new i ≡ put_in k i ++ cond b (e ∷ []) []) [
+          | true ↦ λ same. subst (λ j. j < count → new j ≡ old j ++ e ∷ []) ((Decides-eqb (list_of e) i).0 same) here inside ∙ ap (λ xs. xs ++ e ∷ []) (before inside)
+          | false ↦ λ other. elsewhere i (λ same. true≢false (sym ((Decides-eqb (list_of e) i).1 (sym same)) ∙ other)) ∙ (before inside ∙ sym (append-nil (put_in k i)))
         ]) refl
         ∙ sym next_kept
 

@@ -2,7 +2,7 @@
 use Rattle.erd_normal.proofs.Common.{NameOneThing, a_list, a_set, list_of_items-tree, same_Some, ◌≡◌, ℕ, zero, suc, ◌<◌, Bool, true, false, cond, ◌&&◌, List, [], ◌∷◌, length, IsSomeAnd, IsTrue, Some, None, Option, option_map, swap, option_and_then, nat_cmp, is_eq, Ordering, Equal, sym, refl, ap, ◌∙◌, subst, arith, is_eq-slice_cmp, slice_cmp, Data, null, string, array, object, Items, no_items, item, Members, no_members, member, get_member, get_item, items_of, role, Step, At, Name, list_of_items-items_of, text_from_equal, list_of_items, entries_of, scope_inside, want_of_name, entry_want, is_compared_set, is_table_set, Asked, asked, is_repeated, asked_of_member, asked_inside, asked_from, Scope, Want, Object, Renaming, replaced_text, is_id_text, renamed_value, renamed_items, renamed_members, changed_at, member_changed, item_changed, swapped, exchanged, HasEntries, IsPermutation, IsPermutation-swap, IsPermutation-refl, boolean, number, IsBeforeFirst, IsTree, AreTrees, AreMembers, codes, bytes_eq, option_map_or, get, as_str, kind_of_member, Class, Family, Role, kind, list_of_items-place, ObjectAt, ObjectIn, Within-step, AsksObject, of_role, of_label, member_within, Within, want_by_kind, ShapeFault, NoneOf, entries_at, class_of_object, member_want, scope, Member, object_in, report_class, Within-root, id_of, IsPermutation-sym, In, inl, inr, reordered-In, get_member-first, get_member-later, Sides, not_asked, a_null, a_flag, a_number, a_text, an_id, an_object, Same, renamed}
 use Rattle.erd_normal.proofs.lists.Matched.{Both, both, neither, Matched, Paired, none, more, matched_none, matched_within}
 use Rattle.erd_normal.proofs.same.Lookups.{get_both, asked_of_name}
-use Rattle.erd_normal.proofs.built.NormalTrees.{kind_of_family_id}
+use Rattle.erd_normal.proofs.inside.Homes.{kind_of_family_id}
 use Rattle.erd_normal.proofs.same.IdsOfObjects.{family_values, families_matched}
 use Rattle.erd_normal.proofs.same.Related.{Stands, entry_stands, member_stands, is_leaf, Alike, AlikeEntries, AlikeMembers, alike_leaf, alike_list, alike_set, alike_object, alike_none, alike_more, alike_nothing, alike_under, alike_array, alike_self, alike_same, entries_self, members_self, matched_left}
 

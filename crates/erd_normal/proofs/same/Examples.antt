@@ -1,5 +1,5 @@
 -- Reports that say the same as the small ballot, and reports that do not, by the laws and by computation.
-use Rattle.erd_normal.proofs.Common.{◌≡◌, ℕ, ◌^◌, ◌<◌, Bool, true, false, not, List, ◌++◌, length, is_some, Some, None, codes, Option, sym, refl, ap, ◌∙◌, subst, true≢false, lit<, digits, serde_json_on_literals, Data, Family, family, read_is_tree, no_fault_listed, IsTree, tree_of, small_ballot_with, small_ballot, small_ballot_canonical, local_key, IsAccepted, objects, meaning, MemberValue, a_plain, a_content, first_node, a_header, normal_tree, SaysTheSame}
+use Rattle.erd_normal.proofs.Common.{◌≡◌, ℕ, ◌^◌, ◌<◌, Bool, true, false, not, List, ◌++◌, length, is_some, Some, None, codes, Option, sym, refl, ap, ◌∙◌, subst, true≢false, lit<, digits, serde_json_on_literals, Data, Family, family, read_is_tree, no_fault_listed, IsTree, tree_of, small_ballot_with, small_ballot, small_ballot_canonical, local_key, IsAccepted, objects, meaning, MemberValue, a_plain, a_content, first_node, a_header, SaysTheSame}
 use Rattle.erd_meaning.specs.Meaning.{Meaning}
 use Rattle.erd_check.proofs.Reports.{contest_node, header_node}
 use Rattle.erd_check.proofs.WholeExamples.{small_ballot_is_faultless, small_ballot_canonical_is_faultless}
@@ -10,7 +10,8 @@ use Rattle.erd_normal.proofs.meaning.MatchedMeanings.{members_in}
 use Rattle.erd_normal.proofs.same.Related.{says_back}
 use Rattle.erd_normal.proofs.same.InTurn.{says_in_turn}
 use Rattle.erd_normal.proofs.same.means.Meanings.{saying_the_same_means_the_same}
-use Rattle.erd_normal.proofs.same.normal.SaidReports.{normal_tree_says}
+use Rattle.erd_normal.proofs.view.SaidViews.{view_says}
+use Rattle.erd_normal.specs.code.View.{style_of, whole}
 
 abbrev given : Data
 given = tree_of small_ballot
@@ -28,13 +29,13 @@ unfolding serde_json_on_literals
 few_given family.Unit = lit< tt
 few_given f = lit< tt
 
-given_built : normal_tree None given ≡ canonical
+given_built : whole (style_of None given) given ≡ canonical
 unfolding serde_json_on_literals digits
 given_built = refl
 
 -- the canonical form
 pub canonical_says : SaysTheSame given canonical
-canonical_says = subst (SaysTheSame given) given_built (normal_tree_says None given small_ballot_is_accepted given_tree (record { few = few_given }))
+canonical_says = subst (SaysTheSame given) given_built (view_says None given small_ballot_is_accepted given_tree (record { few = few_given }))
 
 -- a style with an `@id`, an empty array of the table and an outside member
 abbrev more_text : List ℕ
@@ -56,13 +57,13 @@ more_accepted : IsAccepted None more_members
 unfolding serde_json_on_literals
 more_accepted = accepted_by_lists None more_members more_tree (no_fault_listed more_members refl refl) refl refl refl
 
-more_built : normal_tree None more_members ≡ canonical
+more_built : whole (style_of None more_members) more_members ≡ canonical
 unfolding serde_json_on_literals digits
 more_built = refl
 
 pub more_says : SaysTheSame given more_members
 more_says =
-    let back : SaysTheSame canonical more_members = says_back more_members canonical (subst (SaysTheSame more_members) more_built (normal_tree_says None more_members more_accepted more_tree (record { few = few_more }))) in
+    let back : SaysTheSame canonical more_members = says_back more_members canonical (subst (SaysTheSame more_members) more_built (view_says None more_members more_accepted more_tree (record { few = few_more }))) in
     says_in_turn given canonical more_members given_tree small_ballot_canonical_is_faultless.tree more_tree canonical_says back
 
 -- ---- what does not, since it means something else

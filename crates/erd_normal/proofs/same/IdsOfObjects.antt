@@ -4,9 +4,10 @@ use Rattle.erd_meaning.specs.code.Spots.{member_name}
 use Rattle.erd_tables.specs.Places.{place_cmp}
 use Rattle.erd_tables.proofs.PlaceOrder.{place_cmp_total}
 use Rattle.erd_normal.proofs.lists.Matched.{Matched, matched_flat, find_values}
-use Rattle.erd_normal.proofs.built.BuiltFrom.{all_items, holds, home, is_home, is_report_role}
+use Rattle.erd_normal.proofs.inside.Entries.{all_items}
+use Rattle.erd_normal.proofs.inside.Homes.{holds, home, is_home, is_report_role}
 use Rattle.erd_normal.proofs.same.Related.{entry_has}
-use Rattle.erd_normal.proofs.throughout.ThroughoutMembers.{all_inside}
+use Rattle.erd_normal.proofs.inside.Walks.{all_inside}
 
 -- ---- the values of a report's objects, family by family, without their places
 

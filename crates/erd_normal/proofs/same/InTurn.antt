@@ -3,8 +3,8 @@ use Rattle.erd_normal.proofs.Common.{◌≡◌, ℕ, Bool, true, ◌&&◌, ◌�
 use Rattle.erd_normal.proofs.lists.Matched.{Matched, matched_back}
 use Rattle.erd_normal.proofs.same.Related.{entry_has, entries_matched, same_back, set_swapped, turned}
 use Rattle.erd_normal.proofs.same.Lookups.{Aligned, both_there, not_both, lookups, MayLack, scope_same, plain_scope, is_plain, AllPlain}
-use Rattle.erd_normal.proofs.throughout.ThroughoutMembers.{along, known_passes, one_inside}
-use Rattle.erd_normal.proofs.throughout.ThroughoutReports.{of_envelope}
+use Rattle.erd_normal.proofs.inside.Walks.{along, known_passes, one_inside}
+use Rattle.erd_normal.proofs.inside.Homes.{of_envelope}
 use Rattle.std.proofs.lemmas.List.Sorted.{length_permutation}
 
 -- ---- no reference is asked for in what is plain, nor in identifiers

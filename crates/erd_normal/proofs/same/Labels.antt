@@ -1,12 +1,12 @@
 -- The worst case of the names of selections: a label with translations. Labels that say the same have one text, with their
 -- translations in rising order.
 use Rattle.erd_normal.proofs.Common.{◌≡◌, ℕ, Bool, true, false, List, [], ◌∷◌, ◌++◌, map, Some, None, codes, Option, bytes_eq, Ordering, Greater, sym, refl, ap, ◌∙◌, subst, ap₂, nat_list_cmp_total, exact_bytes, option_map_or, match_ordering, get_member-put, Data, null, array, object, Members, no_members, member, put, get_member, items_of, comma_if, compact_text, items_text, members_text, kind_of_member, text_cmp, class, role, kind, text_exact, members_unique, put-trees, kind_of_unlisted_has, IsTree, AreMembers, entries_of, entries_at, class_of_object, want_of_name, Scope, scope, Member, rising_list_map, rising_list, compact_cmp, with_rising_text, Sides, MayBeAbsent, Same, SameMembers, Items, list_of_items, Want, Object, JsonMap, JsonSet, Label, untranslated, translated, json_set, label_beside_text, label_of, a_set, is_id_text, NameOneThing, true≢false, IsPermutation, IsPermutation-map, IsPermutation-refl}
-use Rattle.erd_normal.proofs.built.NormalTrees.{put_elsewhere, put_twice}
+use Rattle.erd_normal.proofs.inside.Members.{put_elsewhere, put_twice}
 use Rattle.erd_normal.proofs.lists.Matched.{matched_equal}
 use Rattle.erd_normal.proofs.lists.Lists.{rising-reordered}
 use Rattle.erd_normal.proofs.same.Lookups.{Aligned, both_there, not_both, MayLack, lookups, of_object, lacks_none, merged, is_steady, is_steady_kind, stays_one, steady_of_kind, steady_same, is_plain, is_plain_kind, plain_of_kind, AllPlain, plain_entry, plain_no_id, plain_scope}
 use Rattle.erd_normal.proofs.same.Related.{entries_matched, lacking_empty, ApartBy, AreSound, itself, json_sets_reordered, alike_self, alike_same, entries_same, entries_self}
-use Rattle.erd_normal.proofs.throughout.ThroughoutMembers.{known_passes}
+use Rattle.erd_normal.proofs.inside.Walks.{known_passes}
 
 -- ---- texts of values in order
 

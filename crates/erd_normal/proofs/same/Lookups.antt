@@ -1,6 +1,6 @@
 -- What stands under a name in objects that say the same, and members that say the same only where they are equal.
 use Rattle.erd_normal.proofs.Common.{◌≡◌, ℕ, List, Some, None, Option, nat_cmp, Ordering, Equal, sym, refl, ap, ◌∙◌, subst, slice_cmp, match_ordering, Data, object, Members, member, get_member, get_member-before, text_from_equal, AreMembers, scope_inside, want_of_name, Scope, Want, Sides, an_object, no_member, in_both, left_only, right_only, MayBeAbsent, Same, SameMembers, true, false, codes, option_and_then, bytes_eq, as_str, class_in_role, Class, class, Role, role, kind, class_of_object, scope_of_object, member_want, scope, Carried, ClassText, Member, Object, is_id_text, is_envelope, an_empty_array, of_the_envelope, an_unused_id, an_id, option_map_or, true≢false, Less, Greater, nat_list_cmp_total, ordering_reverse, no_members, text_cmp, get_member-first, IsBeforeFirst, Bool, not, ap₂, not-true, array, Items, item, MemberKind, want_of_kind, entry_want, is_table_set, Reference, class_role, is_array_kind, a_list, a_set, no_entry, one_entry, SameEntries, false_from_ne_true, is_envelope_name}
-use Rattle.erd_normal.proofs.throughout.ThroughoutMembers.{closed_names, is_apart_role, is_closed}
+use Rattle.erd_normal.proofs.inside.Walks.{closed_names, is_apart_role, is_closed}
 
 -- ---- what stands under a name in objects that say the same: in both, or it may be absent; and members from what stands under
 -- names

@@ -1,12 +1,12 @@
 -- The objects of two reports that say the same are matched, and so is what an `@id` names in both.
 use Rattle.erd_normal.proofs.Common.{◌≡◌, ℕ, Bool, false, true, List, Some, codes, bytes_eq, sym, refl, ap, ◌∙◌, subst, Data, get, role_of_class, is_required, Class, Family, family, Role, role, MemberKind, kind, is_word, report_class, election_class, want_by_kind, ShapeFault, NoneOf, IsTree, entries_at, want_of_kind, entry_want, Want, Object, Preference, key_of, Sides, is_array_kind, None, Option, find, option_and_then, false_from_ne_true, both_ways, option_map_or, as_str, text_exact, text_itself, Within-root, want_of_name, Scope, scope, Member, no_shape_fault, has_id-Some, IsAccepted, id_of, has_id, owner, key_named, ReferencesNameTheSame, IsUsed, NameOneThing, IsUnused, is_envelope, an_empty_array, of_the_envelope, an_unused_id, a_text, an_id, MayBeAbsent, Same}
-use Rattle.erd_normal.proofs.built.BuiltObjects.{key_of_identifiers-reordered, kind_of_identifiers}
+use Rattle.erd_normal.proofs.same.ReorderedKeys.{key_of_identifiers-reordered}
+use Rattle.erd_normal.proofs.inside.Homes.{kind_of_identifiers, kind_of_family_id}
 use Rattle.erd_normal.proofs.lists.Matched.{Matched, matched_equal, AtMostOne, Both, apart_distinct, matched_find, one_if_apart, said_same}
 use Rattle.erd_normal.proofs.same.IdsOfObjects.{family_values, IsOfKind, outside, chosen_matched, families_matched, owner_found, by_one_id, have_one_id, ids_distinct}
 use Rattle.erd_normal.proofs.same.Related.{Related}
 use Rattle.erd_normal.proofs.same.Lookups.{steady_same, Aligned, both_there, not_both, MayLack, asked_of_name}
 use Rattle.erd_normal.proofs.same.means.Members.{BothObjects, both_objects, told_entries, envelope_is}
-use Rattle.erd_normal.proofs.built.NormalTrees.{kind_of_family_id}
 
 -- ---- the objects of two reports that say the same: those of each family are matched, and matched ones have one key
 

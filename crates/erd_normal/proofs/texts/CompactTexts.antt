@@ -1,11 +1,10 @@
 -- Texts that are written for strings, and compact texts of values whose numbers fit: they tell the values.
-use Rattle.erd_normal.proofs.Common.{◌≡◌, ℕ, zero, suc, ◌+◌, ◌-◌, ◌<◌, ◌≤◌, cond, ◌||◌, List, [], ◌∷◌, ◌++◌, nat_lt, ◌==◌, Some, None, Option, option_map, flat_map, unwrap_or, sym, refl, ap, ◌∙◌, subst, ap₂, inl, inr, append_assoc, arith, ne_eqb, string, compact_text, serde_json_on_literals, ◌*◌, ◌/◌, ◌%◌, le-ltb, cases_lt, cases_eq, ◌^◌, Bool, true, false, not, ◌&&◌, length, get_or, drop, pos, negsuc, true≢false, eqb-false, and_from, AllByRecursion, Data, null, boolean, array, object, Items, no_items, item, Members, no_members, member, comma_if, items_text, members_text, Num, unsigned, negative, float, number, number_of, decimal, lt-ltb, decimal_is_IsNumeral, decimal_nonempty, number_text, IsFittingNumber, HasFittingNumbers, ItemsHaveFittingNumbers, MembersHaveFittingNumbers, Less, Equal, Greater, option_map_or, match_ordering, put, get_member, get_item, text_cmp, In, In-all, all_weakened, Within, IsTree, list_of_items, Asked, Preference, AreMembers, get_member-first, found_cases, get_member-tree, put-trees, within-holds, get_member-later, array_of, normal_tree}
+use Rattle.erd_normal.proofs.Common.{◌≡◌, ℕ, zero, suc, ◌+◌, ◌-◌, ◌<◌, ◌≤◌, cond, ◌||◌, List, [], ◌∷◌, ◌++◌, nat_lt, ◌==◌, Some, None, Option, option_map, flat_map, unwrap_or, sym, refl, ap, ◌∙◌, subst, ap₂, inl, inr, append_assoc, arith, ne_eqb, string, compact_text, serde_json_on_literals, ◌*◌, ◌/◌, ◌%◌, le-ltb, cases_lt, cases_eq, ◌^◌, Bool, true, false, not, ◌&&◌, length, get_or, drop, pos, negsuc, true≢false, eqb-false, and_from, AllByRecursion, Data, null, boolean, array, object, Items, no_items, item, Members, no_members, member, comma_if, items_text, members_text, Num, unsigned, negative, float, number, number_of, decimal, lt-ltb, decimal_is_IsNumeral, decimal_nonempty, number_text, IsFittingNumber, HasFittingNumbers, ItemsHaveFittingNumbers, MembersHaveFittingNumbers, Less, Equal, Greater, option_map_or, match_ordering, put, get_member, get_item, text_cmp, In, In-all, all_weakened, Within, IsTree, list_of_items, Asked, AreMembers, get_member-first, found_cases, get_member-tree, put-trees, within-holds, get_member-later, array_of}
 use Rattle.std.specs.Char.{digit_char}
 use Rattle.std.proofs.lemmas.Str.Parse.{digit_at}
 use Rattle.serde_json.proofs.Numbers.{number_of-decimal, number_of-negative}
 use Rattle.erd_normal.proofs.lists.Lists.{entry_holds, items_again, array_of-tree, trees_listed, all_both}
-use Rattle.erd_normal.proofs.built.BuiltFrom.{each_member, trees_of_each}
-use Rattle.erd_normal.proofs.built.NormalTrees.{IsPartwise, normal_tree-holds}
+use Rattle.erd_normal.proofs.inside.Members.{each_member, trees_of_each, IsPartwise}
 
 -- ---- what is written for a byte
 
@@ -318,10 +317,10 @@ fit_of_each value (member l d ms) rise fits each =
     ]) refl
 
 -- a tree whose numbers fit
-abbrev IsFitting : Data → Type 0
+abbrev pub IsFitting : Data → Type 0
 IsFitting d = IsTree d × HasFittingNumbers d
 
-fitting_partwise : IsPartwise IsFitting
+pub fitting_partwise : IsPartwise IsFitting
 fitting_partwise = record {
   entries = λ ds h. all_both IsTree HasFittingNumbers (list_of_items ds) (trees_listed ds h.0) (listed-fit ds h.1);
   listed = λ ds all. (array_of-tree ds (all_weakened IsFitting IsTree ds (λ d h. h.0) all), array_of-fits ds (all_weakened IsFitting HasFittingNumbers ds (λ d h. h.1) all));
@@ -334,7 +333,3 @@ fitting_partwise = record {
   text = λ s. (tt, tt);
   one = let small : 1 < 2 ^ 64 = omega arith in (tt, small);
 }
-
--- the numbers in what is built of a report fit
-pub normal_tree-fits : (π : Preference) (t : Data) → IsTree t → HasFittingNumbers t → HasFittingNumbers (normal_tree π t)
-normal_tree-fits π t tree fits = (normal_tree-holds IsFitting fitting_partwise π t (tree, fits)).1

@@ -1,5 +1,5 @@
 -- Members that are put into an object, and the tokens that are written of them.
-use Rattle.erd_normal.proofs.Common.{◌≡◌, ℕ, true, false, not, List, [], ◌∷◌, is_some, if◌then◌else◌, Some, None, codes, refl, ap, Data, null, string, Members, no_members, member, Class, Family, family, MemberKind, kind, Preference, is_empty_array, is_envelope_name, put_in, unless_no_entry, normal_value, normal_members, normal_node_value, with_id, envelope_values, in_envelope, holds_parts, written_object_value, written_election_value, written_report_value, slice_get, option_map, sym, ◌∙◌, object, get_item, has_float, items_have_float, role, Within, list_of_items, entries_at, Asked, asked, IsAccepted, Placed, elections, objects, all_at, within-holds, Object, option_map-Some, skeleton, election_stands, stands, in_at, zero, suc, ◌+◌, ◌<◌, ◌≤◌, Bool, ◌++◌, map, length, get_or, drop, Option, Less, Equal, Greater, subst, append_assoc, append-nil, arith, nat_list_cmp_total, length-map, drop_more, exact_bytes, option_map_or, ordering_reverse, item, put, items_of, view, items_view, Value, text_cmp, IsBeforeFirst, drop_all, Token, begin_array, end_array, key, before_put, put_all, due_value, due_list, IsBeforeAll, NamesRise, WritesThrough, array_of, value_tokens, items_tokens, members_tokens, member_tokens}
+use Rattle.erd_normal.proofs.Common.{◌≡◌, ℕ, true, false, not, List, [], ◌∷◌, is_some, if◌then◌else◌, Some, None, codes, refl, ap, Data, null, string, Members, no_members, member, Class, Family, family, MemberKind, kind, Preference, is_empty_array, is_envelope_name, put_in, unless_no_entry, normal_value, normal_members, normal_node_value, with_id, envelope_values, in_envelope, holds_objects, written_object_value, written_election_value, written_report_value, slice_get, option_map, sym, ◌∙◌, object, get_item, has_float, items_have_float, role, Within, list_of_items, entries_at, Asked, asked, IsAccepted, Placed, elections, objects, all_at, within-holds, Object, option_map-Some, skeleton, election_stands, stands, in_at, zero, suc, ◌+◌, ◌<◌, ◌≤◌, Bool, ◌++◌, map, length, get_or, drop, Option, Less, Equal, Greater, subst, append_assoc, append-nil, arith, nat_list_cmp_total, length-map, drop_more, exact_bytes, option_map_or, ordering_reverse, item, put, items_of, view, items_view, Value, text_cmp, IsBeforeFirst, drop_all, Token, begin_array, end_array, key, before_put, put_all, due_value, due_list, IsBeforeAll, NamesRise, WritesThrough, array_of, value_tokens, items_tokens, members_tokens, member_tokens}
 use Rattle.erd_normal.proofs.lists.Lists.{entry_holds, items_again}
 use Rattle.erd_text.proofs.WholeValues.{whole_entries, whole_get, all_whole}
 use Rattle.erd_check.proofs.Positions.{left_there}
@@ -29,9 +29,9 @@ put_envelope null = refl
 put_envelope e = refl
 
 -- a member of an election that holds no objects
-pub other_election_value : (π : Preference) (t : Data) (part : ℕ) (k : MemberKind) (d : Data) → ((f : Family) → k ≡ kind.Keyed f → ⊥) → written_election_value π t part k d ≡ normal_value π t k d
-other_election_value π t part (kind.Keyed f) d other = absurd (other f refl)
-other_election_value π t part k d other = refl
+pub other_election_value : (π : Preference) (t : Data) (i : ℕ) (k : MemberKind) (d : Data) → ((f : Family) → k ≡ kind.Keyed f → ⊥) → written_election_value π t i k d ≡ normal_value π t k d
+other_election_value π t i (kind.Keyed f) d other = absurd (other f refl)
+other_election_value π t i k d other = refl
 
 -- a member of a report that holds no objects and is not in its envelope
 pub other_report_value : (π : Preference) (t : Data) (name : List ℕ) (k : MemberKind) (d : Data) → ((f : Family) → k ≡ kind.Keyed f → ⊥) → (k ≡ kind.Elections → ⊥) → is_envelope_name name ≡ false
@@ -50,7 +50,7 @@ pub kept_unless_empty : (d v : Data) → is_some (unless_no_entry d v) ≡ not (
 kept_unless_empty d v = elim (is_empty_array d) as (λ b. is_some (if b then None else Some v) ≡ not b) [ true ↦ refl | false ↦ refl ]
 
 -- a member of an object is kept: its content or its selections unless empty, and others by their kind
-pub kept_in_object : (π : Preference) (t : Data) (i : ℕ) (k : MemberKind) (d : Data) → is_some (written_object_value π t i k d) ≡ (if holds_parts k then not (is_empty_array d) else is_some (normal_value π t k d))
+pub kept_in_object : (π : Preference) (t : Data) (i : ℕ) (k : MemberKind) (d : Data) → is_some (written_object_value π t i k d) ≡ (if holds_objects k then not (is_empty_array d) else is_some (normal_value π t k d))
 kept_in_object π t i kind.Content d = kept_unless_empty d _
 kept_in_object π t i (kind.Keyed family.Selection) d = kept_unless_empty d _
 kept_in_object π t i (kind.Keyed f) d = cc

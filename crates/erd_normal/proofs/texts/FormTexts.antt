@@ -1,15 +1,15 @@
 -- The text that is written for a report is the text of its canonical form.
-use Rattle.erd_normal.proofs.Common.{◌≡◌, ℕ, suc, ◌≤◌, List, [], Some, Option, option_map, option_and_then, Less, sym, refl, ap, ◌∙◌, subst, ap₂, append-nil, arith, nat_list_cmp_total, AllByRecursion, ordering_reverse, Data, array, object, Items, no_items, item, Members, no_members, member, put, text_cmp, IsTree, IsAccepted, Preference, IsBounded, number, depth, members_depth, of_json, of_items, of_members, read, max_depth, AreTrees, AreMembers, IsShallow, names, max, IsUtf8, ⊤, Token, items_depth, outline, items_outline, members_outline, before_all, HasFittingNumbers, ItemsHaveFittingNumbers, MembersHaveFittingNumbers, normal_tree, value_tokens}
+use Rattle.erd_normal.proofs.Common.{◌≡◌, ℕ, suc, ◌≤◌, List, [], Some, Option, option_map, option_and_then, Less, sym, refl, ap, ◌∙◌, subst, ap₂, append-nil, arith, nat_list_cmp_total, AllByRecursion, ordering_reverse, Data, array, object, Items, no_items, item, Members, no_members, member, put, text_cmp, IsTree, IsAccepted, Preference, IsBounded, number, depth, members_depth, of_json, of_items, of_members, read, max_depth, AreTrees, AreMembers, IsShallow, names, max, IsUtf8, ⊤, Token, items_depth, outline, items_outline, members_outline, before_all, HasFittingNumbers, ItemsHaveFittingNumbers, MembersHaveFittingNumbers, value_tokens}
 use Rattle.serde_json.proofs.Texts.{print-outline}
 use Rattle.json.specs.Lex.{tokens}
 use Rattle.json.proofs.Printed.Trees.{value-json_tokens}
 use Rattle.json.specs.Print.{print}
-use Rattle.erd_normal.proofs.texts.CompactTexts.{number_read, normal_tree-fits}
+use Rattle.erd_normal.proofs.texts.CompactTexts.{number_read}
 use Rattle.erd_normal.specs.CanonicalText.{IsCanonicalText}
-use Rattle.erd_normal.proofs.built.NormalTrees.{normal_tree-tree}
-use Rattle.erd_normal.proofs.canonical.NormalForms.{form_built, only_form_built, whole_built}
-use Rattle.erd_normal.proofs.same.normal.SameDepths.{no_deeper_form}
-use Rattle.erd_normal.proofs.same.normal.SaidReports.{normal_tree_says}
+use Rattle.erd_normal.proofs.view.ViewForms.{form_written, no_deeper_form, only_form_written, view_fits, whole_written}
+use Rattle.erd_normal.proofs.view.CanonicalStyles.{viewed_tree}
+use Rattle.erd_normal.specs.code.View.{style_of}
+use Rattle.erd_normal.specs.code.View.{whole as view_of}
 use Rattle.json.specs.Json as json
 use Rattle.json.specs.Tree as tree
 
@@ -107,19 +107,19 @@ form_read d text rise fit same shallow =
 -- ---- the text that is written for a report is the text of its canonical form
 
 module _ (π : Preference) (t : Data) (accepted : IsAccepted π t) (tree : IsTree t) (bounded : IsBounded t) (fits : HasFittingNumbers t) where
-  pub text_of_form : (written : List Token) (text : List ℕ) → written ≡ value_tokens (normal_tree π t) → text ≡ print written → tokens (print written) ≡ written → IsUtf8 text → IsCanonicalText π t text
+  pub text_of_form : (written : List Token) (text : List ℕ) → written ≡ value_tokens (view_of (style_of π t) t) → text ≡ print written → tokens (print written) ≡ written → IsUtf8 text → IsCanonicalText π t text
   text_of_form written text are printed back utf8 =
-      let u = normal_tree π t in
+      let u = view_of (style_of π t) t in
       record {
         tree = u;
-        form = form_built π t accepted tree bounded fits;
-        only = only_form_built π t accepted tree bounded fits;
-        no_deeper = no_deeper_form π t u (normal_tree-tree π t tree) (form_built π t accepted tree bounded fits).canonical (normal_tree_says π t accepted tree bounded);
-        is_tree = normal_tree-tree π t tree;
-        whole = whole_built π t accepted tree bounded fits;
+        form = form_written π t accepted tree bounded fits;
+        only = only_form_written π t accepted tree bounded fits;
+        no_deeper = no_deeper_form π t;
+        is_tree = viewed_tree π t tree;
+        whole = whole_written π t accepted tree bounded fits;
         written = printed ∙ (ap print are ∙ print-outline u);
         utf8 = utf8;
-        reads_back = form_read u text (normal_tree-tree π t tree) (normal_tree-fits π t tree fits) (ap tokens printed ∙ (back ∙ are));
+        reads_back = form_read u text (viewed_tree π t tree) (view_fits π t tree fits) (ap tokens printed ∙ (back ∙ are));
       }
 
 -- what is read of such a text is the form

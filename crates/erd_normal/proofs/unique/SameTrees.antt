@@ -9,7 +9,7 @@ use Rattle.erd_normal.proofs.same.complete.Texts.{Counterpart, by_key, by_name, 
 use Rattle.erd_normal.proofs.lists.Lists.{is_family, listed_depth}
 use Rattle.erd_normal.proofs.same.complete.Complete.{AloneUnused}
 use Rattle.erd_normal.proofs.same.Lookups.{Aligned, both_there, not_both, lookups, scope_same, steady_same, of_report}
-use Rattle.erd_normal.proofs.throughout.ThroughoutReports.{of_envelope}
+use Rattle.erd_normal.proofs.inside.Homes.{of_envelope}
 
 -- ---- counterparts in canonical reports that mean the same have one `@id`, and so a text names one key in both
 
@@ -225,16 +225,12 @@ module _ (π : Preference) (t u : Data) (canonical : IsCanonical π t) (canonica
   abbrev Below : ℕ → Type 0
   Below n = (w : Want) (d e : Data) → suc (depth d) ≤ n → Stands t w d → Stands u w e → Same m (Some w) d e → d ≡ e
 
-  -- ---- entries
-
   entry_equal : (n : ℕ) → Below n → (w w' : Want) (o : Option Want) → entry_want w ≡ o → entry_want w' ≡ o → (ds es : Items) → suc (items_depth ds) ≤ n → Stands t w (array ds) → Stands u w' (array es)
       → (x y : Data) → In x (list_of_items ds) → In y (list_of_items es) → Same m o x y → x ≡ y
   entry_equal n below w w' None asks asks' ds es small st st' x y i j h = steady_same m h refl
   entry_equal n below w w' (Some v) asks asks' ds es small st st' x y i j h =
       let low : depth x ≤ items_depth ds = In-all (λ d. depth d ≤ items_depth ds) x (list_of_items ds) (listed_depth ds (items_depth ds) (omega arith)) i in
       below v x y (omega (arith, low, small)) (entry_stands t w v (array ds) asks st x i) (entry_stands u w' v (array es) asks' st' y j) h
-
-  -- ---- members
 
   module _ (n : ℕ) (below : Below n) (w : Want) (ms ns : Members) (small : suc (members_depth ms) ≤ n) (st : Stands t w (object ms)) (st' : Stands u w (object ns)) (scopes : scope_inside w (object ms) ≡ scope_inside w (object ns)) where
     value_at : (k : List ℕ) (o : Option Want) → want_of_name (scope_inside w (object ms)) k ≡ o → (d e : Data) → get_member k ms ≡ Some d → get_member k ns ≡ Some e → Same m o d e → d ≡ e

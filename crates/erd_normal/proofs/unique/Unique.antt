@@ -75,7 +75,7 @@ objects_agree π t u alike = record {
 -- ---- two canonical reports that mean the same write references, sets of them and contents alike
 
 -- what is asked of a member of a kind
-member_wanted : (w : Want) (k : MemberKind) → kind_wanted w ≡ Some k → (r : Bool) × (w ≡ Member k r)
+pub member_wanted : (w : Want) (k : MemberKind) → kind_wanted w ≡ Some k → (r : Bool) × (w ≡ Member k r)
 member_wanted (Member l r) k e = let h : l ≡ k = cc in (r, ap (λ x. Member x r) h)
 member_wanted _ k e = cc
 

@@ -1,25 +1,23 @@
--- The tree that is built for a report, part by part. It does not define the profile: `IsCanonicalFormOf` does.
+-- What values and contents of a report become. It does not define the profile: `IsCanonicalFormOf` does.
 use Rattle.std.specs.Prelude.{ℕ, List, [], ◌∷◌, true, false, if◌then◌else◌, Option, Some, None, option_map, unwrap_or, map, filter, find, length, codes}
 use Rattle.std.specs.Option.{option_cmp, option_map_or}
 use Rattle.std.specs.Ordering.{is_lt}
 use Rattle.std.specs.declared.cmp.Ordering.{Ordering}
 use Rattle.serde_json.specs.Data.{Data, string, number, unsigned, array, object, put, Items, no_items, item, Members, no_members, member}
 use Rattle.serde_json.specs.View.{items_of}
-use Rattle.erd_tables.specs.Table.{is_envelope_name, kind_of_member}
+use Rattle.erd_tables.specs.Table.{kind_of_member}
 use Rattle.erd_tables.specs.declared.class.Class.{Class}
 use Rattle.erd_tables.specs.declared.class.Family.{Family}
 use Rattle.erd_tables.specs.declared.class.Family.TheVariants as family
-use Rattle.erd_tables.specs.declared.class.Role.TheVariants as role
 use Rattle.erd_tables.specs.declared.member.MemberKind.{MemberKind}
 use Rattle.erd_tables.specs.declared.member.MemberKind.TheVariants as kind
 use Rattle.erd_check.specs.Faults.{is_empty_array}
 use Rattle.erd_check.specs.Values.{entries_of, entries_at, text_of}
-use Rattle.erd_check.specs.Wants.{class_of_object}
 use Rattle.erd_meaning.specs.Keys.{Preference, key_cmp, key_of}
 use Rattle.erd_meaning.specs.NameParts.{NameParts}
 use Rattle.erd_meaning.specs.Objects.{has_id, contests, selections_of_contest, Placed}
 use Rattle.erd_meaning.specs.Records.{class_of_node}
-use Rattle.erd_meaning.specs.SelectionNames.{key_named, name_cmp, name_of, selection_role}
+use Rattle.erd_meaning.specs.SelectionNames.{key_named, name_cmp, name_of}
 use Rattle.erd_text.specs.RisingLists.{compact_cmp, rising_list, with_rising_text}
 use Rattle.erd_meaning.specs.declared.keys.key.Key.{Key}
 use Rattle.erd_normal.specs.code.Building.{put_all}
@@ -133,7 +131,8 @@ abbrev mutual
   pub normal_node_members : Preference → Data → Option Class → Members → Members
   normal_node_members π t c no_members = no_members
   normal_node_members π t c (member k d ms) =
-      option_map_or (λ v. member k v (normal_node_members π t c ms)) (normal_node_value π t (option_map (λ c. kind_of_member c k) c) d (normal_content π t d)) (normal_node_members π t c ms)
+      option_map_or (λ v. member k v (normal_node_members π t c ms))
+      (normal_node_value π t (option_map (λ c. kind_of_member c k) c) d (normal_content π t d)) (normal_node_members π t c ms)
 
 -- ---- objects
 
@@ -141,11 +140,6 @@ abbrev mutual
 abbrev pub with_id : Option (List ℕ) → Data → Data
 with_id (Some id) (object ms) = object (put (codes "@id") (string id) ms)
 with_id id d = d
-
--- What a selection of the contest becomes.
-abbrev pub normal_selection : Preference → Data → Data → Data → Data
-normal_selection π t contest d =
-    with_id (Some (id_of_selection π t contest d)) (normal_object_with (λ name k v. normal_value π t k v) (class_of_object selection_role d) d)
 
 -- Objects and elections are compared by their keys.
 abbrev pub by_key : Preference → Data → Data → Ordering
@@ -155,38 +149,7 @@ by_key π a b = option_cmp key_cmp (key_of π a) (key_of π b)
 abbrev pub by_name : Preference → Data → Data → Data → Ordering
 by_name π t a b = option_cmp name_cmp (name_of π t a) (name_of π t b)
 
--- What a member of an object of a family becomes. In a contest, this includes the selections.
-abbrev pub normal_object_value : Preference → Data → Data → MemberKind → Data → Option Data
-normal_object_value π t o (kind.Keyed family.Selection) d =
-    unless_no_entry d (array_of (map (normal_selection π t o) (rising_list (by_name π t) (entries_of d))))
-normal_object_value π t o kind.Content d = unless_no_entry d (normal_content π t d)
-normal_object_value π t o k d = normal_value π t k d
-
--- What an object of one of the first eight families becomes.
-abbrev pub normal_object : Preference → Data → Family → Data → Data
-normal_object π t f d =
-    with_id (id_of_key π t f (key_of π d)) (normal_object_with (λ name k v. normal_object_value π t d k v) (class_of_object (role.OfFamily f) d) d)
-
--- What the objects of a family become, in the order of their keys.
-abbrev pub normal_objects : Preference → Data → Family → List Data → Data
-normal_objects π t f ds = array_of (map (normal_object π t f) (rising_list (by_key π) ds))
-
--- What a member of the election becomes.
-abbrev pub normal_election_value : Preference → Data → MemberKind → Data → Option Data
-normal_election_value π t (kind.Keyed f) d = unless_no_entry d (normal_objects π t f (entries_of d))
-normal_election_value π t k d = normal_value π t k d
-
--- What the election becomes.
-abbrev pub normal_election : Preference → Data → Data → Data
-normal_election π t d = normal_object_with (λ name k v. normal_election_value π t k v) (class_of_object role.Election d) d
-
 -- ---- the report
-
--- What a member of the report becomes. Members of the envelope become none.
-abbrev pub normal_report_value : Preference → Data → List ℕ → MemberKind → Data → Option Data
-normal_report_value π t name (kind.Keyed f) d = unless_no_entry d (normal_objects π t f (entries_of d))
-normal_report_value π t name kind.Elections d = Some (array_of (map (normal_election π t) (rising_list (by_key π) (entries_of d))))
-normal_report_value π t name k d = if is_envelope_name name then None else normal_value π t k d
 
 -- The names and values of the canonical envelope, in the order of the names.
 abbrev pub envelope_values : List (List ℕ × Data)
@@ -204,7 +167,3 @@ with_envelope ms = put_all envelope_values ms
 abbrev pub in_envelope : Data → Data
 in_envelope (object ms) = object (with_envelope ms)
 in_envelope d = d
-
--- The tree that is built for a report.
-abbrev pub normal_tree : Preference → Data → Data
-normal_tree π t = in_envelope (normal_object_with (normal_report_value π t) (class_of_object role.Report t) t)

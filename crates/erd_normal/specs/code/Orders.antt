@@ -1,4 +1,4 @@
--- The orders in which the parts of a report are written, and the ranks of what references name.
+-- The orders in which the objects of a report are written, and the ranks of what references name.
 use Rattle.std.specs.Prelude.{◌≡◌, ℕ, List, false, if◌then◌else◌, map}
 use Rattle.serde_json.specs.Data.{Data}
 use Rattle.serde_json.specs.Written.{has_float}
@@ -9,7 +9,7 @@ use Rattle.erd_meaning.specs.Keys.{Preference, has_keys}
 use Rattle.erd_meaning.specs.Lookups.{rank_of}
 use Rattle.erd_meaning.specs.Objects.{IsBounded, contests}
 use Rattle.erd_meaning.specs.SelectionNames.{key_named}
-use Rattle.erd_normal.specs.code.ElectionParts.{part_seen, positions_in_part}
+use Rattle.erd_normal.specs.code.ElectionObjects.{list_seen, positions_in_election}
 use Rattle.erd_normal.specs.code.SelectionOrders.{AreSelectionRanks, rising_selections}
 use Rattle.erd_normal.specs.declared.writer.Orders.{Orders}
 
@@ -22,6 +22,6 @@ pub record AreOrders (π : Preference) (t : Data) (o : Orders) : Type 0 where
   pub accepted : IsAccepted π t
   pub bounded : IsBounded t
   pub whole : has_float t ≡ false
-  pub parts : (f : Family) (i : ℕ) → part_seen (entry_of o.parts f).items i ≡ positions_in_part π t f i
+  pub by_election : (f : Family) (i : ℕ) → list_seen (entry_of o.by_election f).items i ≡ positions_in_election π t f i
   pub contests : map (λ positions. positions.items) o.selections.rising.items ≡ map (λ c. rising_selections π t c.value) (contests t)
   pub selections : AreSelectionRanks π t o.selections.ranks.items

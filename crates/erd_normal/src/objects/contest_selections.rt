@@ -1,5 +1,6 @@
 ghost use Rattle.std.specs.Prelude.{◌≡◌, ◌++◌, ◌<◌, Some, false, length, option_map, slice_get, OnOk};
-ghost use Rattle.erd_normal.specs.Words.{items_of, view, has_float, class_of_object, contests, selection_role, items_tokens, value_tokens, canonical_selection_id};
+ghost use Rattle.erd_normal.specs.Words.{items_of, view, has_float, class_of_object, contests};
+ghost use Rattle.erd_normal.specs.Words.{selection_role, items_tokens, value_tokens, canonical_selection_id};
 ghost use Rattle.erd_normal.specs.code.NormalTree.{array_of, normal_object_with, normal_value, with_id};
 ghost use Rattle.erd_normal.specs.code.WrittenTree.{written_in_contest, written_selections};
 
@@ -86,7 +87,8 @@ fn write_selection(
 ) -> Result<(), AllocError>
     requires whole { has_float (view value.now) ≡ false }
     ensures { OnOk result (out.new ≡ out.old ++ value_tokens (with_id (Some (canonical_selection_id ranks.0 ranks.1))
-        (normal_object_with (λ name k v. normal_value writer.now.prefer (view writer.now.tree) k v) (class_of_object selection_role (view value.now)) (view value.now)))) }
+        (normal_object_with (λ name k v. normal_value writer.now.prefer (view writer.now.tree) k v) (class_of_object selection_role (view value.now))
+        (view value.now)))) }
 {
     let id = selection_id_text(ranks.0, ranks.1)?;
     let due = [DueMember {

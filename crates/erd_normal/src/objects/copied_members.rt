@@ -32,7 +32,8 @@ pub(crate) fn write_with(
     value: &Value,
     out: &mut Output,
 ) -> Result<(), AllocError>
-    ensures { OnOk result (AreDue due.now → has_float (view value.now) ≡ false → out.new ≡ out.old ++ value_tokens (put_in (due_list due.now) (view value.now))) }
+    ensures { OnOk result (AreDue due.now → has_float (view value.now) ≡ false
+        → out.new ≡ out.old ++ value_tokens (put_in (due_list due.now) (view value.now))) }
 {
     match value {
         Value::Object(members) => {

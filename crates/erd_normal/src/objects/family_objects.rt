@@ -1,7 +1,7 @@
 ghost use Rattle.std.specs.Prelude.{◌≡◌, ◌++◌, ◌<◌, Some, false, true, length, option_map, slice_get, OnOk};
 ghost use Rattle.erd_normal.specs.Words.{view, has_float, class_of_object, has_keys, Placed, objects, value_tokens};
 ghost use Rattle.erd_normal.specs.code.NormalTree.{array_of, normal_object_with, with_id};
-ghost use Rattle.erd_normal.specs.code.WrittenTree.{holds_parts, written_object, written_objects, written_object_value};
+ghost use Rattle.erd_normal.specs.code.WrittenTree.{holds_objects, written_object, written_objects, written_object_value};
 
 use crate::objects::contest_selections::write_selections;
 use crate::objects::due_members::{DueMember, DueValue};
@@ -28,7 +28,7 @@ impl<'a> MemberRule for ObjectMembers<'a> {
     ghost value_of = { λ rule name kind d. written_object_value rule.writer.now.prefer (view rule.writer.now.tree) rule.position kind d };
 
     fn keeps(&self, _name: &str, kind: MemberKind, member: &Value) -> bool {
-        if holds_parts(kind) {
+        if holds_objects(kind) {
             !is_empty_array(member)
         } else {
             is_kept(kind, member)
@@ -47,8 +47,8 @@ impl<'a> MemberRule for ObjectMembers<'a> {
 }
 
 /// Returns whether a member of this kind holds the content of an object or its selections.
-fn holds_parts(kind: MemberKind) -> bool
-    ensures { result ≡ holds_parts kind }
+fn holds_objects(kind: MemberKind) -> bool
+    ensures { result ≡ holds_objects kind }
 {
     matches!(
         kind,
@@ -61,13 +61,13 @@ fn holds_parts(kind: MemberKind) -> bool
 pub(crate) fn write_family(
     writer: &Writer,
     family: Family,
-    part: usize,
+    election: usize,
     out: &mut Output,
 ) -> Result<(), AllocError>
-    ensures { OnOk result (out.new ≡ out.old ++ value_tokens (array_of (written_objects writer.now.prefer (view writer.now.tree) family part))) }
+    ensures { OnOk result (out.new ≡ out.old ++ value_tokens (array_of (written_objects writer.now.prefer (view writer.now.tree) family election))) }
 {
     out.begin_array()?;
-    for position in writer.rising(family, part) {
+    for position in writer.rising(family, election) {
         write_object_at(writer, family, *position, out)?;
     }
     out.end_array()
@@ -106,7 +106,9 @@ fn write_identified<R: MemberRule>(
     out: &mut Output,
 ) -> Result<(), AllocError>
     requires whole { has_float (view value.now) ≡ false }
-    ensures { OnOk result (out.new ≡ out.old ++ value_tokens (with_id (option_map (λ text. text.bytes) id.now) (normal_object_with (R.value_of rule.now) (class_of_object role (view value.now)) (view value.now)))) }
+    ensures { OnOk result (out.new ≡ out.old
+        ++ value_tokens (with_id (option_map (λ text. text.bytes) id.now)
+        (normal_object_with (R.value_of rule.now) (class_of_object role (view value.now)) (view value.now)))) }
 {
     match id {
         Some(id) => {

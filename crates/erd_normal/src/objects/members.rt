@@ -1,5 +1,6 @@
 ghost use Rattle.std.specs.Prelude.{◌≡◌, ◌++◌, ℕ, List, Option, Some, false, is_some, drop, IfOk, OnOk};
-ghost use Rattle.erd_normal.specs.Words.{Data, Members, object, view, members_view, has_float, members_have_float, MemberKind as Asked, members_tokens, value_tokens};
+ghost use Rattle.erd_normal.specs.Words.{Data, Members, object, view, members_view, has_float};
+ghost use Rattle.erd_normal.specs.Words.{members_have_float, MemberKind as Kind, members_tokens, value_tokens};
 ghost use Rattle.erd_normal.specs.code.Building.{first_if, put_all};
 ghost use Rattle.erd_normal.specs.code.DueMembers.{AreDue, due_list};
 ghost use Rattle.erd_normal.specs.code.NormalTree.{normal_members};
@@ -13,7 +14,7 @@ use std::alloc::AllocError;
 /// A rule that gives the canonical members of an object.
 pub(crate) trait MemberRule {
     // The canonical value of a member, by its name and kind, if the member is kept.
-    ghost value_of: { Self → List ℕ → Asked → Data → Option Data };
+    ghost value_of: { Self → List ℕ → Kind → Data → Option Data };
 
     /// Returns whether the member is kept.
     fn keeps(&self, name: &str, kind: MemberKind, member: &Value) -> bool
@@ -21,7 +22,8 @@ pub(crate) trait MemberRule {
 
     /// Writes the canonical value of a member that is kept.
     fn write(&self, kind: MemberKind, member: &Value, out: &mut Output) -> Result<(), AllocError>
-        ensures { OnOk result (has_float (view member.now) ≡ false → (name : List ℕ) (d : Data) → value_of self.now name kind (view member.now) ≡ Some d → out.new ≡ out.old ++ value_tokens d) };
+        ensures { OnOk result (has_float (view member.now) ≡ false → (name : List ℕ) (d : Data) → value_of self.now name kind (view member.now) ≡ Some d
+            → out.new ≡ out.old ++ value_tokens d) };
 }
 
 /// Writes an object of the class with the members that the rule gives, each from the member with the same name, and with
@@ -34,7 +36,8 @@ pub(crate) fn write_members<R: MemberRule>(
     out: &mut Output,
 ) -> Result<(), AllocError>
     ensures { OnOk result (AreDue due.now → members_have_float (members_view members.now.entries) ≡ false
-        → out.new ≡ out.old ++ value_tokens (object (put_all (due_list due.now) (normal_members (R.value_of rule.now) class (members_view members.now.entries))))) }
+        → out.new ≡ out.old ++ value_tokens
+        (object (put_all (due_list due.now) (normal_members (R.value_of rule.now) class (members_view members.now.entries))))) }
 {
     out.begin_object()?;
     let mut at = 0;
@@ -57,7 +60,8 @@ fn write_member<R: MemberRule>(
     out: &mut Output,
 ) -> Result<usize, AllocError>
     ensures { IfOk result (λ left. AreDue due.now → has_float (view member.entry.2.now) ≡ false → (ms : Members)
-        → out.old ++ members_tokens (put_all (due_list (drop at due.now)) (first_if member.entry.0.now (R.value_of rule.now member.entry.0.now member.entry.1 (view member.entry.2.now)) ms))
+        → out.old ++ members_tokens (put_all (due_list (drop at due.now))
+        (first_if member.entry.0.now (R.value_of rule.now member.entry.0.now member.entry.1 (view member.entry.2.now)) ms))
         ≡ out.new ++ members_tokens (put_all (due_list (drop left due.now)) ms)) }
 {
     let (name, kind, value) = member;

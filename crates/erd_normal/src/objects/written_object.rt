@@ -23,7 +23,8 @@ pub(crate) fn write_object<R: MemberRule>(
 ) -> Result<(), AllocError>
     requires due { AreDue due.now }
     requires whole { has_float (view value.now) ≡ false }
-    ensures { OnOk result (out.new ≡ out.old ++ value_tokens (put_in (due_list due.now) (normal_object_with (R.value_of rule.now) (class_of_object role (view value.now)) (view value.now)))) }
+    ensures { OnOk result (out.new ≡ out.old
+        ++ value_tokens (put_in (due_list due.now) (normal_object_with (R.value_of rule.now) (class_of_object role (view value.now)) (view value.now)))) }
 {
     match (class_of_object(role, value), value) {
         (Some(class), Value::Object(members)) => write_members(rule, class, due, members, out),

@@ -18,11 +18,11 @@ use std::alloc::AllocError;
 #[derive(Drop)]
 struct ElectionMembers<'a> {
     writer: &'a Writer<'a>,
-    part: usize,
+    election: usize,
 }
 
 impl<'a> MemberRule for ElectionMembers<'a> {
-    ghost value_of = { λ rule name kind d. written_election_value rule.writer.now.prefer (view rule.writer.now.tree) rule.part kind d };
+    ghost value_of = { λ rule name kind d. written_election_value rule.writer.now.prefer (view rule.writer.now.tree) rule.election kind d };
 
     fn keeps(&self, _name: &str, kind: MemberKind, member: &Value) -> bool {
         match kind {
@@ -33,7 +33,7 @@ impl<'a> MemberRule for ElectionMembers<'a> {
 
     fn write(&self, kind: MemberKind, member: &Value, out: &mut Output) -> Result<(), AllocError> {
         match kind {
-            MemberKind::Keyed(family) => { write_family(self.writer, family, self.part, out) }
+            MemberKind::Keyed(family) => { write_family(self.writer, family, self.election, out) }
             _ => write_of_kind(self.writer, kind, member, out),
         }
     }
@@ -60,7 +60,7 @@ fn write_election_at(writer: &Writer, position: usize, out: &mut Output) -> Resu
         Some(election) => {
             let rule = ElectionMembers {
                 writer,
-                part: position,
+                election: position,
             };
             write_object(&rule, Role::Election, &[], election, out)
         }

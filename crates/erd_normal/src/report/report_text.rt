@@ -1,6 +1,6 @@
 ghost use Rattle.std.specs.Prelude.{◌≡◌, ◌++◌, false, OnOk};
 ghost use Rattle.erd_normal.specs.Words.{view, has_float, IsAccepted, IsTree, value_tokens};
-ghost use Rattle.erd_normal.specs.code.NormalTree.{normal_tree};
+ghost use Rattle.erd_normal.specs.code.View.{style_of, whole};
 ghost use Rattle.erd_normal.specs.code.WrittenTree.{written_report_value};
 
 use crate::objects::due_members::{DueMember, DueValue};
@@ -84,7 +84,7 @@ pub(crate) fn write_report(
     requires accepted { IsAccepted writer.now.prefer (view root.now) }
     requires is_tree { IsTree (view root.now) }
     requires whole { has_float (view root.now) ≡ false }
-    ensures { OnOk result (out.new ≡ out.old ++ value_tokens (normal_tree writer.now.prefer (view writer.now.tree))) }
+    ensures { OnOk result (out.new ≡ out.old ++ value_tokens (whole (style_of writer.now.prefer (view writer.now.tree)) (view writer.now.tree))) }
 {
     let rule = ReportMembers { writer };
     write_object(&rule, Role::Report, &ENVELOPE, root, out)

@@ -1,5 +1,6 @@
 ghost use Rattle.std.specs.Prelude.{◌≡◌, ◌++◌, Some, false, option_map, is_some, OnOk};
-ghost use Rattle.erd_normal.specs.Words.{Data, view, items_view, members_view, has_float, items_have_float, members_have_float, kind_of_member, Preference, items_tokens, members_tokens, value_tokens};
+ghost use Rattle.erd_normal.specs.Words.{Data, view, items_view, members_view, has_float, items_have_float, members_have_float};
+ghost use Rattle.erd_normal.specs.Words.{kind_of_member, Preference, items_tokens, members_tokens, value_tokens};
 ghost use Rattle.erd_normal.specs.code.NormalTree.{normal_content, normal_node, normal_node_members, normal_node_value, normal_nodes};
 ghost use Rattle.erd_normal.specs.code.Building.{member_tokens};
 
@@ -18,7 +19,8 @@ pub(crate) fn write_content(
     value: &Value,
     out: &mut Output,
 ) -> Result<(), AllocError>
-    ensures { OnOk result (has_float (view value.now) ≡ false → out.new ≡ out.old ++ value_tokens (normal_content writer.now.prefer (view writer.now.tree) (view value.now))) }
+    ensures { OnOk result (has_float (view value.now) ≡ false
+        → out.new ≡ out.old ++ value_tokens (normal_content writer.now.prefer (view writer.now.tree) (view value.now))) }
 {
     match value {
         Value::Array(items) => {
@@ -44,7 +46,8 @@ fn write_nodes(writer: &Writer, items: &Vec<Value>, out: &mut Output) -> Result<
 /// Writes the canonical node for a contest or a header.
 #[cycle(content)]
 fn write_node(writer: &Writer, value: &Value, out: &mut Output) -> Result<(), AllocError>
-    ensures { OnOk result (has_float (view value.now) ≡ false → out.new ≡ out.old ++ value_tokens (normal_node writer.now.prefer (view writer.now.tree) (view value.now))) }
+    ensures { OnOk result (has_float (view value.now) ≡ false
+        → out.new ≡ out.old ++ value_tokens (normal_node writer.now.prefer (view writer.now.tree) (view value.now))) }
 {
     match value {
         Value::Object(members) => {
@@ -84,7 +87,8 @@ fn write_node_member(
     out: &mut Output,
 ) -> Result<(), AllocError>
     ensures { OnOk result (has_float (view value.now) ≡ false → out.new ≡ out.old ++ member_tokens name.now
-        (normal_node_value writer.now.prefer (view writer.now.tree) kind (view value.now) (normal_content writer.now.prefer (view writer.now.tree) (view value.now)))) }
+        (normal_node_value writer.now.prefer (view writer.now.tree) kind (view value.now)
+        (normal_content writer.now.prefer (view writer.now.tree) (view value.now)))) }
 {
     if is_kept_in_node(kind, value) {
         out.key(name)?;
@@ -103,7 +107,8 @@ fn write_node_value(
     out: &mut Output,
 ) -> Result<(), AllocError>
     ensures { OnOk result (has_float (view value.now) ≡ false → (d : Data)
-        → normal_node_value writer.now.prefer (view writer.now.tree) kind (view value.now) (normal_content writer.now.prefer (view writer.now.tree) (view value.now)) ≡ Some d
+        → normal_node_value writer.now.prefer (view writer.now.tree) kind (view value.now)
+        (normal_content writer.now.prefer (view writer.now.tree) (view value.now)) ≡ Some d
         → out.new ≡ out.old ++ value_tokens d) }
 {
     match kind {
@@ -121,7 +126,8 @@ fn write_listed(
     out: &mut Output,
 ) -> Result<(), AllocError>
     ensures { OnOk result (has_float (view value.now) ≡ false → (d : Data)
-        → normal_node_value writer.now.prefer (view writer.now.tree) (Some kind) (view value.now) (normal_content writer.now.prefer (view writer.now.tree) (view value.now)) ≡ Some d
+        → normal_node_value writer.now.prefer (view writer.now.tree) (Some kind) (view value.now)
+        (normal_content writer.now.prefer (view writer.now.tree) (view value.now)) ≡ Some d
         → out.new ≡ out.old ++ value_tokens d) }
 {
     match kind {

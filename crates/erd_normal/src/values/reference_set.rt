@@ -21,7 +21,8 @@ pub(crate) fn write_rising_references(
     out: &mut Output,
 ) -> Result<(), AllocError>
     ensures { OnOk result (out.new ≡ out.old ++ value_tokens (array_of
-        (map (normal_reference writer.now.prefer (view writer.now.tree) family) (rising_list (reference_cmp writer.now.prefer (view writer.now.tree) family) (map view values.now))))) }
+        (map (normal_reference writer.now.prefer (view writer.now.tree) family)
+        (rising_list (reference_cmp writer.now.prefer (view writer.now.tree) family) (map view values.now))))) }
 {
     let mut ranks = ranks_named(writer, family, values)?;
     ranks.sort_unstable();
@@ -57,7 +58,8 @@ pub(crate) fn write_selection_references(
     values: &[Value],
     out: &mut Output,
 ) -> Result<(), AllocError>
-    ensures { OnOk result (out.new ≡ out.old ++ value_tokens (array_of (map (λ v. normal_selection_reference writer.now.prefer (view writer.now.tree) (view v)) values.now))) }
+    ensures { OnOk result (out.new ≡ out.old
+        ++ value_tokens (array_of (map (λ v. normal_selection_reference writer.now.prefer (view writer.now.tree) (view v)) values.now))) }
 {
     out.begin_array()?;
     for value in values {

@@ -33,7 +33,8 @@ pub(crate) fn write_of_kind(
     value: &Value,
     out: &mut Output,
 ) -> Result<(), AllocError>
-    ensures { OnOk result (has_float (view value.now) ≡ false → (d : Data) → normal_value writer.now.prefer (view writer.now.tree) kind (view value.now) ≡ Some d
+    ensures { OnOk result (has_float (view value.now) ≡ false → (d : Data)
+        → normal_value writer.now.prefer (view writer.now.tree) kind (view value.now) ≡ Some d
         → out.new ≡ out.old ++ value_tokens d) }
 {
     match kind {

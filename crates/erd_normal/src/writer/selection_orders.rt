@@ -1,5 +1,6 @@
 ghost use Rattle.std.specs.Prelude.{◌≡◌, ◌+◌, ◌<◌, ◌^◌, [], codes, length, map, option_map, slice_get, IfOk, option_copied};
-ghost use Rattle.erd_normal.specs.Words.{option_cmp, option_map_or, entries_at, view, IsAccepted, IsBounded, contests, name_cmp, name_of, rising_list, ranked_name};
+ghost use Rattle.erd_normal.specs.Words.{option_cmp, option_map_or, entries_at, view, IsAccepted};
+ghost use Rattle.erd_normal.specs.Words.{IsBounded, contests, name_cmp, name_of, rising_list, ranked_name};
 ghost use Rattle.erd_meaning.specs.code.KeyOrders.{positioned, positions_by};
 ghost use Rattle.erd_normal.specs.code.SelectionOrders.{AreNamedFrom, AreSelectionRanks, lent_name_cmp, name_in, rising_selections};
 
@@ -47,7 +48,8 @@ pub(crate) fn selection_orders(
 
 /// Returns the selections of the contest at the position, or none if there is no such contest.
 fn selections_at<'a>(report: &'a Report, contest: usize) -> &'a [Value]
-    ensures { map view result.now ≡ option_map_or (λ o. entries_at (codes "ContestSelection") o.value) (slice_get (contests (view report.now.tree)) contest) [] }
+    ensures { map view result.now ≡ option_map_or (λ o. entries_at (codes "ContestSelection") o.value)
+        (slice_get (contests (view report.now.tree)) contest) [] }
 {
     match report.object(Family::Contest, contest) {
         Some(contest) => entries_at(contest, "ContestSelection"),
@@ -83,7 +85,8 @@ fn names_from<'a>(
     requires named { AreNamedFrom report.now.prefer (view report.now.tree) start (map view selections.now) }
     requires few { start + length selections.now < 2 ^ 64 }
     ensures { IfOk result (λ names. map (λ p. (option_copied p.0, p.1)) names.items
-        ≡ positioned 0 (map (λ d. option_map (ranked_name report.now.prefer (view report.now.tree)) (name_of report.now.prefer (view report.now.tree) d)) (map view selections.now))) }
+        ≡ positioned 0 (map (λ d. option_map (ranked_name report.now.prefer (view report.now.tree)) (name_of report.now.prefer (view report.now.tree) d))
+        (map view selections.now))) }
 {
     let count = selections.len();
     let mut names = Vec::with_capacity(alloc, count)?;
@@ -95,7 +98,8 @@ fn names_from<'a>(
 
 /// Returns the name of the selection at a position of the report, if there is one.
 fn name_at<'a>(report: &'a Report, position: usize) -> Option<&'a RankedName<SelectionName>>
-    ensures { option_copied result ≡ option_map (ranked_name report.now.prefer (view report.now.tree)) (name_in report.now.prefer (view report.now.tree) position) }
+    ensures { option_copied result ≡ option_map (ranked_name report.now.prefer (view report.now.tree))
+        (name_in report.now.prefer (view report.now.tree) position) }
 {
     match report.ranked_name_at(position) {
         Some((_, name)) => Some(name),

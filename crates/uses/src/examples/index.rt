@@ -56,9 +56,9 @@ fn salted_sets(rt: HostRuntime) -> Result<(), Fail> {
     let mut numbers = SaltedSet::new(alloc, Salt::of(1, 2));
     assert!(rt; numbers.insert(20)?);
     assert!(rt; !numbers.insert(20)?);
-    assert_eq!(rt; numbers.insert_full(30)?, (1, true));
-    assert_eq!(rt; numbers.insert_full(30)?, (1, false));
-    assert_eq!(rt; numbers.get_index(1), Some(&30));
-    assert_eq!(rt; numbers.position(Number(30)), Some(1));
+    assert!(rt; numbers.insert_full(30)? == (1, true));
+    assert!(rt; numbers.insert_full(30)? == (1, false));
+    assert!(rt; numbers.get_index(1) == Some(&30));
+    assert!(rt; numbers.position(Number(30)) == Some(1));
     Ok(())
 }

@@ -10,7 +10,7 @@ fn shapes(rt: HostRuntime) -> Result<(), Fail> {
     let alloc = rt.alloc();
     let tree = Value::from_str(alloc, r#"{"@type":"ElectionResults.ElectionReport"}"#)?;
     let found = faults(alloc, &tree)?;
-    assert_eq!(rt; found.len(), 2);
+    assert!(rt; found.len() == 2);
     Ok(())
 }
 
@@ -21,10 +21,7 @@ fn errors(rt: HostRuntime) -> Result<(), Fail> {
     let Err(error) = shape(alloc, &tree) else {
         return Err(Fail::from("a report that is an array"));
     };
-    assert_eq!(rt;
-        error.to_string(alloc)?.as_str(),
-        "the report has faults: 1"
-    );
+    assert!(rt; error.to_string(alloc)?.as_str() == "the report has faults: 1");
     Ok(())
 }
 

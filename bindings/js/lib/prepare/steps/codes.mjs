@@ -1,7 +1,7 @@
 // Codes that recur for each party, district, county, contest or election: what tells the objects apart goes in front.
 import { Counties } from '../counties.mjs';
-import { codeOf, identifiersOf, keyOf, Names, textOfLabel, timesOf } from '../identity.mjs';
-import { orderOfTexts, textOfKey } from '../../order.mjs';
+import { identifiersOf, keyOf, Names, textOfLabel, timesOf } from '../identity.mjs';
+import { textOfKey } from '../../order.mjs';
 import { familyOf, partsOf, textsOf } from '../parts.mjs';
 
 // For each family, what may go in front, from the least to the most. The first that tells all apart is taken.
@@ -19,9 +19,8 @@ const WAYS = {
 /** Puts what tells objects apart in front of the codes that several of them have. */
 export function tellCodesApart(report, changes) {
     const parts = [...partsOf(report)];
-    const names = new Names(parts);
     for (const family of Object.keys(WAYS)) {
-        new Codes(parts, names, family).tellApart(changes);
+        new Codes(parts, new Names(parts), family).tellApart(changes);
     }
 }
 
@@ -85,11 +84,11 @@ class Codes {
         const pieces = {
             date: () => value.get('StartDate'),
             district: () => this.names.codes(value.get('ElectionDistrictId'), 'unit').join('+'),
-            election: () => (election === null ? '' : codeOf(election)),
+            election: () => (election === null ? '' : this.names.code(election)),
             party: () => this.names.codes(value.get('PrimaryPartyIds') ?? value.get('PartyIds') ?? value.get('PartyId'), 'party').join('+'),
-            contest: () => onlyCode(this.contestsOf.get(value)),
+            contest: () => this.onlyCode(this.contestsOf.get(value)),
             name: () => textOfLabel(value.get('BallotName')),
-            candidate: () => onlyCode(this.candidatesOf.get(value)),
+            candidate: () => this.onlyCode(this.candidatesOf.get(value)),
             county: () => this.countyOf(value),
             units: () => this.names.codes(value.get('GpUnitIds'), 'unit').join('+'),
         };
@@ -101,13 +100,13 @@ class Codes {
         const units = textsOf(style.get('GpUnitIds')).map((text) => this.names.named(text, 'unit'));
         const found = new Set(units.map((unit) => (unit === undefined ? null : this.counties.of(unit))));
         const [county] = found;
-        return found.size === 1 && county !== null ? Counties.code(county) : '';
+        return found.size === 1 && county !== null ? this.counties.code(county) : '';
     }
-}
 
-function onlyCode(objects) {
-    const codes = [...new Set([...objects ?? []].map(codeOf))].sort(orderOfTexts);
-    return codes.length === 1 ? codes[0] : '';
+    onlyCode(objects) {
+        const codes = [...new Set([...objects ?? []].map((object) => this.names.code(object)))];
+        return codes.length === 1 ? codes[0] : '';
+    }
 }
 
 // For each candidate the contests that it is in.

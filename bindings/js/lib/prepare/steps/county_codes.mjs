@@ -8,14 +8,13 @@ import { compactText } from '../tree.mjs';
 /** Puts the county in front of each number of a type of units, where two counties have the same number. */
 export function putCountiesInFront(report, changes) {
     const parts = [...partsOf(report)];
-    const counties = new Counties(parts);
-    const entries = familyOf(parts, 'unit').flatMap((part) => numbersOf(part, counties));
-    const recurring = new Set(recurringSorts(entries));
-    for (const { entry, sort, county, place } of entries) {
+    const numbers = new Numbers(new Counties(parts));
+    const entries = familyOf(parts, 'unit').flatMap((part) => numbers.of(part));
+    const recurring = recurringSorts(entries);
+    for (const { entry, sort, code, place } of entries) {
         if (!recurring.has(sort)) {
             continue;
         }
-        const code = county === null ? '' : Counties.code(county);
         if (code === '') {
             changes.leave(place, 'noCounty');
         } else {
@@ -24,22 +23,52 @@ export function putCountiesInFront(report, changes) {
     }
 }
 
-// The identifiers of a unit that are not those of its county, each with the sort of numbers that it belongs to.
-function numbersOf({ value, place }, counties) {
-    const county = counties.of(value);
-    const shared = new Set(county === null ? [] : triplesOf(county).map(textOfKey));
-    return identifiersOf(value, place).filter(({ triple }) => !shared.has(textOfKey(triple)))
-        .map(({ entry, triple, place: inner }) => ({
-            entry, triple, county, place: inner, sort: textOfKey([compactText(value.get('Type') ?? null), triple[0], triple[1]]),
-        }));
+// The identifiers of units that are not those of their counties, each with the sort of numbers that it belongs to: a type of units, by
+// the number of its text, and the type of the identifier. What a county has is looked for once.
+class Numbers {
+    #counties;
+    #types = new Map();
+    #shared = new Map();
+
+    constructor(counties) {
+        this.#counties = counties;
+    }
+
+    of({ value, place }) {
+        const county = this.#counties.of(value);
+        const code = county === null ? '' : this.#counties.code(county);
+        const shared = this.#sharedWith(county);
+        const number = this.#numberOfType(compactText(value.get('Type') ?? null));
+        return identifiersOf(value, place).filter(({ triple }) => !shared.has(textOfKey(triple)))
+            .map(({ entry, triple, place: inner }) => ({
+                entry, triple, county, code, place: inner, sort: textOfKey([number, triple[0], triple[1]]),
+            }));
+    }
+
+    #sharedWith(county) {
+        if (!this.#shared.has(county)) {
+            this.#shared.set(county, new Set(county === null ? [] : triplesOf(county).map(textOfKey)));
+        }
+        return this.#shared.get(county);
+    }
+
+    #numberOfType(text) {
+        if (!this.#types.has(text)) {
+            this.#types.set(text, this.#types.size);
+        }
+        return this.#types.get(text);
+    }
 }
 
 // The sorts in which two units of two counties have one number.
 function recurringSorts(entries) {
-    const countiesOf = new Map();
-    for (const { sort, triple, county } of entries) {
+    const found = new Map();
+    for (const { sort, triple, county } of entries.filter((entry) => entry.county !== null)) {
         const number = textOfKey([sort, triple[2]]);
-        countiesOf.set(number, (countiesOf.get(number) ?? new Set()).add(county));
+        if (!found.has(number)) {
+            found.set(number, { sort, counties: new Set() });
+        }
+        found.get(number).counties.add(county);
     }
-    return [...countiesOf].filter(([, found]) => found.size - (found.has(null) ? 1 : 0) > 1).map(([number]) => JSON.parse(number)[0]);
+    return new Set([...found.values()].filter(({ counties }) => counties.size > 1).map(({ sort }) => sort));
 }

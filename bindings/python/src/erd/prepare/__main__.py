@@ -8,12 +8,13 @@ from __future__ import annotations
 
 import argparse
 import json
+import os
 import sys
 from typing import List, Optional
 
-from .. import __main__ as program
-from ..parsing import Parser
+from ..parsing import Done as Written, Parser, Version
 from ..repeats import repeated_names, visible
+from ..streams import STANDARD_ERROR, STANDARD_OUTPUT, Input, Stop, read, status_of, write
 from .prepared import STEPS, Done, Preparation, pointer_of, steps_of
 from .step_words import GROUP_WORDS, LEFT_WORDS, STEP_WORDS
 from .tree import NotJson, without_mark
@@ -33,6 +34,7 @@ def parser() -> argparse.ArgumentParser:
     words.add_argument('--without', metavar='NAMES', type=names_of, default=[], help='which of these are not done')
     words.add_argument('--report', metavar='REPORT', help='also write each change to this file, as JSON')
     words.add_argument('--list', action='store_true', dest='lists', help='list all steps, or those that would do something to FILE')
+    words.add_argument('--version', action=Version)
     words.add_argument('file', nargs='?', metavar='FILE')
     return words
 
@@ -68,8 +70,8 @@ def lines_of(done: Done) -> List[str]:
 
 def repeats(data: bytes) -> List[str]:
     """Returns a line about names that are written twice, if there are any."""
-    names = repeated_names(without_mark(data), most=None)
-    return [f'{len(names)} names are written twice in one object, first {visible(names[0].pointer)}: the last value of each counts'
+    names = repeated_names(without_mark(data), most=1)
+    return [f'{names.all_names} names are written twice in one object, first {visible(names[0].pointer)}: the last value of each counts'
             ] if names else []
 
 
@@ -77,21 +79,21 @@ def answer(words: argparse.Namespace) -> int:
     """Does what the command line asks for, and returns the exit status."""
     if words.file is None:
         text = ''.join(f'{step.name} ({step.group}): {step.title}. {step.does} {step.loses}\n' for step in STEPS)
-        program.write(sys.stdout.buffer, text.encode('utf-8'))
+        write(STANDARD_OUTPUT, text.encode('utf-8'))
         return 0
-    with program.Input(words.file) as file:
-        data = program.read(file.handle)
+    with Input(words.file) as file:
+        data = read(file.handle)
     preparation = Preparation(data)
     if words.lists:
         _, found = preparation.prepare(steps_of('taken', 'chosen'), tells_others=True)
-        program.write(sys.stdout.buffer, ''.join(counted(done) for done in found if done.made).encode('utf-8'))
+        write(STANDARD_OUTPUT, ''.join(counted(done) for done in found if done.made).encode('utf-8'))
         return 0
     prepared, steps = preparation.prepare(set(words.steps) - set(words.without))
     told = [*repeats(data), *(line for done in steps for line in lines_of(done))]
-    program.write(sys.stderr.buffer, ''.join(f'{line}\n' for line in told).encode('utf-8'))
+    write(STANDARD_ERROR, ''.join(f'{line}\n' for line in told).encode('utf-8'))
     if words.report is not None:
         write_report(words.report, steps)
-    program.write(sys.stdout.buffer, prepared)
+    write(STANDARD_OUTPUT, prepared)
     return 0
 
 
@@ -99,26 +101,33 @@ def write_report(name: str, steps: List[Done]) -> None:
     """Writes each change to a file."""
     text = json.dumps([done.told() for done in steps], ensure_ascii=False, indent=1) + '\n'
     try:
-        with open(name, 'wb') as file:
-            program.write(file, text.encode('utf-8'))
-    except OSError:
-        raise program.Stop('cannot open') from None
+        handle = os.open(name, os.O_WRONLY | os.O_CREAT | os.O_TRUNC | getattr(os, 'O_BINARY', 0), 0o666)
+    except (OSError, ValueError):
+        raise Stop('cannot open') from None
+    try:
+        write(handle, text.encode('utf-8'))
+    finally:
+        os.close(handle)
 
 
-def main(arguments: Optional[List[str]] = None) -> int:
+def run(arguments: Optional[List[str]]) -> int:
     """Runs the command line, and returns the exit status."""
     made = parser()
-    words = made.parse_args(arguments)
+    try:
+        words = made.parse_args(arguments)
+    except Written:
+        return 0
     if words.file is None and not words.lists:
         made.error('one FILE is needed')
     try:
         return answer(words)
     except NotJson:
-        stop = program.Stop('not JSON', NOT_JSON)
-    except program.Stop as caught:
-        stop = caught
-    sys.stderr.write(f'{stop}\n')
-    return stop.status
+        raise Stop('not JSON', NOT_JSON) from None
+
+
+def main(arguments: Optional[List[str]] = None) -> int:
+    """Runs the command line, and returns the exit status."""
+    return status_of(lambda: run(arguments))
 
 
 if __name__ == '__main__':

@@ -19,6 +19,8 @@ class Counties:
         by_id = {unit['@id']: unit for unit in units if isinstance(unit.get('@id'), str)}
         self._around: Dict[int, List[dict]] = {}
         self._by_identifier: Dict[Triple, List[dict]] = {}
+        self._of: Dict[int, Optional[dict]] = {}
+        self._codes: Dict[int, str] = {}
         for county in units:
             if county.get('Type') == 'county':
                 self._add_inside(county, by_id)
@@ -35,7 +37,12 @@ class Counties:
                     left.append(unit)
 
     def of(self, unit: dict) -> Optional[dict]:
-        """Returns the only county that a unit is in, if there is one."""
+        """Returns the only county that a unit is in, if there is one. It is looked for once."""
+        if id(unit) not in self._of:
+            self._of[id(unit)] = self._found(unit)
+        return self._of[id(unit)]
+
+    def _found(self, unit: dict) -> Optional[dict]:
         around = self._around.get(id(unit), [])
         if around:
             return around[0] if len(around) == 1 else None
@@ -43,10 +50,11 @@ class Counties:
         counties = list(named.values())
         return counties[0] if len(counties) == 1 and counties[0] is not unit else None
 
-    @staticmethod
-    def code(county: dict) -> str:
-        """Returns the code of a county: that of its type `fips`, or else the one in its key."""
-        return next((triple[2] for triple in triples_of(county) if triple[0] == 'fips'), code_of(county))
+    def code(self, county: dict) -> str:
+        """Returns the code of a county as it was at first: that of its type `fips`, or else the one in its key."""
+        if id(county) not in self._codes:
+            self._codes[id(county)] = next((triple[2] for triple in triples_of(county) if triple[0] == 'fips'), code_of(county))
+        return self._codes[id(county)]
 
 
 def _add_once(counties: List[dict], county: dict) -> bool:

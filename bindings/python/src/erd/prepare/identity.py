@@ -81,9 +81,11 @@ def text_of_label(label: Tree) -> Optional[str]:
 
 
 class Names:
-    """The objects by their `@id`: what each reference of the table can name."""
+    """The objects by their `@id`: what each reference of the table can name. The key of an object is looked for once, so these serve
+    until an identifier is changed that they were asked for."""
 
     def __init__(self, parts: Iterable[Part]) -> None:
+        self._keys: Dict[int, Optional[Triple]] = {}
         self._parts: Dict[str, Part] = {}
         for part in parts:
             text = part.value.get('@id')
@@ -98,15 +100,26 @@ class Names:
     def __contains__(self, text: object) -> bool:
         return text in self._parts
 
+    def key(self, value: dict) -> Optional[Triple]:
+        """Returns the key of an object of the report."""
+        if id(value) not in self._keys:
+            self._keys[id(value)] = key_of(value)
+        return self._keys[id(value)]
+
+    def code(self, value: dict) -> str:
+        """Returns the code in the key of an object of the report; the empty text if it has none."""
+        key = self.key(value)
+        return '' if key is None else key[2]
+
     def codes(self, value: Tree, family: str) -> List[str]:
         """Returns the codes of the objects that a member names, each once, rising."""
         objects = [self.named(text, family) for text in texts_of(value)]
-        return sorted({code_of(each) for each in objects if each is not None} - {''})
+        return sorted({self.code(each) for each in objects if each is not None} - {''})
 
     def keys(self, value: Tree, family: str) -> List[str]:
         """Returns the keys of the objects that a member names, as one text each, rising. A reference that names nothing stays a
         text."""
         def key_text(text: str) -> str:
             found = self.named(text, family)
-            return text if found is None else written(key_of(found))
+            return text if found is None else written(self.key(found))
         return sorted({key_text(text) for text in texts_of(value)})

@@ -99,13 +99,32 @@ class Done(NamedTuple):
     left: List[Left]
 
     def told(self) -> dict:
-        """Returns it as plain data: each place as a JSON Pointer, with the compact text of the value before and after."""
+        """Returns it as plain data: each place as a JSON Pointer, with the compact text of the value before and after. Of the changes,
+        and of what is left, these are the first thousand, and fewer if they have more than a megabyte together: `count` and `left_count`
+        are how many there are, and `more` is whether some are not told."""
+        changes = _first(({'pointer': pointer_of(place), 'before': _text_or_none(before), 'after': _text_or_none(after)}
+                          for place, before, after in self.made))
+        left = _first(({'pointer': pointer_of(place), 'why': why} for place, why in self.left))
         return {
-            'step': self.name, 'chosen': self.chosen, 'count': len(self.made),
-            'changes': [{'pointer': pointer_of(place), 'before': _text_or_none(before), 'after': _text_or_none(after)}
-                        for place, before, after in self.made],
-            'left': [{'pointer': pointer_of(place), 'why': why} for place, why in self.left],
+            'step': self.name, 'chosen': self.chosen, 'count': len(self.made), 'changes': changes, 'left_count': len(self.left),
+            'left': left, 'more': len(changes) < len(self.made) or len(left) < len(self.left),
         }
+
+
+MOST_TOLD = 1000
+ENOUGH_TEXT = 2 ** 20
+
+
+def _first(entries: Iterable[dict]) -> List[dict]:
+    """Returns the first entries: no further one once there are a thousand, or their texts have a megabyte together."""
+    told: List[dict] = []
+    length = 0
+    for entry in entries:
+        told.append(entry)
+        length += sum(len(text) for text in entry.values() if text is not None)
+        if len(told) == MOST_TOLD or length >= ENOUGH_TEXT:
+            break
+    return told
 
 
 def pointer_of(place: Iterable[object]) -> str:

@@ -4,7 +4,7 @@ use Rattle.erd_normal.proofs.same.IdsOfObjects.{IsPart, part_at}
 use Rattle.erd_normal.proofs.same.accepted.RequiredMembers.{IsSoundInside, quiet_lone, IsSound, absent_sound, required_stays}
 use Rattle.erd_normal.proofs.lists.Matched.{Matched, distinct-paired, distinct-reordered, matched_length}
 use Rattle.erd_normal.proofs.lists.Lists.{items_again}
-use Rattle.erd_normal.proofs.throughout.UnrepeatedEntries.{AreUnlike, same_turned, unlike_unrepeated}
+use Rattle.erd_normal.proofs.inside.Entries.{AreUnlike, same_turned, unlike_unrepeated}
 use Rattle.erd_normal.proofs.same.InTurn.{id_text, from_array, CameFrom, came_along, envelope_quiet, quiet_from}
 use Rattle.erd_normal.proofs.same.Related.{entries_matched, matched_within_both}
 use Rattle.erd_normal.proofs.same.Lookups.{steady_same, is_plain, of_report, Aligned, both_there, not_both, MayLack, lookups, scope_same, text_same}

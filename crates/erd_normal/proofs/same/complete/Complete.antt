@@ -1,6 +1,6 @@
 -- Objects and accepted reports that mean the same say the same, and so two preferences agree.
 use Rattle.erd_normal.proofs.Common.{◌⊎◌, ◌≡◌, ℕ, Bool, true, false, List, [], ◌∷◌, map, is_some, if◌then◌else◌, Some, None, codes, Option, option_map, option_and_then, bytes_eq, sym, refl, ap, ◌∙◌, subst, ⊎_elim, Data, string, array, object, Members, get_member, as_str, role_of_class, family_of_class, kind_of_identity, kind_of_member, is_required, Class, class, Family, family, Role, role, kind, entries_in, string_from_text, object_in, is_filled_array, keyed_list, MayBeArray, ObjectAt, ObjectIn, wanted_within, member_within, within-tree, Within, kind_of_id, is_word, want_by_kind, no_strange, entries_at, class_of_object, want_of_kind, want_of_name, asked, Scope, scope, Want, Member, Object, no_shape_fault, skeleton, values-placed_entries, election_stands, election_object, Skeleton, stands, contest_selections, IsAccepted, has_keys, Preference, SelectionRecord, ObjectRecord, Placed, placed_entries, report_of, elections, contests, selections_of_contest, objects, id_of, is_in_envelope, plain_member, selection_record, member_of_class, object_record, selection_role, Sides, IsUnused, of_the_envelope, an_unused_id, an_id, Same, In, In-flat_map, zero, suc, length, arith, null, Step, At, Name, is_reference, Asked, asked_inside, asked_from, asked_at, one_object, PreferencesAgree}
-use Rattle.erd_normal.proofs.built.NormalTrees.{kind_of_family_id}
+use Rattle.erd_normal.proofs.inside.Homes.{kind_of_family_id}
 use Rattle.erd_normal.proofs.lists.Matched.{Matched, matched_mapped}
 use Rattle.erd_normal.proofs.same.Lookups.{Aligned, both_there, lacks_none, lacks_one, not_both, asked_of_name}
 use Rattle.erd_normal.proofs.same.Related.{matched_within_both, same_back, turned}

@@ -7,7 +7,8 @@ use Rattle.erd_normal.proofs.same.Labels.{Translations, labels_say, plain_self, 
 use Rattle.erd_normal.proofs.same.Lookups.{Aligned, both_there, not_both, lacks_none as lacks_nothing, asked_of_name, merged, AllPlain, is_plain}
 use Rattle.erd_normal.proofs.same.complete.Contents.{left_empty, right_empty, content_says}
 use Rattle.erd_normal.proofs.same.complete.Counterparts.{entry_key, named_by, reference_says, references_matched, values_apart, values_sound, TextsTied}
-use Rattle.erd_normal.proofs.built.BuiltFrom.{label_class, status_kind}
+use Rattle.erd_normal.proofs.inside.RisingLabels.{label_class}
+use Rattle.erd_normal.proofs.inside.Homes.{status_kind}
 
 -- ---- members that mean the same by themselves say the same
 

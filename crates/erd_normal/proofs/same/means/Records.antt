@@ -9,7 +9,7 @@ use Rattle.erd_normal.proofs.same.means.Members.{BothObjects, HaveMembers, TwoRe
 use Rattle.erd_normal.proofs.same.means.References.{name_named_alike, key_alike_text, said_in_turn, key_alike, keys_set_alike, label_alike}
 use Rattle.erd_normal.proofs.lists.Matched.{matched_equal}
 use Rattle.erd_normal.proofs.meaning.MatchedMeanings.{nothing_of, record_alike, json_set-reordered}
-use Rattle.erd_normal.proofs.built.BuiltFrom.{status_kind}
+use Rattle.erd_normal.proofs.inside.Homes.{status_kind}
 
 -- ---- carried members
 

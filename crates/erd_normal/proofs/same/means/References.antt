@@ -9,7 +9,7 @@ use Rattle.erd_normal.proofs.same.means.Members.{TwoReports, HaveMembers, both_m
 use Rattle.erd_normal.proofs.same.InTurn.{id_text}
 use Rattle.erd_normal.proofs.same.Labels.{label_text, plain_beside, steady_beside}
 use Rattle.erd_normal.proofs.same.Lookups.{steady_same, plain_of_kind, is_steady_kind, is_plain}
-use Rattle.erd_normal.proofs.built.BuiltFrom.{label_class}
+use Rattle.erd_normal.proofs.inside.RisingLabels.{label_class}
 
 -- ---- references and labels of two reports that say the same mean the same
 

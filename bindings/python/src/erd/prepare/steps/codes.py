@@ -2,11 +2,11 @@
 
 from __future__ import annotations
 
-from typing import Dict, Iterable, List, Optional, Set, Tuple
+from typing import Dict, List, Optional, Tuple
 
 from ..changes import Changes
 from ..counties import Counties
-from ..identity import Names, Triple, code_of, identifiers_of, key_of, text_of_label, times_of
+from ..identity import Names, Triple, identifiers_of, key_of, text_of_label, times_of
 from ..parts import Part, family_of, parts_of, texts_of
 from ..tree import Tree
 
@@ -28,9 +28,8 @@ WAYS: Dict[str, List[Way]] = {
 def tell_codes_apart(report: Tree, changes: Changes) -> None:
     """Puts what tells objects apart in front of the codes that several of them have."""
     parts = list(parts_of(report))
-    names = Names(parts)
     for family in WAYS:
-        Codes(parts, names, family).tell_apart(changes)
+        Codes(parts, Names(parts), family).tell_apart(changes)
 
 
 class Codes:
@@ -88,9 +87,10 @@ class Codes:
         if name == 'name':
             return text_of_label(value.get('BallotName'))
         if name == 'election':
-            return '' if part.election is None else code_of(part.election)
+            return '' if part.election is None else self.names.code(part.election)
         if name in ('contest', 'candidate'):
-            return _only_code(self.around.get(id(value), {}).values())
+            codes = {self.names.code(each) for each in self.around.get(id(value), {}).values()}
+            return codes.pop() if len(codes) == 1 else ''
         if name == 'county':
             return self._county_of(value)
         if name == 'district':
@@ -107,12 +107,7 @@ class Codes:
             county = None if unit is None else self.counties.of(unit)
             found[id(county)] = county
         counties = list(found.values())
-        return Counties.code(counties[0]) if len(counties) == 1 and counties[0] is not None else ''
-
-
-def _only_code(objects: Iterable[dict]) -> str:
-    codes: Set[str] = {code_of(each) for each in objects}
-    return codes.pop() if len(codes) == 1 else ''
+        return self.counties.code(counties[0]) if len(counties) == 1 and counties[0] is not None else ''
 
 
 def _contests_by_candidate(parts: List[Part], names: Names) -> Dict[int, Dict[int, dict]]:

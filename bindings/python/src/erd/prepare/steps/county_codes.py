@@ -2,7 +2,7 @@
 
 from __future__ import annotations
 
-from typing import Dict, List, NamedTuple, Optional, Set, Tuple
+from typing import Dict, Iterable, Iterator, List, NamedTuple, Optional, Set, Tuple
 
 from ..changes import Changes
 from ..counties import Counties
@@ -10,7 +10,8 @@ from ..identity import Triple, identifiers_of, triples_of
 from ..parts import Part, Place, family_of, parts_of
 from ..tree import Tree, written
 
-Sort = Tuple[str, str, str]
+# A type of units, by the number of its text among these, and the type of an identifier.
+Sort = Tuple[int, str, str]
 
 
 class Numbered(NamedTuple):
@@ -19,6 +20,7 @@ class Numbered(NamedTuple):
     entry: dict
     triple: Triple
     county: Optional[dict]
+    code: str
     sort: Sort
     place: Place
 
@@ -26,25 +28,41 @@ class Numbered(NamedTuple):
 def put_counties_in_front(report: Tree, changes: Changes) -> None:
     """Puts the county in front of each number of a type of units, where two counties have the same number."""
     parts = list(parts_of(report))
-    counties = Counties(parts)
-    entries = [entry for part in family_of(parts, 'unit') for entry in _numbers_of(part, counties)]
+    entries = _Numbers(Counties(parts)).of(family_of(parts, 'unit'))
     recurring = _recurring_sorts(entries)
     for entry in entries:
         if entry.sort not in recurring:
             continue
-        code = '' if entry.county is None else Counties.code(entry.county)
-        if code == '':
+        if entry.code == '':
             changes.leave(entry.place, 'noCounty')
         else:
-            changes.exchange(entry.entry, 'Value', (*entry.place, 'Value'), f'{code}-{entry.entry["Value"]}')
+            changes.exchange(entry.entry, 'Value', (*entry.place, 'Value'), f'{entry.code}-{entry.entry["Value"]}')
 
 
-def _numbers_of(part: Part, counties: Counties) -> List[Numbered]:
-    """Returns the identifiers of a unit that are not those of its county."""
-    county = counties.of(part.value)
-    shared = set() if county is None else set(triples_of(county))
-    return [Numbered(entry, triple, county, (written(part.value.get('Type')), triple[0], triple[1]), place)
-            for entry, triple, place in identifiers_of(part.value, part.place) if triple not in shared]
+class _Numbers:
+    """The identifiers of units that are not those of their counties. What a county has is looked for once."""
+
+    def __init__(self, counties: Counties) -> None:
+        self.counties = counties
+        self.types: Dict[str, int] = {}
+        self.shared: Dict[int, Set[Triple]] = {}
+
+    def of(self, units: Iterable[Part]) -> List[Numbered]:
+        """Returns those of these units."""
+        return [entry for part in units for entry in self._of_unit(part)]
+
+    def _of_unit(self, part: Part) -> Iterator[Numbered]:
+        county = self.counties.of(part.value)
+        shared, code = (self._shared(county), self.counties.code(county)) if county is not None else (set(), '')
+        number = self.types.setdefault(written(part.value.get('Type')), len(self.types))
+        for entry, triple, place in identifiers_of(part.value, part.place):
+            if triple not in shared:
+                yield Numbered(entry, triple, county, code, (number, triple[0], triple[1]), place)
+
+    def _shared(self, county: dict) -> Set[Triple]:
+        if id(county) not in self.shared:
+            self.shared[id(county)] = set(triples_of(county))
+        return self.shared[id(county)]
 
 
 def _recurring_sorts(entries: List[Numbered]) -> Set[Sort]:

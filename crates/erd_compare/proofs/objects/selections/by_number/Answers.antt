@@ -1,7 +1,7 @@
-use Rattle.erd_compare.proofs.Common.{◌≡◌, ℕ, ◌+◌, ◌<◌, List, ◌∷◌, map, length, get_or, drop, slice_get, Some, option_map, option_and_then, sym, refl, ap, ◌∙◌, subst, arith, drop_more, drop_all, slice_get-map, slice_get_within, slice_get_read, view, Value, family, Judged, selections_before, Placed, objects, number_of_selection, AreSelectionsIn, on_side}
+use Rattle.erd_compare.proofs.Common.{◌≡◌, ℕ, ◌+◌, ◌<◌, List, ◌∷◌, map, is_some, length, get_or, drop, slice_get, Some, option_map, option_and_then, sym, refl, ap, ◌∙◌, subst, arith, drop_more, drop_all, slice_get-map, slice_get_within, slice_get_read, view, Value, family, Judged, selections_before, Placed, objects, number_of_selection, AreSelectionsIn, on_side}
 use Rattle.erd_meaning.proofs.selections.ContestSelections.{stand_from_start}
 use Rattle.erd_compare.proofs.same_selections.PlacedSelections.{stands_after}
-use Rattle.erd_compare.proofs.same_selections.SelectionWalks.{IsFilling, all_put, named_before, named_first, none_put, unnamed}
+use Rattle.erd_compare.proofs.same_selections.SelectionWalks.{IsFilling, all_put, named_before, named_first, none_put, sorted_at, sorted_update, unnamed}
 use Rattle.erd_compare.proofs.objects.selections.by_number.Goals.{in-Some+then-not-contains_key+in_ok-insert, in-Some+else-not-contains_key, in_default}
 use Rattle.erd_compare.proofs.objects.selections.by_number.Goals as goal
 
@@ -30,9 +30,10 @@ loop-index-preserved c =
     c.name_number_at.ensures ∙ (ap (option_and_then (λ (x : Placed). number_of_selection a b side x.value)) o.1 ∙ ap (number_of_selection a b side) o.2) in
     elim c.match-name_number_at.branch [
       | in-Some+then-not-contains_key+in_ok-insert w ↦ subst (λ x. IsFilling a b side all left x.entries) (sym w.numbered-is)
-          (named_first a b side all left v _ w.in-Some.number m w.insert.new.self.entries (sym w.in-Some.is ∙ numbered) (sym w.if-not-contains_key.ensures) w.in_ok-insert.ensures.updates.0 refl h)
+          (named_first a b side all left v _ w.in-Some.number m w.insert.new.self.entries (sym w.in-Some.is ∙ numbered) (sym (w.if-not-contains_key.ensures ∙ ap is_some (sorted_at m w.in-Some.number)))
+          (sorted_update m w.insert.new.self.entries w.in-Some.number _ w.in_ok-insert.ensures.updates.0) refl h)
       | in-Some+else-not-contains_key w ↦ subst (λ x. IsFilling a b side all left x.entries) (sym w.numbered-is)
-          (named_before a b side all left v w.in-Some.number m (sym w.in-Some.is ∙ numbered) (sym w.contains_key.ensures ∙ w.if-not-contains_key.false) h)
+          (named_before a b side all left v w.in-Some.number m (sym w.in-Some.is ∙ numbered) (sym (w.contains_key.ensures ∙ ap is_some (sorted_at m w.in-Some.number)) ∙ w.if-not-contains_key.false) h)
       | in_default w ↦ subst (λ x. IsFilling a b side all left x.entries) (sym w.numbered-is) (unnamed a b side all left v m (sym w.in_default.is ∙ numbered) h)
     ]
 

@@ -4,7 +4,7 @@ use Rattle.erd_meaning.proofs.names.naming.chosen_keys.Goals as goal
 
 pub returns : goal.returns
 returns c =
-    let ks = map shown c.args.objects.now in
+    let ks = map shown c.args.objects.now.objects in
     let f = family_chosen c.args.class in
     let keys = keys_of_selection (key_among ks) c.args.class (view c.args.selection.now) in
     subst (λ (found : List (ℕ × Key)). IfOk c.in_rising_order.result (λ rising. rising.items ≡ found))

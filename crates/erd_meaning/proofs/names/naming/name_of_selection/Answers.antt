@@ -4,7 +4,7 @@ use Rattle.erd_meaning.proofs.names.naming.name_of_selection.Goals as goal
 
 pub returns : goal.returns
 returns c =
-    let ks = map shown c.args.objects.now in
+    let ks = map shown c.args.objects.now.objects in
     let d = view c.args.selection.now in
     let class = c.in-Some.class in
     let chosen = c.in_ok-chosen.chosen.items in

@@ -19,9 +19,10 @@ meet_contest-requires c = record {
 
 pub loop-index-preserved : goal.loop-index-preserved
 loop-index-preserved c = (
-  named_inside (name_among c.args.keys.now (map shown c.args.objects.now)) c.args.first (steps_of c.args.path.now ++ Name (codes "Contest") ∷ []) c.entries_at-entries.result.now c.loop-index.index
+  named_inside (name_among c.args.keys.now (map shown c.args.objects.now.objects)) c.args.first (steps_of c.args.path.now ++ Name (codes "Contest") ∷ []) c.entries_at-entries.result.now c.loop-index.index
       c.index-entries-index.result (names_met c.loop-index.walk) (names_met c.meet_contest.new.walk) _ c.loop-index-test.true c.index-entries-index.is c.loop-index.invariant.0 c.in_ok-meet_contest.ensures.met,
   c.in_ok-meet_contest.ensures.ranked,
+  c.in_ok-meet_contest.ensures.start ∙ c.loop-index.invariant.2,
 )
 
 pub overflow_add-result : goal.overflow_add-result
@@ -37,7 +38,7 @@ returns-clause-next c =
 
 pub returns-clause-met : goal.returns-clause-met
 returns-clause-met c =
-    let name = name_among c.args.keys.now (map shown c.args.objects.now) in
+    let name = name_among c.args.keys.now (map shown c.args.objects.now.objects) in
     let place = steps_of c.args.path.now ++ Name (codes "Contest") ∷ [] in
     let none : c.args.first + 0 ≡ c.args.first = omega arith in
     all_named name c.args.first place c.entries_at-entries.result.now c.loop-index.index (names_met c.loop-index.walk) _ c.loop-index-test.false c.loop-index.invariant.0

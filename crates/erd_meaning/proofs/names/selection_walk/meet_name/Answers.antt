@@ -4,7 +4,7 @@ use Rattle.erd_meaning.proofs.names.selection_walk.meet_name.Goals as goal
 
 pub returns-in_ok-push_fault-clause-met : goal.returns-in_ok-push_fault-clause-met
 returns-in_ok-push_fault-clause-met c ks all is =
-    let before = c.args.walk.now.names in
+    let before = c.args.walk.now.names.keys in
     let names = ap names_of c.in_ok-insert.ensures.keys ∙ inserted_names ks c.args.contest c.args.name before is all in
     let taken : is_taken (names_of before) c.args.contest c.args.name.name ≡ true =
     sym (any_ranked ks c.args.contest c.args.name before is all) ∙ not-false _ (sym c.in_ok-insert.ensures.added ∙ c.if-not-branch.true) in
@@ -13,11 +13,11 @@ returns-in_ok-push_fault-clause-met c ks all is =
 
 pub returns-in_ok-push_fault-clause-ranked : goal.returns-in_ok-push_fault-clause-ranked
 returns-in_ok-push_fault-clause-ranked c ks all is =
-    subst (λ (names : List PlacedName). AllAreRanked ks names) (sym c.in_ok-insert.ensures.keys) (inserted_ranked ks c.args.contest c.args.name c.args.walk.now.names is all)
+    subst (λ (names : List PlacedName). AllAreRanked ks names) (sym c.in_ok-insert.ensures.keys) (inserted_ranked ks c.args.contest c.args.name c.args.walk.now.names.keys is all)
 
 pub returns-else-not-branch-clause-met : goal.returns-else-not-branch-clause-met
 returns-else-not-branch-clause-met c ks all is =
-    let before = c.args.walk.now.names in
+    let before = c.args.walk.now.names.keys in
     let names = ap names_of c.in_ok-insert.ensures.keys ∙ inserted_names ks c.args.contest c.args.name before is all in
     let taken : is_taken (names_of before) c.args.contest c.args.name.name ≡ false =
     sym (any_ranked ks c.args.contest c.args.name before is all) ∙ not-true _ (sym c.in_ok-insert.ensures.added ∙ c.if-not-branch.false) in
@@ -26,4 +26,4 @@ returns-else-not-branch-clause-met c ks all is =
 
 pub returns-else-not-branch-clause-ranked : goal.returns-else-not-branch-clause-ranked
 returns-else-not-branch-clause-ranked c ks all is =
-    subst (λ (names : List PlacedName). AllAreRanked ks names) (sym c.in_ok-insert.ensures.keys) (inserted_ranked ks c.args.contest c.args.name c.args.walk.now.names is all)
+    subst (λ (names : List PlacedName). AllAreRanked ks names) (sym c.in_ok-insert.ensures.keys) (inserted_ranked ks c.args.contest c.args.name c.args.walk.now.names.keys is all)

@@ -4,8 +4,8 @@ use Rattle.erd_meaning.proofs.objects.ranked_objects.keys_of_family.Goals as goa
 
 pub loop-index-preserved : goal.loop-index-preserved
 loop-index-preserved c =
-    let os = those_of c.args.family (map shown c.args.objects.now) in
-    let ks = family_keys (map shown c.args.objects.now) c.args.family in
+    let os = those_of c.args.family (map shown c.args.objects.now.objects) in
+    let ks = family_keys (map shown c.args.objects.now.objects) c.args.family in
     let many = c.count-count.ensures ∙ sym (length-map os (λ (k : Kept). k.key)) in
     let low : c.loop-index.index < length ks = subst (λ n. c.loop-index.index < n) many c.loop-index-test.true in
     ap (λ (es : List KeyEntry). seen_keys es) c.in_ok-push.ensures.items
@@ -13,8 +13,8 @@ loop-index-preserved c =
 
 pub returns : goal.returns
 returns c =
-    let os = those_of c.args.family (map shown c.args.objects.now) in
-    let ks = family_keys (map shown c.args.objects.now) c.args.family in
+    let os = those_of c.args.family (map shown c.args.objects.now.objects) in
+    let ks = family_keys (map shown c.args.objects.now.objects) c.args.family in
     let many = c.count-count.ensures ∙ sym (length-map os (λ (k : Kept). k.key)) in
     let all : length ks ≤ c.loop-index.index = subst (λ n. n ≤ c.loop-index.index) many c.loop-index-test.false in
     c.loop-index.invariant ∙ ap (positioned 0) (take_all c.loop-index.index ks all)

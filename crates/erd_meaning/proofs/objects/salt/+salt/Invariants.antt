@@ -1,7 +1,7 @@
 use Rattle.erd_meaning.proofs.Common.{◌≡◌, drop}
 use Rattle.serde_json.specs.View.{items_view, members_view}
 use Rattle.erd_index.specs.Salts.{fed}
-use Rattle.erd_meaning.specs.code.SaltWrites.{items_writes, members_writes}
+use Rattle.erd_meaning.specs.SaltWrites.{items_writes, members_writes}
 use Rattle.erd_meaning.proofs.objects.salt.+salt.Given as goal
 
 abbrev pub invariant-feed_items-loop-item : goal.invariant-feed_items-loop-item

@@ -1,7 +1,8 @@
 use Rattle.erd_meaning.proofs.Common.{◌≡◌, List, drop, flat_map, map}
 use Rattle.erd_index.specs.Salts.{fed}
 use Rattle.erd_meaning.specs.code.CollectedWalks.{found}
-use Rattle.erd_meaning.specs.code.SaltWrites.{hashed, hashed_writes}
+use Rattle.erd_meaning.specs.SaltWrites.{hashed_writes}
+use Rattle.erd_meaning.specs.code.HashedMet.{hashed}
 use Rattle.erd_meaning.specs.declared.objects.collected.Found.{Found}
 use Rattle.erd_meaning.proofs.objects.salt.salt_of.Given as goal
 

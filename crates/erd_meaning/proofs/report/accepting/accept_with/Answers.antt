@@ -1,9 +1,14 @@
-use Rattle.erd_meaning.proofs.Common.{option_copied, sym, subst, err_from_is_err_and, view, Value, RefusedFor, IsFault, SelectionFault, IsIdentified}
+use Rattle.erd_meaning.proofs.Common.{AreSalted, option_copied, sym, subst, err_from_is_err_and, view, Value, RefusedFor, IsFault, SelectionFault, IsIdentified}
+use Rattle.erd_meaning.specs.SaltWrites.{report_start}
 use Rattle.erd_meaning.proofs.refused.Refused.{refused_for_identity, refused_for_selections, refused_for_shape}
 use Rattle.erd_meaning.proofs.report.accepting.accept_with.Goals as goal
 
 pub with_names-requires-clause-identified : goal.with_names-requires-clause-identified
 with_names-requires-clause-identified c = subst (λ (v : Value). IsIdentified (option_copied c.args.prefer) v) (sym c.in_ok-shaped-in-Ok.ensures.tree) c.in-Ok.ensures.identified
+
+pub with_names-requires-clause-salted : goal.with_names-requires-clause-salted
+with_names-requires-clause-salted c =
+    subst (λ (v : Value). AreSalted (report_start (option_copied c.args.prefer) (view v)) c.in-Ok.objects c.in-Ok.elections) (sym c.in_ok-shaped-in-Ok.ensures.tree) c.in-Ok.ensures.salted
 
 pub returns-in_err-report-in-Ok-clause-refused : goal.returns-in_err-report-in-Ok-clause-refused
 returns-in_err-report-in-Ok-clause-refused c =

@@ -7,7 +7,7 @@ use Rattle.erd_check.specs.declared.error.CheckError.TheVariants.{Faults}
 use Rattle.erd_meaning.proofs.report.reference_judge.shape_with_references.Goals as goal
 
 pub invariant_of-shape_with : goal.invariant_of-shape_with
-invariant_of-shape_with c = record { told_apart = own_ids c.args.keys.now (view c.args.tree.now) (map shown c.args.objects.now) c.requires.kept c.requires.identified }
+invariant_of-shape_with c = record { told_apart = own_ids c.args.keys.now (view c.args.tree.now) (map shown c.args.objects.now.objects) c.requires.kept c.requires.identified }
 
 pub returns-then-len-eq0-clause-referred : goal.returns-then-len-eq0-clause-referred
 returns-then-len-eq0-clause-referred c =

@@ -1,4 +1,5 @@
-use Rattle.erd_normal.proofs.Common.{◌≡◌, ◌++◌, sym, ap, ◌∙◌, subst, view, HasFittingNumbers, IsAccepted, IsTree, Judged, normal_tree, value_tokens}
+use Rattle.erd_normal.proofs.Common.{◌≡◌, ◌++◌, sym, ap, ◌∙◌, subst, view, HasFittingNumbers, IsAccepted, IsTree, Judged, value_tokens}
+use Rattle.erd_normal.specs.code.View.{style_of, whole}
 use Rattle.erd_normal.proofs.texts.FormTexts.{text_of_form}
 use Rattle.erd_normal.proofs.report.canonical_form.text_of.Goals as goal
 
@@ -15,5 +16,5 @@ returns-clause-text c =
     let same : view c.tree-root.result.now ≡ view c.args.report.now.tree = ap view c.tree-root.ensures.tree in
     text_of_form c.args.report.now.prefer (view c.args.report.now.tree) c.in_ok-orders.ensures.accepted (subst IsTree same c.tree-root.ensures.is_tree) c.in_ok-orders.ensures.bounded (subst HasFittingNumbers same c.tree-root.ensures.fits)
     c.write_report.new.out c.into_text.result.items
-    (c.in_ok-write_report.ensures ∙ (ap (λ ts. ts ++ value_tokens (normal_tree c.of.result.prefer (view c.of.result.tree))) c.new-out.ensures ∙ ap (λ (r : Judged). value_tokens (normal_tree r.prefer (view r.tree))) c.of.ensures))
+    (c.in_ok-write_report.ensures ∙ (ap (λ ts. ts ++ value_tokens (whole (style_of c.of.result.prefer (view c.of.result.tree)) (view c.of.result.tree))) c.new-out.ensures ∙ ap (λ (r : Judged). value_tokens (whole (style_of r.prefer (view r.tree)) (view r.tree))) c.of.ensures))
     c.into_text.ensures.text c.into_text.ensures.reads_back c.into_text.ensures.utf8

@@ -1,5 +1,5 @@
 use Rattle.erd_normal.proofs.Common.{◌++◌, ap, ◌∙◌, subst, on_ok_weaker, view, role, IsTree, class_of_object, IsAccepted, put_in, normal_object_with, envelope_values, value_tokens, written_report_value}
-use Rattle.erd_normal.proofs.ranks.WrittenTrees.{written_is_normal}
+use Rattle.erd_normal.proofs.view.WrittenViews.{written_is_view}
 use Rattle.erd_normal.proofs.texts.DueTokens.{put_envelope}
 use Rattle.erd_normal.proofs.report.report_text.write_report.Goals as goal
 
@@ -12,5 +12,5 @@ returns c =
     let same =
     ap (λ x. put_in envelope_values (normal_object_with (written_report_value c.args.writer.now.prefer t) (class_of_object role.Report x) x)) is
     ∙ (put_envelope (normal_object_with (written_report_value c.args.writer.now.prefer t) (class_of_object role.Report t) t)
-    ∙ written_is_normal c.args.writer.now.prefer t accepted tree) in
+    ∙ written_is_view c.args.writer.now.prefer t accepted tree) in
     on_ok_weaker c.write_object.result (λ written. written ∙ ap (λ d. c.args.out.now ++ value_tokens d) same) c.write_object.ensures

@@ -1,6 +1,6 @@
 use Rattle.erd_normal.proofs.Common.{◌≡◌, ◌+◌, ◌++◌, drop, Option, sym, ap, ◌∙◌, or_parts, option_map_or, member as member_of, view, items_view, members_view, has_float, items_have_float, MemberKind, on_ok_weaker, Entry, normal_node_value, normal_content, normal_nodes, normal_node, normal_node_members, value_tokens, items_tokens, members_tokens, member_tokens}
 use Rattle.erd_text.proofs.WholeValues.{whole_first, whole_rest}
-use Rattle.erd_normal.proofs.built.BuiltFrom.{node_value}
+use Rattle.erd_normal.proofs.inside.Members.{node_value}
 use Rattle.erd_text.proofs.WrittenTokens.{then_rest}
 use Rattle.erd_normal.proofs.texts.DueTokens.{entries_from, kept_member, member_or_none}
 use Rattle.erd_normal.proofs.values.content.+content.Goals as goal

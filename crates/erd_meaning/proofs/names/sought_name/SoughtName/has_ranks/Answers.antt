@@ -5,12 +5,12 @@ use Rattle.erd_meaning.proofs.names.sought_name.SoughtName.has_ranks.Goals as go
 pub returns-then-len-ranks : goal.returns-then-len-ranks
 returns-then-len-ranks c =
     let keys : c.name.inside.keys.items ≡ c.args.self.now.name.now.keys = ap (λ (n : NameParts). n.keys) (c.name.view_is) in
-    lengths_differ (map shown c.args.self.now.objects.now) (family_chosen c.args.self.now.name.now.class) c.args.self.now.name.now.keys c.args.ranks.now
+    lengths_differ (map shown c.args.self.now.objects.now.objects) (family_chosen c.args.self.now.name.now.class) c.args.self.now.name.now.keys c.args.ranks.now
     (λ e. c.if-len-ranks.true (c.len.ensures ∙ c.name.inside.keys.ok.0 ∙ ap length keys ∙ e))
 
 pub returns-then-not-has_rank : goal.returns-then-not-has_rank
 returns-then-not-has_rank c =
-    let ks = map shown c.args.self.now.objects.now in
+    let ks = map shown c.args.self.now.objects.now.objects in
     let f = family_chosen c.args.self.now.name.now.class in
     let items = c.deref-key-items.result.now in
     let keys : items ≡ c.args.self.now.name.now.keys = c.deref-key-items.ensures.value ∙ ap (λ (n : NameParts). n.keys) (c.name.view_is) in
@@ -22,7 +22,7 @@ returns-then-not-has_rank c =
 
 pub loop-index-preserved : goal.loop-index-preserved
 loop-index-preserved c =
-    let ks = map shown c.args.self.now.objects.now in
+    let ks = map shown c.args.self.now.objects.now.objects in
     let f = family_chosen c.args.self.now.name.now.class in
     let items = c.deref-key-items.result.now in
     let many : length items ≡ length c.args.ranks.now = c.deref-key-items.ensures.len ∙ sym c.len.ensures ∙ c.if-len-ranks.false in
@@ -32,7 +32,7 @@ loop-index-preserved c =
 
 pub returns : goal.returns
 returns c =
-    let ks = map shown c.args.self.now.objects.now in
+    let ks = map shown c.args.self.now.objects.now.objects in
     let f = family_chosen c.args.self.now.name.now.class in
     let items = c.deref-key-items.result.now in
     let keys : items ≡ c.args.self.now.name.now.keys = c.deref-key-items.ensures.value ∙ ap (λ (n : NameParts). n.keys) (c.name.view_is) in

@@ -4,7 +4,7 @@ use Rattle.erd_meaning.proofs.names.sought_name.SoughtName.is_name.Goals as goal
 
 pub returns-then-not-has_ranks : goal.returns-then-not-has_ranks
 returns-then-not-has_ranks c =
-    let ks = map shown c.args.self.now.objects.now in
+    let ks = map shown c.args.self.now.objects.now.objects in
     let n = c.args.self.now.name.now in
     let s = c.args.name.now in
     let no : are_ranks_of ks (family_chosen n.class) n.keys s.ranks ≡ false = ap (are_ranks_of ks (family_chosen n.class) n.keys) (sym c.ranks.ensures) ∙ sym c.has_ranks.ensures ∙ c.if-not-has_ranks.true in
@@ -12,7 +12,7 @@ returns-then-not-has_ranks c =
 
 pub returns : goal.returns
 returns c =
-    let ks = map shown c.args.self.now.objects.now in
+    let ks = map shown c.args.self.now.objects.now.objects in
     let n = c.args.self.now.name.now in
     let s = c.args.name.now in
     let are : are_ranks_of ks (family_chosen n.class) n.keys s.ranks ≡ true = ap (are_ranks_of ks (family_chosen n.class) n.keys) (sym c.ranks.ensures) ∙ sym c.has_ranks.ensures ∙ c.if-not-has_ranks.false in

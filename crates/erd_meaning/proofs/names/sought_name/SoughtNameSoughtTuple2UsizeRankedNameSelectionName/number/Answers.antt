@@ -5,7 +5,7 @@ use Rattle.erd_meaning.proofs.names.sought_name.SoughtNameSoughtTuple2UsizeRanke
 
 pub returns : goal.returns
 returns c k found =
-    let ks = map shown c.args.self.now.objects.now in
+    let ks = map shown c.args.self.now.objects.now.objects in
     let n = c.args.self.now.name.now in
     let class = c.hash-2.ensures ∙ ap (λ t. fold write c.hash.new.state (str t)) (c.type_text.ensures ∙ ap (λ (m : NameParts). text_of_class m.class) c.name.view_is) in
     let many = c.hash-3.ensures ∙ ap (λ m. fold write c.hash-2.new.state (usize m)) (c.len.ensures ∙ c.name.inside.keys.ok.0 ∙ ap (λ (m : NameParts). length m.keys) c.name.view_is) in

@@ -1,4 +1,4 @@
-use Rattle.erd_meaning.proofs.Common.{◌≡◌, ℕ, List, map, length, slice_get, Some, None, option_map, option_and_then, sym, refl, ap, ◌∙◌, arith, slice_get-map, slice_get_read, slice_get_past, those_of, shown, Object}
+use Rattle.erd_meaning.proofs.Common.{◌≡◌, ℕ, List, map, length, slice_get, Some, None, option_map, option_and_then, sym, refl, ap, ◌∙◌, arith, slice_get-map, slice_get_read, slice_get_past, those_of, shown, HeldObjects, Object}
 use Rattle.erd_meaning.proofs.finding.Pushed.{places_get}
 use Rattle.erd_meaning.proofs.objects.table.ObjectTable.get.Goals as goal
 
@@ -10,7 +10,7 @@ returns-in_err-place c =
     ap (option_map (λ o. shown o.now)) c.from_residual.ensures
     ∙ sym (ap (option_and_then (slice_get (map shown os))) (sym (ap (λ (ps : List ℕ). slice_get ps c.args.index) list) ∙ past))
     ∙ places_get c.args.family (map shown os) c.args.index
-    ∙ ap (λ (os : List Object). slice_get (those_of c.args.family (map shown os)) c.args.index) c.self.view_is
+    ∙ ap (λ (os : HeldObjects). slice_get (those_of c.args.family (map shown os.objects)) c.args.index) c.self.view_is
 
 pub returns-in_err-object : goal.returns-in_err-object
 returns-in_err-object c =
@@ -24,7 +24,7 @@ returns-in_err-object c =
     ∙ sym (slice_get-map shown os n ∙ ap (option_map shown) past)
     ∙ sym (ap (option_and_then (slice_get (map shown os))) (sym (ap (λ (ps : List ℕ). slice_get ps c.args.index) list) ∙ place))
     ∙ places_get c.args.family (map shown os) c.args.index
-    ∙ ap (λ (os : List Object). slice_get (those_of c.args.family (map shown os)) c.args.index) c.self.view_is
+    ∙ ap (λ (os : HeldObjects). slice_get (those_of c.args.family (map shown os.objects)) c.args.index) c.self.view_is
 
 pub returns : goal.returns
 returns c =
@@ -40,4 +40,4 @@ returns c =
     sym (slice_get-map shown os n ∙ ap (option_map shown) there)
     ∙ sym (ap (option_and_then (slice_get (map shown os))) (sym (ap (λ (ps : List ℕ). slice_get ps c.args.index) list) ∙ place))
     ∙ places_get c.args.family (map shown os) c.args.index
-    ∙ ap (λ (os : List Object). slice_get (those_of c.args.family (map shown os)) c.args.index) c.self.view_is
+    ∙ ap (λ (os : HeldObjects). slice_get (those_of c.args.family (map shown os.objects)) c.args.index) c.self.view_is

@@ -1,4 +1,4 @@
-use Rattle.erd_meaning.proofs.Common.{◌≡◌, ℕ, ◌+◌, false, cond, List, [], ◌∷◌, ◌++◌, map, length, is_some, Some, None, Option, sym, refl, ap, ◌∙◌, ap₂, arith, Bor, map-append, length-map, list_any, lookup, option_map_or, option_or, Family, family, same_owned, is_salted_owned, with_place, places_from, number_of_id, number_of_key, contests_noted, contests_before, those_of, keeps_id, has_same_key, has_same_id, shown, Key, Object}
+use Rattle.erd_meaning.proofs.Common.{◌≡◌, ℕ, ◌+◌, false, cond, List, [], ◌∷◌, ◌++◌, map, length, is_some, Some, None, Option, sym, refl, ap, ◌∙◌, ap₂, arith, Bor, map-append, length-map, list_any, lookup, option_map_or, option_or, Family, family, same_owned, is_salted_owned, with_place, places_from, number_of_id, number_of_key, contests_noted, contests_before, those_of, keeps_id, has_same_key, has_same_id, shown, Key, HeldObjects, Object}
 use Rattle.erd_meaning.proofs.finding.Known.{has_id_known, has_key_known, noted_any}
 use Rattle.erd_meaning.proofs.finding.Pushed.{before_push, number_of_id_push, number_of_key_push, places_length, places_push}
 use Rattle.erd_meaning.proofs.objects.table.ObjectTable.push.Goals as goal
@@ -40,7 +40,7 @@ returns-clause-has_key c =
     c.note_any_key-has_key.ensures.known
     ∙ ap₂ (λ (found : Key → Option ℕ) (o : Option Key). option_map_or (λ l. is_some (found l)) o false)
     (λ i l. (ap (lookup (is_salted_owned c.self.inside.salt (k.family, l))) c.in_ok-reserve-2.ensures.entries ∙ c.self.invariant.keys_are k.family l) i) c.requires
-    ∙ sym (has_key_known ks k k.key refl) ∙ ap (λ (os : List Object). list_any (has_same_key k) (map shown os)) c.self.view_is
+    ∙ sym (has_key_known ks k k.key refl) ∙ ap (λ (os : HeldObjects). list_any (has_same_key k) (map shown os.objects)) c.self.view_is
 
 pub returns-clause-has_id : goal.returns-clause-has_id
 returns-clause-has_id c =
@@ -48,4 +48,4 @@ returns-clause-has_id c =
     let k = shown c.args.object in
     c.in_ok-has_id.ensures.known
     ∙ ap (λ (found : List ℕ → Option (Family × ℕ)). option_map_or (λ (s : Bor (List ℕ)). is_some (found s.now)) c.args.object.id false) (λ i id. c.self.invariant.ids_are id i)
-    ∙ sym (has_id_known ks k c.args.object.id refl) ∙ ap (λ (os : List Object). list_any (has_same_id k) (map shown os)) c.self.view_is
+    ∙ sym (has_id_known ks k c.args.object.id refl) ∙ ap (λ (os : HeldObjects). list_any (has_same_id k) (map shown os.objects)) c.self.view_is

@@ -5,7 +5,7 @@ use Rattle.erd_meaning.proofs.report.reference_judge.ReferenceJudge.clear_positi
 
 pub returns-clause-clear : goal.returns-clause-clear
 returns-clause-clear c =
-    let ks = map shown c.args.self.now.objects.now in
+    let ks = map shown c.args.self.now.objects.now.objects in
     let id = c.in_ok-id.id.now in
     let own = c.in_ok-own.own in
     let position = c.in_ok-own.position in

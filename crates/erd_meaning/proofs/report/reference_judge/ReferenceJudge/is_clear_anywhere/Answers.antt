@@ -9,7 +9,7 @@ of_another f e = refl
 
 pub returns-in-Some : goal.returns-in-Some
 returns-in-Some c same outer =
-    let ks = map shown c.args.self.now.objects.now in
+    let ks = map shown c.args.self.now.objects.now.objects in
     let own = c.in-Some.own in
     let position = c.in-Some.field-0-1 in
     let found = sym (c.position_on_trail.ensures c.args.self.now.told_apart) ∙ c.in-Some.is in

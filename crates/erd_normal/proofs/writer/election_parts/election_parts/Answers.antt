@@ -1,5 +1,0 @@
-use Rattle.erd_normal.proofs.Common.{rules, IfOk-weaker}
-use Rattle.erd_normal.proofs.writer.election_parts.election_parts.Goals as goal
-
-pub returns : goal.returns
-returns c = IfOk-weaker c.of.result _ _ (λ parts all f. let called = all f in search rules) c.of.ensures

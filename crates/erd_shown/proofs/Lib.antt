@@ -1,0 +1,10 @@
+pub mod Common
+mod examples
+mod fit
+mod told
+mod KeyedKinds
+mod Found
+mod Placed
+mod Written
+mod SelectionPairs
+mod RowLists

@@ -1,0 +1,2 @@
+pub mod ValueExamples
+pub mod RowExamples

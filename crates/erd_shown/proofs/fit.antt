@@ -1,0 +1,2 @@
+pub mod ExactTexts
+pub mod FitMembers

@@ -1,0 +1,10 @@
+use Rattle.erd_shown.proofs.Common.{◌≡◌, ◌++◌, false, view, members_view, members_have_float, members_tokens}
+use Rattle.erd_shown.specs.Shown.{shown_members, shown_plain}
+use Rattle.erd_shown.proofs.members.write_plain_members.Given as goal
+
+abbrev pub invariant-loop-name : goal.invariant-loop-name
+invariant-loop-name l =
+    members_have_float (members_view l.members.entries) ≡ false
+    → (members_have_float (members_view l.name-iterator) ≡ false)
+    × (l.out ++ members_tokens (shown_members (shown_plain l.report.prefer (view l.report.tree) l.class) (members_view l.name-iterator))
+    ≡ l.initial.out ++ members_tokens (shown_members (shown_plain l.report.prefer (view l.report.tree) l.class) (members_view l.members.entries)))

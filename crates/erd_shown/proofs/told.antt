@@ -1,0 +1,11 @@
+pub mod Sets
+pub mod JsonSets
+pub mod Labels
+pub mod Names
+pub mod Contents
+pub mod Values
+pub mod Trees
+pub mod Records
+pub mod Selections
+pub mod Objects
+pub mod Laws

@@ -1,0 +1,4 @@
+pub mod Writing
+pub mod RowsSoFar
+pub mod Fitting
+pub mod Selections

@@ -1,0 +1,63 @@
+"""Holds `check` and `compare` against values that are put in order, and that differ where an order has to stop: in the names of their
+members, before long values that are the same. Each command takes at most 1.2 times the instructions of values that differ in the
+first entry of a list. An order that compares the values as well takes two to four times as many. Needs valgrind and `./erd`. One line
+a case.
+"""
+import json
+import os
+import shutil
+import sys
+import tempfile
+
+from measuring import instructions
+
+sys.path.insert(0, os.path.join(os.path.dirname(os.path.abspath(__file__)), os.pardir, "reports"))
+import hostile_shapes  # noqa: E402
+from reports import identifier, unit  # noqa: E402
+
+MOST = 1.2
+COUNT, LENGTH = 500, 300
+
+
+def carrying(member_of):
+    """A report with a unit whose identifiers are alike but for one carried member, which is made of the number of each."""
+    carried = [identifier("U0", **member_of(number * 7919 % COUNT)) for number in range(COUNT)]
+    return hostile_shapes.report_of([{**unit("u0", "U0"), "ExternalIdentifier": carried}])
+
+
+def by_name(number):
+    return {"x%06d" % number: [0] * LENGTH}
+
+
+def by_first_entry(number):
+    return {"x": [number] + [0] * LENGTH}
+
+
+def counted(command, made, folder):
+    """The instructions of a command on a report, or on it and a copy with a blank more: equal bytes are judged once."""
+    paths = [os.path.join(folder, name) for name in ("report", "copy")]
+    for path, more in zip(paths, ("", " ")):
+        with open(path, "w", encoding="utf-8") as file:
+            file.write(json.dumps(made) + more)
+    return instructions(["./erd", command] + paths[:1 + (command == "compare")])
+
+
+def is_held(command, folder):
+    ratio = counted(command, carrying(by_name), folder) / counted(command, carrying(by_first_entry), folder)
+    print("%s values that differ in the names of members: %s takes %.2f times the instructions of others"
+          % ("ok     " if ratio <= MOST else "FAILED ", command, ratio), flush=True)
+    return ratio <= MOST
+
+
+def main():
+    if not shutil.which("valgrind"):
+        print("skipped the values that differ in the names of members: install the package valgrind\n0 passed, 0 failed")
+        return 0
+    with tempfile.TemporaryDirectory() as folder:
+        results = [is_held(command, folder) for command in ("check", "compare")]
+    print("%d passed, %d failed" % (sum(results), len(results) - sum(results)))
+    return 0 if all(results) else 1
+
+
+if __name__ == "__main__":
+    sys.exit(main())

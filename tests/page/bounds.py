@@ -1,0 +1,159 @@
+"""Small files that cost much: each leads to a sentence soon, and takes little memory. What is not shown is told, and can be shown."""
+import json
+import os
+import pathlib
+import time
+
+import answers
+from made import candidate_contest, identified, report, style, typed, written
+
+MOST_SECONDS = 5
+MOST_MEGABYTES = 300
+TRIES = 3
+BUSY = "return document.documentElement.dataset.busy === 'no' && document.getElementById('verdict') !== null"
+
+
+def run(session):
+    crowded(session)
+    saved(session)
+    long_name(session)
+    many_differences(session)
+    printed(session)
+
+
+class Memory:
+    """The most memory that the processes of pages take, from now on."""
+
+    def __init__(self, session):
+        self.files = [path for path in map(pathlib.Path, tree_of(session.browser.process.pid)) if is_page(path)]
+        for path in self.files:
+            (path / 'clear_refs').write_text('5')
+        self.before = [kilobytes(path, 'VmRSS') for path in self.files]
+
+    def growth(self):
+        """How many megabytes the greatest of them has grown at most."""
+        there = [(path, before) for path, before in zip(self.files, self.before) if path.exists()]
+        return max(kilobytes(path, 'VmHWM') - before for path, before in there) // 1000
+
+
+def kilobytes(path, name):
+    return next((int(line.split()[1]) for line in (path / 'status').read_text().splitlines() if line.startswith(name + ':')), 0)
+
+
+def is_page(path):
+    words = (path / 'cmdline').read_bytes()
+    return b'--type=renderer' in words or (b'-contentproc' in words and words.rstrip(b'\0').endswith(b'tab'))
+
+
+def tree_of(pid):
+    """A process and all below it."""
+    below = [child for task in os.listdir(f'/proc/{pid}/task') for child in pathlib.Path(f'/proc/{pid}/task/{task}/children').read_text().split()]
+    return [f'/proc/{pid}', *(path for child in below for path in tree_of(child))]
+
+
+def bounded(session, name, act):
+    """One case: what is done takes at most so many seconds and megabytes. A busy machine may need several tries."""
+    tries = []
+    while len(tries) < TRIES and (not tries or tries[-1][0] > MOST_SECONDS or tries[-1][1] > MOST_MEGABYTES):
+        session.fresh()
+        memory = Memory(session)
+        begin = time.monotonic()
+        act()
+        tries.append((round(time.monotonic() - begin, 1), memory.growth()))
+    session.said(f'bounds: {name}', '' if tries[-1][0] <= MOST_SECONDS and tries[-1][1] <= MOST_MEGABYTES else f'seconds and megabytes: {tries}')
+
+
+def opened(session, *paths):
+    """The first ballot, open."""
+    session.choose(0, *paths)
+    session.browser.until(BUSY)
+    session.browser.until("return document.getElementById('ballots') !== null")
+    session.browser.script("document.getElementById('ballots').open = true")
+    session.browser.until("return document.querySelector('.style') !== null")
+    session.browser.script("document.querySelector('.style').open = true")
+    session.browser.until("return document.querySelector('.style .ballot') !== null")
+
+
+def crowded(session):
+    """A style that lists one contest 300 times, and one that lists it 1,000 times: the beginning is shown, and the rest when it is asked for."""
+    for times in (300, 1000):
+        contest, candidates = candidate_contest('S', 'Sheriff', *(f'N{number}' for number in range(120)))
+        one = report([(contest, candidates)], [style('BS-1', [typed('OrderedContest', ContestId='S')] * times)])
+        path = written(session, 'crowded.json', one)
+        bounded(session, f'one contest {times} times', lambda: opened(session, path))
+        nodes = session.browser.script("return document.querySelectorAll('*').length")
+        session.said(f'bounds: one contest {times} times, elements', '' if nodes < 10_000 else f'{nodes} elements')
+        session.has(f'bounds: one contest {times} times, what is left', session.text('.rest'), answers.say('ballots.left', count=times - 4))
+        before = len(session.texts('.ballot .contest'))
+        session.browser.script("document.querySelector('.rest button').click()")
+        session.becomes(f'bounds: one contest {times} times, more of it', lambda: len(session.texts('.ballot .contest')) > before, True)
+
+
+def saved(session):
+    """A list of changes below a name of 190 kB: it is saved, with pointers that are cut."""
+    one = json.dumps({'@type': 'ElectionResults.ElectionReport', 'x' * 190_000: {f'n{number}': None for number in range(12_000)}})
+    path = session.file('nulls.json', one)
+    (session.work / 'downloads' / 'nulls.prepared.changes.json').unlink(missing_ok=True)
+
+    def act():
+        session.choose(0, path)
+        session.browser.until(BUSY)
+        session.click('#prepare-begin-0')
+        session.browser.until("return document.querySelector('#prepare-check-0') !== null")
+        session.browser.script("[...document.querySelectorAll('.preparing .buttons button')].at(-1).click()")
+        session.downloaded('nulls.prepared.changes.json')
+
+    bounded(session, 'a list of changes', act)
+    steps = json.loads(session.downloaded('nulls.prepared.changes.json'))
+    nulls = next(step for step in steps if step['step'] == 'nulls')
+    session.equal('bounds: the changes are counted', [nulls['count'], len(nulls['changes']) + nulls.get('more', 0)], [12_000, 12_000])
+
+
+def long_name(session):
+    """Names that are written twice below a name of 12 MB."""
+    inner = ','.join(f'"n{number}":1,"n{number}":2' for number in range(200))
+    text = '{"@type":"ElectionResults.ElectionReport","%s":{%s}}' % ('x' * 12_000_000, inner)
+    path = session.file('long-name.json', text)
+
+    def act():
+        session.choose(0, path)
+        session.browser.until(BUSY)
+        session.browser.until("return document.querySelector('.notice') !== null")
+
+    bounded(session, 'names written twice below a long name', act)
+
+
+def many_differences(session):
+    """Two files with 200,000 differences: there is a list of the first of them, and a sentence on the others."""
+    def units(prefix):
+        return [typed('ReportingUnit', id=f'{prefix}{number}', ExternalIdentifier=identified(f'{prefix}{number}'), Type='precinct') for number in range(100_000)]
+    made = {prefix: report([], [style('BS-1', [])]) for prefix in 'ab'}
+    for prefix, one in made.items():
+        del one['Election'][0]['BallotStyle'][0]['OrderedContent']
+        one['GpUnit'] += units(prefix)
+    paths = [written(session, f'{prefix}.json', one) for prefix, one in made.items()]
+    session.fresh()
+    begin = time.monotonic()
+    session.choose(0, *paths)
+    session.browser.until("return document.querySelector('.others') !== null", seconds=120)
+    print(f'        {session.browser.name}: 200,000 differences are listed after {time.monotonic() - begin:.1f} s', flush=True)
+    session.equal('bounds: 200,000 differences', session.text('#all-differences'), answers.say('difference.all', count=200_000))
+    session.has('bounds: those that are not listed', session.text('.others'), 'This page lists the first')
+    for path in paths:
+        path.unlink()
+
+
+def printed(session):
+    """Many ballots are printed in parts."""
+    contest, candidates = candidate_contest('S', 'Sheriff', *(f'N{number}' for number in range(100)))
+    one = report([(contest, candidates)], [style(f'BS-{number:03}', [typed('OrderedContest', ContestId='S')] * 4) for number in range(200)])
+    session.judged(written(session, 'county.json', one))
+    session.browser.script("document.getElementById('ballots').open = true")
+    session.browser.until("return document.querySelector('.style') !== null")
+    session.browser.script("window.print = () => { window.printed = (window.printed ?? 0) + 1; }")
+    session.browser.script("[...document.querySelectorAll('#ballots .controls button')].at(-1).click()")
+    session.browser.until('return window.printed === 1')
+    first = len(session.texts('.print-pages > .ballot'))
+    session.said('bounds: ballots are printed in parts', '' if 0 < first < 200 else f'{first} ballots')
+    session.equal('bounds: the next ones', session.text('#ballots .controls p:last-child button'), answers.say('ballots.printNext', next=first + 1, all=200))
+    session.browser.script("dispatchEvent(new Event('afterprint'))")

@@ -1,0 +1,96 @@
+"""What is filed is what was found: the passage that differs, how many rows there are more, first what a voter sees, and of each file its
+election, its envelope and whether it is a prepared copy."""
+import base64
+import json
+
+import answers
+from flows import pages_of
+from made import identified, listed, measure, report, style, typed, written
+from session import EXAMPLES, sha256
+
+TEXT = ' '.join(f'Word {number} of the measure.' for number in range(40))
+DT = "return [...document.querySelectorAll('.record dl > div')].map((row) => [row.querySelector('dt').textContent, row.querySelector('dd')?.textContent ?? ''])"
+
+
+def made(middle='five', title='Measure 2', name='Ward', count=0, **members):
+    """A measure with a long text in whose middle a word differs, and so many more units."""
+    one = report([measure('M', title, FullText=f'{TEXT} The rate is {middle} percent. {TEXT}')], [style('BS-1', [listed('M: Yes No')])])
+    one['GpUnit'] += [typed('ReportingUnit', id=f'u-{number}', ExternalIdentifier=identified(f'N{number:03}'), Type='precinct', Name=f'{name} {number}')
+                      for number in range(count)]
+    return one | members
+
+
+def run(session):
+    passage(session)
+    rows(session)
+    order(session)
+    identity(session)
+    copies(session)
+
+
+def passage(session):
+    """Of a long text the record has the words that differ."""
+    session.judged(written(session, 'left.json', made()), written(session, 'right.json', made('nine')))
+    line = session.text('[data-filed] li > div')
+    session.said('filed: the passage that differs', '' if 'five' in line and 'nine' in line and len(line) < 600 else line)
+
+
+def rows(session):
+    """More rows than the record has: it says how many more."""
+    units = ['East', 'West', 'North', 'South', 'Hill', 'Lake']
+    pair = [report([measure('M', 'Measure 2')], [style('BS-1', [listed('M: Yes No')], *names)], units) for names in (
+        ('gp-1',), tuple(f'gp-{number}' for number in range(1, 7)))]
+    session.judged(*(written(session, f'{side}.json', one) for side, one in zip(('left', 'right'), pair)))
+    lines = session.texts('[data-filed] li > div')
+    session.equal('filed: how many rows there are more', [len(lines), lines[-1]], [4, answers.say('record.more', count=2)])
+
+
+def order(session):
+    """Of many differences those come first that a voter sees, each with its number in the proved list."""
+    left, right = made(count=120), made(title='Measure 3', name='Precinct', count=120)
+    for unit in right['GpUnit'][1:]:
+        unit['IsDistricted'] = True
+    session.judged(written(session, 'left.json', left), written(session, 'right.json', right))
+    session.has('filed: first what a voter sees', session.text('[data-filed] li'), 'Measure 2')
+    session.equal('filed: with its number', session.browser.script("return document.querySelector('[data-filed] li').value"), 241)
+    session.equal('filed: how many more', session.texts('[data-filed] > p'), [answers.say('record.order'), answers.say('record.more', count=141)])
+
+
+def identity(session):
+    """The record says whether the ballots differ, and of each file its election, its day, its envelope and its notes. Signatures are never
+    alone on a page."""
+    session.judged(written(session, 'left.json', made(count=40, Notes='Struck by court order', IsTest=True, TestType='logic')),
+                   written(session, 'right.json', made('nine', name='Precinct', count=40, IsTest=True, TestType='logic')))
+    lines = session.browser.script(DT)
+    session.equal('filed: what a voter sees', [line for line in lines if line[0] == answers.say('record.seen')],
+                  [[answers.say('record.seen'), answers.say('seen.differ', differing=1, all=1)]])
+    session.equal('filed: the elections', [line[1] for line in lines if line[0] == answers.say('record.election')], 2 * ['Test, 2026-11-03'])
+    session.equal('filed: the marks of a test', [line[1] for line in lines if line[0] == answers.say('record.test')], 2 * [answers.say('record.isTest')])
+    envelopes = [line[1] for line in lines if line[0] == answers.say('record.envelope')]
+    session.said('filed: the envelopes', '' if len(envelopes) == 2 and 'Issuer: Vendor' in envelopes[1] and 'Notes: Struck by court order' in envelopes[0] else repr(envelopes))
+    pages = pages_of(base64.b64decode(session.browser.command('print')))
+    session.said('filed: several pages', '' if pages > 1 else f'{pages} page')
+    session.equal('filed: the signatures stand with the last paragraphs', session.browser.script("""
+        return [...document.querySelector('.filed').lastElementChild.children].map((one) => one.className)"""), ['', '', 'signatures'])
+
+
+def copies(session):
+    """A copy that was prepared says so when it is opened again, with the sum of its file, and its notes differ in nothing else."""
+    path = EXAMPLES / 'state-primary.raw.json'
+    session.judged(path)
+    session.click('#prepare-begin-0')
+    session.browser.until("return document.querySelector('#prepare-check-0') !== null")
+    session.browser.script("document.getElementById('verdict').remove(); document.querySelector('#prepare-check-0').click()")
+    session.equal('filed: a copy', session.verdict(), 'Accepted')
+    name = 'state-primary.prepared.json'
+    (session.work / 'downloads' / name).unlink(missing_ok=True)
+    steps = session.texts('.prepared-copy .steps-done li')
+    session.browser.script("document.querySelector('.save-copy').click()")
+    data = session.downloaded(name)
+    again = session.file(name, data)
+    session.judged(again)
+    session.equal('filed: the copy, opened again', session.texts('.prepared-copy .steps-done li'), steps)
+    session.has('filed: its file', session.text('.prepared-copy p'), path.name)
+    session.becomes('filed: the sum of its file, in the record', lambda: session.text('.record .sum[data-sum="original"]'), sha256(path.read_bytes()))
+    session.judged(again, session.file('plain.json', json.dumps({key: value for key, value in json.loads(data).items() if key != 'Notes'})))
+    session.equal('filed: the mark is no note that differs', session.texts('.notice h3'), [])
