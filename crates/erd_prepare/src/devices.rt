@@ -4,7 +4,7 @@ ghost use Rattle.serde_json.specs.View.{view};
 ghost use Rattle.erd_prepare.specs.Steps.{IsStepDone};
 
 use crate::engine::Done;
-use crate::parts::{Part, parts_of};
+use crate::known_objects::{KnownObject, known_objects};
 use crate::plan::{Edit, Plan, carry_out};
 use erd_check::values::{entries_at, entries_of, text_at};
 use erd_check::want::Want;
@@ -37,9 +37,9 @@ fn devices_in(alloc: Global, report: &Value) -> Result<Plan, AllocError> {
         }
     }
     let gone = gone_ids(alloc, units)?;
-    let parts = parts_of(alloc, report)?;
-    for part in &parts {
-        plan_lists(alloc, part, &gone, &mut plan)?;
+    let objects = known_objects(alloc, report)?;
+    for object in &objects {
+        plan_lists(alloc, object, &gone, &mut plan)?;
     }
     Ok(plan)
 }
@@ -73,16 +73,18 @@ fn gone_ids<'a>(alloc: Global, units: &'a [Value]) -> Result<BTreeSet<&'a str>, 
 /// Plans that the devices go from the lists of units in an object.
 fn plan_lists<'a>(
     alloc: Global,
-    part: &Part<'a>,
+    object: &KnownObject<'a>,
     gone: &BTreeSet<&'a str>,
     plan: &mut Plan,
 ) -> Result<(), AllocError> {
-    for (name, member) in part.members.iter() {
-        if let Some(Want::Member(MemberKind::Many(Family::Unit), _)) = part.want_of(name.as_str()) {
+    for (name, member) in object.members.iter() {
+        if let Some(Want::Member(MemberKind::Many(Family::Unit), _)) = object.want_of(
+            name.as_str(),
+        ) {
             for (index, entry) in entries_of(member).iter().enumerate() {
                 if let Value::String(id) = entry {
                     if gone.contains(&id.as_str()) {
-                        let place = format!(in alloc; "{}/{}/{}", part.place, name, index)?;
+                        let place = format!(in alloc; "{}/{}/{}", object.place, name, index)?;
                         plan.edits.insert(place, Edit::LeaveOut)?;
                     }
                 }

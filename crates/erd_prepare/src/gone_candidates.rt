@@ -4,7 +4,7 @@ ghost use Rattle.serde_json.specs.View.{view};
 ghost use Rattle.erd_prepare.specs.Steps.{IsStepDone};
 
 use crate::engine::Done;
-use crate::parts::{Part, parts_of};
+use crate::known_objects::{KnownObject, known_objects};
 use crate::plan::{Edit, Plan, carry_out};
 use erd_check::values::entries_of;
 use erd_check::want::Want;
@@ -29,37 +29,40 @@ fn gone_in(alloc: Global, report: &Value) -> Result<Plan, AllocError> {
     let mut plan = Plan {
         edits: BTreeMap::new(alloc),
     };
-    let parts = parts_of(alloc, report)?;
-    let ids = ids_of(alloc, &parts)?;
+    let objects = known_objects(alloc, report)?;
+    let ids = ids_of(alloc, &objects)?;
     let mut gone = BTreeSet::new(alloc);
     let mut others = BTreeSet::new(alloc);
-    for part in &parts {
-        if is_gone(part, &ids) {
-            plan.edits.insert(part.place.clone()?, Edit::LeaveOut)?;
-            add_id(part, &mut gone)?;
+    for object in &objects {
+        if is_gone(object, &ids) {
+            plan.edits.insert(object.place.clone()?, Edit::LeaveOut)?;
+            add_id(object, &mut gone)?;
         } else {
-            add_id(part, &mut others)?;
+            add_id(object, &mut others)?;
         }
     }
-    for part in &parts {
-        plan_lists(alloc, part, &gone, &others, &mut plan)?;
+    for object in &objects {
+        plan_lists(alloc, object, &gone, &others, &mut plan)?;
     }
     Ok(plan)
 }
 
 /// Returns the `@id`s of all objects of families.
-fn ids_of<'a>(alloc: Global, parts: &Vec<Part<'a>>) -> Result<BTreeSet<&'a str>, AllocError> {
+fn ids_of<'a>(
+    alloc: Global,
+    objects: &Vec<KnownObject<'a>>,
+) -> Result<BTreeSet<&'a str>, AllocError> {
     let mut ids = BTreeSet::new(alloc);
-    for part in parts {
-        add_id(part, &mut ids)?;
+    for object in objects {
+        add_id(object, &mut ids)?;
     }
     Ok(ids)
 }
 
 /// Adds the `@id` of an object of a family, if it has one.
-fn add_id<'a>(part: &Part<'a>, ids: &mut BTreeSet<&'a str>) -> Result<(), AllocError> {
-    if matches!(part.role, Role::OfFamily(_)) {
-        if let Some(Value::String(id)) = part.members.get("@id") {
+fn add_id<'a>(object: &KnownObject<'a>, ids: &mut BTreeSet<&'a str>) -> Result<(), AllocError> {
+    if matches!(object.role, Role::OfFamily(_)) {
+        if let Some(Value::String(id)) = object.members.get("@id") {
             ids.insert(id.as_str())?;
         }
     }
@@ -67,11 +70,11 @@ fn add_id<'a>(part: &Part<'a>, ids: &mut BTreeSet<&'a str>) -> Result<(), AllocE
 }
 
 /// Returns whether a line names candidates, and none of them is there.
-fn is_gone<'a>(part: &Part<'a>, ids: &BTreeSet<&'a str>) -> bool {
-    if part.class != Class::CandidateSelection {
+fn is_gone<'a>(object: &KnownObject<'a>, ids: &BTreeSet<&'a str>) -> bool {
+    if object.class != Class::CandidateSelection {
         return false;
     }
-    let Some(candidates) = part.members.get("CandidateIds") else {
+    let Some(candidates) = object.members.get("CandidateIds") else {
         return false;
     };
     let mut is_named = false;
@@ -89,17 +92,17 @@ fn is_gone<'a>(part: &Part<'a>, ids: &BTreeSet<&'a str>) -> bool {
 /// Plans that lines that go also go from the lists of a ballot.
 fn plan_lists<'a>(
     alloc: Global,
-    part: &Part<'a>,
+    object: &KnownObject<'a>,
     gone: &BTreeSet<&'a str>,
     others: &BTreeSet<&'a str>,
     plan: &mut Plan,
 ) -> Result<(), AllocError> {
-    for (name, member) in part.members.iter() {
-        if let Some(Want::Member(MemberKind::Ordered, _)) = part.want_of(name.as_str()) {
+    for (name, member) in object.members.iter() {
+        if let Some(Want::Member(MemberKind::Ordered, _)) = object.want_of(name.as_str()) {
             for (index, entry) in entries_of(member).iter().enumerate() {
                 if let Value::String(id) = entry {
                     if gone.contains(&id.as_str()) && !others.contains(&id.as_str()) {
-                        let place = format!(in alloc; "{}/{}/{}", part.place, name, index)?;
+                        let place = format!(in alloc; "{}/{}/{}", object.place, name, index)?;
                         plan.edits.insert(place, Edit::LeaveOut)?;
                     }
                 }

@@ -4,7 +4,7 @@ ghost use Rattle.serde_json.specs.View.{view};
 ghost use Rattle.erd_prepare.specs.Steps.{IsStepDone};
 
 use crate::engine::Done;
-use crate::parts::{Part, parts_of};
+use crate::known_objects::{KnownObject, known_objects};
 use crate::plan::{Edit, Plan, carry_out};
 use erd_check::ValueSet;
 use erd_check::values::entries_of;
@@ -29,20 +29,20 @@ fn repeated_in(alloc: Global, report: &Value) -> Result<Plan, AllocError> {
     let mut plan = Plan {
         edits: BTreeMap::new(alloc),
     };
-    let parts = parts_of(alloc, report)?;
-    for part in &parts {
-        plan_part(alloc, part, &mut plan)?;
+    let objects = known_objects(alloc, report)?;
+    for object in &objects {
+        plan_object(alloc, object, &mut plan)?;
     }
     Ok(plan)
 }
 
-fn plan_part(alloc: Global, part: &Part, plan: &mut Plan) -> Result<(), AllocError> {
-    for (name, member) in part.members.iter() {
-        if part
+fn plan_object(alloc: Global, object: &KnownObject, plan: &mut Plan) -> Result<(), AllocError> {
+    for (name, member) in object.members.iter() {
+        if object
             .want_of(name.as_str())
             .is_some_and(|want| is_set_wanted(want))
         {
-            let place = format!(in alloc; "{}/{}", part.place, name)?;
+            let place = format!(in alloc; "{}/{}", object.place, name)?;
             plan_entries(alloc, place.as_str(), entries_of(member), plan)?;
         }
     }

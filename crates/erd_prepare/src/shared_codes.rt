@@ -4,7 +4,7 @@ ghost use Rattle.serde_json.specs.View.{view};
 ghost use Rattle.erd_prepare.specs.Steps.{IsStepDone};
 
 use crate::engine::Done;
-use crate::parts::{Part, parts_of};
+use crate::known_objects::{KnownObject, known_objects};
 use crate::plan::{Edit, Plan, carry_out};
 use crate::triple::{Triple, triple_of};
 use erd_check::values::entries_of;
@@ -29,19 +29,19 @@ pub fn take_out_shared_codes(alloc: Global, report: &Value) -> Result<Done, Allo
 }
 
 fn shared_in(alloc: Global, report: &Value) -> Result<Plan, AllocError> {
-    let parts = parts_of(alloc, report)?;
+    let objects = known_objects(alloc, report)?;
     let mut times = BTreeMap::new(alloc);
-    for part in &parts {
-        if let Some(family) = keyed_family(part.role) {
-            count_triples(alloc, part, family, &mut times)?;
+    for object in &objects {
+        if let Some(family) = keyed_family(object.role) {
+            count_triples(alloc, object, family, &mut times)?;
         }
     }
     let mut plan = Plan {
         edits: BTreeMap::new(alloc),
     };
-    for part in &parts {
-        if let Some(family) = keyed_family(part.role) {
-            plan_part(alloc, part, family, &times, &mut plan)?;
+    for object in &objects {
+        if let Some(family) = keyed_family(object.role) {
+            plan_object(alloc, object, family, &times, &mut plan)?;
         }
     }
     Ok(plan)
@@ -59,12 +59,12 @@ fn keyed_family(role: Role) -> Option<Family> {
 /// Counts each identifier of an object once.
 fn count_triples<'a>(
     alloc: Global,
-    part: &Part<'a>,
+    object: &KnownObject<'a>,
     family: Family,
     times: &mut Times<'a>,
 ) -> Result<(), AllocError> {
     let mut met = BTreeSet::new(alloc);
-    for entry in identifiers_of(part) {
+    for entry in identifiers_of(object) {
         if let Some(triple) = triple_of(entry) {
             if met.insert(triple)? {
                 let before = times.get(&(family, triple)).copied().unwrap_or(0);
@@ -76,19 +76,19 @@ fn count_triples<'a>(
 }
 
 /// Plans that the shared identifiers go that are less than the least one of the object's own.
-fn plan_part<'a>(
+fn plan_object<'a>(
     alloc: Global,
-    part: &Part<'a>,
+    object: &KnownObject<'a>,
     family: Family,
     times: &Times<'a>,
     plan: &mut Plan,
 ) -> Result<(), AllocError> {
-    let Some(own) = least_own(part, family, times) else {
+    let Some(own) = least_own(object, family, times) else {
         return Ok(());
     };
-    for (index, entry) in identifiers_of(part).iter().enumerate() {
+    for (index, entry) in identifiers_of(object).iter().enumerate() {
         if triple_of(entry).is_some_and(|triple| triple < own) {
-            let place = format!(in alloc; "{}/ExternalIdentifier/{}", part.place, index)?;
+            let place = format!(in alloc; "{}/ExternalIdentifier/{}", object.place, index)?;
             plan.edits.insert(place, Edit::LeaveOut)?;
         }
     }
@@ -96,9 +96,13 @@ fn plan_part<'a>(
 }
 
 /// Returns the least identifier that no other object of the family has.
-fn least_own<'a>(part: &Part<'a>, family: Family, times: &Times<'a>) -> Option<Triple<'a>> {
+fn least_own<'a>(
+    object: &KnownObject<'a>,
+    family: Family,
+    times: &Times<'a>,
+) -> Option<Triple<'a>> {
     let mut least = None;
-    for entry in identifiers_of(part) {
+    for entry in identifiers_of(object) {
         if let Some(triple) = triple_of(entry) {
             let is_own = times.get(&(family, triple)).copied() == Some(1);
             if is_own && least.is_none_or(|least| triple < least) {
@@ -109,8 +113,8 @@ fn least_own<'a>(part: &Part<'a>, family: Family, times: &Times<'a>) -> Option<T
     least
 }
 
-fn identifiers_of<'a>(part: &Part<'a>) -> &'a [Value] {
-    match part.members.get("ExternalIdentifier") {
+fn identifiers_of<'a>(object: &KnownObject<'a>) -> &'a [Value] {
+    match object.members.get("ExternalIdentifier") {
         Some(identifiers) => entries_of(identifiers),
         None => &[],
     }

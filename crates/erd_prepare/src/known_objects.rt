@@ -9,7 +9,7 @@ use std::alloc::{AllocError, Global};
 
 /// An object of a class of the table.
 #[derive(Drop)]
-pub(crate) struct Part<'a> {
+pub(crate) struct KnownObject<'a> {
     /// The object's members.
     pub(crate) members: &'a Map<String, Value>,
     /// Its class.
@@ -20,7 +20,7 @@ pub(crate) struct Part<'a> {
     pub(crate) place: String,
 }
 
-impl<'a> Part<'a> {
+impl<'a> KnownObject<'a> {
     /// Returns what the table asks of the member of this name.
     pub(crate) fn want_of(&self, name: &str) -> Option<Want> {
         want_in(Scope::Members(self.role, Some(self.class)), name)
@@ -29,9 +29,9 @@ impl<'a> Part<'a> {
 
 /// The objects that a walk has found.
 #[derive(Drop)]
-struct Parts<'a> {
+struct Found<'a> {
     alloc: Global,
-    found: Vec<Part<'a>>,
+    found: Vec<KnownObject<'a>>,
 }
 
 /// Returns every object of the table, each before those inside it.
@@ -39,38 +39,41 @@ struct Parts<'a> {
 /// # Errors
 ///
 /// `AllocError` if out of memory.
-pub(crate) fn parts_of<'a>(alloc: Global, report: &'a Value) -> Result<Vec<Part<'a>>, AllocError> {
-    let mut parts = Parts {
+pub(crate) fn known_objects<'a>(
+    alloc: Global,
+    report: &'a Value,
+) -> Result<Vec<KnownObject<'a>>, AllocError> {
+    let mut objects = Found {
         alloc,
         found: Vec::new(alloc),
     };
     let want = Want::Object(Role::Report);
-    add_parts(report, want, &Path::Root, &mut parts)?;
-    Ok(parts.found)
+    add_object(report, want, &Path::Root, &mut objects)?;
+    Ok(objects.found)
 }
 
-#[cycle(parts)]
-fn add_parts<'a>(
+#[cycle(objects)]
+fn add_object<'a>(
     value: &'a Value,
     want: Want,
     at: &Path,
-    parts: &mut Parts<'a>,
+    objects: &mut Found<'a>,
 ) -> Result<(), AllocError> {
     match value {
         Value::Array(items) => match want_of_entry(want) {
-            Some(inner) => add_entries(items, inner, at, parts),
+            Some(inner) => add_entries(items, inner, at, objects),
             None => Ok(()),
         },
         Value::Object(members) => match scope_of(want, value) {
             Scope::Members(role, Some(class)) => {
-                let place = pointer(parts.alloc, &place_of(parts.alloc, at)?)?;
-                parts.found.push(Part {
+                let place = pointer(objects.alloc, &place_of(objects.alloc, at)?)?;
+                objects.found.push(KnownObject {
                     members,
                     class,
                     role,
                     place,
                 })?;
-                add_members(members, Scope::Members(role, Some(class)), at, parts)
+                add_members(members, Scope::Members(role, Some(class)), at, objects)
             }
             _ => Ok(()),
         },
@@ -78,29 +81,29 @@ fn add_parts<'a>(
     }
 }
 
-#[cycle(parts)]
+#[cycle(objects)]
 fn add_entries<'a>(
     items: &'a Vec<Value>,
     want: Want,
     at: &Path,
-    parts: &mut Parts<'a>,
+    objects: &mut Found<'a>,
 ) -> Result<(), AllocError> {
     for (index, item) in items.iter().enumerate() {
-        add_parts(item, want, &Path::Entry(&*at, index), parts)?;
+        add_object(item, want, &Path::Entry(&*at, index), objects)?;
     }
     Ok(())
 }
 
-#[cycle(parts)]
+#[cycle(objects)]
 fn add_members<'a>(
     members: &'a Map<String, Value>,
     scope: Scope,
     at: &Path,
-    parts: &mut Parts<'a>,
+    objects: &mut Found<'a>,
 ) -> Result<(), AllocError> {
     for (name, member) in members.iter() {
         if let Some(want) = want_in(scope, name.as_str()) {
-            add_parts(member, want, &Path::Member(&*at, name.as_str()), parts)?;
+            add_object(member, want, &Path::Member(&*at, name.as_str()), objects)?;
         }
     }
     Ok(())
