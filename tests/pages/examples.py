@@ -25,6 +25,7 @@ sys.path[:0] = [str(ROOT / 'tests' / 'shared'), str(ROOT / 'tests' / 'reports')]
 import texts_of_data  # noqa: E402
 from cases import tell_cases  # noqa: E402
 from exports import rearranged  # noqa: E402
+from shown import shown as shown_by_commands  # noqa: E402
 
 SESSIONS = ('README.md', 'docs/USING.md', 'docs/FIXES.md', 'docs/WALKTHROUGH.md')
 BASE = 'examples/county.vendor-a.json'
@@ -295,7 +296,7 @@ def written(folder, name, report):
 
 
 def examples_of_reasons(folder):
-    """For each heading with an example: the fault, that its mending is accepted, and that the lines of jq show something."""
+    """For each heading with an example: the fault, that its mending is accepted, and what the lines of jq show."""
     page = read('docs/FIXES.md')
     for heading, body in re.findall(r'^## (\d+\. [^\n]*)\n(.*?)(?=^## |\Z)', page, re.M | re.S):
         place = re.search(r'^\*\*Example\.\*\* .*?at `(\.[^`]*)`(?: of `([^`]*)`)?', body, re.M)
@@ -307,9 +308,11 @@ def examples_of_reasons(folder):
         yield f'{heading}, before', lines, run('erd check before.json', folder)
         yield f'{heading}, after', 'accepted\n', run('erd check after.json', folder)
         shown = body.split('**Show it.**')[1].split('\n\n')[0]
-        for command in re.findall(r'`((?:jq|grep) .*? FILE)`', shown):
-            output = run(command.replace('FILE', 'before.json'), folder)
-            yield f'{heading}: {command} shows something', True, output.strip() not in ('', 'null') and 'error' not in output
+        commands = re.findall(r'`((?:jq|grep) .*? FILE)`', shown)
+        wanted = shown_by_commands(int(heading.split('.')[0]), json.loads((folder / 'before.json').read_text(encoding='utf-8')))
+        yield f'{heading}: its commands', len(wanted), len(commands)
+        for command, output in zip(commands, wanted):
+            yield f'{heading}: what {command} shows', output, run(command.replace('FILE', 'before.json'), folder)
             for bare in BARE:
                 written(folder, 'bare.json', bare)
                 said = run(command.replace('FILE', 'bare.json'), folder)
