@@ -203,6 +203,14 @@ def under_promises():
     return {key: {name for name, number in file.defined.items() if (key, number) in found} for key, file in known.items()}
 
 
+def used_elsewhere():
+    """The definitions that state a promise, or that definitions of another file use: each as its file and its name."""
+    known, found = files_of_crates(), {tuple(root.split('.')) for _, roots in PROMISES for root in roots}
+    for file in known.values():
+        found |= {passed_on(known, module, name) for module, name in file.imported.values() if name}
+    return found - {None}
+
+
 def lists():
     """The text between the two marks of the page."""
     known, before, lines = files(), set(), []

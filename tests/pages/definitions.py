@@ -3,8 +3,8 @@ have one name, and lines of comments have at most 130 characters.
 
 The lines of the page are made from the comments that stand before the definitions, and the order of the files is that of
 each `Lib.antt`. A line has the first sentence of a comment. What a comment ends with in brackets is its source: the source
-that most definitions of a file have stands once, after the name of the file. Of a definition on which no promise of `closures.py`
-rests, the page has the name alone. With `--write` these lines are written anew;
+that most definitions of a file have stands once, after the name of the file. The page has the name alone of a definition that only
+its own file uses, and of one on which no promise of `closures.py` rests. With `--write` these lines are written anew;
 what else stands on the page is written by hand.
 
 A reader may skip `specs/code/`: no clause of a public function or trait cites a definition from there, and no other
@@ -22,7 +22,7 @@ import sys
 ROOT = pathlib.Path(__file__).resolve().parents[2]
 sys.path.append(str(ROOT / 'tests' / 'shared'))
 from cases import differing_lines, tell_cases  # noqa: E402
-from closures import under_promises  # noqa: E402
+from closures import under_promises, used_elsewhere  # noqa: E402
 
 PAGE = ROOT / 'docs' / 'DEFINITIONS.md'
 CRATES = ['erd_tables', 'erd_index', 'erd_check', 'erd_prepare', 'erd_text', 'erd_meaning', 'erd_normal', 'erd_shown', 'erd_compare', 'erd_canon', 'erd_program', 'erd_c']
@@ -174,8 +174,9 @@ def modules(path):
     return [name for name in re.findall(r'^pub mod (\w+)', path.read_text(encoding='utf-8'), re.M) if name != 'code']
 
 
-def lines_of_crate(crate, trusted):
-    """The lines of a crate: the first words of each file with its source, and its definitions: first those that are trusted."""
+def lines_of_crate(crate, trusted, used):
+    """The lines of a crate: the first words of each file with its source, and its definitions. Those that promises rest on and that
+    other files use come first, then the others of a promise, and then those of no promise."""
     specs = ROOT / 'crates' / crate / 'specs'
     lines = []
     for name in modules(specs / 'Lib.antt'):
@@ -184,14 +185,21 @@ def lines_of_crate(crate, trusted):
         sources = [source for _, _, source in found]
         usual = max(sources, key=sources.count, default=PROFILE)
         lines += [f'**{name}** ({usual}): {first_words(specs / (name + ".antt"))}', '']
-        read = [one for one in found if one[0] in trusted.get(f'{crate}/{name}', ())]
+        of_promises = [one for one in found if one[0] in trusted.get(f'{crate}/{name}', ())]
+        read = [one for one in of_promises if (f'{crate}/{name}', one[0]) in used]
         lines += [f'- `{definition}`: {words}' + (f' ({source})' if source != usual else '') for definition, words, source in read]
-        others = ', '.join(f'`{one[0]}`' for one in found if one not in read)
-        lines += [f'- {"others: " if read else ""}{others}'] if others else []
+        lines += named('within', [one for one in of_promises if one not in read])
+        lines += named('besides', [one for one in found if one not in of_promises])
         lines += [''] if found else []
     if (specs / 'code.antt').exists():
         lines += [f'**code/**: {", ".join(modules(specs / "code.antt"))}', '']
     return lines
+
+
+def named(word, found):
+    """The line with the names of these definitions, if there are some."""
+    names = ', '.join(f'`{name}`' for name, _, _ in found)
+    return [f'- {word}: {names}'] if found else []
 
 
 def first_words(path):
@@ -202,9 +210,9 @@ def first_words(path):
 
 def made_anew(page):
     """The page with the lines of each crate made anew."""
-    trusted = under_promises()
+    trusted, used = under_promises(), used_elsewhere()
     for crate in CRATES:
-        lines = '\n'.join(lines_of_crate(crate, trusted))
+        lines = '\n'.join(lines_of_crate(crate, trusted, used))
         page = re.sub(rf'(?<=^## {crate}\n\n).*?(?=^## |\Z)', lambda _: lines + '\n', page, flags=re.M | re.S)
     return page.rstrip('\n') + '\n'
 
