@@ -1,5 +1,5 @@
 #!/usr/bin/env bash
-# Tries contrib/confined.sh, the recipe of docs/SERVICE.md, with honest files, with the worst files of SECURITY.md, and with
+# Tries contrib/confined.sh, the recipe of docs/LIMITS.md, with honest files, with the worst files that it names, and with
 # programs that do what erd doesn't. One line a case.
 set -u
 . "$(dirname "$0")/../shared/start.sh" || exit 1
@@ -86,7 +86,7 @@ else
     SANDBOX=yes confined 'no room, where one is asked for' 3 check "$one"
 fi
 
-# The recipe for systemd of docs/SERVICE.md, with a program in the place of systemd-run that does as it does: it ends with the status of
+# The recipe for systemd of docs/LIMITS.md, with a program in the place of systemd-run that does as it does: it ends with the status of
 # what it started, but with 1 where that took too long or too much memory or did not begin, and with 255 after a signal.
 mkdir "$work/bin"
 cat > "$work/bin/systemd-run" << 'END'
@@ -104,7 +104,7 @@ esac
 END
 chmod +x "$work/bin/systemd-run"
 {
-    block docs/SERVICE.md sh 2 | sed "s|/usr/share/doc/erd/contrib|$PWD/contrib|; s|upload\.json|\"\$UPLOAD\"|; s|lines\.txt|\"\$LINES\"|"
+    block docs/LIMITS.md sh 2 | sed "s|/usr/share/doc/erd/contrib|$PWD/contrib|; s|upload\.json|\"\$UPLOAD\"|; s|lines\.txt|\"\$LINES\"|"
     echo 'exit "$status"'
 } > "$work/recipe"
 said 'the recipe for systemd is there' "$(grep -q 'systemd-run .*' "$work/recipe" && grep -q 'confined.sh check "$UPLOAD" > "$LINES"' "$work/recipe" || cat "$work/recipe")"
