@@ -40,6 +40,9 @@ KNOWING = {
 # has been written of an answer.
 SECOND = {('position', 'erd_check'), ('part', 'erd_index'), ('part', 'erd_prepare'), ('part', 'erd_canon'), ('part', 'erd_program')}
 
+# The words of a sentence that stands on the page as it is.
+MOST_WORDS = 22
+
 # Where the definitions of a file come from, if their comments do not say: the file, or one of its definitions.
 PROFILE = 'profile'
 SOURCES = {
@@ -157,7 +160,14 @@ def words_and_source(crate, name, definition, comment):
     if re.match(r'class [A-Z]', words):
         words, source = 'members of ' + words, source or class_of(words)
     source = source or SOURCES.get(f'{crate}/{name}.{definition}') or SOURCES.get(f'{crate}/{name}') or PROFILE
-    return re.split(r'(?<=\.) (?=[A-Z`])', words)[0].removesuffix('.'), source
+    return first_sentence(words), source
+
+
+def first_sentence(words):
+    """The first sentence of a comment without its stop. Of a long one, what stands before its colon, unless that is a condition."""
+    sentence = re.split(r'(?<=\.) (?=[A-Z`])', words)[0].removesuffix('.')
+    front = re.match(r'(?!If ).{25,}?(?=[:;] )', sentence)
+    return front[0] if front and len(sentence.split()) > MOST_WORDS else sentence
 
 
 def is_source(words):
