@@ -76,6 +76,21 @@ chmod +x "$work/spins" "$work/writes" "$work/complains"
 
 export SANDBOX=no
 with_or_without 'limits alone'
+
+# The limits that docs/LIMITS.md gives for files of 10 MB, on two honest ones without blanks, which take the most.
+python3 tests/reports/larger.py 111 examples/county-general.json | python3 -c '
+import json, pathlib, sys
+work, report = pathlib.Path(sys.argv[1]), json.load(sys.stdin)
+for name in ("left", "right"):
+    work.joinpath(f"{name}.json").write_text(json.dumps(report, ensure_ascii=False, separators=(",", ":")), encoding="utf-8")
+    for family in ("GpUnit", "Party", "Person", "Office", "Header"):
+        report[family].reverse()' "$work"
+words='[0-9]* MB of memory and [0-9]* seconds are enough for files of 10 MB'
+read -r megabytes seconds <<< "$(grep -o "$words" docs/LIMITS.md | sed 's/ MB of memory and / /; s/ seconds.*//')"
+said 'the honest files have 10 MB' "$(stat -c %s "$work/left.json" | grep -qE '^(99|100)[0-9]{5}$' || stat -c %s "$work/left.json")"
+MEMORY=${megabytes}000000 TIME=$seconds confined 'two honest files of 10 MB without blanks' 0 compare "$work/left.json" "$work/right.json"
+equal 'the word for these' "$(cat "$work/out")" same
+
 if command -v bwrap > /dev/null && bwrap --ro-bind / / --unshare-all true 2> /dev/null; then
     export SANDBOX=yes
     with_or_without 'in a room'
