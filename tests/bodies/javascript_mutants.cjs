@@ -1,5 +1,6 @@
-// The places of JavaScript files where a small mistake can be made, by the parser of Debian's node-typescript: `javascript_mutants.cjs FILE ..`
-// writes them as JSON, a list for each file. A place is a kind, the offsets of a text, and another text. Offsets count code points, as Python has them.
+// The places of JavaScript files where a small mistake can be made, by the parser of Debian's node-typescript:
+// `javascript_mutants.cjs FILE ..` writes them as JSON, a list for each file. A place is a kind, the offsets of a text, and
+// another text. Offsets count code points, as Python has them.
 const { readFileSync } = require('node:fs');
 const ts = require('/usr/share/nodejs/typescript');
 
@@ -27,8 +28,9 @@ function sitesOf(name) {
             // The sides keep their own meaning where the sign binds in another way.
             add(kind, node, `((${of(node.left)}) ${TURNED[sign]} (${of(node.right)}))`);
         }
-        const test = node.kind === Kind.ConditionalExpression ? node.condition : [Kind.IfStatement, Kind.WhileStatement].includes(node.kind) ? node.expression : null;
-        if (test !== null) {
+        const isIf = [Kind.IfStatement, Kind.WhileStatement].includes(node.kind);
+        const test = node.kind === Kind.ConditionalExpression ? node.condition : node.expression;
+        if (isIf || node.kind === Kind.ConditionalExpression) {
             add('condition', test, `!(${of(test)})`);
         }
         if (node.kind === Kind.NumericLiteral && /^\d+$/.test(of(node))) {

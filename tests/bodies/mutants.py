@@ -106,8 +106,8 @@ def measured(copies, threads, commands, most):
 
 
 def noticed_by(copies, end, name, site, seconds):
-    """The command that notices the mistake, or nothing; UNTRIED where the time is over."""
-    if time.monotonic() > end:
+    """The command that notices the mistake, or nothing; UNTRIED where the time is over, or no command is left."""
+    if not seconds or time.monotonic() > end:
         return UNTRIED
     copy = copies.get()
     path, text = copy.top / name, (TOP / name).read_text(encoding='utf-8')

@@ -1,6 +1,6 @@
-// Tries that the page's ballots have what a voter needs, on one small report that is written out here: each statement on a measure, each
-// party of a candidate, how votes are counted, and what only one file says of an order. One line for each case that fails; at the end stand the
-// counts.
+// Tries that the page's ballots have what a voter needs, on one small report that is written out here: each statement on a
+// measure, each party of a candidate, how votes are counted, and what only one file says of an order. One line for each case
+// that fails; at the end stand the counts.
 import { BallotAnswers } from '../../web/scripts/ballot_answers.mjs';
 import { Meaning } from '../../web/scripts/meaning.mjs';
 import { counts, equal } from './counted.mjs';
@@ -27,7 +27,8 @@ function report(change = () => {}) {
                 ContestSelection: [typed('CandidateSelection', { '@id': 'cs1', CandidateIds: ['ca1'], EndorsementPartyIds: ['pa0', 'pa1'] }),
                     typed('CandidateSelection', { '@id': 'cs2', CandidateIds: ['ca2'] })] })],
             BallotStyle: [typed('BallotStyle', { ExternalIdentifier: identified('S1'), GpUnitIds: ['gp1'], OrderedContent: [
-                typed('OrderedContest', { ContestId: 'co1', OrderedContestSelectionIds: ['bmYes', 'bmNo'] }), typed('OrderedContest', { ContestId: 'co2' })] })],
+                typed('OrderedContest', { ContestId: 'co1', OrderedContestSelectionIds: ['bmYes', 'bmNo'] }),
+                typed('OrderedContest', { ContestId: 'co2' })] })],
         })],
     });
     change(made.Election[0]);
@@ -42,7 +43,8 @@ const [measure, governor] = one.ballot({ key }).items;
 equal('a measure has each statement, for and against', Object.fromEntries(textsOf(measure).filter(([role]) => Object.hasOwn(STATEMENTS, role))), STATEMENTS);
 equal('its way to vote', textsOf(measure).some(([role, text]) => role === 'variation' && /super-majority|majority/i.test(text)), true);
 equal('its answers in their order', measure.selections.map(textsOf), [[['name', 'Yes']], [['name', 'No']]]);
-equal('how many votes and which way', textsOf(governor).slice(1).map(([role, text]) => [role, /^Vote for 1$|rank/i.test(text)]), [['votes', true], ['variation', true]]);
+equal('how many votes and which way', textsOf(governor).slice(1).map(([role, text]) => [role, /^Vote for 1$|rank/i.test(text)]),
+    [['votes', true], ['variation', true]]);
 equal('each party of a candidate', governor.selections.map(textsOf),
     [[['name', 'Ann'], ['party', 'Blue'], ['party', 'Green']], [['name', 'Bo'], ['party', 'Green']]]);
 
@@ -60,7 +62,8 @@ equal('another order: one of two has moved', two.ballot({ key }).items[1].select
 equal('the same order: the ballots are the same', new BallotAnswers([ordered, ordered]).seen(), { all: 1, differing: 0, same: 1 });
 
 // What one file lacks of all that, the other one shows as gone.
-for (const [name, at, role] of [['ConStatement', 0, 'ConStatement'], ['ProStatement', 0, 'ProStatement'], ['VoteVariation', 1, 'variation'], ['VotesAllowed', 1, 'votes']]) {
+const LACKING = [['ConStatement', 0, 'ConStatement'], ['ProStatement', 0, 'ProStatement'], ['VoteVariation', 1, 'variation'], ['VotesAllowed', 1, 'votes']];
+for (const [name, at, role] of LACKING) {
     const answers = new BallotAnswers([report(), report((election) => { delete election.Contest[at][name]; })]);
     equal(`without ${name}: the ballots differ`, answers.seen().differing, 1);
     const line = answers.ballot({ key }).items[at].lines.find((some) => some.role === role);

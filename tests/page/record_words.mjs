@@ -1,5 +1,5 @@
-// Tries what the record of a judgement says, which two offices read to each other and file: each line whole, with its words by hand. One line for
-// each case that fails; at the end stand the counts.
+// Tries what the record of a judgement says, which two offices read to each other and file: each line whole, with its words by
+// hand. One line for each case that fails; at the end stand the counts.
 import { below } from './elements.mjs';
 import { recordOf } from '../../web/scripts/record.mjs';
 import { long, theirs } from '../../web/scripts/dom.mjs';

@@ -1,6 +1,7 @@
-// Tries what the page tells a person first, in English and in Spanish: the words of each verdict and of the sentence below it, by hand, from what
-// a person has to know. They are looked for in what the page's own code says, so that texts which were exchanged are told here, and not
-// taken for right because a table has them. One line for each case that fails; at the end stand the counts.
+// Tries what the page tells a person first, in English and in Spanish: the words of each verdict and of the sentence below it,
+// by hand, from what a person has to know. They are looked for in what the page's own code says, so that texts which were
+// exchanged are told here, and not taken for right because a table has them. One line for each case that fails; at the end
+// stand the counts.
 import { readFileSync } from 'node:fs';
 import { say, useTexts } from '../../web/scripts/texts.mjs';
 import { verdictOf } from '../../web/scripts/verdict.mjs';
