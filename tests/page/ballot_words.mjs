@@ -3,6 +3,7 @@
 // that fails; at the end stand the counts.
 import { BallotAnswers } from '../../web/scripts/ballot_answers.mjs';
 import { Meaning } from '../../web/scripts/meaning.mjs';
+import { leftOutOf } from '../../web/scripts/seen.mjs';
 import { counts, equal } from './counted.mjs';
 import { identified, label, typed } from './made.mjs';
 
@@ -68,5 +69,19 @@ for (const [name, at, role] of LACKING) {
     equal(`without ${name}: the ballots differ`, answers.seen().differing, 1);
     const line = answers.ballot({ key }).items[at].lines.find((some) => some.role === role);
     equal(`without ${name}: it is marked`, line.texts.flatMap(({ pieces }) => pieces.map(({ mark }) => mark)), ['removed']);
+}
+
+// A difference that the ballots show is not told as left out, and each other one that a voter may see is.
+const ON_BALLOTS = {
+    contest: ['Name', 'BallotTitle', 'BallotSubTitle', 'VotesAllowed', 'VoteVariation', 'ContestSelection', 'ProStatement', 'ConStatement', 'FullText'],
+    candidate: ['BallotName', 'PartyId'], party: ['Name'], header: ['Name'], style: ['OrderedContent', 'PartyIds'], election: ['Name', 'StartDate'],
+};
+const NOT_ON_BALLOTS = { contest: ['NumberElected', 'OfficeIds'], candidate: ['CampaignSlogan'], person: ['FullName'], office: ['Name'], party: ['Color'] };
+const leftOut = (part, member, word, isShown) => leftOutOf([{ part, how: 'member', member, word, isCaused: false }], isShown).length;
+for (const [table, told] of [[ON_BALLOTS, 0], [NOT_ON_BALLOTS, 1]]) {
+    for (const [part, member] of Object.entries(table).flatMap(([name, members]) => members.map((one) => [name, one]))) {
+        equal(`left out of ballots that differ: ${part} ${member}`, [leftOut(part, member, 'seen', true), leftOut(part, member, 'in doubt', true)], [told, told]);
+        equal(`left out of ballots that are the same: ${part} ${member}`, [leftOut(part, member, 'seen', false), leftOut(part, member, 'unseen', false)], [1, 0]);
+    }
 }
 counts();
