@@ -1,11 +1,12 @@
 """Converts the XML form of a report to the JSON form that `erd` reads. No proof covers this: it stands before what is proved.
 
 >>> from erd import from_xml
->>> found = from_xml.convert(b'<ElectionReport xmlns="http://itl.nist.gov/ns/voting/1500-100/v2"><Status>pre-election</Status><X/></ElectionReport>')
+>>> found = from_xml.convert(b'''<ElectionReport xmlns="http://itl.nist.gov/ns/voting/1500-100/v2">
+... <Status>pre-election</Status><X/></ElectionReport>''')
 >>> found.form
 b'{"@type":"ElectionResults.ElectionReport","Status":"pre-election","X":""}\\n'
 >>> [(told.place, told.line) for told in found.told]
-[('/ElectionReport/X', 1)]
+[('/ElectionReport/X', 2)]
 
 It takes version 2 of NIST SP 1500-100, and version 1 where a class and a member have the same meaning; and JSON that a usual converter
 made from such XML. The classes that the profile of `erd` does not list were written from memory of the public schema.
