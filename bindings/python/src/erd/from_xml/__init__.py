@@ -55,7 +55,8 @@ def convert(data: bytes) -> Converted:
     """Converts XML, or JSON that was made from XML.
 
     Comments, processing instructions, declarations of namespaces and places of schemas are passed over, and so are blanks among elements.
-    Texts stay as they are written. Work grows with the length of the XML.
+    Texts stay as they are written. Work grows with the length of the XML; memory is some 11 times that of a usual file, and up to 60 times
+    that of one made of the shortest elements.
 
     Raises NotXml, with the reason in a few words, if it is no XML, has a DOCTYPE, another encoding than UTF-8 and UTF-16, or another root
     than an ElectionReport; and TooLong if it has more than 67,108,864 bytes.

@@ -7,6 +7,7 @@ itself: an element that is open is a frame on a list.
 from __future__ import annotations
 
 import re
+from sys import intern
 from typing import Callable, Dict, List, NamedTuple, Optional, Tuple, Union
 
 from ..prepare.tree import MOST_LEVELS, WrittenNumber
@@ -30,6 +31,9 @@ IDENTITY = Shape('text')
 WORDS = re.compile(f'[^{BLANKS}]+')
 TYPE, NIL = 'xsi:type', 'xsi:nil'
 
+NO_SHAPES: Dict[str, Shape] = {}
+NO_NAMES: Dict[str, str] = {}
+
 Value = Union[None, bool, str, WrittenNumber, List['Value'], Dict[str, 'Value']]
 
 
@@ -48,19 +52,22 @@ class Told(NamedTuple):
     """What was not understood, and what became of it."""
 
 
+class Several(List[Value]):
+    """The values of what stands in the XML more than once, where it should stand once."""
+
+
 class Frame:
     """An element that is open."""
 
-    __slots__ = ('name', 'number', 'holder', 'member', 'shape', 'type', 'shapes', 'old', 'members', 'doubled', 'texts', 'counts', 'levels',
+    __slots__ = ('name', 'number', 'holder', 'member', 'shape', 'type', 'shapes', 'old', 'members', 'texts', 'counts', 'levels',
                  'is_nil', 'is_carried')
 
     def __init__(self, name: str, number: int, holder: Optional[Frame], member: str, shape: Shape) -> None:
         self.name, self.number, self.holder, self.member, self.shape = name, number, holder, member, shape
         self.type: Optional[str] = None
-        self.shapes: Dict[str, Shape] = {}
-        self.old: Dict[str, str] = {}
+        self.shapes: Dict[str, Shape] = NO_SHAPES
+        self.old: Dict[str, str] = NO_NAMES
         self.members: Dict[str, Value] = {}
-        self.doubled: set = set()
         self.texts: List[str] = []
         self.counts: Dict[str, int] = {}
         self.levels = 0
@@ -164,7 +171,8 @@ class Converter:
         if len(named) > 1:
             self.tell('two classes are named; the first counts')
         frame.shapes = shapes_of(classes)
-        frame.old = old_names_of(classes) if self.version == 1 else {}
+        if self.version == 1:
+            frame.old = old_names_of(classes)
 
     def is_told(self, frame: Frame) -> bool:
         """Whether it has been told that the element which is open is carried, as a part of another one."""
@@ -193,11 +201,10 @@ class Converter:
             members[member] = [members[member]] if member in members else []
         if shape.word == 'references' and isinstance(value, list):
             members[member].extend(value)
-        elif shape.is_list or member in holder.doubled:
+        elif shape.is_list or isinstance(members.get(member), Several):
             members[member].append(value)
         elif member in members:
-            holder.doubled.add(member)
-            members[member] = [members[member], value]
+            members[member] = Several([members[member], value])
         else:
             members[member] = value
 
@@ -254,7 +261,7 @@ class Converter:
 
 def typed(frame: Frame) -> Dict[str, Value]:
     """Returns the member that has the class of an element, if it has one."""
-    return {} if frame.type is None else {'@type': PREFIX + frame.type}
+    return {} if frame.type is None else {'@type': intern(PREFIX + frame.type)}
 
 
 __all__ = ['Converter', 'NIL', 'NotXml', 'ROOT', 'TYPE', 'Told', 'Value']
