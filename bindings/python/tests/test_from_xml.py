@@ -114,6 +114,8 @@ TOLD = {
                               {'Party': [{'@type': 'ElectionResults.Party', 'Color': 'b'}]}, 1),
     'no class': ('<GpUnit><Number>1</Number></GpUnit>', '/ElectionReport/GpUnit[1]', {'GpUnit': [{'Number': '1'}]}, 1),
     'an unknown class': ('<GpUnit xsi:type="Pond"/>', '/ElectionReport/GpUnit[1]', {'GpUnit': [{'@type': 'ElectionResults.Pond'}]}, 1),
+    'a class of another namespace': ('<GpUnit xmlns:y="urn:y" xsi:type="y:ReportingUnit"/>', '/ElectionReport/GpUnit[1]',
+                                     {'GpUnit': [{'@type': 'ElectionResults.y:ReportingUnit'}]}, 1),
     'two references': ('<Election><ElectionScopeId>a b</ElectionScopeId></Election>', '/ElectionReport/Election[1]/ElectionScopeId',
                        {'Election': [{'@type': 'ElectionResults.Election', 'ElectionScopeId': 'a b'}]}, 1),
     'nil with a text': ('<Notes xsi:nil="true">a</Notes>', '/ElectionReport/Notes', {'Notes': 'a'}, 1),
@@ -133,6 +135,8 @@ UNDERSTOOD = {
     'blanks about a number': ('<SequenceEnd>\n 007 </SequenceEnd>', {'SequenceEnd': 7}),
     'blanks about a truth value': ('<IsTest> 0 </IsTest>', {'IsTest': False}),
     'blanks of a text stay': ('<Notes> a\n</Notes>', {'Notes': ' a\n'}),
+    'a prefix of the standard': ('<GpUnit xmlns:n="http://itl.nist.gov/ns/voting/1500-100/v2" xsi:type="n:ReportingUnit"/>',
+                                 {'GpUnit': [{'@type': 'ElectionResults.ReportingUnit'}]}),
     'nil': ('<Notes xsi:nil="true"/>', {'Notes': None}),
     'the five entities': ('<Notes>&lt;&amp;&gt;&quot;&apos;&#233;</Notes>', {'Notes': '<&>"\'\u00e9'}),
     'a number that is not whole': ('<Office><ContactInformation><LatLng><Latitude>44.050</Latitude></LatLng></ContactInformation></Office>',
@@ -227,7 +231,7 @@ def test_hostile_xml_ends_with_one_sentence(tmp_path, make, why):
     assert seconds < 1 and megabytes < 200
 
 
-@pytest.mark.skipif(not hasattr(os, 'wait4'), reason='only POSIX says what a process has used')
+@pytest.mark.skipif(not os.path.exists('/dev/full'), reason='only Linux has a device that is full')
 def test_command(tmp_path):
     path = tmp_path / 'a.xml'
     strange = '/ElectionReport/X (line 1): an element that is not understood here; it is carried as it is\n'
@@ -238,6 +242,9 @@ def test_command(tmp_path):
         assert (status, out) == (wanted, from_xml.convert(xml).form)
         assert err == (f'{first}converted from XML by a program that no proof covers\nSHA-256 before: {hashlib.sha256(xml).hexdigest()}\n'
                        f'SHA-256 after:  {hashlib.sha256(out).hexdigest()}\n')
+    with open('/dev/full', 'wb') as full:
+        ran = subprocess.run([sys.executable, '-m', 'erd.from_xml', str(path)], stdout=full, stderr=subprocess.PIPE, check=False)
+    assert (ran.returncode, ran.stderr.splitlines()[-1]) == (3, b'write failed')
     assert run(tmp_path / 'none')[:3] == (3, b'', 'cannot open\n')
     assert run(path, '--nosuch')[0] == 3
 

@@ -6,7 +6,7 @@ from __future__ import annotations
 from typing import Iterator, List, Optional, Tuple
 
 from ..prepare.tree import Tree, WrittenNumber
-from .converting import MOST_OF_NAME, NIL, ROOT, TYPE, Converter, NotXml
+from .converting import BLANKS, MOST_OF_NAME, NIL, ROOT, TYPE, Converter, NotXml
 from .reading import NO_NAMESPACE, VERSIONS
 
 ATTRIBUTES, TEXT = '@attributes', '#text'
@@ -81,13 +81,17 @@ class _Walk:
 
     def begin(self, name: str, value: Tree) -> None:
         """Begins an element."""
-        prefix, _, inner = name.rpartition(':')
         attributes = attributes_of(value) if isinstance(value, dict) else [(NIL, 'true')] if value is None else []
-        self.converter.start(name if prefix in self.foreign else inner, texts_of(attributes))
+        texts = [(inner, self.own(text.strip(BLANKS)) if inner == TYPE else text) for inner, text in texts_of(attributes)]
+        self.converter.start(self.own(name), texts)
         text = value.get(TEXT) if isinstance(value, dict) else value
         if text is not None:
             self.take_text(text)
         self.open.append(self.elements_of(value) if isinstance(value, dict) else iter(()))
+
+    def own(self, name: str) -> str:
+        """Returns a name without its prefix, if that does not stand for another namespace."""
+        return name if name.rpartition(':')[0] in self.foreign else local(name)
 
     def elements_of(self, members: dict) -> Iterator[Tuple[str, Tree]]:
         """Gives the elements in an element. One that is no list stands alone."""

@@ -107,7 +107,7 @@ class Converter:
             self.told_text += len(place) + len(words)
 
     def start(self, name: str, attributes: List[Tuple[str, str]]) -> None:
-        """Begins an element. Its name, and those of attributes, are without a namespace if they are of the standard."""
+        """Begins an element. Its name, that of its class and those of attributes are without a namespace if they are of the standard."""
         frame = self.opened(self.frames[-1], name)
         self.frames.append(frame)
         self.take_class(frame, [value for attribute, value in attributes if attribute == TYPE])
@@ -161,7 +161,7 @@ class Converter:
     def take_class(self, frame: Frame, named: List[str]) -> None:
         """Finds the class of an element: the one that it names, or that of the schema."""
         classes = frame.shape.classes
-        frame.type = named[0].strip(BLANKS).split(':')[-1] if named else class_by_default(frame.name, classes)
+        frame.type = named[0] if named else class_by_default(frame.name, classes)
         if frame.type in classes:
             classes = (frame.type,)
         elif named and not self.is_told(frame):
@@ -264,4 +264,4 @@ def typed(frame: Frame) -> Dict[str, Value]:
     return {} if frame.type is None else {'@type': intern(PREFIX + frame.type)}
 
 
-__all__ = ['Converter', 'NIL', 'NotXml', 'ROOT', 'TYPE', 'Told', 'Value']
+__all__ = ['BLANKS', 'Converter', 'NIL', 'NotXml', 'ROOT', 'TYPE', 'Told', 'Value']

@@ -6,7 +6,7 @@ from __future__ import annotations
 from typing import Dict, List, NoReturn, Optional, Tuple
 from xml.parsers import expat
 
-from .converting import NIL, ROOT, TYPE, Converter, NotXml
+from .converting import BLANKS, NIL, ROOT, TYPE, Converter, NotXml
 
 STANDARD = 'http://itl.nist.gov/ns/voting/1500-100/v'
 VERSIONS = {f'{STANDARD}1': 1, f'{STANDARD}2': 2}
@@ -29,10 +29,13 @@ class _Reader:
         self.parser.ordered_attributes = self.parser.buffer_text = True
         self.parser.XmlDeclHandler = self.declared
         self.parser.StartDoctypeDeclHandler = self.doctype
+        self.parser.StartNamespaceDeclHandler = self.bound
+        self.parser.EndNamespaceDeclHandler = self.unbound
         self.parser.StartElementHandler = self.root
         self.converter: Optional[Converter] = None
         self.namespace = ''
-        self.names: Dict[str, str] = {}
+        # The namespaces of each prefix: the last counts.
+        self.spaces: Dict[Optional[str], List[Optional[str]]] = {}
 
     def declared(self, _: str, encoding: Optional[str], __: int) -> None:
         if encoding is not None and encoding.upper() not in ENCODINGS:
@@ -40,6 +43,12 @@ class _Reader:
 
     def doctype(self, *_: object) -> NoReturn:
         raise NotXml('a DOCTYPE is not read')
+
+    def bound(self, prefix: Optional[str], namespace: Optional[str]) -> None:
+        self.spaces.setdefault(prefix, []).append(namespace)
+
+    def unbound(self, prefix: Optional[str]) -> None:
+        self.spaces[prefix].pop()
 
     def root(self, name: str, attributes: List[str]) -> None:
         """Begins the root, whose namespace is that of a version."""
@@ -56,8 +65,13 @@ class _Reader:
             self.converter.tell(NO_NAMESPACE)
 
     def start(self, name: str, attributes: List[str]) -> None:
-        pairs = zip(attributes[::2], attributes[1::2])
-        self.converter.start(self.local(name), [(attribute_name(inner), value) for inner, value in pairs if inner not in PASSED_OVER])
+        pairs = [(attribute_name(inner), value) for inner, value in zip(attributes[::2], attributes[1::2]) if inner not in PASSED_OVER]
+        self.converter.start(self.local(name), [(inner, self.class_named(value) if inner == TYPE else value) for inner, value in pairs])
+
+    def class_named(self, value: str) -> str:
+        """Returns a class without its prefix, if that stands for the namespace of the root. One without a prefix is of the standard."""
+        prefix, _, local = value.strip(BLANKS).rpartition(':')
+        return local if not prefix or self.spaces.get(prefix, [])[-1:] == [self.namespace] else value
 
     def end(self, _: str) -> None:
         self.converter.end()
