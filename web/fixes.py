@@ -4,7 +4,7 @@ import re
 
 PROFILE = pathlib.Path(__file__).resolve().parent.parent / 'docs' / 'PROFILE.md'
 LABELS = {
-    'What it means.': 'meaning', 'Where it comes from.': 'origin', 'How to mend it.': 'mending',
+    'What it means.': 'meaning', 'Where it comes from.': 'origin', 'How to fix it.': 'mending',
     'Qué significa.': 'meaning', 'De dónde viene.': 'origin', 'Cómo se corrige.': 'mending',
 }
 

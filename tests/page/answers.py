@@ -13,7 +13,7 @@ from session import ROOT, SUITE
 TEXTS = json.loads((ROOT / 'web' / 'texts.en.json').read_text(encoding='utf-8'))
 VERSION = (ROOT / 'VERSION').read_text(encoding='utf-8').strip()
 MOST_BYTES = 67108864
-LABELS = ('What it means.', 'Where it comes from.', 'How to mend it.')
+LABELS = ('What it means.', 'Where it comes from.', 'How to fix it.')
 
 
 def say(key, **values):
