@@ -13,7 +13,8 @@ from session import ROOT, SUITE
 TEXTS = json.loads((ROOT / 'web' / 'texts.en.json').read_text(encoding='utf-8'))
 VERSION = (ROOT / 'VERSION').read_text(encoding='utf-8').strip()
 MOST_BYTES = 67108864
-LABELS = ('What it means.', 'Where it comes from.', 'How to mend it.')
+# How the paragraphs of docs/FIXES.md begin.
+LABELS = (r'What it means\.', r'Where it comes from\.', r'How to (?:fix|mend) it\.')
 
 
 def say(key, **values):
@@ -29,12 +30,12 @@ def section_of_fixes(heading, body):
     """The number of a reason or `not JSON`, its words, and its three paragraphs as the page shows them."""
     number, words = re.fullmatch(r'(?:(\d+)\. )?(.*)', heading).groups()
     body = re.sub(r'\[([^\]]+)\]\([^)]+\)', r'\1', body.replace('`', ''))
-    paragraphs = [re.search(rf'^\*\*{re.escape(label)}\*\* (.*)$', body, re.M) for label in LABELS]
+    paragraphs = [re.search(rf'^\*\*{label}\*\* (.*)$', body, re.M) for label in LABELS]
     return words, (number, *(found and found[1] for found in paragraphs))
 
 
 def fixes():
-    """For the words of each reason its number, what it means, where it comes from and how it is mended."""
+    """For the words of each reason its number, what it means, where it comes from and how it is fixed."""
     text = (ROOT / 'docs' / 'FIXES.md').read_text(encoding='utf-8')
     parts = re.split(r'^## (.+)\n', text, flags=re.M)[1:]
     return dict(section_of_fixes(heading, body) for heading, body in zip(parts[::2], parts[1::2]))
@@ -62,7 +63,7 @@ class Fault:
         self.pointer, words = line.rsplit(': ', 1)
         self.words = next(it for it in FIXES if FIXES[it][0] and re.match(rf'{re.escape(it)}( |$)', words))
         self.name = words[len(self.words) + 1:]
-        self.number, self.meaning, self.origin, self.mending = FIXES[self.words]
+        self.number, self.meaning, self.origin, self.fixing = FIXES[self.words]
 
 
 class Program:

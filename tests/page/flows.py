@@ -195,7 +195,7 @@ def refused_texts(session):
 
 
 def removed(session):
-    """A file that is taken out again."""
+    """A file that is removed again."""
     session.judged(SMALL, COUNTY[0])
     session.equal('what is chosen is one line', [session.text('#files-chosen').strip(), session.browser.script("return document.getElementById('files-open').hidden")],
                   [f'{SMALL.name}, {COUNTY[0].name}', True])

@@ -160,7 +160,7 @@ def two_copies(session):
 
 
 def not_prepared(session):
-    """What no step can mend, and what is no file for a step."""
+    """What no step can fix, and what is no file for a step."""
     session.judged(session.file('mark.json', b'\xef\xbb\xbf{"a":'))
     session.click('#prepare-begin-0')
     session.becomes('a mark before what is not JSON', lambda: session.text('.preparing'), WORDS['prepare.notJson'])
@@ -172,4 +172,4 @@ def not_prepared(session):
     named = {'@type': 'ElectionResults.ElectionReport', '<b>&"\u202e': None, 'Election': []}
     session.judged(session.file('names.json', json.dumps(named)))
     session.click('#prepare-begin-0')
-    session.becomes('names of a stranger are texts', lambda: session.texts('.prepare .pointer b'), [])
+    session.becomes('untrusted names are texts', lambda: session.texts('.prepare .pointer b'), [])

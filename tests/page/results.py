@@ -259,15 +259,15 @@ class Result:
                   for fault, (trail, marked) in faults]
         return {
             'heading': f'{say("reason." + first.number)} {say("faults.places", count=len(faults))}', 'meaning': [first.meaning],
-            'mending': [first.mending, say('faults.origin'), first.origin], 'places': places,
+            'fixing': [first.fixing, say('faults.origin'), first.origin], 'places': places,
         }
 
     def not_json(self, it, side):
         known = self.row[side]
-        _, _, origin, mending = FIXES['not JSON']
+        _, _, origin, fixing = FIXES['not JSON']
         where = [say('notJson.where', line=str(known['where'][0]), column=str(known['where'][1]))] if 'where' in known else []
         return {'heading': say('notJson.heading', name=it.name), 'paragraphs': [say(f'notJson.{known["why"]}'), *where],
-                'marked': known.get('marked', ''), 'mending': [mending, say('faults.origin'), origin]}
+                'marked': known.get('marked', ''), 'fixing': [fixing, say('faults.origin'), origin]}
 
     # ---- differences
 
@@ -428,7 +428,7 @@ def parts_of(name, found, wanted):
         yield 'record', *({**it, 'lines': [line[0] for line in it['lines']]} for it in (found, wanted))
     elif name == 'faults' and wanted:
         cards = [[card for section in it for card in section['cards']] for it in (found, wanted)]
-        for field in ('heading', 'meaning', 'mending'):
+        for field in ('heading', 'meaning', 'fixing'):
             yield f'faults, {field}', *([card.get(field) for card in it] for it in cards)
         for field in ('trail', 'pointer', 'name', 'marked'):
             yield f'faults, {field}', *([[place.get(field) for place in card['places']] for card in it] for it in cards)

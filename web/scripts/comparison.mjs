@@ -50,7 +50,7 @@ export function sentence({ part, key, how, member, titles, classes }, names) {
 export function object(part, titles, key) {
     const keyText = textOfKeyIn({ key });
     const title = titles.find((text) => text !== null) ?? null;
-    return element('strong', {}, say(`part.${part}`),
+    return element('strong', {}, say(`subject.${part}`),
         ...(title === null ? [] : [' ', saidWith('trail.title', { title: long(title, LONGEST_TITLE) })]),
         ...(keyText === null ? [] : [' ', saidWith('difference.key', { key: long(keyText, LONGEST_TITLE) })]));
 }

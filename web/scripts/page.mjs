@@ -197,7 +197,7 @@ class Page {
 
     // Judges the same files again, with another worker if this one could not begin.
     again() {
-        this.client.mend();
+        this.client.renew();
         this.judge();
     }
 
