@@ -128,6 +128,10 @@ def look_alikes(session):
     session.equal('look-alikes: the letter is marked', session.texts('#first-difference ~ div tbody:last-child mark'), ['A', '\u0410'])
     session.has('look-alikes: the reason', session.text('.alike'), 'a letter of another alphabet')
     session.has('look-alikes: its explanation', session.text('.alike p'), 'looks like a Latin')
+    report['Election'][0]['Candidate'][0]['BallotName'] = 'Ann 1'
+    left['Election'][0]['Candidate'][0]['BallotName'] = 'Ann l'
+    session.judged(written(session, 'left.json', left), written(session, 'right.json', report))
+    session.equal('look-alikes: letters of one shape', session.text('.alike'), answers.say('alike.shapes'))
 
 
 def with_selections(session, name, count, note, filling=''):

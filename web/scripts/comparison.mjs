@@ -145,7 +145,8 @@ export function movedWords({ from, to }) {
 
 // Why two texts look alike, with the explanation of docs/FIXES.md to open.
 function whyShown(way) {
-    return element('details', {}, element('summary', {}, say(`alike.${way}`)), ...paragraphs(explanations.alike[way]));
+    const why = say(`alike.${way}`);
+    return Object.hasOwn(explanations.alike, way) ? element('details', {}, element('summary', {}, why), ...paragraphs(explanations.alike[way])) : element('p', {}, why);
 }
 
 function gap(key, count) {
