@@ -194,6 +194,7 @@ class Result:
         found = self.notices()
         if self.is_listed and self.has_values:
             found.append(self.seen()[0])
+            found += self.on_ballots()
         if self.compared == 'different':
             found.append(say('difference.first'))
             found += [say('difference.all', count=len(self.entries))] if len(self.entries) > 1 else []
@@ -203,6 +204,7 @@ class Result:
             elif it.outcome == 'notJson':
                 found.append(say('notJson.heading', name=it.name))
         if all(it.form is not None for it in self.answers):
+            found += [say('card.heading')] if len(self.answers) == 1 else []
             found.append(say('ballots.heading'))
         return found + [self.record_heading()]
 
@@ -211,6 +213,11 @@ class Result:
         sums = [it.sum for it in self.answers]
         found = [say('notice.sameBytes')] if len(sums) == 2 and sums[0] is not None and sums[0] == sums[1] else []
         return found + [say('notice.test', name=it.name) for it in self.answers if it.outcome == 'accepted' and json.loads(it.path.read_bytes()).get('IsTest')]
+
+    def on_ballots(self):
+        """The heading of what differs on the ballots, which stands there if they differ."""
+        is_there = self.seen()[0].startswith(say('seen.differ', differing=0, all=0).split(':')[0])
+        return [self.session.text('#on-ballots') or 'what differs on the ballots'] if is_there else []
 
     def seen(self):
         """The box on what a voter sees: whether the ballots differ, and what they leave out, by the table of the profile."""

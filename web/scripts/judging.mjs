@@ -1,11 +1,13 @@
 // Judges one file or two. It runs in the worker, keeps what it has found, and answers questions about it. Each answer is made
 // when it is asked for, so that the verdict waits for nothing else.
 import { BallotAnswers } from './ballot_answers.mjs';
+import { BallotFindings } from './ballot_findings.mjs';
 import { boundedPointer, LONGEST_POINTER } from './bounded.mjs';
 import { Differences } from './difference_groups.mjs';
 import { excerptOf } from './excerpt.mjs';
 import { Meaning } from './meaning.mjs';
 import { foundPlaces } from './places.mjs';
+import { Overview } from './overview.mjs';
 import { preparingOf } from './preparing.mjs';
 import { isNoMemory, Side } from './side.mjs';
 import { trailOf } from './trail.mjs';
@@ -159,6 +161,36 @@ export class Judgement {
     ballots(tell) {
         this.keptBallots ??= new BallotAnswers(this.meanings(tell));
         return this.keptBallots;
+    }
+
+    /** What a file has, in counts. */
+    overview(_question, tell) {
+        return this.keptOverview(tell).told();
+    }
+
+    /** Some precincts of a file, with their ballot styles. */
+    precincts(question, tell) {
+        return this.keptOverview(tell).precincts(question);
+    }
+
+    keptOverview(tell) {
+        this.overviewOfFile ??= new Overview(this.meanings(tell)[0]);
+        return this.overviewOfFile;
+    }
+
+    /** How many things differ on the ballots. */
+    onBallots(_question, tell) {
+        return this.findings(tell).told();
+    }
+
+    /** Some of the things that differ on the ballots. */
+    someOnBallots(question, tell) {
+        return this.findings(tell).some(question);
+    }
+
+    findings(tell) {
+        this.keptFindings ??= new BallotFindings(this.ballots(tell));
+        return this.keptFindings;
     }
 
     /** The languages of the ballots. */

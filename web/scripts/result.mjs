@@ -1,5 +1,7 @@
 // What the page shows of one judgement: the verdict as soon as it is there, and then all that follows from it.
 import { BallotList } from './ballot_list.mjs';
+import { BallotSentences } from './ballot_sentences.mjs';
+import { cardOf } from './card.mjs';
 import { firstDifference, useExplanations } from './comparison.mjs';
 import { differenceList, typeOffer } from './difference_list.mjs';
 import { button, element, saidWith, theirs } from './dom.mjs';
@@ -13,7 +15,10 @@ import { say } from './texts.mjs';
 import { banner, sentencesOn, verdictOf } from './verdict.mjs';
 
 /** The parts of a result, in their order. */
-const PARTS = ['verdict', 'notices', 'copies', 'seen', 'offer', 'differences', 'troubles', 'ballots', 'note', 'record'];
+const PARTS = ['verdict', 'notices', 'copies', 'seen', 'sentences', 'offer', 'differences', 'troubles', 'card', 'ballots', 'note', 'record'];
+
+/** The bytes of a canonical form from which on the card is made only when it is opened. */
+const LARGE = 10_000_000;
 
 export class Result {
     /**
@@ -64,6 +69,7 @@ export class Result {
         this.showCopies();
         await this.showRecord();
         this.showBallots();
+        await this.showCard();
         if (this.answer.comparison?.first) {
             await this.list();
         }
@@ -73,6 +79,27 @@ export class Result {
     showBallots() {
         if (this.sums.every(({ canonical }) => canonical !== undefined)) {
             this.put('ballots', new BallotList(this.client, { files: this.names.length, tell: this.tell }).section());
+        }
+    }
+
+    // What one accepted file has.
+    async showCard() {
+        const [sums] = this.sums;
+        if (this.sums.length === 1 && sums.canonical !== undefined) {
+            const card = await cardOf({ client: this.client, tell: this.tell, sums, isLarge: sums.canonical.size > LARGE });
+            if (this.isCurrent()) {
+                this.put('card', card);
+            }
+        }
+    }
+
+    // What differs on the ballots, in sentences.
+    async showSentences() {
+        if (this.listed.seen?.ballots.differing > 0) {
+            const section = await new BallotSentences(this.client, this.tell).section();
+            if (this.isCurrent()) {
+                this.put('sentences', section);
+            }
         }
     }
 
@@ -88,6 +115,7 @@ export class Result {
             return;
         }
         this.put('seen', this.listed.seen === null ? null : seenBox(this.listed));
+        await this.showSentences();
         this.put('differences', firstDifference(this.listed.first, this.names), await differenceList(this.client, this.listed, this.names));
         await this.showRecord();
         const better = await this.client.ask('betterType', { types: this.types }, this.tell);
