@@ -232,19 +232,19 @@ export class Judgement {
     }
 
     /** What steps do to a copy of a side; null if it is not JSON. */
-    preparation({ index, steps }) {
+    preparation({ index, steps }, tell) {
         const preparing = this.preparing(index);
-        return preparing === null ? null : preparing.told(steps);
+        return preparing === null ? null : preparing.told(steps, tell);
     }
 
     /** The copy on which these steps were done. */
-    preparedCopy({ index, steps }) {
-        return this.preparing(index).copied(steps, this.sides[index].file.name);
+    preparedCopy({ index, steps }, tell) {
+        return this.preparing(index).copied(steps, this.sides[index].file.name, tell);
     }
 
     /** Each change of these steps, as JSON. */
-    preparedChanges({ index, steps }) {
-        return this.preparing(index).changes(steps);
+    preparedChanges({ index, steps }, tell) {
+        return this.preparing(index).changes(steps, tell);
     }
 
     preparing(index) {
