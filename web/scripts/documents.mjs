@@ -18,7 +18,7 @@ async function fill(details, name) {
     const text = await documentText(name);
     const saved = () => save(new Blob([text], { type: 'text/markdown' }), FILES[name]);
     details.append(element('p', {}, button(say('document.save'), saved, { class: 'small', 'data-text': 'document.save' })),
-        element('pre', { lang: 'en', tabindex: '0' }, text));
+        element('pre', { lang: 'en', tabindex: '0', role: 'group', 'aria-labelledby': `${name}-title` }, text));
 }
 
 /** A button that opens one of the pages. */
