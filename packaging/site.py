@@ -21,8 +21,8 @@ SITE = ROOT / 'out' / 'site'
 NEW = ROOT / 'out' / 'site.new'
 PARTS = ROOT / 'packaging' / 'site'
 # What the head of each page leads to.
-HEAD = [('README.md', 'erd'), ('docs/USING.md', 'Use it'), ('docs/FIXES.md', 'Mend a file'), ('docs/INSTALL.md', 'Get it'),
-        ('docs/PROMISES.md', 'What is proved'), ('docs/PROFILE.md', 'The rules')]
+HEAD = [('README.md', 'erd'), ('docs/USING.md', 'Use it'), ('docs/FIXES.md', 'Fix a file'), ('docs/INSTALL.md', 'Get it'),
+        ('docs/TRUST.md', 'What is proved'), ('docs/PROFILE.md', 'The rules')]
 LEFT_OUT = ('third_party/', 'crates/', 'bindings/python/src')
 
 

@@ -5,7 +5,6 @@ import re
 PROFILE = pathlib.Path(__file__).resolve().parent.parent / 'docs' / 'PROFILE.md'
 LABELS = {
     'What it means.': 'meaning', 'Where it comes from.': 'origin', 'How to fix it.': 'fixing',
-    'How to mend it.': 'fixing',
     'Qué significa.': 'meaning', 'De dónde viene.': 'origin', 'Cómo se corrige.': 'fixing',
 }
 

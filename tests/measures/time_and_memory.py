@@ -1,4 +1,4 @@
-"""Measures the built program on realistic reports of four sizes, and prints the tables of docs/PERFORMANCE.md and
+"""Measures the built program on realistic reports of four sizes, and prints the tables of docs/LIMITS.md and
 docs/MEASUREMENTS.md.
 
 tests/reports/county.py makes the reports. Beside `erd` run a proved program that only reads the file by serde_json and writes it again,

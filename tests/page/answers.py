@@ -13,8 +13,7 @@ from session import ROOT, SUITE
 TEXTS = json.loads((ROOT / 'web' / 'texts.en.json').read_text(encoding='utf-8'))
 VERSION = (ROOT / 'VERSION').read_text(encoding='utf-8').strip()
 MOST_BYTES = 67108864
-# How the paragraphs of docs/FIXES.md begin.
-LABELS = (r'What it means\.', r'Where it comes from\.', r'How to (?:fix|mend) it\.')
+LABELS = ('What it means.', 'Where it comes from.', 'How to fix it.')
 
 
 def say(key, **values):
@@ -30,7 +29,7 @@ def section_of_fixes(heading, body):
     """The number of a reason or `not JSON`, its words, and its three paragraphs as the page shows them."""
     number, words = re.fullmatch(r'(?:(\d+)\. )?(.*)', heading).groups()
     body = re.sub(r'\[([^\]]+)\]\([^)]+\)', r'\1', body.replace('`', ''))
-    paragraphs = [re.search(rf'^\*\*{label}\*\* (.*)$', body, re.M) for label in LABELS]
+    paragraphs = [re.search(rf'^\*\*{re.escape(label)}\*\* (.*)$', body, re.M) for label in LABELS]
     return words, (number, *(found and found[1] for found in paragraphs))
 
 

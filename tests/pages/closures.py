@@ -1,10 +1,10 @@
 """Holds the lists of docs/DEFINITIONS.md that say what to read for each promise against the definitions in `specs/`.
 
 To trust a promise, one reads the definition that states it, and each definition that this one rests on, down to those of JSON
-and of the standard library. The list of a promise has all of these, in the order of the crates and of their files, with the
-number of lines that they take with their comments. So are the types of the crates that these definitions speak of, as the code
-declares them, and the grammar of `clap`, which the kit has. What an earlier list has is not repeated. With `--write` the lists
-are written anew.
+and of the standard library. The list of a promise has the files of all of these, in the order of the crates and of their files, with
+the number of lines that they take with their comments. So are the types of the crates that these definitions speak of, as the code
+declares them, and the grammar of `clap`, which the kit has. What an earlier list has is not counted again. With `--write` the
+lists are written anew.
 """
 
 import pathlib
@@ -39,6 +39,15 @@ PROMISES = [
     ('The command line as data (`command_line_data`)', ['erd_canon/LineAnswers.IsLineData']),
     ('What the C library tells', ['erd_c/Told.IsCall', 'erd_c/Told.IsWrong', 'erd_c/Told.HasCanonicalText', 'erd_canon/Run.IsChecked',
                                   'erd_canon/Run.IsCompared', 'erd_c/Lines.IsLineCall', 'erd_c/Told.IsPieceCall']),
+    ('The laws of reports and canonical forms', [
+        'erd_normal/Laws.NamesAgree', 'erd_normal/Laws.ReferencesAgree', 'erd_normal/Laws.ObjectsAgree', 'erd_normal/Laws.CanonicalIsUnique',
+        'erd_normal/Laws.RearrangedMeansTheSame', 'erd_normal/Laws.PreferencesAgree', 'erd_normal/Laws.CanonicalFormExists',
+        'erd_normal/MeansTheSame.SayingTheSameMeansTheSame', 'erd_normal/SameLaws.SameIsAccepted', 'erd_normal/SameForms.CanonicalSaysTheSame',
+        'erd_normal/SameForms.SayingAndMeaningAgree', 'erd_canon/ByteLaws.OneFormForOneMeaning', 'erd_canon/ByteLaws.IsItsOwnForm',
+        'erd_canon/ByteLaws.SameFormWhenRearranged']),
+    ('The steps that prepare a report (`prepare`)', ['erd_prepare/Laws.UntoldStays', 'erd_prepare/Laws.UntoldIsUnchanged', 'erd_prepare/Steps.IsStepDone']),
+    ('What is shown of objects and ballots (`members_tell`, `rows_of`)', [
+        'erd_shown/Laws.MembersTell', 'erd_shown/Laws.ObjectsTell', 'erd_shown/Rows.AreRows']),
 ]
 
 USE = re.compile(r'^\s*(?:unfoldable )?(?:pub )?use Rattle\.(\w+)\.specs\.([\w.]+?)(?:\.\{([^}]*)\}| as (\w+))$')
@@ -99,6 +108,11 @@ def names_of(block):
 
 def files():
     """All files of definitions, in the order in which one would read them."""
+    return {**files_of_crates(), **of_the_kit()}
+
+
+def files_of_crates():
+    """The files of definitions of the crates, and those of the types that their code declares."""
     found = {}
     for crate in CRATES:
         specs = ROOT / 'crates' / crate / 'specs'
@@ -110,7 +124,7 @@ def files():
         for path in sorted(source.rglob('*.rt')):
             file = Types(f'{crate}/declared.{".".join(path.relative_to(source).with_suffix("").parts)}', path)
             found[file.key] = file
-    return {**found, **of_the_kit()}
+    return found
 
 
 def of_the_kit():
@@ -181,6 +195,22 @@ def closure(known, roots):
     return found
 
 
+def under_promises():
+    """The names of the definitions on which the promises rest, by their files."""
+    known, found = files_of_crates(), set()
+    for _, roots in PROMISES:
+        found |= closure(known, roots)
+    return {key: {name for name, number in file.defined.items() if (key, number) in found} for key, file in known.items()}
+
+
+def used_elsewhere():
+    """The definitions that state a promise, or that definitions of another file use: each as its file and its name."""
+    known, found = files_of_crates(), {tuple(root.split('.')) for _, roots in PROMISES for root in roots}
+    for file in known.values():
+        found |= {passed_on(known, module, name) for module, name in file.imported.values() if name}
+    return found - {None}
+
+
 def lists():
     """The text between the two marks of the page."""
     known, before, lines = files(), set(), []
@@ -188,15 +218,17 @@ def lists():
         found = closure(known, roots)
         count = sum(len(known[key].blocks[number]) for key, number in found)
         new = found - before
-        rest = f', of which {sum(len(known[key].blocks[number]) for key, number in new):,} stand in no list above' if before else ''
+        rest = f', {sum(len(known[key].blocks[number]) for key, number in new):,} of them new' if before else ''
         lines += ['', f'**{words}**: {count:,} lines in {len(found):,} definitions{rest}.', '']
-        for key, file in known.items():
-            blocks = [number for number in range(len(file.blocks)) if (key, number) in new]
-            names = [f'`{name}`' for number in blocks for name, at in file.defined.items() if at == number]
-            if names:
-                size = sum(len(file.blocks[number]) for number in blocks)
-                words = key.replace('/declared.', '/src/').replace('.', '/') if isinstance(file, Types) else key
-                lines.append(f'- {words} ({size}): {", ".join(names)}')
+        for crate in [*CRATES, *KIT]:
+            sizes = []
+            for key, file in known.items():
+                size = sum(len(file.blocks[number]) for home, number in new if home == key)
+                if size and key.startswith(f'{crate}/'):
+                    name = key.removeprefix(f'{crate}/')
+                    sizes.append(f'{name.replace("declared.", "src/").replace(".", "/")} {size}')
+            if sizes:
+                lines.append(f'- {crate}: {", ".join(sizes)}')
         before |= found
     return '\n'.join(lines[1:]) + '\n'
 

@@ -1,8 +1,10 @@
 """Holds docs/DEFINITIONS.md against the definitions in `specs/`, and public contracts against `specs/code/`. No two definitions
 have one name, and lines of comments have at most 130 characters.
 
-The rows of the page are made from the comments that stand before the definitions, and the order of the files is that of
-each `Lib.antt`. What a comment ends with in brackets is its source. With `--write` the rows of the page are written anew;
+The lines of the page are made from the comments that stand before the definitions, and the order of the files is that of
+each `Lib.antt`. A line has the first sentence of a comment. What a comment ends with in brackets is its source: the source
+that most definitions of a file have stands once, after the name of the file. The page has the name alone of a definition that only
+its own file uses, and of one on which no promise of `closures.py` rests. With `--write` these lines are written anew;
 what else stands on the page is written by hand.
 
 A reader may skip `specs/code/`: no clause of a public function or trait cites a definition from there, and no other
@@ -20,6 +22,7 @@ import sys
 ROOT = pathlib.Path(__file__).resolve().parents[2]
 sys.path.append(str(ROOT / 'tests' / 'shared'))
 from cases import differing_lines, tell_cases  # noqa: E402
+from closures import under_promises, used_elsewhere  # noqa: E402
 
 PAGE = ROOT / 'docs' / 'DEFINITIONS.md'
 CRATES = ['erd_tables', 'erd_index', 'erd_check', 'erd_prepare', 'erd_text', 'erd_meaning', 'erd_normal', 'erd_shown', 'erd_compare', 'erd_canon', 'erd_program', 'erd_c']
@@ -36,8 +39,9 @@ KNOWING = {
 # blocks of a text that is hashed, in `erd_prepare` an object of a class of the table, and in `erd_canon` and `erd_program` what
 # has been written of an answer.
 SECOND = {('position', 'erd_check'), ('part', 'erd_index'), ('part', 'erd_prepare'), ('part', 'erd_canon'), ('part', 'erd_program')}
-HEAD = ['| Definition | What it says | From |', '|---|---|---|']
-CODE = 'What private functions answer, step by step; a reader may skip it. What each file says stands in its first lines.'
+
+# The words of a sentence that stands on the page as it is.
+MOST_WORDS = 22
 
 # Where the definitions of a file come from, if their comments do not say: the file, or one of its definitions.
 PROFILE = 'profile'
@@ -104,11 +108,11 @@ SOURCES = {
     'erd_program/Messages': 'this project',
     'erd_program/Program': 'this project',
     'erd_program/World': 'this project',
-    'erd_tables/Classes.class_name': 'the class names of the standard',
-    'erd_tables/Classes.text_of_class': 'the name space of the standard',
-    'erd_tables/Classes.classes': 'the classes of the standard that the profile covers',
-    'erd_tables/Classes.class_of_text': '`@type` of the standard',
-    'erd_tables/Classes.NamesItsClass': '`@type` of the standard',
+    'erd_tables/Classes.class_name': 'the standard',
+    'erd_tables/Classes.text_of_class': 'the standard',
+    'erd_tables/Classes.classes': 'the standard',
+    'erd_tables/Classes.class_of_text': 'the standard',
+    'erd_tables/Classes.NamesItsClass': 'the standard',
     'erd_tables/Families': 'this project',
     'erd_tables/Rows.selection_rows': 'class ContestSelection',
     'erd_text/Tokens': 'RFC 8259',
@@ -147,8 +151,8 @@ def is_field(line, path):
     return outer not in ('mutual', 'abbrev mutual')
 
 
-def row(crate, name, definition, comment):
-    """A row of the page: the words of the comment, and its source."""
+def words_and_source(crate, name, definition, comment):
+    """The first sentence of the comment, and the source of the definition."""
     words, source = comment, None
     match = re.fullmatch(r'(.*?) \(([^()]*)\)(;.*)?', comment)
     if match and is_source(match.group(2)):
@@ -156,7 +160,14 @@ def row(crate, name, definition, comment):
     if re.match(r'class [A-Z]', words):
         words, source = 'members of ' + words, source or class_of(words)
     source = source or SOURCES.get(f'{crate}/{name}.{definition}') or SOURCES.get(f'{crate}/{name}') or PROFILE
-    return f'| `{definition}` | {words} | {source} |'
+    return first_sentence(words), source
+
+
+def first_sentence(words):
+    """The first sentence of a comment without its stop. Of a long one, what stands before its colon, unless that is a condition."""
+    sentence = re.split(r'(?<=\.) (?=[A-Z`])', words)[0].removesuffix('.')
+    front = re.match(r'(?!If ).{25,}?(?=[:;] )', sentence)
+    return front[0] if front and len(sentence.split()) > MOST_WORDS else sentence
 
 
 def is_source(words):
@@ -173,18 +184,32 @@ def modules(path):
     return [name for name in re.findall(r'^pub mod (\w+)', path.read_text(encoding='utf-8'), re.M) if name != 'code']
 
 
-def rows_of_crate(crate, headings):
-    """The table of a crate. Its headings are those of the page, or the first words of the file."""
+def lines_of_crate(crate, trusted, used):
+    """The lines of a crate: the first words of each file with its source, and its definitions. Those that promises rest on and that
+    other files use come first, then the others of a promise, and then those of no promise."""
     specs = ROOT / 'crates' / crate / 'specs'
-    lines = list(HEAD)
+    lines = []
     for name in modules(specs / 'Lib.antt'):
-        path = f'crates/{crate}/specs/{name}.antt'
-        lines.append(headings.get(path) or f'| **{path}** | **{first_words(specs / (name + ".antt"))}** | |')
-        lines += [row(crate, name, definition, comment) for definition, comment in definitions(specs / f'{name}.antt')]
+        found = [(definition, *words_and_source(crate, name, definition, comment))
+                 for definition, comment in definitions(specs / f'{name}.antt')]
+        sources = [source for _, _, source in found]
+        usual = max(sources, key=sources.count, default=PROFILE)
+        lines += [f'**{name}** ({usual}): {first_words(specs / (name + ".antt"))}', '']
+        of_promises = [one for one in found if one[0] in trusted.get(f'{crate}/{name}', ())]
+        read = [one for one in of_promises if (f'{crate}/{name}', one[0]) in used]
+        lines += [f'- `{definition}`: {words}' + (f' ({source})' if source != usual else '') for definition, words, source in read]
+        lines += named('within', [one for one in of_promises if one not in read])
+        lines += named('besides', [one for one in found if one not in of_promises])
+        lines += [''] if found else []
     if (specs / 'code.antt').exists():
-        files = ', '.join(f'**{name}.antt**' for name in modules(specs / 'code.antt'))
-        lines.append(f'| **crates/{crate}/specs/code/**: {files} | **{CODE}** | |')
+        lines += [f'**code/**: {", ".join(modules(specs / "code.antt"))}', '']
     return lines
+
+
+def named(word, found):
+    """The line with the names of these definitions, if there are some."""
+    names = ', '.join(f'`{name}`' for name, _, _ in found)
+    return [f'- {word}: {names}'] if found else []
 
 
 def first_words(path):
@@ -194,12 +219,12 @@ def first_words(path):
 
 
 def made_anew(page):
-    """The page with its rows made anew."""
-    headings = {match.group(1): match.group(0) for match in re.finditer(r'^\| \*\*(crates/\S+\.antt)\*\* \| \*\*.*$', page, re.M)}
+    """The page with the lines of each crate made anew."""
+    trusted, used = under_promises(), used_elsewhere()
     for crate in CRATES:
-        table = '\n'.join(rows_of_crate(crate, headings))
-        page = re.sub(rf'(?<=^## {crate}\n\n)(?:\|.*\n)+', lambda _: table + '\n', page, flags=re.M)
-    return page
+        lines = '\n'.join(lines_of_crate(crate, trusted, used))
+        page = re.sub(rf'(?<=^## {crate}\n\n).*?(?=^## |\Z)', lambda _: lines + '\n', page, flags=re.M | re.S)
+    return page.rstrip('\n') + '\n'
 
 
 CODE_IMPORT = re.compile(r'^\s*(?:(?:ghost|pub|unfoldable pub) )?use Rattle\.\w+\.specs\.code\.\w+(?:\.\{([^}]*)\})?', re.M)
@@ -222,8 +247,9 @@ def code_cited():
 
 
 def named_twice(page):
-    """The names that stand in more than one row: one name would have two meanings."""
-    names = re.findall(r'^\| `([^`]+)` \|', page, re.M)
+    """The names that stand in more than one place of the lines: one name would have two meanings."""
+    lines = re.findall(r'^- (.*)$', page[page.index(f'\n## {CRATES[0]}\n'):], re.M)
+    names = [name for line in lines for name in re.findall(r'`([^`]+)`', re.match(r'`[^`]+`(?=: )|.*', line)[0])]
     return sorted({name for name in names if names.count(name) > 1})
 
 

@@ -29,9 +29,6 @@ from exports import rearranged  # noqa: E402
 SESSIONS = ('README.md', 'docs/USING.md', 'docs/FIXES.md', 'docs/WALKTHROUGH.md')
 BASE = 'examples/county.vendor-a.json'
 DATA_PAGES = ('docs/DATA.md', 'bindings/c/erd.h')
-# Reports that lack nearly everything: a line that shows a fault has to pass over what is absent.
-BARE = ({}, {'Election': []}, {'Election': [{}], 'GpUnit': [{}]}, {'Election': [{'Contest': [{}], 'BallotStyle': [{}]}]},
-        {'Election': [{'Contest': [{'ContestSelection': [{}, {}]}], 'Candidate': [{}]}], 'GpUnit': None, 'Party': [{}]})
 
 
 def read(path):
@@ -295,7 +292,7 @@ def written(folder, name, report):
 
 
 def examples_of_reasons(folder):
-    """For each heading with an example: the fault, that its mending is accepted, and that the lines of jq show something."""
+    """For each heading with an example: the fault, and that its mending is accepted."""
     page = read('docs/FIXES.md')
     for heading, body in re.findall(r'^## (\d+\. [^\n]*)\n(.*?)(?=^## |\Z)', page, re.M | re.S):
         place = re.search(r'^\*\*Example\.\*\* .*?at `(\.[^`]*)`(?: of `([^`]*)`)?', body, re.M)
@@ -306,14 +303,6 @@ def examples_of_reasons(folder):
         written(folder, 'after.json', with_fragment(base, place.group(1), after, taken_out))
         yield f'{heading}, before', lines, run('erd check before.json', folder)
         yield f'{heading}, after', 'accepted\n', run('erd check after.json', folder)
-        shown = body.split('**Show it.**')[1].split('\n\n')[0]
-        for command in re.findall(r'`((?:jq|grep) .*? FILE)`', shown):
-            output = run(command.replace('FILE', 'before.json'), folder)
-            yield f'{heading}: {command} shows something', True, output.strip() not in ('', 'null') and 'error' not in output
-            for bare in BARE:
-                written(folder, 'bare.json', bare)
-                said = run(command.replace('FILE', 'bare.json'), folder)
-                yield f'{heading}: {command} passes over what {json.dumps(bare)} lacks', False, 'error' in said
 
 
 def examples_of_differences(folder):
@@ -353,7 +342,7 @@ def headings():
     yield 'the headings of docs/FIXES.md', wanted, found
     rows = re.findall(r'^\| \[(?:(\d+\.) )?`(.*?)`\]', page, re.M)
     yield 'the table of docs/FIXES.md', wanted, [f'{number} {words}'.strip() for number, words in rows]
-    labels = ['What it means', 'Where it comes from', 'How to mend it', 'Show it', 'Example']
+    labels = ['What it means', 'Where it comes from', 'How to fix it', 'Example']
     for heading in found:
         body = page.split(f'\n## {heading}\n')[1].split('\n## ')[0]
         yield f'the paragraphs of {heading}', labels, re.findall(r'^\*\*(.*?)\.\*\*', body, re.M)

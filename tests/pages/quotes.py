@@ -24,7 +24,7 @@ QUOTES = (
     ('CONTRIBUTING.md', 'name: green_', 'tests/bodies/lists/*.txt'),
 )
 # The pages that cite names of the code, and where these stand.
-CITING = ('docs/ARCHITECTURE.md', 'docs/DECISIONS.md', 'docs/PROMISES.md', 'docs/REFUSALS.md', 'docs/DATA.md', 'CONTRIBUTING.md')
+CITING = ('docs/ARCHITECTURE.md', 'docs/DECISIONS.md', 'docs/TRUST.md', 'docs/DATA.md', 'CONTRIBUTING.md')
 SOURCES = ('crates', 'bindings', 'packaging', 'tests', 'web', 'conformance', 'contrib', 'reference')
 # The pages whose sessions and JSON examples are run by tests/pages/examples.py.
 RUN = {'console': set(examples.SESSIONS), 'json': {'docs/FIXES.md', 'docs/DATA.md'}}

@@ -1,5 +1,5 @@
 #!/usr/bin/env bash
-# Tries contrib/confined.sh, the recipe of docs/SERVICE.md, with honest files, with the worst files of SECURITY.md, and with
+# Tries contrib/confined.sh, the recipe of docs/LIMITS.md, with honest files, with the worst files that it names, and with
 # programs that do what erd doesn't. One line a case.
 set -u
 . "$(dirname "$0")/../shared/start.sh" || exit 1
@@ -76,6 +76,21 @@ chmod +x "$work/spins" "$work/writes" "$work/complains"
 
 export SANDBOX=no
 with_or_without 'limits alone'
+
+# The limits that docs/LIMITS.md gives for files of 10 MB, on two honest ones without blanks, which take the most.
+python3 tests/reports/larger.py 111 examples/county-general.json | python3 -c '
+import json, pathlib, sys
+work, report = pathlib.Path(sys.argv[1]), json.load(sys.stdin)
+for name in ("left", "right"):
+    work.joinpath(f"{name}.json").write_text(json.dumps(report, ensure_ascii=False, separators=(",", ":")), encoding="utf-8")
+    for family in ("GpUnit", "Party", "Person", "Office", "Header"):
+        report[family].reverse()' "$work"
+words='[0-9]* MB of memory and [0-9]* seconds are enough for files of 10 MB'
+read -r megabytes seconds <<< "$(grep -o "$words" docs/LIMITS.md | sed 's/ MB of memory and / /; s/ seconds.*//')"
+said 'the honest files have 10 MB' "$(stat -c %s "$work/left.json" | grep -qE '^(99|100)[0-9]{5}$' || stat -c %s "$work/left.json")"
+MEMORY=${megabytes}000000 TIME=$seconds confined 'two honest files of 10 MB without blanks' 0 compare "$work/left.json" "$work/right.json"
+equal 'the word for these' "$(cat "$work/out")" same
+
 if command -v bwrap > /dev/null && bwrap --ro-bind / / --unshare-all true 2> /dev/null; then
     export SANDBOX=yes
     with_or_without 'in a room'
@@ -86,7 +101,7 @@ else
     SANDBOX=yes confined 'no room, where one is asked for' 3 check "$one"
 fi
 
-# The recipe for systemd of docs/SERVICE.md, with a program in the place of systemd-run that does as it does: it ends with the status of
+# The recipe for systemd of docs/LIMITS.md, with a program in the place of systemd-run that does as it does: it ends with the status of
 # what it started, but with 1 where that took too long or too much memory or did not begin, and with 255 after a signal.
 mkdir "$work/bin"
 cat > "$work/bin/systemd-run" << 'END'
@@ -104,7 +119,7 @@ esac
 END
 chmod +x "$work/bin/systemd-run"
 {
-    block docs/SERVICE.md sh 2 | sed "s|/usr/share/doc/erd/contrib|$PWD/contrib|; s|upload\.json|\"\$UPLOAD\"|; s|lines\.txt|\"\$LINES\"|"
+    block docs/LIMITS.md sh 2 | sed "s|/usr/share/doc/erd/contrib|$PWD/contrib|; s|upload\.json|\"\$UPLOAD\"|; s|lines\.txt|\"\$LINES\"|"
     echo 'exit "$status"'
 } > "$work/recipe"
 said 'the recipe for systemd is there' "$(grep -q 'systemd-run .*' "$work/recipe" && grep -q 'confined.sh check "$UPLOAD" > "$LINES"' "$work/recipe" || cat "$work/recipe")"
