@@ -210,15 +210,25 @@ HOSTILE = {
 }
 
 
+# Begins a program, and writes to a file what it has used. What `wait4` says of a process has the memory of the one that began it,
+# and that of the tests is large.
+MEASURED = """
+import os, pathlib, subprocess, sys
+began = subprocess.Popen(sys.argv[2:])
+_, status, used = os.wait4(began.pid, 0)
+pathlib.Path(sys.argv[1]).write_text(f'{used.ru_utime + used.ru_stime} {used.ru_maxrss / 1024}')
+os._exit(os.WEXITSTATUS(status))
+"""
+
+
 def run(path, *words):
     """The status of the command, what it writes, the seconds that it takes and the megabytes that it holds."""
-    with open(path.parent / 'out', 'w+b') as out, open(path.parent / 'err', 'w+b') as err:
-        ran = subprocess.Popen([sys.executable, '-m', 'erd.from_xml', *words, str(path)], stdin=subprocess.DEVNULL, stdout=out, stderr=err)
-        _, status, used = os.wait4(ran.pid, 0)
-        ran.returncode = os.WEXITSTATUS(status)
-        out.seek(0)
-        err.seek(0)
-        return ran.returncode, out.read(), err.read().decode('utf-8'), used.ru_utime + used.ru_stime, used.ru_maxrss / 1024
+    room = path.parent / 'used'
+    command = [sys.executable, '-m', 'erd.from_xml', *words, str(path)]
+    ran = subprocess.run([sys.executable, '-c', MEASURED, str(room), *command], stdin=subprocess.DEVNULL, stdout=subprocess.PIPE,
+                         stderr=subprocess.PIPE)
+    seconds, megabytes = map(float, room.read_text().split())
+    return ran.returncode, ran.stdout, ran.stderr.decode('utf-8'), seconds, megabytes
 
 
 @pytest.mark.skipif(not hasattr(os, 'wait4'), reason='only POSIX says what a process has used')
