@@ -21,6 +21,8 @@ import seen  # noqa: E402
 ROOT = pathlib.Path(__file__).resolve().parent.parent
 SCRIPTS = ROOT / 'web' / 'scripts'
 LANGUAGE = 'en'
+# The pages that can be opened from the page: their element and their file.
+DOCUMENTS = {'profile': 'PROFILE.md', 'letter': 'VENDORS.md'}
 LANGUAGES = {'en': ROOT / 'docs' / 'FIXES.md', 'es': ROOT / 'web' / 'fixes.es.md'}
 STYLES = ('style.css', 'results.css', 'print.css')
 EXAMPLES = ('county.vendor-a.json', 'county.vendor-b.json')
@@ -86,8 +88,8 @@ def in_script(text):
 
 
 def json_text(value):
-    """A value as JSON that can stand in an element `script`."""
-    return json.dumps(value, ensure_ascii=False, separators=(',', ':'), sort_keys=True).replace('<', '\\u003c')
+    """A value as JSON."""
+    return json.dumps(value, ensure_ascii=False, separators=(',', ':'), sort_keys=True)
 
 
 def sum_of(text):
@@ -124,6 +126,11 @@ def licences():
     return 'erd is licensed under the MIT License or the Apache License 2.0, as you choose.\n\n' + '\n'.join(texts)
 
 
+def documents():
+    """The profile and the letter to the vendor, as they stand in docs/."""
+    return {name: (ROOT / 'docs' / file).read_text(encoding='utf-8') for name, file in DOCUMENTS.items()}
+
+
 def version():
     return (ROOT / 'VERSION').read_text(encoding='utf-8').strip()
 
@@ -142,10 +149,11 @@ def page(wasm):
         'script': script,
         'policy': html.escape(policy(style, script), quote=False),
         'worker': in_script(joined('worker.mjs')),
-        'tables': tables(texts, template),
+        'tables': packed(tables(texts, template).encode()),
         'wasm': packed(wasm),
         'licences': packed(licences().encode()),
         'examples': packed(json.dumps(examples, ensure_ascii=False).encode()),
+        'documents': packed(json.dumps(documents(), ensure_ascii=False).encode()),
     }
     return re.sub(r'\{\{(text:)?([\w.]+)\}\}',
                   lambda found: html.escape(texts[LANGUAGE][found[2]]) if found[1] else parts[found[2]], template)

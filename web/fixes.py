@@ -1,18 +1,18 @@
-"""Reads docs/FIXES.md, and fixes.es.md, which is some of it in Spanish: for each reason what it means, where it comes from and how it is mended."""
+"""Reads docs/FIXES.md, and fixes.es.md, which is some of it in Spanish: for each reason what it means, where it comes from and how it is fixed."""
 import pathlib
 import re
 
 PROFILE = pathlib.Path(__file__).resolve().parent.parent / 'docs' / 'PROFILE.md'
 LABELS = {
-    'What it means.': 'meaning', 'Where it comes from.': 'origin', 'How to fix it.': 'mending',
-    'Qué significa.': 'meaning', 'De dónde viene.': 'origin', 'Cómo se corrige.': 'mending',
+    'What it means.': 'meaning', 'Where it comes from.': 'origin', 'How to fix it.': 'fixing',
+    'Qué significa.': 'meaning', 'De dónde viene.': 'origin', 'Cómo se corrige.': 'fixing',
 }
 
-# The explanations of texts that look alike, by their headings: which ways to look alike they are for.
+# The explanations of texts that look alike, by how their headings begin: which ways to look alike they are for.
 ALIKE = {
     'Two spellings of one letter': ('spelling', 'blanks'), 'Dos maneras de escribir una letra': ('spelling', 'blanks'),
-    'Letters of another alphabet, and marks that are not seen': ('letters', 'hidden', 'marks'),
-    'Letras de otro alfabeto, y marcas que no se ven': ('letters', 'hidden', 'marks'),
+    'Letters of another alphabet': ('letters', 'hidden', 'marks'),
+    'Letras de otro alfabeto': ('letters', 'hidden', 'marks'),
 }
 
 
@@ -42,7 +42,7 @@ def alike(text):
     """For each way to look alike its first paragraph."""
     found = {}
     for heading, paragraph in re.findall(r'^### (.+)\n\n(.+)$', text, re.M):
-        found.update({way: [pieces(paragraph)] for way in ALIKE.get(heading, ())})
+        found.update({way: [pieces(paragraph)] for beginning, ways in ALIKE.items() if heading.startswith(beginning) for way in ways})
     if len(found) != 5:
         raise FixesError('the explanations of texts that look alike are those of %s' % ', '.join(found))
     return found

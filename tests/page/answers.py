@@ -34,7 +34,7 @@ def section_of_fixes(heading, body):
 
 
 def fixes():
-    """For the words of each reason its number, what it means, where it comes from and how it is mended."""
+    """For the words of each reason its number, what it means, where it comes from and how it is fixed."""
     text = (ROOT / 'docs' / 'FIXES.md').read_text(encoding='utf-8')
     parts = re.split(r'^## (.+)\n', text, flags=re.M)[1:]
     return dict(section_of_fixes(heading, body) for heading, body in zip(parts[::2], parts[1::2]))
@@ -62,7 +62,7 @@ class Fault:
         self.pointer, words = line.rsplit(': ', 1)
         self.words = next(it for it in FIXES if FIXES[it][0] and re.match(rf'{re.escape(it)}( |$)', words))
         self.name = words[len(self.words) + 1:]
-        self.number, self.meaning, self.origin, self.mending = FIXES[self.words]
+        self.number, self.meaning, self.origin, self.fixing = FIXES[self.words]
 
 
 class Program:
@@ -108,6 +108,17 @@ class Answer:
     @property
     def form_sum(self):
         return hashlib.sha256(self.form).hexdigest()
+
+
+def kinds_in(report):
+    """The types of all identifiers of a report, each with its other type. The report's own identifiers are not compared."""
+    found, waiting = set(), [{name: value for name, value in report.items() if name != 'ExternalIdentifier'}]
+    while waiting:
+        value = waiting.pop()
+        for inner in value.values() if isinstance(value, dict) else value:
+            waiting += [inner] if isinstance(inner, (dict, list)) else []
+        found |= {(one['Type'], one.get('OtherType', '')) for one in value.get('ExternalIdentifier', [])} if isinstance(value, dict) else set()
+    return found
 
 
 def types_in(value):

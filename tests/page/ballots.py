@@ -86,8 +86,8 @@ def one_file(session):
     tickets = [names for ballot in shown for _, _, selections in ballot['items'] for names in selections if len(names) > 1 and report.tops() & set(names)]
     session.equal('ballots: the top of a ticket comes first', [names for names in tickets if names[0] not in report.tops()], [])
     unlisted = sum(count_unlisted(style['OrderedContent'], report) for style in report.election['BallotStyle'])
-    session.equal('ballots: lines without an order', session.texts('.ballot .contest > p.own').count(UNLISTED), unlisted)
-    langs = session.browser.script("return [...new Set([...document.querySelectorAll('.ballot [lang]')].map((one) => one.lang))].sort()")
+    session.equal('ballots: lines without an order', session.texts('#ballots .ballot .contest > p.own').count(UNLISTED), unlisted)
+    langs = session.browser.script("return [...new Set([...document.querySelectorAll('#ballots .ballot [lang]')].map((one) => one.lang))].sort()")
     session.equal('ballots: the languages', langs, ['en-US', 'es-US'])
 
 
@@ -111,6 +111,13 @@ def filtered(session):
     session.has('ballots: the precinct', session.text('.style summary'), 'Birch Hill')
     session.browser.one('#ballot-filter').type(' nowhere')
     session.becomes('ballots: those of no precinct', lambda: session.texts('.style'), [])
+    # The number and the code of a precinct, and the name and the code of a district, with the code of a style that has it.
+    for words, code in (('105', 'BS-2'), ('p-5', 'BS-2'), ('hill library', 'BS-1'), ('w-7', 'BS-3')):
+        session.browser.script("const box = document.getElementById('ballot-filter'); box.value = ''; box.dispatchEvent(new Event('input'))")
+        session.becomes(f'ballots: all before {words}', lambda: len(session.texts('.style')), 4)
+        session.browser.one('#ballot-filter').type(words)
+        session.becomes(f'ballots: found by {words}', lambda: len(session.texts('.style')) in (1, 2), True)
+        session.has(f'ballots: the one found by {words}', ' '.join(session.texts('.style summary')), code)
 
 
 def spoken(session):
@@ -122,7 +129,7 @@ def spoken(session):
         select.value = 'es-US';
         select.dispatchEvent(new Event('change'));""")
     shown = session.browser.script("""
-        return [...new Set([...document.querySelectorAll('.ballot .text')].filter((one) => !one.hidden).map((one) => one.dataset.lang))].sort()""")
+        return [...new Set([...document.querySelectorAll('#ballots .ballot .text')].filter((one) => !one.hidden).map((one) => one.dataset.lang))].sort()""")
     session.equal('ballots: one language', shown, ['', 'es-US'])
 
 
@@ -153,7 +160,7 @@ def two_files(session):
     """What differs is marked in place: changed words, what moved, and what only one file has. Ballots that are the same are folded."""
     session.judged(COUNTY, changed(session))
     session.open_details()
-    words = session.browser.script("return [...document.querySelectorAll('.ballot .line-name :is(del, ins)')].map((one) => `${one.tagName} ${one.lastChild.textContent}`)")
+    words = session.browser.script("return [...document.querySelectorAll('#ballots .ballot .line-name :is(del, ins)')].map((one) => `${one.tagName} ${one.lastChild.textContent}`)")
     session.equal('ballots: changed words', [words[:2], set(words)], [['DEL Ingrith', 'INS Ingrid'], {'DEL Ingrith', 'INS Ingrid'}])
     four = "[...document.querySelectorAll('.style')].find((one) => one.querySelector('summary').textContent.includes('BS-4'))"
     moved = session.browser.script("return [...%s.querySelectorAll('.selection.moved > .ballot-mark')].map((one) => one.textContent)" % four)

@@ -21,6 +21,7 @@ def run(session):
     removed(session)
     printed(session)
     licences(session)
+    documents(session)
 
 
 def examples(session):
@@ -195,7 +196,7 @@ def refused_texts(session):
 
 
 def removed(session):
-    """A file that is taken out again."""
+    """A file that is removed again."""
     session.judged(SMALL, COUNTY[0])
     session.equal('what is chosen is one line', [session.text('#files-chosen').strip(), session.browser.script("return document.getElementById('files-open').hidden")],
                   [f'{SMALL.name}, {COUNTY[0].name}', True])
@@ -239,3 +240,17 @@ def licences(session):
     session.equal('the licences are folded', session.text('#licences pre'), '')
     session.click('#licences summary')
     session.becomes('the licences', lambda: session.text('#licences pre').split()[-len(wanted):] == wanted, True)
+
+
+def documents(session):
+    """The profile and the letter to the vendor are in the page, and can be opened from where they are named."""
+    for name, file in (('profile', 'PROFILE.md'), ('letter', 'VENDORS.md')):
+        session.fresh()
+        session.click(f'#{name} summary')
+        session.becomes(f'{file} in the page', lambda: session.text(f'#{name} pre'), (ROOT / 'docs' / file).read_text(encoding='utf-8'))
+    session.fresh()
+    session.browser.script("document.querySelectorAll('#examples button')[2].click()")
+    session.verdict()
+    session.browser.until("return document.querySelector('.prepare .note button') !== null")
+    session.click('.prepare .note button')
+    session.becomes('the letter is opened from a refused file', lambda: session.text('#letter pre').split('\n')[0], '# A letter to the vendor')

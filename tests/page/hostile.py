@@ -1,4 +1,4 @@
-"""A stranger's file is only ever text: names, values and file names that try to be more."""
+"""An untrusted file is only ever text: names, values and file names that try to be more."""
 import json
 
 from session import EXAMPLES
@@ -10,7 +10,7 @@ NAMES = {'markup': MARKUP, 'hidden': HIDDEN, 'long': LONG, 'template': '{{constr
          'prototype': '__proto__', 'constructor': 'constructor', 'emoji': '\U0001f469\u200d\U0001f469\u200d\U0001f467',
          'marks': 'Z' + '\u0300\u0301' * 200, 'arabic': 'مرشح'}
 
-# What no text of the page may have: controls but line feeds and tabs, and characters that are not seen or change the direction.
+# What no text of the page may have: controls but line feeds and tabs, and characters that are invisible or change the direction.
 UNSEEN = r"""
     const text = [...document.querySelectorAll('header, main, footer')].map((one) => one.textContent).join('');
     const found = text.match(/[\u0000-\u0008\u000b-\u001f\u007f-\u009f\u200b-\u200f\u2028-\u202e\u2060-\u206f\ufeff]/u);
@@ -37,7 +37,7 @@ def planted(session):
     """The checks find what is planted."""
     session.fresh()
     session.browser.script("document.getElementById('result').append('a\\u202eb')")
-    session.equal('the check finds a character that is not seen', session.browser.script(UNSEEN), '202e')
+    session.equal('the check finds an invisible character', session.browser.script(UNSEEN), '202e')
     session.browser.script("document.getElementById('result').append(document.createElement('a'))")
     session.equal('the check finds an element', session.browser.script(ELEMENTS), 1)
 

@@ -11,7 +11,7 @@ ROWS = """
 NAMES = """
     return [...document.querySelectorAll('[aria-labelledby="first-difference"] tr')].map((row) => row.textContent).join(' ')"""
 MARKS = """
-    return [...document.querySelectorAll('.ballot :is(.contest, .selection) > .ballot-mark')].map((mark) => {
+    return [...document.querySelectorAll('#ballots .ballot :is(.contest, .selection) > .ballot-mark')].map((mark) => {
         const holder = mark.parentElement;
         const contest = holder.closest('.contest').querySelector('.line-title').textContent;
         return [contest, holder.classList.contains('selection') ? holder.querySelector('p').textContent : '', mark.textContent];

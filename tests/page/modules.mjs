@@ -141,6 +141,11 @@ equal('two texts as one', mergedText('Vote for one', 'Vote for two'),
     [{ text: 'Vote for ', mark: '' }, { text: 'one', mark: 'removed' }, { text: 'two', mark: 'added' }]);
 const alike = [['Jos\u00e9', 'Jose\u0301'], ['Alder', '\u0410lder'], ['a b', 'a\u00a0b'], ['a', 'a\u200b'], ["O'T", 'O\u2019T'], ['a', 'b']];
 equal('why they look alike', alike.map(([one, other]) => whyAlike(one, other)), [['spelling'], ['letters'], ['blanks'], ['hidden'], ['marks'], []]);
+// What the list of Unicode has as alike: forms of one letter, letters of other alphabets, and letters and digits of one shape.
+const confused = [['Ward I', 'Ward l'], ['Ward 1', 'Ward l'], ['C-O1', 'C-01'], ['Stern', 'Stem'], ['Dil\u0131', 'Dili'], ['\uff21nn', 'Ann'], ['Ann\u0410', 'AnnA'],
+    ['\u0456', 'i'], ['\u0406', 'I'], ['\u0406', 'l'], ['\uff11', '1'], ['\u0420\u0430t', 'Pat'], ['Ann', 'ann'], ['Ward 1', 'Ward 2']];
+equal('why others look alike', confused.map(([one, other]) => whyAlike(one, other)), [['shapes'], ['shapes'], ['shapes'], ['shapes'], ['letters'], ['letters'], ['letters'],
+    ['letters'], ['letters'], ['letters', 'shapes'], ['letters'], ['letters'], [], []]);
 
 // Codes for the phone, by the values of Crockford's letters: 80 bits are sixteen of them.
 equal('a code of zeros', codeOf('0'.repeat(64)), '0000 0000 0000 0000');

@@ -18,6 +18,7 @@ def run(session):
     after_election(session)
     seen(session)
     look_alikes(session)
+    own_view(session)
     many_selections(session)
     long_names(session)
     renamed(session)
@@ -128,6 +129,10 @@ def look_alikes(session):
     session.equal('look-alikes: the letter is marked', session.texts('#first-difference ~ div tbody:last-child mark'), ['A', '\u0410'])
     session.has('look-alikes: the reason', session.text('.alike'), 'a letter of another alphabet')
     session.has('look-alikes: its explanation', session.text('.alike p'), 'looks like a Latin')
+    report['Election'][0]['Candidate'][0]['BallotName'] = 'Ann 1'
+    left['Election'][0]['Candidate'][0]['BallotName'] = 'Ann l'
+    session.judged(written(session, 'left.json', left), written(session, 'right.json', report))
+    session.equal('look-alikes: letters of one shape', session.text('.alike'), answers.say('alike.shapes'))
 
 
 def with_selections(session, name, count, note, filling=''):
@@ -200,3 +205,30 @@ def worst_type(session):
 
     session.judged(written(session, 'left.json', with_codes('x', 1)), written(session, 'right.json', with_codes('y', 2)))
     session.equal('the worst type is not offered', session.texts('.offer p'), [])
+
+
+def own_view(session):
+    """Identifiers of a type that only one file has are left out by a click: that is a view beside the verdict, and so it stands in the record."""
+    def made(vendor, name='Ann'):
+        report = small()
+        election = report['Election'][0]
+        election['Candidate'][0]['BallotName'] = name
+        for thing in (election['Candidate'][0], election['Contest'][0], report['GpUnit'][0]):
+            thing['ExternalIdentifier'].append({'@type': 'ElectionResults.ExternalIdentifier', 'Type': 'other', 'OtherType': vendor, 'Value': vendor + '7'})
+        return report
+
+    left = written(session, 'left.json', made('vendor-a'))
+    for name, report, wanted in (
+            ('nothing else differs', made('vendor-b'), answers.say('own.same', types='other vendor-a, other vendor-b')),
+            ('a name differs', made('vendor-b', 'Anne'), answers.say('own.different', types='other vendor-a, other vendor-b', count=1))):
+        session.judged(left, written(session, 'right.json', report))
+        session.becomes(f'own view: the types, {name}', lambda: session.texts('.own-offer li'), [
+            answers.say('own.types', name='left.json', types='other vendor-a'), answers.say('own.types', name='right.json', types='other vendor-b')])
+        session.click('#own-choose')
+        session.becomes(f'own view: {name}', lambda: session.text('.own-view h3'), wanted)
+        session.equal(f'own view: the verdict stays, {name}', session.text('#verdict'), answers.say('verdict.different'))
+        session.becomes(f'own view: the record, {name}', lambda: session.browser.script("""
+            return [...document.querySelectorAll('.record dt')].filter((one) => one.textContent === arguments[0]).map((one) => one.nextSibling.textContent)""",
+            answers.say('record.own')), [wanted])
+    session.judged(left, written(session, 'right.json', made('vendor-a', 'Anne')))
+    session.equal('own view: not offered for the same types', session.texts('.own-offer'), [])

@@ -1,5 +1,6 @@
 // Tries more parts of the page without a browser, on small values: what is found in the bytes of a file, texts, and what values and
 // ballots look like. One line for each case that fails; at the end stand the counts.
+import { readFileSync } from 'node:fs';
 import { pointerOf } from '../../bindings/js/lib/words.mjs';
 import { repeatedNames } from '../../bindings/js/lib/repeated.mjs';
 import { aligned } from '../../web/scripts/alignment.mjs';
@@ -24,7 +25,7 @@ import { trailOf } from '../../web/scripts/trail.mjs';
 import { typesIn } from '../../web/scripts/types.mjs';
 import { Values } from '../../web/scripts/values.mjs';
 import { beginningOf, endOf, piecesOf } from '../../web/scripts/visible.mjs';
-import { counts, equal } from './counted.mjs';
+import { counts, equal, ROOT, TEXTS } from './counted.mjs';
 import { identified, label, typed } from './made.mjs';
 
 const encoder = new TextEncoder();
@@ -248,7 +249,7 @@ const [begun] = FakeWorker.made[1].asked;
 const next = failure(client.ask('verdict', {}));
 FakeWorker.made[1].heard.message({ data: { number: begun.number, error: 'no module' } });
 equal('a worker that cannot begin is told', [await next, await failure(client.ask('sums', {}))], ['no module', 'no module']);
-client.mend();
+client.renew();
 equal('the next one may begin', [FakeWorker.made.length, FakeWorker.made[2].asked[0].kind], [3, 'start']);
 
 // ---- texts that are made only as far as they are shown
@@ -261,5 +262,13 @@ equal('a pointer that is cut', [boundedPointer(['a/b', 0], 10), boundedPointer([
 const copied = withMark(bytesOf('{\n "a": 1\n}'), { name: 'a "b".json', original: '0'.repeat(64), steps: [{ name: 'nulls', count: 3 }] });
 equal('the mark of a copy', markIn(JSON.parse(new TextDecoder().decode(copied)).Notes), { name: 'a "b".json', original: '0'.repeat(64), steps: [{ name: 'nulls', count: 3 }] });
 equal('notes without the mark', [withoutMark(`x\n${JSON.parse(new TextDecoder().decode(copied)).Notes}`), withoutMark('y'), markIn('Prepared by hand')], ['x', 'y', null]);
+
+// ---- the words of the page
+
+const OLD_WORDS = /\b(strangers?|mend(s|ed|ing)?|not seen|taken out|takes? (\S+ ){0,3}out)\b/i;
+equal('plain words', Object.keys(TEXTS).filter((key) => OLD_WORDS.test(JSON.stringify(TEXTS[key]))), []);
+const SPANISH = JSON.parse(readFileSync(new URL('web/texts.es.json', ROOT)));
+equal('one word for the standard in Spanish', Object.keys(SPANISH).filter((key) => /estándar/i.test(JSON.stringify(SPANISH[key]))), []);
+equal('articles in Spanish', Object.keys(SPANISH).filter((key) => /^(member|subject)\./.test(key) && !/^(el|la|los|las) /i.test(SPANISH[key])), []);
 
 counts();

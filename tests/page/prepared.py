@@ -4,13 +4,15 @@ import json
 import re
 import sys
 
-from session import EXAMPLES, ROOT, sha256
+from session import EXAMPLES, ROOT, report_of_units, sha256
 
 sys.path[:0] = [str(ROOT / 'bindings' / 'python' / 'src'), str(ROOT / 'tests' / 'reports')]
 import vendor_exports  # noqa: E402
 from erd.prepare import STEPS, Preparation, steps_of  # noqa: E402
 
 MOST_CLICKS = 5
+# So many units that their steps take some seconds.
+UNITS = 40_000
 WORDS = json.loads((ROOT / 'web' / 'texts.en.json').read_text(encoding='utf-8'))
 # The steps that a person has to tick, since a voter sees another ballot after them.
 TICKED = {'municipal.raw.json': ['gone-candidates']}
@@ -25,6 +27,7 @@ def run(session):
     unticked(session)
     two_copies(session)
     not_prepared(session)
+    cancelled(session)
 
 
 def words(session):
@@ -160,7 +163,7 @@ def two_copies(session):
 
 
 def not_prepared(session):
-    """What no step can mend, and what is no file for a step."""
+    """What no step can fix, and what is no file for a step."""
     session.judged(session.file('mark.json', b'\xef\xbb\xbf{"a":'))
     session.click('#prepare-begin-0')
     session.becomes('a mark before what is not JSON', lambda: session.text('.preparing'), WORDS['prepare.notJson'])
@@ -172,4 +175,24 @@ def not_prepared(session):
     named = {'@type': 'ElectionResults.ElectionReport', '<b>&"\u202e': None, 'Election': []}
     session.judged(session.file('names.json', json.dumps(named)))
     session.click('#prepare-begin-0')
-    session.becomes('names of a stranger are texts', lambda: session.texts('.prepare .pointer b'), [])
+    session.becomes('untrusted names are texts', lambda: session.texts('.prepare .pointer b'), [])
+
+
+def cancelled(session):
+    """A large file: its steps are told as they are done, and can be cancelled and begun again. The verdict stays."""
+    path = session.work / 'long.json'
+    report_of_units(path, UNITS)
+    path.write_text(path.read_text(encoding='utf-8').replace('"Name": "Precinct ', '"IsMailOnly": null, "Name": "Precinct '), encoding='utf-8')
+    session.judged(path)
+    verdict = session.text('#verdict')
+    session.click('#prepare-begin-0')
+    stage = 'return document.getElementById("prepare-stage-0")?.textContent ?? ""'
+    told = session.browser.until(f'const told = (() => {{ {stage} }})(); return told.startsWith(arguments[0]) ? told : "";', WORDS['progress.step'].split('{')[0])
+    names = [WORDS[f'step.{step.name}'] for step in STEPS]
+    session.said('a large file: the step is told', '' if any(told == WORDS['progress.step'].replace('{name}', name) for name in names) else told)
+    session.browser.script("document.querySelector('.prepare-progress button').click()")
+    session.becomes('a large file: cancelled', lambda: session.text('.preparing > p'), WORDS['trouble.cancelled'])
+    session.equal('a large file: the verdict stays', session.text('#verdict'), verdict)
+    session.click('#prepare-begin-0')
+    session.becomes('a large file: begun again', lambda: 'nulls' in ticked(session), True, seconds=200)
+    session.equal('a large file: nothing is left of its progress', session.texts('.prepare-progress'), [])

@@ -5,19 +5,19 @@ const every = (selector, root, read) => [...root.querySelectorAll(selector)].map
 const result = document.getElementById('result');
 const prefer = document.getElementById('prefer');
 
-const mending = (node) => texts(':scope > details > p', node);
+const fixing = (node) => texts(':scope > details > p', node);
 const marked = (node) => texts('mark', node).join('\n');
 const table = (node) => every('.sides > tbody', node, (body) => [text(body.querySelector('th')), ...every('tr:not(:first-child)', body, (row) => texts('td', row))]);
 
 const place = (node) => ({ trail: texts('.trail li', node), pointer: text(node.querySelector('.pointer')), name: text(node.querySelector('.place > code')), marked: marked(node) });
 const card = (node) => ({
-    heading: text(node.querySelector('h4')), meaning: texts(':scope > p:not(.names)', node), mending: mending(node), places: every('.places > li', node, place),
+    heading: text(node.querySelector('h4')), meaning: texts(':scope > p:not(.names)', node), fixing: fixing(node), places: every('.places > li', node, place),
 });
 const faults = (node) => ({
     heading: text(node.querySelector('h3')), kinds: text(node.querySelector('.kinds')), cards: every('.card', node, card), buttons: texts(':scope > p > button', node),
 });
 const notJson = (node) => ({
-    heading: text(node.querySelector('h3')), paragraphs: texts(':scope > p', node), marked: marked(node), mending: mending(node),
+    heading: text(node.querySelector('h3')), paragraphs: texts(':scope > p', node), marked: marked(node), fixing: fixing(node),
 });
 const inside = (node) => texts('.inside-heading, .inside > li', node);
 const others = (node) => ({

@@ -194,6 +194,8 @@ class Result:
         found = self.notices()
         if self.is_listed and self.has_values:
             found.append(self.seen()[0])
+            found += self.on_ballots()
+            found += [say('own.heading')] if self.own_kinds() else []
         if self.compared == 'different':
             found.append(say('difference.first'))
             found += [say('difference.all', count=len(self.entries))] if len(self.entries) > 1 else []
@@ -203,6 +205,7 @@ class Result:
             elif it.outcome == 'notJson':
                 found.append(say('notJson.heading', name=it.name))
         if all(it.form is not None for it in self.answers):
+            found += [say('card.heading')] if len(self.answers) == 1 else []
             found.append(say('ballots.heading'))
         return found + [self.record_heading()]
 
@@ -211,6 +214,16 @@ class Result:
         sums = [it.sum for it in self.answers]
         found = [say('notice.sameBytes')] if len(sums) == 2 and sums[0] is not None and sums[0] == sums[1] else []
         return found + [say('notice.test', name=it.name) for it in self.answers if it.outcome == 'accepted' and json.loads(it.path.read_bytes()).get('IsTest')]
+
+    def own_kinds(self):
+        """The types of identifier that only one file has."""
+        left, right = (answers.kinds_in(json.loads(path.read_bytes())) for path in self.paths)
+        return left ^ right
+
+    def on_ballots(self):
+        """The heading of what differs on the ballots, which stands there if they differ."""
+        is_there = self.seen()[0].startswith(say('seen.differ', differing=0, all=0).split(':')[0])
+        return [self.session.text('#on-ballots') or 'what differs on the ballots'] if is_there else []
 
     def seen(self):
         """The box on what a voter sees: whether the ballots differ, and what they leave out, by the table of the profile."""
@@ -259,15 +272,15 @@ class Result:
                   for fault, (trail, marked) in faults]
         return {
             'heading': f'{say("reason." + first.number)} {say("faults.places", count=len(faults))}', 'meaning': [first.meaning],
-            'mending': [first.mending, say('faults.origin'), first.origin], 'places': places,
+            'fixing': [first.fixing, say('faults.origin'), first.origin], 'places': places,
         }
 
     def not_json(self, it, side):
         known = self.row[side]
-        _, _, origin, mending = FIXES['not JSON']
+        _, _, origin, fixing = FIXES['not JSON']
         where = [say('notJson.where', line=str(known['where'][0]), column=str(known['where'][1]))] if 'where' in known else []
         return {'heading': say('notJson.heading', name=it.name), 'paragraphs': [say(f'notJson.{known["why"]}'), *where],
-                'marked': known.get('marked', ''), 'mending': [mending, say('faults.origin'), origin]}
+                'marked': known.get('marked', ''), 'fixing': [fixing, say('faults.origin'), origin]}
 
     # ---- differences
 
@@ -428,7 +441,7 @@ def parts_of(name, found, wanted):
         yield 'record', *({**it, 'lines': [line[0] for line in it['lines']]} for it in (found, wanted))
     elif name == 'faults' and wanted:
         cards = [[card for section in it for card in section['cards']] for it in (found, wanted)]
-        for field in ('heading', 'meaning', 'mending'):
+        for field in ('heading', 'meaning', 'fixing'):
             yield f'faults, {field}', *([card.get(field) for card in it] for it in cards)
         for field in ('trail', 'pointer', 'name', 'marked'):
             yield f'faults, {field}', *([[place.get(field) for place in card['places']] for card in it] for it in cards)

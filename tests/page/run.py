@@ -26,6 +26,7 @@ import many
 import named
 import network
 import notices
+import overview
 import pictures
 import prepared
 import record
@@ -36,7 +37,7 @@ import voter
 from session import Session, report_of_units
 
 KINDS = {kind.name: kind for kind in (browsers.Chromium, browsers.Firefox)}
-PARTS = (flows, results, notices, lines, growing, voter, ballots, record, filed, prepared, many, named, spanish, keyboard, hostile, bounds, large, network, accessibility)
+PARTS = (flows, results, notices, lines, growing, voter, overview, ballots, record, filed, prepared, many, named, spanish, keyboard, hostile, bounds, large, network, accessibility)
 # The pictures for a person to look at are made where they are asked for by name.
 DEFAULT = [part.__name__ for part in PARTS]
 # A browser is west of Greenwich, and the other one is east of it.

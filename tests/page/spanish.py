@@ -54,6 +54,8 @@ def selections(session):
         session.choose(side, path)
         session.verdict()
     session.becomes('Spanish: selections', lambda: session.texts('[aria-labelledby="first-difference"] :is(.inside-heading, .inside > li)'), [
-        '3 diferencias entre sus selecciones', 'Solo en small-ballot.json: candidato por escrito', 'Solo en otro.json: candidato por escrito (lugar 3)',
-        'Candidato “Cy” (local-level K3) difiere en %s (IsWriteIn).' % TEXTS['es']['member.IsWriteIn']])
+        '3 diferencias entre sus selecciones', 'Solo en small-ballot.json: la selección candidato por escrito',
+        'Solo en otro.json: la selección candidato por escrito (lugar 3)',
+        'La selección Candidato “Cy” (local-level K3) difiere en la marca de candidato por escrito (IsWriteIn).'])
+    session.has('Spanish: things have articles', session.text('#first-difference + .sentence'), 'La contienda “')
     speak(session, 'en')

@@ -27,11 +27,11 @@ export class BallotAnswers {
     }
 
     /**
-     * Some of the ballot styles of a group whose name, units or parties have the words, and how many there are in each group.
+     * Some of the ballot styles of a group whose name, units, parties or districts have the words, and how many there are in each group.
      * @param {{words: string, group: 'all' | 'differing' | 'same' | null, from: number, count: number}} question
      */
     styles({ words, group, from, count }) {
-        const fitting = this.heads().filter((head) => hasWords(head, words));
+        const fitting = words.trim() === '' ? this.heads() : this.heads().filter((head) => hasWords(this.wordsOf(head), words));
         const counts = { all: fitting.length, differing: 0, same: 0 };
         fitting.forEach(({ mark }) => counts[isSame(mark) ? 'same' : 'differing']++);
         const chosen = group === 'all' ? fitting : fitting.filter(({ mark }) => isSame(mark) === (group === 'same'));
@@ -41,6 +41,16 @@ export class BallotAnswers {
     /** How many ballot styles there are, and how many of them a voter sees differ. */
     seen() {
         return this.styles({ words: '', group: null, from: 0, count: 0 }).counts;
+    }
+
+    // What a ballot style is found by: what it is called, the names, numbers and codes of its units, and those of the districts of its contests.
+    wordsOf({ key, code, units, parties }) {
+        this.keptWords ??= new Map();
+        if (!this.keptWords.has(key)) {
+            const further = this.sides.flatMap((side) => side.wordsOf(key));
+            this.keptWords.set(key, [...new Set([code, ...units, ...parties, ...further])].join('\n').toLowerCase());
+        }
+        return this.keptWords.get(key);
     }
 
     // The head of each style, with whether it differs. A style under another code that shows the same stands once.
@@ -157,8 +167,7 @@ function onlyOnes(entries, textOf) {
     return new Map([...found].filter(([, entry]) => entry !== null));
 }
 
-function hasWords({ code, units, parties }, words) {
-    const text = [code, ...units, ...parties].join('\n').toLowerCase();
+function hasWords(text, words) {
     return words.toLowerCase().split(/\s+/).every((word) => text.includes(word));
 }
 

@@ -43,6 +43,19 @@ export class Ballots {
         return thing.title ?? textOfTriple(thing.key);
     }
 
+    /** The names, numbers and codes of the units of a style and of the districts of its contests. None if there is no such style. */
+    wordsOf(keyText) {
+        const style = this.styles.get(keyText);
+        const contests = style === undefined ? [] : this.items(keyText).filter(({ kind }) => kind === 'contest');
+        const districts = contests.map(({ id }) => this.meaning.things.get('contest').get(keyOfItem(id)).object.ElectionDistrictId);
+        return [...new Set([...style?.object.GpUnitIds ?? [], ...districts])].filter((reference) => reference !== undefined)
+            .flatMap((reference) => this.wordsOfUnit(this.meaning.named.get(reference)));
+    }
+
+    wordsOfUnit({ title, object: { Number: number, ExternalIdentifier } }) {
+        return [title ?? '', ...(number === undefined ? [] : [String(number)]), ...(ExternalIdentifier ?? []).map(({ Value }) => Value)];
+    }
+
     /** The first lines of a ballot: its election, its units and its parties. */
     lines(keyText) {
         const style = this.styles.get(keyText);
@@ -125,6 +138,11 @@ export class Ballots {
     party(reference, role) {
         return { role, label: labelOf(this.meaning.named.get(reference).object.Name) };
     }
+}
+
+// The text of the key of a contest, from the `id` of its item.
+function keyOfItem(id) {
+    return textOfKey(JSON.parse(id)[1]);
 }
 
 function itemOf(kind, id, depth, lines) {

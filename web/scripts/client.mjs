@@ -66,7 +66,7 @@ export class Client {
     }
 
     /** Begins anew if the worker could not begin. */
-    mend() {
+    renew() {
         if (this.#broken !== null) {
             this.#end(this.#broken);
         }

@@ -50,7 +50,7 @@ export function sentence({ part, key, how, member, titles, classes }, names) {
 export function object(part, titles, key) {
     const keyText = textOfKeyIn({ key });
     const title = titles.find((text) => text !== null) ?? null;
-    return element('strong', {}, say(`part.${part}`),
+    return element('strong', {}, say(`subject.${part}`),
         ...(title === null ? [] : [' ', saidWith('trail.title', { title: long(title, LONGEST_TITLE) })]),
         ...(keyText === null ? [] : [' ', saidWith('difference.key', { key: long(keyText, LONGEST_TITLE) })]));
 }
@@ -145,7 +145,8 @@ export function movedWords({ from, to }) {
 
 // Why two texts look alike, with the explanation of docs/FIXES.md to open.
 function whyShown(way) {
-    return element('details', {}, element('summary', {}, say(`alike.${way}`)), ...paragraphs(explanations.alike[way]));
+    const why = say(`alike.${way}`);
+    return Object.hasOwn(explanations.alike, way) ? element('details', {}, element('summary', {}, why), ...paragraphs(explanations.alike[way])) : element('p', {}, why);
 }
 
 function gap(key, count) {

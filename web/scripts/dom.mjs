@@ -37,7 +37,7 @@ export function saidWith(key, nodes, values = {}) {
     return fragment;
 }
 
-/** A text from a file, set apart from the direction of what stands around it, with marks for what would not be seen. */
+/** A text from a file, set apart from the direction of what stands around it, with marks for what would not be visible. */
 export function theirs(text, kept = '') {
     return element('bdi', { class: 'theirs' }, ...marked(text, kept));
 }

@@ -1,20 +1,25 @@
-// What the build has put into the page: the proved code, the examples and the licences, compressed, and the tables of texts.
+// What the build has put into the page, compressed: the proved code, the tables of texts, the examples, and what can be read at the foot.
 
-/** All of it but the licences, unpacked. */
+/** All of it but what stands at the foot, unpacked. */
 export async function embedded() {
-    const [wasm, examples] = await Promise.all(['wasm', 'examples-data'].map(unpacked));
-    return {
-        ...JSON.parse(document.getElementById('tables').textContent),
-        wasm,
-        examples: JSON.parse(new TextDecoder().decode(examples)),
-    };
+    const [wasm, tables, examples] = await Promise.all(['wasm', 'tables', 'examples-data'].map(unpacked));
+    return { ...JSON.parse(textOf(tables)), wasm, examples: JSON.parse(textOf(examples)) };
 }
 
 /** Unpacks the licences when somebody opens them. */
 export function offerLicences(details) {
     details.addEventListener('toggle', async () => {
-        details.querySelector('pre').textContent = new TextDecoder().decode(await unpacked('licences-data'));
+        details.querySelector('pre').textContent = textOf(await unpacked('licences-data'));
     }, { once: true });
+}
+
+/** A page of the documentation that the build has put in: `profile` or `letter`. */
+export async function documentText(name) {
+    return JSON.parse(textOf(await unpacked('documents-data')))[name];
+}
+
+function textOf(bytes) {
+    return new TextDecoder().decode(bytes);
 }
 
 async function unpacked(id) {

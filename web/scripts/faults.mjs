@@ -1,4 +1,4 @@
-// The faults of a file as cards, one for each kind: what it means, how it is mended, and its places.
+// The faults of a file as cards, one for each kind: what it means, how it is fixed, and its places.
 import { button, element, long, saidWith, save, theirs } from './dom.mjs';
 import { excerptShown } from './excerpts.mjs';
 import { GrowingList } from './growing.mjs';
@@ -51,7 +51,7 @@ export class FaultCards {
         });
         return element('li', { class: 'card', 'data-reason': String(reason) },
             element('h4', { tabindex: '-1' }, say(`reason.${reason}`), ' ', element('span', { class: 'count' }, say('faults.places', { count }))),
-            ...paragraphs(fix.meaning), names.length === 0 ? null : namesShown(names), this.mending(fix), ...await list.begun());
+            ...paragraphs(fix.meaning), names.length === 0 ? null : namesShown(names), this.fixing(fix), ...await list.begun());
     }
 
     async places(reason, from, count) {
@@ -71,9 +71,9 @@ export class FaultCards {
         return excerptShown(excerpt, () => this.client.ask('part', { index, start, end }));
     }
 
-    mending(fix) {
-        return element('details', { open: true }, element('summary', {}, say('faults.mend')),
-            ...paragraphs(fix.mending), element('p', { class: 'label' }, say('faults.origin')), ...paragraphs(fix.origin));
+    fixing(fix) {
+        return element('details', { open: true }, element('summary', {}, say('faults.fix')),
+            ...paragraphs(fix.fixing), element('p', { class: 'label' }, say('faults.origin')), ...paragraphs(fix.origin));
     }
 }
 

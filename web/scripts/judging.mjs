@@ -1,11 +1,14 @@
 // Judges one file or two. It runs in the worker, keeps what it has found, and answers questions about it. Each answer is made
 // when it is asked for, so that the verdict waits for nothing else.
 import { BallotAnswers } from './ballot_answers.mjs';
+import { BallotFindings } from './ballot_findings.mjs';
 import { boundedPointer, LONGEST_POINTER } from './bounded.mjs';
 import { Differences } from './difference_groups.mjs';
 import { excerptOf } from './excerpt.mjs';
 import { Meaning } from './meaning.mjs';
 import { foundPlaces } from './places.mjs';
+import { Overview } from './overview.mjs';
+import { ownTypes, typesTold, withoutTypes } from './own_view.mjs';
 import { preparingOf } from './preparing.mjs';
 import { isNoMemory, Side } from './side.mjs';
 import { trailOf } from './trail.mjs';
@@ -149,6 +152,24 @@ export class Judgement {
         return this.differencesKept(tell).betterType(types.filter((type) => type !== this.prefer), (type) => this.isAcceptedUnder(type));
     }
 
+    /** The types of identifier that only one file has, of each file; null where the files are too large for that. */
+    ownTypes(_question, tell) {
+        if (this.differencesKept(tell)?.meanings == null) {
+            return null;
+        }
+        this.keptTypes ??= ownTypes(this.meanings(tell).map(({ report }) => report));
+        return typesTold(this.keptTypes);
+    }
+
+    /** What the proved code says of copies without the identifiers of these types: null where it does not accept them. */
+    ownView(question, tell) {
+        const types = this.ownTypes(question, tell);
+        const copies = this.meanings(tell).map(({ report }, index) => withoutTypes(report, this.keptTypes[index]));
+        tell({ stage: 'comparing' });
+        const { side, allDifferences } = this.erd.differences(...copies, { prefer: this.prefer, mostDifferences: 1 });
+        return { types, count: side === null ? allDifferences : null };
+    }
+
     // What the canonical forms say.
     meanings(tell = () => {}) {
         this.keptMeanings ??= this.sides.map((side) => new Meaning(side.report(this.erd, this.prefer, tell), this.prefer));
@@ -159,6 +180,36 @@ export class Judgement {
     ballots(tell) {
         this.keptBallots ??= new BallotAnswers(this.meanings(tell));
         return this.keptBallots;
+    }
+
+    /** What a file has, in counts. */
+    overview(_question, tell) {
+        return this.keptOverview(tell).told();
+    }
+
+    /** Some precincts of a file, with their ballot styles. */
+    precincts(question, tell) {
+        return this.keptOverview(tell).precincts(question);
+    }
+
+    keptOverview(tell) {
+        this.overviewOfFile ??= new Overview(this.meanings(tell)[0]);
+        return this.overviewOfFile;
+    }
+
+    /** How many things differ on the ballots. */
+    onBallots(_question, tell) {
+        return this.findings(tell).told();
+    }
+
+    /** Some of the things that differ on the ballots. */
+    someOnBallots(question, tell) {
+        return this.findings(tell).some(question);
+    }
+
+    findings(tell) {
+        this.keptFindings ??= new BallotFindings(this.ballots(tell));
+        return this.keptFindings;
     }
 
     /** The languages of the ballots. */
@@ -200,19 +251,19 @@ export class Judgement {
     }
 
     /** What steps do to a copy of a side; null if it is not JSON. */
-    preparation({ index, steps }) {
+    preparation({ index, steps }, tell) {
         const preparing = this.preparing(index);
-        return preparing === null ? null : preparing.told(steps);
+        return preparing === null ? null : preparing.told(steps, tell);
     }
 
     /** The copy on which these steps were done. */
-    preparedCopy({ index, steps }) {
-        return this.preparing(index).copied(steps, this.sides[index].file.name);
+    preparedCopy({ index, steps }, tell) {
+        return this.preparing(index).copied(steps, this.sides[index].file.name, tell);
     }
 
     /** Each change of these steps, as JSON. */
-    preparedChanges({ index, steps }) {
-        return this.preparing(index).changes(steps);
+    preparedChanges({ index, steps }, tell) {
+        return this.preparing(index).changes(steps, tell);
     }
 
     preparing(index) {

@@ -1,12 +1,8 @@
 // Why two texts that differ look alike: docs/FIXES.md, "Differences that people don't see".
+import { LIKE_LATIN, LIKE_PLAIN } from './confusables.mjs';
 
-// Letters of other alphabets that look like Latin ones, each behind the Latin letter. Only letters that most fonts draw alike.
-const LIKE_LATIN = {
-    A: 'АΑ', B: 'ВΒ', C: 'СϹ', E: 'ЕΕ', H: 'НΗ', I: 'ІΙ', J: 'Ј', K: 'КΚ', M: 'МΜ', N: 'Ν', O: 'ОΟ', P: 'РΡ', S: 'Ѕ', T: 'ТΤ', X: 'ХΧ',
-    Y: 'ҮΥ', Z: 'Ζ',
-    a: 'а', c: 'сϲ', d: 'ԁ', e: 'е', h: 'һ', i: 'і', j: 'ј', o: 'оο', p: 'рρ', s: 'ѕ', x: 'х', y: 'у', v: 'ν', w: 'ԝ',
-};
-const LATIN = new Map(Object.entries(LIKE_LATIN).flatMap(([letter, others]) => [...others].map((other) => [other, letter])));
+const LATIN = new Map(pairsOf(LIKE_LATIN));
+const SHAPES = new Map(pairsOf(LIKE_PLAIN));
 const IGNORED = /[\p{Default_Ignorable_Code_Point}\p{Cf}]/gu;
 const QUOTES = /[‘’‚‛′`´]/g;
 const DOUBLE_QUOTES = /[“”„‟″]/g;
@@ -18,12 +14,13 @@ const WAYS = [
     ['hidden', (text) => text.replace(IGNORED, '')],
     ['blanks', (text) => text.replace(/\s+/g, ' ').trim()],
     ['letters', (text) => text.replace(/./gu, (letter) => LATIN.get(letter) ?? letter)],
+    ['shapes', (text) => text.replace(/./gu, (letter) => SHAPES.get(letter) ?? letter)],
     ['marks', (text) => text.replace(QUOTES, "'").replace(DOUBLE_QUOTES, '"').replace(DASHES, '-')],
 ];
 
 /**
  * Why two different texts look alike; an empty list if they don't.
- * @returns {('spelling' | 'hidden' | 'blanks' | 'letters' | 'marks')[]}
+ * @returns {('spelling' | 'hidden' | 'blanks' | 'letters' | 'shapes' | 'marks')[]}
  */
 export function whyAlike(left, right) {
     if (left === right || plain(left) !== plain(right)) {
@@ -31,6 +28,10 @@ export function whyAlike(left, right) {
     }
     const found = WAYS.filter(([, way]) => differsIn(way, left, right)).map(([key]) => key);
     return found.length > 0 ? found : ['spelling'];
+}
+
+function pairsOf(table) {
+    return Object.entries(table).flatMap(([one, others]) => [...others].map((other) => [other, one]));
 }
 
 function plain(text) {

@@ -2,6 +2,7 @@
 import { showTroubles } from './attempts.mjs';
 import { Choice } from './choice.mjs';
 import { Cancelled, Client } from './client.mjs';
+import { offerDocuments } from './documents.mjs';
 import { button, element, saidWith, theirs } from './dom.mjs';
 import { embedded, offerLicences } from './embedded.mjs';
 import { firstLanguage, offerLanguages, useLanguage } from './languages.mjs';
@@ -48,6 +49,7 @@ class Page {
         offerLanguages($('language'), Object.keys(this.data.texts), document.documentElement.lang, (language) => this.speak(language));
         this.choice.begin();
         offerLicences($('licences'));
+        offerDocuments();
         $('cancel').addEventListener('click', () => this.cancel());
         $('prefer').addEventListener('change', ({ target }) => this.preferred(target));
         showTroubles($('trouble'));
@@ -197,7 +199,7 @@ class Page {
 
     // Judges the same files again, with another worker if this one could not begin.
     again() {
-        this.client.mend();
+        this.client.renew();
         this.judge();
     }
 

@@ -8,7 +8,7 @@ const ESCAPES = { '&': '&amp;', '<': '&lt;', '>': '&gt;', '"': '&quot;', "'": '&
  */
 export async function sumOfPage({ template, texts, version, language }) {
     const parts = { language, version, policy: document.querySelector('meta[http-equiv]').content, style: document.querySelector('style').textContent };
-    for (const [name, id] of [['tables', 'tables'], ['wasm', 'wasm'], ['examples', 'examples-data'], ['licences', 'licences-data'],
+    for (const [name, id] of [['tables', 'tables'], ['wasm', 'wasm'], ['examples', 'examples-data'], ['licences', 'licences-data'], ['documents', 'documents-data'],
         ['worker', 'worker'], ['script', 'script']]) {
         parts[name] = document.getElementById(id).textContent;
     }

@@ -1,10 +1,15 @@
 // Prepares a copy of a refused file: the steps that apply, what each would change, and what is done with the copy.
+import { Cancelled } from './client.mjs';
+import { documentButton } from './documents.mjs';
 import { button, element, saidWith, save, theirs } from './dom.mjs';
 import { where } from './faults.mjs';
 import { sumShown } from './sums.mjs';
 import { numberText, say, sayIfKnown } from './texts.mjs';
 
 const GROUPS = ['taken', 'chosen', 'seen'];
+
+/** How many milliseconds an answer may take before its progress is shown. */
+const BEFORE_PROGRESS = 300;
 
 // What is known of each copy that this page has made: the name and the sum of its file, and the steps.
 const COPIES = new WeakMap();
@@ -28,19 +33,20 @@ export class CopyMaker {
 
     section() {
         const heading = `prepare-${this.index}`;
-        const begin = button(say('prepare.begin'), () => this.show(null), { class: 'main', id: `prepare-begin-${this.index}` });
-        this.body.append(element('p', {}, begin));
+        this.body.append(this.beginning());
         return element('section', { class: 'prepare screen', 'aria-labelledby': heading },
             element('h3', { id: heading }, saidWith('prepare.heading', { name: theirs(this.name) })),
-            element('p', {}, say('prepare.note')), this.body);
+            element('p', {}, say('prepare.note')), this.body, element('p', { class: 'note' }, say('prepare.letter'), ' ', documentButton('letter')));
     }
 
     /** Asks what these steps do, and shows it. The focus stays where it was. */
     async show(names, focus = null) {
-        this.body.setAttribute('aria-busy', 'true');
-        const steps = await this.client.ask('preparation', { index: this.index, steps: names }).catch(() => undefined);
-        this.body.setAttribute('aria-busy', 'false');
+        const steps = await this.asked('preparation', { index: this.index, steps: names }).catch((error) => (error instanceof Cancelled ? error : undefined));
         this.body.dataset.shown = String(Number(this.body.dataset.shown) + 1);
+        if (steps instanceof Cancelled) {
+            this.cancelled();
+            return;
+        }
         if (!steps?.length) {
             const why = steps === undefined ? 'sentence.failed' : steps === null ? 'prepare.notJson' : 'prepare.none';
             this.body.replaceChildren(element('p', { tabindex: '-1' }, say(why)));
@@ -50,6 +56,34 @@ export class CopyMaker {
         const groups = GROUPS.map((group) => this.group(group, steps.filter((step) => step.group === group)));
         this.body.replaceChildren(...groups.filter((group) => group !== null), this.buttons(steps.some(({ chosen, count }) => chosen && count > 0)));
         (document.getElementById(focus) ?? this.body.querySelector('input'))?.focus();
+    }
+
+    beginning() {
+        return element('p', {}, button(say('prepare.begin'), () => this.show(null), { class: 'main', id: `prepare-begin-${this.index}` }));
+    }
+
+    cancelled() {
+        this.body.replaceChildren(element('p', {}, say('trouble.cancelled')), this.beginning());
+        this.body.querySelector('button').focus();
+    }
+
+    // Asks the worker. What takes long shows how far it is, with a button that ends it.
+    async asked(kind, question) {
+        const stage = element('span', { id: `prepare-stage-${this.index}` }, say('progress.start'));
+        const meter = element('progress', { max: '1', 'aria-labelledby': stage.id });
+        const shown = element('p', { class: 'prepare-progress' }, stage, ' ', meter, ' ', button(say('progress.cancel'), () => this.client.cancel(), { class: 'small' }));
+        const waiting = setTimeout(() => this.body.prepend(shown), BEFORE_PROGRESS);
+        this.body.setAttribute('aria-busy', 'true');
+        try {
+            return await this.client.ask(kind, question, ({ stage: key, name, done, total }) => {
+                stage.textContent = say(`progress.${key}`, { name: name === undefined ? this.name : say(`step.${name}`) });
+                meter.value = total > 0 ? done / total : 0;
+            });
+        } finally {
+            clearTimeout(waiting);
+            shown.remove();
+            this.body.setAttribute('aria-busy', 'false');
+        }
     }
 
     group(group, steps) {
@@ -75,7 +109,7 @@ export class CopyMaker {
         return element('p', { class: 'buttons' },
             button(say('prepare.check'), () => this.check(), { class: 'main', id: `prepare-check-${this.index}`, disabled: !isChanged }),
             button(say('prepare.save'), async () => save(await this.copy(), this.copyName), { disabled: !isChanged }),
-            button(say('prepare.saveChanges'), async () => save(new Blob([await this.client.ask('preparedChanges', this.question())]),
+            button(say('prepare.saveChanges'), async () => save(new Blob([await this.asked('preparedChanges', this.question())]),
                 `${this.copyName.replace(/\.json$/, '')}.changes.json`), { disabled: !isChanged }));
     }
 
@@ -88,7 +122,7 @@ export class CopyMaker {
     }
 
     async copy() {
-        const { bytes, ...known } = await this.client.ask('preparedCopy', this.question());
+        const { bytes, ...known } = await this.asked('preparedCopy', this.question());
         const copy = new File([bytes], this.copyName, { type: 'application/json' });
         COPIES.set(copy, known);
         return copy;

@@ -16,6 +16,9 @@ const LONGEST_VALUE = 200;
 const MOST_SAVED = 20_000_000;
 const LONGEST_SAVED = 2000;
 
+// The steps in their order but for the first one, which acts on bytes.
+const TREE_STEPS = STEPS.slice(1).map(({ name }) => name);
+
 /** Keeps of the first changes what a reader calls their places. */
 class TitledChanges extends Changes {
     constructor(tree) {
@@ -60,16 +63,19 @@ export class Preparing {
     }
 
     // The worker may have begun anew since these steps were done.
-    #do(names) {
+    #do(names, tell) {
         if (this.names !== names.join()) {
-            this.told(names);
+            this.told(names, tell);
         }
     }
 
-    /** Does these steps, or the usual ones, and tells what each does and what the others would do. */
-    told(names) {
+    /** Does these steps, or the usual ones, and tells what each does and what the others would do. `tell` is told which step is done now. */
+    told(names, tell = () => {}) {
         const kept = new Map();
+        let at = 0;
         const changesOf = (tree) => {
+            tell({ stage: 'step', name: TREE_STEPS[at], done: at, total: TREE_STEPS.length });
+            at++;
             const changes = new TitledChanges(tree);
             kept.set(changes.made, changes.trails);
             return changes;
@@ -82,15 +88,15 @@ export class Preparing {
     }
 
     /** The copy of a file of this name on which these steps were done, with the mark that says so, and the sum of the file. */
-    async copied(names, name) {
-        this.#do(names);
+    async copied(names, name, tell) {
+        this.#do(names, tell);
         const origin = { name, original: await sha256(this.bytes), steps: this.done.map((step) => ({ name: step.name, count: step.made.length })) };
         return { ...origin, bytes: withMark(this.copy, origin) };
     }
 
     /** Each change of these steps, as JSON in pieces. Texts are cut that are longer than a reader needs, and so is a list that is. */
-    changes(names) {
-        this.#do(names);
+    changes(names, tell) {
+        this.#do(names, tell);
         const pieces = [];
         let length = 0;
         for (const { name, made } of this.done) {

@@ -1,4 +1,4 @@
-// What is wrong with files that are refused or not JSON. What helps to mend a refused file stands here too, a section each.
+// What is wrong with files that are refused or not JSON. What helps to fix a refused file stands here too, a section each.
 import { element, saidWith, theirs } from './dom.mjs';
 import { excerptShown } from './excerpts.mjs';
 import { FaultCards, paragraphs } from './faults.mjs';
@@ -26,6 +26,6 @@ function notJson({ why, line, column, excerpt }, name, index, fix) {
         element('h3', { id: heading }, saidWith('notJson.heading', { name: theirs(name) })),
         element('p', {}, say(`notJson.${why}`)), where,
         excerpt === undefined ? null : excerptShown(excerpt, () => Promise.resolve(new Uint8Array(0))),
-        element('details', {}, element('summary', {}, say('faults.mend')), ...paragraphs(fix.mending),
+        element('details', {}, element('summary', {}, say('faults.fix')), ...paragraphs(fix.fixing),
             element('p', { class: 'label' }, say('faults.origin')), ...paragraphs(fix.origin)));
 }

@@ -1,7 +1,10 @@
 // What the page shows of one judgement: the verdict as soon as it is there, and then all that follows from it.
+import { attempted } from './attempts.mjs';
 import { BallotList } from './ballot_list.mjs';
+import { BallotSentences } from './ballot_sentences.mjs';
+import { cardOf } from './card.mjs';
 import { firstDifference, useExplanations } from './comparison.mjs';
-import { differenceList, typeOffer } from './difference_list.mjs';
+import { differenceList, ownOffer, ownSentence, typeOffer } from './difference_list.mjs';
 import { button, element, saidWith, theirs } from './dom.mjs';
 import { differencesFiled, faultsFiled, MOST_FILED } from './findings.mjs';
 import { envelopeTable, fileNotices, notesNotice, sameBytesNotice } from './notices.mjs';
@@ -13,7 +16,10 @@ import { say } from './texts.mjs';
 import { banner, sentencesOn, verdictOf } from './verdict.mjs';
 
 /** The parts of a result, in their order. */
-const PARTS = ['verdict', 'notices', 'copies', 'seen', 'offer', 'differences', 'troubles', 'ballots', 'note', 'record'];
+const PARTS = ['verdict', 'notices', 'copies', 'seen', 'sentences', 'offer', 'differences', 'troubles', 'card', 'ballots', 'note', 'record'];
+
+/** The bytes of a canonical form from which on the card is made only when it is opened. */
+const LARGE = 10_000_000;
 
 export class Result {
     /**
@@ -64,6 +70,7 @@ export class Result {
         this.showCopies();
         await this.showRecord();
         this.showBallots();
+        await this.showCard();
         if (this.answer.comparison?.first) {
             await this.list();
         }
@@ -73,6 +80,27 @@ export class Result {
     showBallots() {
         if (this.sums.every(({ canonical }) => canonical !== undefined)) {
             this.put('ballots', new BallotList(this.client, { files: this.names.length, tell: this.tell }).section());
+        }
+    }
+
+    // What one accepted file has.
+    async showCard() {
+        const [sums] = this.sums;
+        if (this.sums.length === 1 && sums.canonical !== undefined) {
+            const card = await cardOf({ client: this.client, tell: this.tell, sums, isLarge: sums.canonical.size > LARGE });
+            if (this.isCurrent()) {
+                this.put('card', card);
+            }
+        }
+    }
+
+    // What differs on the ballots, in sentences.
+    async showSentences() {
+        if (this.listed.seen?.ballots.differing > 0) {
+            const section = await new BallotSentences(this.client, this.tell).section();
+            if (this.isCurrent()) {
+                this.put('sentences', section);
+            }
         }
     }
 
@@ -88,12 +116,35 @@ export class Result {
             return;
         }
         this.put('seen', this.listed.seen === null ? null : seenBox(this.listed));
+        await this.showSentences();
         this.put('differences', firstDifference(this.listed.first, this.names), await differenceList(this.client, this.listed, this.names));
         await this.showRecord();
         const better = await this.client.ask('betterType', { types: this.types }, this.tell);
         if (this.isCurrent()) {
             this.put('offer', better === null ? null : typeOffer(better, this.prefers));
+            await this.offerOwnView();
         }
+    }
+
+    // A view without the identifiers that only one file has. It stands below the verdict, and in the record.
+    async offerOwnView() {
+        const types = await this.client.ask('ownTypes', {}, this.tell);
+        const offer = types === null || !this.isCurrent() ? null : ownOffer(types, this.names, () => attempted(this.parts.offer, () => this.showOwnView()));
+        if (offer !== null) {
+            this.parts.offer.append(offer);
+        }
+    }
+
+    async showOwnView() {
+        this.ownView = await this.client.ask('ownView', {}, this.tell);
+        if (!this.isCurrent()) {
+            return;
+        }
+        this.parts.offer.querySelector('.own-offer')?.remove();
+        this.parts.verdict.append(element('section', { class: 'notice own-view', 'aria-labelledby': 'own-view' },
+            element('h3', { id: 'own-view', tabindex: '-1' }, ownSentence(this.ownView)), element('p', {}, say('own.note'))));
+        document.getElementById('own-view').focus();
+        await this.showRecord();
     }
 
     // What stands right below the verdict, and the envelopes behind it.
@@ -116,6 +167,7 @@ export class Result {
             files: this.answer.files.map((file, index) => ({ ...file, ...this.sums[index], copied: this.originOf(index) })),
             names: this.names, prefer: this.prefer,
             version: this.data.version, pageSum: this.data.pageSum, verdict: this.verdictShown.title, date: this.date, findings, listed: this.listed,
+            ownView: this.ownView,
             notices: [...this.parts.notices.querySelectorAll('h3')].map((heading) => heading.cloneNode(true).childNodes),
         }, this.client));
     }

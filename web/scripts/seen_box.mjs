@@ -1,6 +1,7 @@
 // Whether a voter sees any difference, in a box of its own: it is told from the ballots that the page shows, and from a table of the
 // profile of what they leave out.
 import { memberWords } from './comparison.mjs';
+import { documentButton } from './documents.mjs';
 import { element, saidWith } from './dom.mjs';
 import { say } from './texts.mjs';
 
@@ -21,7 +22,7 @@ export function seenBox(listed) {
     return element('section', { class: `seen ${isQuiet ? 'quiet' : 'touched'}`, 'aria-labelledby': 'seen' },
         element('h3', { id: 'seen' }, seenSentence(listed)), ...leftOutShown(leftOut),
         unseen === 0 ? null : element('p', {}, say('seen.count.unseen', { count: unseen }), ' ', say('seen.of', { count })),
-        element('p', { class: 'note' }, say('seen.note')));
+        element('p', { class: 'note' }, say('seen.note'), ' ', documentButton('profile')));
 }
 
 /** What the ballots of the page leave out, and a voter may see. */

@@ -22,7 +22,7 @@ export function piecesOfBoth(left, right) {
 }
 
 /**
- * Both texts as one, with words that were taken out before those that came in.
+ * Both texts as one, with words that were removed before those that came in.
  * @returns {{text: string, mark: '' | 'removed' | 'added'}[]}
  */
 export function mergedText(left, right) {

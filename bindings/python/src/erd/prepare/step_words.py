@@ -5,7 +5,7 @@ from __future__ import annotations
 from typing import Dict, Tuple
 
 GROUP_WORDS = {
-    'taken': 'Taken out: no ballot has it',
+    'taken': 'Removed: no ballot has it',
     'chosen': 'Written: what a voter sees stays as it is',
     'seen': 'Changes what a voter sees',
 }
@@ -14,12 +14,12 @@ GROUP_WORDS = {
 STEP_WORDS: Dict[str, Tuple[str, str, str]] = {
     'byte-order-mark': (
         'A byte order mark',
-        'Takes out the three bytes that Windows programs write before a file.',
+        'Removes the three bytes that Windows programs write before a file.',
         'Nothing is lost.',
     ),
     'nulls': (
         'Members without a value',
-        'Takes out each member whose value is null.',
+        'Removes each member whose value is null.',
         'Lost: that the export wrote null there.',
     ),
     'class-names': (
@@ -40,22 +40,22 @@ STEP_WORDS: Dict[str, Tuple[str, str, str]] = {
     ),
     'outside': (
         'Groups of offices, administration, registration',
-        'Takes out OfficeGroup, ElectionAdministration and PartyRegistration.',
+        'Removes OfficeGroup, ElectionAdministration and PartyRegistration.',
         'Lost: who runs elections in a unit, how many voters it has, and how offices are sorted for display.',
     ),
     'counts': (
         'Vote counts of zero',
-        'Takes out VoteCounts and OtherCounts in which every number is zero.',
+        'Removes VoteCounts and OtherCounts in which every number is zero.',
         'Nothing is lost. Counts that are not zero stay: ask where they come from.',
     ),
     'devices': (
         'Machines among the units',
-        'Takes each ReportingDevice out of the units, and out of the lists of units.',
+        'Removes each ReportingDevice from the units, and from the lists of units.',
         'Lost: which machines count the ballots.',
     ),
     'coordinates': (
         'Coordinates',
-        'Takes out each LatLng.',
+        'Removes each LatLng.',
         'Lost: where on the map a place is.',
     ),
     'whole-numbers': (
@@ -65,7 +65,7 @@ STEP_WORDS: Dict[str, Tuple[str, str, str]] = {
     ),
     'stray-ids': (
         'System names where none belongs',
-        'Takes out each "@id" of an object to which nothing can refer, such as an election.',
+        'Removes each "@id" of an object to which nothing can refer, such as an election.',
         'Nothing is lost: system names count for nothing.',
     ),
     'vendor-identifiers': (
@@ -80,32 +80,32 @@ STEP_WORDS: Dict[str, Tuple[str, str, str]] = {
     ),
     'empty-lists': (
         'Lists without an entry',
-        'Takes out each member whose value is an empty list.',
+        'Removes each member whose value is an empty list.',
         'Lost, in members that erd does not know: that there was a list.',
     ),
     'empty-texts': (
         'Texts without a translation',
-        'Takes out each text that has no translation and that the standard does not require.',
+        'Removes each text that has no translation and that the standard does not require.',
         'Lost: that there was such a text.',
     ),
     'repeated': (
         'Entries that a list has twice',
-        'Takes out each entry that is the same as an earlier one.',
+        'Removes each entry that is the same as an earlier one.',
         'Look into the source: another entry may have been meant.',
     ),
     'gone-candidates': (
         'Lines of candidates who are gone',
-        'Takes out each line whose candidates are no longer in the file, on the ballots too.',
+        'Removes each line whose candidates are no longer in the file, on the ballots too.',
         'A voter no longer sees these lines.',
     ),
     'unused-styles': (
         'Ballot styles of no unit',
-        'Takes out each ballot style whose list of units is empty.',
+        'Removes each ballot style whose list of units is empty.',
         'If a precinct was forgotten, its ballot is gone.',
     ),
     'unused-persons': (
         'Persons to whom nothing refers',
-        'Takes out each person whom no candidate, office, party or unit names.',
+        'Removes each person whom no candidate, office, party or unit names.',
         'Lost: these persons. Most of them ran the election.',
     ),
     'county-codes': (
@@ -115,7 +115,7 @@ STEP_WORDS: Dict[str, Tuple[str, str, str]] = {
     ),
     'shared-codes': (
         'Codes that several objects share',
-        'Takes out a code that several objects have, such as the FIPS code of the county, where an object has a code of its '
+        'Removes a code that several objects have, such as the FIPS code of the county, where an object has a code of its '
         'own.',
         'Lost: the shared code of these objects.',
     ),

@@ -1,0 +1,112 @@
+// What a file has: how many objects of each kind, which ballot styles each precinct has, and contests that no ballot has. It is the page's
+// own reading of the canonical form.
+import { orderForReader } from './texts.mjs';
+import { textOfTriple } from './values.mjs';
+
+const PRECINCTS = new Set(['precinct', 'split-precinct', 'combined-precinct']);
+
+/** The most names of a list that are told at once, and the most units around a precinct that are looked at. */
+const MOST_NAMED = 50;
+const MOST_AROUND = 200;
+const MOST_STYLES = 20;
+
+export class Overview {
+    /** @param {import('./meaning.mjs').Meaning} meaning */
+    constructor(meaning) {
+        this.meaning = meaning;
+        this.rows = precinctsOf(meaning);
+        this.groups = { all: this.rows, none: this.rows.filter(({ count }) => count === 0), several: this.rows.filter(({ several }) => several) };
+    }
+
+    /** The counts of objects and of precincts, and the contests that no ballot has. */
+    told() {
+        const counts = Object.fromEntries([...this.meaning.things].map(([part, things]) => [part, things.size]));
+        const groups = Object.fromEntries(Object.entries(this.groups).map(([name, rows]) => [name, rows.length]));
+        const unlisted = unlistedContests(this.meaning);
+        return { counts, precincts: groups, unlisted: { count: unlisted.length, names: unlisted.slice(0, MOST_NAMED) } };
+    }
+
+    /** Some precincts of a group, each with the codes of its ballot styles. */
+    precincts({ group, from, count }) {
+        return this.groups[group].slice(from, from + count);
+    }
+}
+
+// The precincts that have no precinct in them, by name. A ballot style is for a precinct if it names it or a unit around it.
+function precinctsOf(meaning) {
+    const units = [...meaning.things.get('unit').values()];
+    const around = aroundOf(meaning, units);
+    const styles = stylesByUnit(meaning);
+    const isOuter = (unit) => (unit.object.ComposingGpUnitIds ?? []).some((reference) => isPrecinct(meaning.named.get(reference)));
+    return units.filter((unit) => isPrecinct(unit) && !isOuter(unit)).map((unit) => rowOf(unit, stylesOf(unit, around, styles)))
+        .sort((one, other) => orderForReader(one.name, other.name) || orderForReader(one.code, other.code));
+}
+
+function isPrecinct(unit) {
+    return PRECINCTS.has(unit.object.Type);
+}
+
+function rowOf(unit, styles) {
+    const codes = styles.map((style) => textOfTriple(style.key));
+    return { name: unit.title ?? '', code: textOfTriple(unit.key), count: styles.length, codes: codes.slice(0, MOST_STYLES), several: isRepeated(styles) };
+}
+
+// Two ballot styles of one election for the same parties: nothing says which one a voter gets.
+function isRepeated(styles) {
+    const kinds = styles.map(({ election, object }) => JSON.stringify([election, [...object.PartyIds ?? []].sort()]));
+    return new Set(kinds).size < kinds.length;
+}
+
+// The units of which each unit is a part.
+function aroundOf(meaning, units) {
+    const around = new Map();
+    for (const unit of units) {
+        for (const reference of unit.object.ComposingGpUnitIds ?? []) {
+            const part = meaning.named.get(reference);
+            around.set(part, [...around.get(part) ?? [], unit].slice(0, MOST_AROUND));
+        }
+    }
+    return around;
+}
+
+function stylesByUnit(meaning) {
+    const styles = new Map();
+    for (const style of meaning.things.get('style').values()) {
+        for (const reference of style.object.GpUnitIds) {
+            const unit = meaning.named.get(reference);
+            const there = styles.get(unit) ?? [];
+            there.push(style);
+            styles.set(unit, there);
+        }
+    }
+    return styles;
+}
+
+// The ballot styles of a unit and of all that is around it.
+function stylesOf(unit, around, styles) {
+    const found = new Set();
+    const seen = new Set([unit]);
+    for (const one of seen) {
+        (styles.get(one) ?? []).slice(0, MOST_AROUND).forEach((style) => found.add(style));
+        if (seen.size < MOST_AROUND) {
+            (around.get(one) ?? []).forEach((outer) => seen.add(outer));
+        }
+    }
+    return [...found];
+}
+
+// The contests that no ballot has, by name.
+function unlistedContests(meaning) {
+    const listed = new Set();
+    for (const { object } of meaning.things.get('style').values()) {
+        const waiting = [object.OrderedContent ?? []];
+        while (waiting.length > 0) {
+            for (const { ContestId, OrderedContent } of waiting.pop()) {
+                listed.add(ContestId);
+                waiting.push(OrderedContent ?? []);
+            }
+        }
+    }
+    return [...meaning.things.get('contest').values()].filter(({ object }) => !listed.has(object['@id']))
+        .map((contest) => ({ name: contest.title ?? '', code: textOfTriple(contest.key) })).sort((one, other) => orderForReader(one.name, other.name));
+}
