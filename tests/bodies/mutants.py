@@ -43,6 +43,7 @@ PARTS = [f'node tests/page/{name}.mjs' for name in ('parts', 'lines', 'words', '
 AREAS = {
     'bindings/python/src/erd/prepare/*.py': [*STEPS, PYTEST + 'test_prepare.py'],
     'bindings/python/src/erd/prepare/steps/*.py': STEPS,
+    'bindings/python/src/erd/from_xml/*.py': [PYTEST + 'test_from_xml.py'],
     'bindings/python/src/erd/*.py': [*(PYTEST + f'test_{name}.py' for name in ('calls', 'resume', 'suite', 'commands', 'many')), LINES],
     'bindings/js/lib/prepare/*.mjs': [MODULE, *STEPS],
     'bindings/js/lib/prepare/steps/*.mjs': STEPS,
