@@ -1,7 +1,7 @@
 # `make erd` proves and builds the program, `make demo` shows its first run, and `make try FILE=..` runs it on a file with no
-# proof; `make test` is the gate; `make edits` tries all wrong bodies, of which the gate tries some; `make agree` compares the
-# program with the reference program on N random reports and pairs, and `make fuzz` gives the C library random inputs; `make
-# bench`, `make bench-instructions` and `make bench-hostile` measure the program.
+# proof; `make test` is the gate; `make edits` tries all wrong bodies, of which the gate tries some, and `make mutants` small
+# mistakes at random; `make agree` compares the program with the reference program on N random reports and pairs, and `make
+# fuzz` gives the C library random inputs; `make bench`, `make bench-instructions` and `make bench-hostile` measure the program.
 # `make install` and `make uninstall` put it on this machine and take it away; `make deb` and `make release` make files to hand
 # on; `make library` makes the C library, `make portable` the library for other machines, `make page` the page, and `make same`
 # builds again and compares, and `make site` makes the pages as HTML. docs/INSTALL.md describes these.
@@ -29,7 +29,7 @@ SCRIPTS = $(wildcard contrib/*)
 # Stops where one of these tools is missing, and names the package that has it.
 needs = @packaging/needed.sh $(1)
 
-.PHONY: demo try test edits agree bench bench-instructions bench-hostile round-trip fuzz install uninstall deb tarball release library portable page javascript profiled same site
+.PHONY: demo try test edits mutants agree bench bench-instructions bench-hostile round-trip fuzz install uninstall deb tarball release library portable page javascript profiled same site
 
 erd: $(SOURCES)
 	$(call needs,rt cc cmp)
@@ -54,6 +54,12 @@ try:
 edits:
 	$(call needs,rt python3)
 	@tests/bodies/try_wrong.py $(or $(strip $(CRATE) $(LIST)),bodies lines)
+
+# N=.. small mistakes at random where nothing is proved, by SEED=.., in FILE=.. or in all files, for as many minutes as
+# MINUTES=.. says.
+mutants: erd portable
+	$(call needs,python3 node)
+	@tests/bodies/mutants.py --number $(or $(N),100) $(if $(SEED),--seed $(SEED)) $(if $(MINUTES),--minutes $(MINUTES)) $(FILE)
 
 agree: erd
 	$(call needs,python3)

@@ -12,6 +12,7 @@ from() {
     cmp) echo "in Debian's package diffutils" ;;
     dpkg-deb) echo "in Debian's package dpkg" ;;
     dpkg-shlibdeps) echo "in Debian's package dpkg-dev" ;;
+    node) echo "in Debian's package nodejs" ;;
     sha256sum) echo "in Debian's package coreutils" ;;
     *) echo "in Debian's package $1" ;;
     esac

@@ -28,6 +28,8 @@ if command -v npm > /dev/null; then
     rm "$package"
     run packaging/portable/javascript.sh
     equal 'the same bytes each time' "$(sha256sum < "$package")" "$sum"
+    python3 tests/forms/archives.py "$package" > "$work/archive.log"
+    counted 'what is in the package' "$work/archive.log"
     run in_fresh npm install --silent --offline --no-audit --no-fund "$package"
     expect 'npm install' 0
     erd="$work/fresh/node_modules/.bin/erd"

@@ -26,6 +26,9 @@ last=$(tail -n 1 "$work/log")
 [[ $last =~ ([0-9]+)\ error ]] && failed=$((failed + BASH_REMATCH[1]))
 [ "$status" -eq 0 ] || [ "$failed" -gt 0 ] || { cat "$work/log"; failed=1; }
 
+python3 tests/forms/archives.py out/python/*.whl > "$work/archives.log"
+counted 'what is in the wheels' "$work/archives.log"
+
 # The table of command lines, beside the program.
 if [ -x erd ]; then
     python3 tests/forms/command_lines.py --beside ./erd 'the command' package,python "$work/venv/bin/python" -m erd > "$work/lines.log"

@@ -54,6 +54,8 @@ run env -C "$release" sha256sum --quiet --check --strict SHA256SUMS
 expect_text 'its sums' 0 ''
 equal 'the sums are of every file' "$(sed 's/.*  //' "$release/SHA256SUMS" | tr '\n' ' ')" \
     "$(cd "$release" && LC_ALL=C ls | grep -v SHA256SUMS | tr '\n' ' ')"
+python3 tests/forms/archives.py "$release"/{*.tgz,*.whl,liberd*.deb,liberd-*.tar.gz,*.zip,*-conformance.tar.gz} > "$work/archives.log"
+counted 'what is in the archives' "$work/archives.log"
 run python3 tests/forms/release_bill.py "$release" "$version"
 expect_text 'the bill of materials' 0 ''
 

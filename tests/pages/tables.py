@@ -1,6 +1,7 @@
-"""Holds the tables of the packages against docs/PROFILE.md: the member table, the families, and the words of the reasons; and the options
-of the manual page and of the completions against the help of the program (options.py). With `--write` they are written anew. Each
-stands in its file between a line that begins it and one that ends it.
+"""Holds the tables of the packages against docs/PROFILE.md: the member table, the families, the words of the reasons, and what drives the
+converter from XML (the other half of it is bindings/xml_classes.txt); and the options of the manual page and of the completions against
+the help of the program (options.py). With `--write` they are written anew. Each stands in its file between a line that begins it and one
+that ends it.
 """
 import pathlib
 import sys
@@ -49,7 +50,42 @@ def families(line):
             yield line % (family, ', '.join(f"'{name}'" for name in classes))
 
 
+XML_CLASSES = ROOT / 'bindings' / 'xml_classes.txt'
+# The shape in XML of what the member table has; that of an Outside member stands in the file of the classes.
+SHAPES = {'word': 'text', 'whole': 'whole', 'flag': 'flag', 'one': 'reference', 'many': 'references', 'ordered': 'references',
+          'label': 'label InternationalizedText', 'identifiers': 'objects ExternalIdentifier', 'languages': 'objects LanguageString',
+          'elections': 'objects Election', 'content': 'objects OrderedContest OrderedHeader'}
+
+
+def section_of_xml(name):
+    """The rows of a section of the file of the classes."""
+    section = XML_CLASSES.read_text(encoding='utf-8').split(f'\n[{name}]\n')[1].split('\n[')[0]
+    return [line.split(': ', 1) for line in section.splitlines() if line and not line.startswith('#')]
+
+
+def shape_of(kind, classes_of):
+    word, *family = kind.split(' ')
+    return ' '.join(['objects', *classes_of[family[0]]]) if word == 'keyed' else SHAPES.get(word)
+
+
+def xml_classes():
+    """For each class its members, each with its shape in XML: those of the member table, and those of the schema's other classes."""
+    classes_of = {family: classes for family, classes in families_of_page() if family != 'none'}
+    table = {name: {member: shape_of(kind, classes_of) for part in parts_of_row for member, kind in part.items()}
+             for name, parts_of_row in table_of_page().items()}
+    for name, cells in section_of_xml('classes'):
+        table.setdefault(name, {}).update(cell.split(' ', 1) for cell in cells.split('; '))
+    return table
+
+
+def xml_rows(begin, joint, end):
+    for name, members in xml_classes().items():
+        lines = quoted([f'{member} {shape}' for member, shape in members.items()], joint)
+        yield from [begin % name, *lines[:-1], lines[-1] + end]
+
+
 # The file, the lines that begin and end its table, and the lines of the table.
+FROM_XML = {'python': 'bindings/python/src/erd/from_xml/table.py'}
 PREPARE = {'python': 'bindings/python/src/erd/prepare/member_table.py', 'javascript': 'bindings/js/lib/prepare/member_table.mjs'}
 TABLES = (
     (PREPARE['python'], 'ROWS = {', '}', rows("    '%s': (", '', '),')),
@@ -58,6 +94,9 @@ TABLES = (
     (PREPARE['javascript'], 'export const FAMILIES = {', '};', families('    %s: [%s],')),
     ('bindings/python/src/erd/results.py', 'WORDS = {', '}', (f"    {number}: '{words}'," for number, words in text_of_reasons().items())),
     ('bindings/js/lib/words.mjs', 'const WORDS_OF_REASONS = [', '];', (f"    '{words}'," for words in text_of_reasons().values())),
+    (FROM_XML['python'], 'ROWS = {', '}', xml_rows("    '%s': (", '', '),')),
+    (FROM_XML['python'], 'COLLECTIONS = {', '}', (f"    '{name}': '{held}'," for name, held in section_of_xml('version 1: collections'))),
+    (FROM_XML['python'], 'OLD_NAMES = {', '}', (f"    '{name}': '{new}'," for name, new in section_of_xml('version 1: names'))),
     *options.TABLES,
 )
 

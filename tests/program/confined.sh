@@ -61,21 +61,40 @@ report = json.loads(pathlib.Path('examples/one-unit.json').read_text())
 work.joinpath('deep.json').write_text(json.dumps({**report, 'Extra': deep}))
 END
 printf '#!/bin/sh\nwhile :; do :; done\n' > "$work/spins"
+# A port of this machine on which somebody listens, until the end of this script.
+mkfifo "$work/port"
+python3 -c '
+import socket, sys
+listener = socket.create_server(("127.0.0.1", 0))
+print(listener.getsockname()[1], flush=True)
+sys.stdout.close()
+while True:
+    listener.accept()[0].close()' > "$work/port" &
+listener=$!
+trap 'kill "$listener"; rm -rf "$work"' EXIT
+read -r port < "$work/port"
+
 cat > "$work/writes" << 'END'
 #!/bin/bash
 { echo x > /tmp/erd-was-here; echo x > "$HOME/erd-was-here"; } 2> /dev/null && echo 'it wrote a file'
 for folder in / /tmp /dev /dev/shm /dev/pts /proc /left /usr; do
     { echo x > "$folder/erd-was-here"; } 2> /dev/null && echo "it wrote a file in $folder"
 done
-{ exec 9<> "/dev/tcp/127.0.0.1/$ERD_PORT"; } 2> /dev/null && echo 'it opened a connection'
+{ exec 9<> /dev/tcp/127.0.0.1/PORT; } 2> /dev/null && echo 'it opened a connection'
 [ ! -e /home ] && [ ! -e /etc/passwd ] || echo 'it sees other files'
 exit 0
 END
 printf '#!/bin/sh\nexec yes complaint >&2\n' > "$work/complains"
+sed -i "s/PORT/$port/" "$work/writes"
 chmod +x "$work/spins" "$work/writes" "$work/complains"
 
 export SANDBOX=no
 with_or_without 'limits alone'
+# What reaches nothing in a room does reach something without one.
+{ head -n 1 "$work/writes"; sed -n '/dev\/tcp/,$p' "$work/writes"; } > "$work/connects"
+chmod +x "$work/connects"
+ERD=$work/connects confined 'a program that connects and looks around, without a room' 0 check "$one"
+equal 'what it reached without a room' "$(cat "$work/out")" $'it opened a connection\nit sees other files'
 
 # The limits that docs/LIMITS.md gives for files of 10 MB, on two honest ones without blanks, which take the most.
 python3 tests/reports/larger.py 111 examples/county-general.json | python3 -c '

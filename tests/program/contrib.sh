@@ -64,6 +64,15 @@ for jobs in 1 2 3 7; do
 done
 run contrib/check-folder.sh "$folder/a.json" "$folder/nosuch.json"
 expect_text 'a file that is not there' 3 "$folder/nosuch.json"$'\n  cannot open'
+mkdir "$work/broken"
+ln -s nosuch "$work/broken/a.json"
+cp "$folder/d.json" "$work/broken"
+run contrib/check-folder.sh "$work/broken"
+expect_text 'a folder that begins with a broken link' 3 \
+    "$work/broken/a.json"$'\n  cannot open\n'"$work/broken/d.json"$'\n  /Odd^[/@id: carried identity\n  /Status: not pre-election'
+rm "$work/broken/d.json"
+run contrib/check-folder.sh "$work/broken"
+expect_text 'a folder with a broken link alone' 3 "$work/broken/a.json"$'\n  cannot open'
 run contrib/check-folder.sh "$work/none"
 expect_text 'a folder without definitions' 3 ''
 for words in '' -- '--prefer' '--prefer local-level' '--prefer=' '--prefer= '"$folder" '-x' '--prefr local-level '"$folder"; do
@@ -254,6 +263,13 @@ refused 'a link that becomes a file' ballots/latest.json
 git mv ballots/county.json ballots/renamed.json
 faulty ballots/renamed.json
 refused 'a file of another name' ballots/renamed.json
+mkdir drafts
+git mv ballots/county.json drafts/county.json
+git commit -qm 'Take a definition back'
+git mv drafts/county.json ballots/renamed.json
+sed -i 's/pre-election/certified/' ballots/renamed.json
+refused 'a file that comes from another folder with a fault' ballots/renamed.json
+git reset -q --hard HEAD~1
 rm x.json
 ln -s ballots/county.json x.json
 git add -A
@@ -276,6 +292,36 @@ expect 'a definition may be taken out' 0
 
 # ---- github-workflow.yml: its steps, with the installed folder in place of the package
 steps=$(sed -n 's/^ *run: \(..*\)/\1/p' contrib/github-workflow.yml | grep -v '^|$')
+# Its first step takes the package that was named, and installs it only where it has the sum that was named.
+awk '/^ *run: \|$/ { inside = 1; next } inside && /^      [-#]/ { exit } inside' contrib/github-workflow.yml > "$work/install"
+mkdir "$work/stubs"
+cat > "$work/stubs/curl" << 'END'
+#!/bin/bash
+while [ $# -gt 1 ]; do [ "$1" != --output ] || to=$2; shift; done
+echo "$1" > "$ASKED"
+printf %s "$SERVED" > "$to"
+END
+printf '#!/bin/sh\n[ "$1" = dpkg ] && cp "$3" "$INSTALLED"\n' > "$work/stubs/sudo"
+chmod +x "$work/stubs/curl" "$work/stubs/sudo"
+
+# installs SERVED SHA256: runs the step as GitHub does, where the place of the package hands out these bytes
+installs() {
+    rm -f "$work/asked" "$work/installed"
+    run env PATH="$work/stubs:$PATH" ASKED="$work/asked" INSTALLED="$work/installed" RUNNER_TEMP="$work" SERVED="$1" SHA256="$2" \
+        PACKAGE=https://example.org/erd.deb bash --noprofile --norc -e -o pipefail "$work/install"
+}
+# the sums of `package` and `packagf`, by another program than that of the step
+sum=bc4a71180870f7945155fbb02f4b0a2e3faa2a62d6d31b7039013055ed19869a
+other=bbd88b7f516eb2f903d776043971188d0914d9f74e67967a478401a1fcad6982
+installs package "$sum"
+expect 'the workflow installs a package with its sum' 0
+equal 'what it asked for' "$(cat "$work/asked")" https://example.org/erd.deb
+equal 'what it installed' "$(cat "$work/installed")" package
+for row in "packagf $sum" "package ${sum%?}" "package $other" 'package'; do
+    read -r served told <<< "$row"
+    installs "$served" "$told"
+    said "the workflow installs nothing: $row" "$([ "$status" -ne 0 ] && [ ! -e "$work/installed" ] || echo "status $status, $(ls "$work/installed")")"
+done
 equal 'the last step of the workflow' "$steps" 'sh /usr/share/doc/erd/contrib/check-folder.sh ballots'
 run sh -c "${steps//\/usr\/share\/doc\/erd/.}"
 expect_text 'the workflow over accepted definitions' 0 ''

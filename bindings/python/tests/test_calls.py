@@ -112,7 +112,9 @@ def test_faults_with_long_places_are_fewer(top):
     report = many_faults(top, 'n' * 20000)
     found = erd.check(report)
     assert 50 < len(found.faults) < 60 and found.all_faults == 5000
-    assert found.faults == erd.check(report, most_faults=None).faults[:len(found.faults)]
+    every = erd.check(report, most_faults=None)
+    assert found.faults == every.faults[:len(found.faults)]
+    assert [fault.place[1] for fault in every.faults] == list(range(5000)) and not every.more
 
 
 @pytest.mark.parametrize('most, error', [('5', TypeError), (0.5, TypeError), (-1, ValueError), (2 ** 64, ValueError)])
@@ -132,6 +134,18 @@ def test_differences(top):
     assert erd.differences(left, other, most_differences=0).all_differences == len(found.differences)
     refused = erd.differences(left, b'{')
     assert (refused.refused, refused.lines, refused.status) == ('right', ('right: not JSON',), 2)
+
+
+def test_nothing_listed_is_not_nothing_found(top):
+    # Who asks for no entry of a list learns as much from the status as who asks for all.
+    left = (top / 'examples' / 'county.vendor-a.json').read_bytes()
+    other = left.replace(b'Ingrith Sablewood', b'Ingrid Sablewood')
+    found = erd.differences(left, other, most_differences=0)
+    assert (found.same, bool(found), found.status, found.outcome, found.more, found.lines) == (False, False, 1, 'different', True, ())
+    refused = many_faults(top, 'Remarks')
+    for answer in (erd.check(refused, most_faults=0), erd.canonical(refused, most_faults=0), erd.compare(refused, left, most_faults=0),
+                   erd.compare(left, refused, most_faults=0), erd.differences(refused, left, most_differences=0)):
+        assert (bool(answer), answer.status, answer.outcome) == (False, 1, 'refused')
 
 
 def contests(top, count, note, kind='a'):
@@ -163,6 +177,9 @@ def test_a_list_that_is_longer_than_a_piece(top):
     assert [it.key[2] for it in every.differences] == [f'C-{10000 + index}' for index in range(2500)]
     assert all(len(it.selections) == 1 for it in every.differences)
     assert every.differences[:1000] == some.differences
+    # Here each difference has more than 500 bytes, and a piece has a megabyte.
+    long = erd.differences(*(contests(top, 2500, note, 'a' * 500) for note in (1, 2)), most_differences=None)
+    assert [it.key[2] for it in long.differences] == [f'C-{10000 + index}' for index in range(2500)]
 
 
 def test_names_of_selections_that_are_too_long_together(top):

@@ -1,5 +1,6 @@
 """Many files at once: in processes, on a cluster, and cut off in the middle."""
 
+import contextlib
 import csv
 import io
 import json
@@ -8,8 +9,12 @@ import signal
 import subprocess
 import sys
 import time
+from concurrent.futures.process import BrokenProcessPool
 
 import pytest
+
+from erd import running
+from erd.judging import Row
 
 
 @pytest.fixture
@@ -39,8 +44,11 @@ def run(tmp_path):
 
 
 def rows_by_name(ran):
-    """The rows of a run with --json, by the names of their files."""
-    return {os.path.basename(row['file']): row for row in json.loads(ran.stdout)}
+    """The rows of a run with --json, by the names of their files. No file has two."""
+    rows = json.loads(ran.stdout)
+    found = {os.path.basename(row['file']): row for row in rows}
+    assert len(found) == len(rows)
+    return found
 
 
 def look_at(rows):
@@ -181,6 +189,26 @@ def test_a_process_that_ends_is_a_row(run, ballots, tmp_path, monkeypatch):
     rows = rows_by_name(run('--json', '--jobs', 2, ballots))
     assert rows['empty.json']['verdict'] == 'the process ended'
     assert rows['a.json']['verdict'] == rows['c.json']['verdict'] == 'accepted'
+
+
+def test_each_file_has_one_row_where_a_process_is_lost(monkeypatch):
+    # A process is lost in the second of four tasks, when the rows of the first one have been given.
+    files, runs = [f'{number:02}.json' for number in range(64)], []
+
+    def in_turn(processes, under_way, jobs, judge, tasks, prefer):
+        runs.append(list(tasks))
+        for task in runs[-1]:
+            if len(runs) == 1 and task == runs[0][1]:
+                under_way[None] = task
+                raise BrokenProcessPool
+            yield [judge(file, prefer) for file in task]
+
+    monkeypatch.setattr(running, 'pool', contextlib.nullcontext)
+    monkeypatch.setattr(running, 'in_turn', in_turn)
+    monkeypatch.setattr(running, 'alone', lambda judge, file, prefer: Row(file, 'alone'))
+    rows = list(running.run_here(1, lambda file, prefer: Row(file, prefer), files, 'together'))
+    assert [row.file for row in rows] == files
+    assert [row.file for row in rows if row.verdict == 'alone'] == runs[0][1] == files[16:32]
 
 
 def test_resume(run, top, tmp_path):

@@ -6,7 +6,6 @@ import os
 import pytest
 
 from erd import many
-from erd.judging import judge
 
 FILES = [f'{number}.json' for number in range(6)]
 CUT_AFTER = 3
@@ -26,7 +25,7 @@ class Runs:
             if len(self.judged) == self.cut_after:
                 raise KeyboardInterrupt
             self.judged.append(os.path.basename(file))
-            yield judge(file, prefer)
+            yield judge_one(file, prefer)
 
     def rows(self, *words, cut_after=None):
         """The rows of a run, by the names of their files; none if it was cut off. `judged` has the files that it read."""
@@ -92,7 +91,8 @@ TYPE = ['--prefer', 'local-level']
     (added, [], LEFT + ['7.json']),
     (None, TYPE, FILES),
     (None, ['--pattern', '?.json'], FILES),
-], ids=['none', 'another-size', 'the-same-size', 'the-same-time', 'removed', 'added', 'another-preference', 'another-pattern'])
+    (None, ['--prepare', 'seen'], FILES),
+], ids=['none', 'another-size', 'the-same-size', 'the-same-time', 'removed', 'added', 'another-preference', 'another-pattern', 'other-steps'])
 def test_change(runs, change, words, judged):
     if change is not None:
         change(runs.folder)

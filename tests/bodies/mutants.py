@@ -1,0 +1,183 @@
+#!/usr/bin/env python3
+"""Makes small mistakes in the code that no proof covers, one at a time, and says which of them no test notices.
+
+usage: mutants.py [--number N] [--seed SEED] [--jobs N] [--minutes N] [--most SECONDS] [FILE ..]
+
+It takes N places at random in the files, or in all that AREAS names: a comparison turned, a condition negated, a bound moved by one, a
+statement dropped, a text or two arguments exchanged, what is returned emptied. The tests of the file run on each, the cheapest first, in a
+copy of the repository; the first that fails has caught it. Each command runs once without a mistake first: one that fails then is left out,
+and so is one that takes more than --most seconds. With --minutes no further place is begun after that time. At the end stands a table: for each
+file its sites, how many were tried, and how many of those were caught; and then each survivor. `make erd portable` comes before.
+"""
+import argparse
+import collections
+import concurrent.futures
+import json
+import os
+import pathlib
+import random
+import shlex
+import subprocess
+import sys
+import tempfile
+import threading
+import time
+
+sys.dont_write_bytecode = True
+import python_mutants  # noqa: E402
+from by_scripts import Copy  # noqa: E402
+from wrong_lists import TOP  # noqa: E402
+
+# A mistake that never ends takes no more memory than this. The code of erd.wasm asks for more addresses than that.
+BOUNDED = 'ulimit -v 12000000; '
+PYTEST = (BOUNDED + 'ERD_TOP=$PWD ERD_LIBRARY=$PWD/out/portable/linux-x86_64/liberd.so.0 PYTHONPATH=$PWD/bindings/python/src '
+          '/usr/bin/python3 -m pytest -q -x -p no:cacheprovider bindings/python/tests/')
+LINES = ("python3 tests/forms/command_lines.py --beside ./erd 'python -m erd' package,python env "
+         'ERD_LIBRARY=$PWD/out/portable/linux-x86_64/liberd.so.0 PYTHONPATH=$PWD/bindings/python/src python3 -m erd')
+STEPS = [BOUNDED + f'python3 tests/prepare/steps.py {words}' for words in ('10 1 agreement', '10 1')]
+MODULE = 'node tests/forms/javascript_module.mjs'
+COMMAND = 'cp -n out/portable/erd.wasm bindings/js; node tests/forms/javascript_command.mjs bindings/js'
+PARTS = [f'node tests/page/{name}.mjs' for name in ('parts', 'lines', 'words', 'ballot_words', 'record_words', 'modules')]
+
+# The files, and the commands that try them, the cheapest first.
+AREAS = {
+    'bindings/python/src/erd/prepare/*.py': [*STEPS, PYTEST + 'test_prepare.py'],
+    'bindings/python/src/erd/prepare/steps/*.py': STEPS,
+    'bindings/python/src/erd/*.py': [*(PYTEST + f'test_{name}.py' for name in ('calls', 'resume', 'suite', 'commands', 'many')), LINES],
+    'bindings/js/lib/prepare/*.mjs': [MODULE, *STEPS],
+    'bindings/js/lib/prepare/steps/*.mjs': STEPS,
+    'bindings/js/lib/*.mjs': [MODULE, COMMAND, *PARTS, 'tests/forms/javascript_package.sh'],
+    'web/scripts/*.mjs': [*PARTS, 'tests/page/page.sh flows results ballots', 'tests/page/page.sh notices lines growing voter record filed prepared '
+                          'many named spanish keyboard hostile bounds accessibility'],
+}
+# What is written by a script from its source.
+MADE = ('member_table.py', 'member_table.mjs')
+# A command that takes so many times as long as without a mistake, and so many seconds more, has noticed it.
+TIMES, SECONDS_MORE = 5, 60
+UNTRIED = 'untried'
+
+
+def files_of(names):
+    """The files by the commands that try them."""
+    found = {}
+    for pattern, commands in AREAS.items():
+        for path in sorted(TOP.glob(pattern)):
+            name = str(path.relative_to(TOP))
+            if path.name not in MADE and (not names or name in names):
+                found.setdefault(name, commands)
+    return found
+
+
+def sites_of(files):
+    """The sites of each file: what kind of mistake, where the text stands, and what comes in its place."""
+    scripts = [name for name in files if name.endswith('.mjs')]
+    found = {name: python_mutants.sites((TOP / name).read_text(encoding='utf-8')) for name in files if name.endswith('.py')}
+    if scripts:
+        node = subprocess.run(['node', TOP / 'tests' / 'bodies' / 'javascript_mutants.cjs', *scripts], cwd=TOP, stdout=subprocess.PIPE, check=True)
+        found |= json.loads(node.stdout)
+    return found
+
+
+class Copies:
+    """A copy of the repository for each thread."""
+
+    def __init__(self, room):
+        self.room, self.own = room, threading.local()
+
+    def get(self):
+        if not hasattr(self.own, 'copy'):
+            self.own.copy = Copy(tempfile.mkdtemp(dir=self.room))
+        return self.own.copy
+
+
+def fails(copy, command, most):
+    """Whether a command fails in a copy, or takes more seconds than this."""
+    return copy.run(f'timeout --kill-after=5 {most:.0f} bash -c {shlex.quote(command)}').returncode != 0
+
+
+def measured(copies, threads, commands, most):
+    """The seconds of each of these commands without a mistake. One that fails, or takes longer than `most`, is left out."""
+    def taken(command):
+        begun = time.monotonic()
+        return None if fails(copies.get(), command, most) else time.monotonic() - begun
+
+    found = dict(zip(commands, threads.map(taken, commands)))
+    for command, seconds in found.items():
+        print(f'{"left out" if seconds is None else f"{seconds:6.1f} s"} {command[-110:]}', flush=True)
+    return {command: seconds for command, seconds in found.items() if seconds is not None}
+
+
+def noticed_by(copies, end, name, site, seconds):
+    """The command that notices the mistake, or nothing; UNTRIED where the time is over, or no command is left."""
+    if not seconds or time.monotonic() > end:
+        return UNTRIED
+    copy = copies.get()
+    path, text = copy.top / name, (TOP / name).read_text(encoding='utf-8')
+    path.write_text(text[:site['start']] + site['new'] + text[site['end']:], encoding='utf-8')
+    try:
+        return next((command for command, some in seconds.items() if fails(copy, command, TIMES * some + SECONDS_MORE)), None)
+    finally:
+        path.write_text(text, encoding='utf-8')
+
+
+def told(name, site):
+    """A line for a mistake: its file and line, its kind, and the texts."""
+    text = (TOP / name).read_text(encoding='utf-8')
+    line = text.count('\n', 0, site['start']) + 1
+    old, new = (' '.join(part.split()) for part in (text[site['start']:site['end']], site['new']))
+    return f'{name}:{line}: {site["kind"]}: `{old[:90]}` -> `{new[:90]}`'
+
+
+def table_of(sites, tried, survivors):
+    """The table of the files that were tried, and its sum."""
+    rows = [(name, len(sites[name]), tried[name], tried[name] - len(survivors[name])) for name in sorted(sites) if tried[name]]
+    rows.append(('all', sum(map(len, sites.values())), sum(tried.values()), sum(row[3] for row in rows)))
+    lines = ['| File | Sites | Tried | Caught | Survivors |', '|---|---|---|---|---|']
+    return '\n'.join(lines + [f'| `{name}` | {all_of} | {some} | {caught} | {some - caught} |' for name, all_of, some, caught in rows]) + '\n'
+
+
+def chosen(sites, number, seed):
+    """So many sites of all, each as likely as any other."""
+    every = [(name, site) for name in sorted(sites) for site in sites[name]]
+    return random.Random(seed).sample(every, min(number, len(every)))
+
+
+def main(words):
+    files = files_of(words.files)
+    sites = sites_of(files)
+    picked = chosen(sites, words.number, words.seed)
+    tried, survivors, begun = collections.Counter(), collections.defaultdict(list), time.monotonic()
+    end = begun + 60 * words.minutes
+    with tempfile.TemporaryDirectory(prefix='erd-mutants-') as room, concurrent.futures.ThreadPoolExecutor(words.jobs) as threads:
+        copies = Copies(room)
+        used = list(dict.fromkeys(command for name, _ in picked for command in files[name]))
+        known = measured(copies, threads, used, words.most)
+        own = {name: dict(sorted(((it, known[it]) for it in files[name] if it in known), key=lambda one: one[1])) for name, _ in picked}
+        asked = {threads.submit(noticed_by, copies, end, name, site, own[name]): (name, site) for name, site in picked}
+        for future in concurrent.futures.as_completed(asked):
+            (name, site), by = asked[future], future.result()
+            if by == UNTRIED:
+                continue
+            tried[name] += 1
+            if by is None:
+                survivors[name].append(site)
+            print(f'{"caught  " if by else "SURVIVED"} {told(name, site)}{f" by {by[-60:]}" if by else ""}', flush=True)
+    table = table_of(sites, tried, survivors)
+    left = ''.join(f'- {told(name, site)}\n' for name in sorted(survivors) for site in survivors[name])
+    print(f'\n{table}\n{left}\n{sum(tried.values())} tried with the seed {words.seed} in {time.monotonic() - begun:.0f} s')
+    return 0
+
+
+def parsed():
+    words = argparse.ArgumentParser(description=__doc__.splitlines()[0])
+    words.add_argument('--number', type=int, default=100)
+    words.add_argument('--seed', type=int, default=int(time.time()) // 86400)
+    words.add_argument('--jobs', type=int, default=max(1, (os.cpu_count() or 1) // 2))
+    words.add_argument('--most', type=float, default=1200, metavar='SECONDS')
+    words.add_argument('--minutes', type=float, default=600)
+    words.add_argument('files', nargs='*')
+    return words.parse_args()
+
+
+if __name__ == '__main__':
+    sys.exit(main(parsed()))

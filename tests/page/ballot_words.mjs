@@ -1,0 +1,87 @@
+// Tries that the page's ballots have what a voter needs, on one small report that is written out here: each statement on a
+// measure, each party of a candidate, how votes are counted, and what only one file says of an order. One line for each case
+// that fails; at the end stand the counts.
+import { BallotAnswers } from '../../web/scripts/ballot_answers.mjs';
+import { Meaning } from '../../web/scripts/meaning.mjs';
+import { leftOutOf } from '../../web/scripts/seen.mjs';
+import { counts, equal } from './counted.mjs';
+import { identified, label, typed } from './made.mjs';
+
+const STATEMENTS = {
+    SummaryText: 'A bond for roofs.', FullText: 'The county sells bonds.', ProStatement: 'Roofs leak.', ConStatement: 'Bonds cost more.',
+    EffectOfAbstain: 'It counts for neither side.', PassageThreshold: 'Three fifths',
+};
+
+function report(change = () => {}) {
+    const made = typed('ElectionReport', {
+        GpUnit: [typed('ReportingUnit', { '@id': 'gp1', ExternalIdentifier: identified('U1'), Name: 'East' })],
+        Party: ['Blue', 'Green'].map((name, at) => typed('Party', { '@id': `pa${at}`, ExternalIdentifier: identified(name), Name: name })),
+        Election: [typed('Election', {
+            Name: 'Test', StartDate: '2026-11-03',
+            Candidate: [typed('Candidate', { '@id': 'ca1', ExternalIdentifier: identified('K1'), BallotName: 'Ann', PartyId: 'pa0' }),
+                typed('Candidate', { '@id': 'ca2', ExternalIdentifier: identified('K2'), BallotName: 'Bo', PartyId: 'pa1' })],
+            Contest: [typed('BallotMeasureContest', {
+                '@id': 'co1', ExternalIdentifier: identified('C1'), Name: 'Measure A', VoteVariation: 'super-majority', ...STATEMENTS,
+                ContestSelection: ['Yes', 'No'].map((text) => typed('BallotMeasureSelection', { '@id': `bm${text}`, Selection: label(['en', text]) })) }),
+            typed('CandidateContest', {
+                '@id': 'co2', ExternalIdentifier: identified('C2'), Name: 'Governor', VotesAllowed: 1, VoteVariation: 'rcv',
+                ContestSelection: [typed('CandidateSelection', { '@id': 'cs1', CandidateIds: ['ca1'], EndorsementPartyIds: ['pa0', 'pa1'] }),
+                    typed('CandidateSelection', { '@id': 'cs2', CandidateIds: ['ca2'] })] })],
+            BallotStyle: [typed('BallotStyle', { ExternalIdentifier: identified('S1'), GpUnitIds: ['gp1'], OrderedContent: [
+                typed('OrderedContest', { ContestId: 'co1', OrderedContestSelectionIds: ['bmYes', 'bmNo'] }),
+                typed('OrderedContest', { ContestId: 'co2' })] })],
+        })],
+    });
+    change(made.Election[0]);
+    return new Meaning(made, null);
+}
+
+const key = JSON.stringify(['local-level', '', 'S1']);
+const textsOf = ({ lines }) => lines.map(({ role, texts }) => [role, texts.map(({ pieces }) => pieces.map(({ text }) => text).join('')).join(' / ')]);
+const one = new BallotAnswers([report()]);
+const [measure, governor] = one.ballot({ key }).items;
+
+equal('a measure has each statement, for and against', Object.fromEntries(textsOf(measure).filter(([role]) => Object.hasOwn(STATEMENTS, role))), STATEMENTS);
+equal('its way to vote', textsOf(measure).some(([role, text]) => role === 'variation' && /super-majority|majority/i.test(text)), true);
+equal('its answers in their order', measure.selections.map(textsOf), [[['name', 'Yes']], [['name', 'No']]]);
+equal('how many votes and which way', textsOf(governor).slice(1).map(([role, text]) => [role, /^Vote for 1$|rank/i.test(text)]),
+    [['votes', true], ['variation', true]]);
+equal('each party of a candidate', governor.selections.map(textsOf),
+    [[['name', 'Ann'], ['party', 'Blue'], ['party', 'Green']], [['name', 'Bo'], ['party', 'Green']]]);
+
+// Only one of the files fixes an order.
+const ordered = report((election) => { election.BallotStyle[0].OrderedContent[1].OrderedContestSelectionIds = ['cs1', 'cs2']; });
+const other = report((election) => { election.BallotStyle[0].OrderedContent[1].OrderedContestSelectionIds = ['cs2', 'cs1']; });
+for (const [name, left, right] of [['the right file alone', report(), ordered], ['the left file alone', ordered, report()]]) {
+    const two = new BallotAnswers([left, right]);
+    equal(`an order that ${name} fixes: the ballots differ`, two.seen(), { all: 1, differing: 1, same: 0 });
+    equal(`an order that ${name} fixes: it is told`, two.ballot({ key }).items.map(({ ordered: isOrder }) => isOrder), [true, false]);
+}
+const two = new BallotAnswers([ordered, other]);
+equal('another order: the ballots differ', two.seen(), { all: 1, differing: 1, same: 0 });
+equal('another order: one of two has moved', two.ballot({ key }).items[1].selections.filter(({ mark }) => mark === 'moved').length, 1);
+equal('the same order: the ballots are the same', new BallotAnswers([ordered, ordered]).seen(), { all: 1, differing: 0, same: 1 });
+
+// What one file lacks of all that, the other one shows as gone.
+const LACKING = [['ConStatement', 0, 'ConStatement'], ['ProStatement', 0, 'ProStatement'], ['VoteVariation', 1, 'variation'], ['VotesAllowed', 1, 'votes']];
+for (const [name, at, role] of LACKING) {
+    const answers = new BallotAnswers([report(), report((election) => { delete election.Contest[at][name]; })]);
+    equal(`without ${name}: the ballots differ`, answers.seen().differing, 1);
+    const line = answers.ballot({ key }).items[at].lines.find((some) => some.role === role);
+    equal(`without ${name}: it is marked`, line.texts.flatMap(({ pieces }) => pieces.map(({ mark }) => mark)), ['removed']);
+}
+
+// A difference that the ballots show is not told as left out, and each other one that a voter may see is.
+const ON_BALLOTS = {
+    contest: ['Name', 'BallotTitle', 'BallotSubTitle', 'VotesAllowed', 'VoteVariation', 'ContestSelection', 'ProStatement', 'ConStatement', 'FullText'],
+    candidate: ['BallotName', 'PartyId'], party: ['Name'], header: ['Name'], style: ['OrderedContent', 'PartyIds'], election: ['Name', 'StartDate'],
+};
+const NOT_ON_BALLOTS = { contest: ['NumberElected', 'OfficeIds'], candidate: ['CampaignSlogan'], person: ['FullName'], office: ['Name'], party: ['Color'] };
+const leftOut = (part, member, word, isShown) => leftOutOf([{ part, how: 'member', member, word, isCaused: false }], isShown).length;
+for (const [table, told] of [[ON_BALLOTS, 0], [NOT_ON_BALLOTS, 1]]) {
+    for (const [part, member] of Object.entries(table).flatMap(([name, members]) => members.map((one) => [name, one]))) {
+        equal(`left out of ballots that differ: ${part} ${member}`, [leftOut(part, member, 'seen', true), leftOut(part, member, 'in doubt', true)], [told, told]);
+        equal(`left out of ballots that are the same: ${part} ${member}`, [leftOut(part, member, 'seen', false), leftOut(part, member, 'unseen', false)], [1, 0]);
+    }
+}
+counts();

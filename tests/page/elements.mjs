@@ -1,0 +1,40 @@
+// As much of a document as web/scripts/dom.mjs needs, for tests of the page in Node: elements with attributes, children and a text.
+
+class Element {
+    constructor(tag) {
+        Object.assign(this, { tag, attributes: {}, children: [], listeners: {} });
+    }
+
+    setAttribute(name, value) {
+        this.attributes[name] = String(value);
+    }
+
+    addEventListener(name, call) {
+        this.listeners[name] = call;
+    }
+
+    append(...children) {
+        this.children.push(...children.flatMap((child) => (child.tag === null ? child.children : [child])));
+    }
+
+    replaceChildren(...children) {
+        this.children = [];
+        this.append(...children);
+    }
+
+    get textContent() {
+        return this.children.map((child) => (typeof child === 'string' ? child : child.textContent)).join('');
+    }
+
+    set textContent(text) {
+        this.children = [text];
+    }
+}
+
+globalThis.document = { createElement: (tag) => new Element(tag), createDocumentFragment: () => new Element(null) };
+
+/** All elements below this one that have the tag, in their order. */
+export function below(element, tag) {
+    return element.children.filter((child) => typeof child !== 'string')
+        .flatMap((child) => [...(child.tag === tag ? [child] : []), ...below(child, tag)]);
+}
