@@ -82,15 +82,20 @@ def sentences(session):
     session.equal('sentences: none where no ballot differs', session.texts('.on-ballots'), [])
 
 
+def step(session, name):
+    """Clicks a step. The page may scroll to what it opens meanwhile, so the click does not go by a place in the window."""
+    session.browser.script("document.getElementById(arguments[0]).click()", f'finding-{name}')
+
+
 def filtered(session):
     """The filter, the steps, and the ballot behind a sentence."""
     session.judged(written(session, 'left.json', made(WHOLE, WHOLE)), written(session, 'right.json', made(['S: Ann Bo', 'M: No'], WHOLE)))
-    session.click('#finding-next')
+    step(session, 'next')
     session.becomes('sentences: the next one', lambda: session.browser.script(OPEN), [True, False])
     session.becomes('sentences: its ballot', lambda: session.texts('.finding .ballot-mark'), ['removed', 'removed'])
-    session.click('#finding-next')
+    step(session, 'next')
     session.becomes('sentences: the one after it', lambda: session.browser.script(OPEN), [False, True])
-    session.click('#finding-previous')
+    step(session, 'previous')
     session.becomes('sentences: the one before', lambda: session.browser.script(OPEN), [True, False])
     session.browser.one('#finding-filter').type('yes')
     session.becomes('sentences: by words', lambda: session.browser.script(SENTENCES), ['Measure 2, on 1 of 2 ballots: the choice Yes is missing in the second file'])
