@@ -7,7 +7,6 @@ import by_scripts  # noqa: E402
 import by_suite  # noqa: E402
 import check_of_edits  # noqa: E402
 import edited_functions  # noqa: E402
-import join  # noqa: E402
 import wrong_lists  # noqa: E402
 from wrong_lists import TOP, BadList, Wrong  # noqa: E402
 
@@ -170,11 +169,6 @@ def lists_that_do_not_fit():
             yield from (f'{section.name}: {why}' for why in map(wrong_lists.misfit, wrong_lists.batches_of(wrongs)) if why)
 
 
-def earlier_forms():
-    """What stands in no list yet."""
-    return [str(path.relative_to(TOP)) for path in (join.EDITS, join.LINES, join.PROGRAMS) if path.exists()]
-
-
 def missing_cases():
     """Programs that no case is known to catch, and cases of none."""
     programs = {program.name for section in wrong_lists.lists() if section.kind == 'programs' for program in by_suite.programs(section.wrongs)}
@@ -225,7 +219,6 @@ CASES = [
     ("a line that fits", lambda: misfit("0"), ""),
     ("two lines on one text", lambda: misfit("0", "1"), "a:"),
     ("each list fits", lambda: list(lists_that_do_not_fit()), []),
-    ("each list is in tests/bodies/lists: python3 tests/bodies/join.py", earlier_forms, []),
     ("each program has its case", missing_cases, []),
     ("a proof", lambda: judged("fn some::a::b::counts: proved"), "no"),
     ("a missing name", lambda: judged(LINE, NAME), "no"),
