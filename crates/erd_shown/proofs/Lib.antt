@@ -7,4 +7,7 @@ mod Found
 mod Placed
 mod Written
 mod SelectionPairs
+mod LineNodes
+mod PartnerLists
+mod Things
 mod RowLists

@@ -177,3 +177,19 @@ two_members o0 o1 o2 o3 o4 o5 o6 k l a b e1 e2 e3 e4 e5 e6 =
     (then_rest o2 (value_tokens a) o3 r3 all e3
     (then_rest o1 (key k ∷ []) o2 r2 all e2
     (then_rest o0 (begin_object ∷ []) o1 (key k ∷ r2) all e1 refl))))
+
+-- an object of two members and others
+pub two_then : (o0 o1 o2 o3 o4 o5 o6 : List Token) (k l : List ℕ) (a b : Data) (ms : Members) → o1 ≡ o0 ++ begin_object ∷ [] → o2 ≡ o1 ++ key k ∷ [] → o3 ≡ o2 ++ value_tokens a → o4 ≡ o3 ++ key l ∷ []
+    → o5 ≡ o4 ++ value_tokens b → o6 ≡ o5 ++ members_tokens ms → o6 ≡ o0 ++ value_tokens (object (member k a (member l b ms)))
+two_then o0 o1 o2 o3 o4 o5 o6 k l a b ms e1 e2 e3 e4 e5 e6 =
+    let all = o0 ++ value_tokens (object (member k a (member l b ms))) in
+    let r5 = members_tokens ms in
+    let r4 = value_tokens b ++ r5 in
+    let r3 = key l ∷ r4 in
+    let r2 = value_tokens a ++ r3 in
+    e6
+    ∙ then_rest o4 (value_tokens b) o5 r5 all e5
+    (then_rest o3 (key l ∷ []) o4 r4 all e4
+    (then_rest o2 (value_tokens a) o3 r3 all e3
+    (then_rest o1 (key k ∷ []) o2 r2 all e2
+    (then_rest o0 (begin_object ∷ []) o1 (key k ∷ r2) all e1 refl))))

@@ -1,2 +1,3 @@
 pub mod ValueExamples
 pub mod RowExamples
+pub mod PartnerExamples

@@ -108,7 +108,11 @@ fn write_contest(report: &Report, value: &Value, out: &mut Output) -> Result<(),
 }
 
 /// Writes the names of the selections that a contest on a ballot lists.
-fn write_selections(report: &Report, value: &Value, out: &mut Output) -> Result<(), AllocError>
+pub(crate) fn write_selections(
+    report: &Report,
+    value: &Value,
+    out: &mut Output,
+) -> Result<(), AllocError>
     ensures { OnOk result (out.new ≡ out.old ++ value_tokens (array_of (map (shown_name_named report.now.prefer (view report.now.tree)) (entries_at (codes "OrderedContestSelectionIds") (view value.now))))) }
 {
     write_names(report, entries_at(value, "OrderedContestSelectionIds"), out)
@@ -136,7 +140,7 @@ fn write_name(report: &Report, value: &Value, out: &mut Output) -> Result<(), Al
 }
 
 /// Returns whether a node is a header.
-fn is_header(value: &Value) -> bool
+pub(crate) fn is_header(value: &Value) -> bool
     ensures { result ≡ is_header_class (class_of_node (view value.now)) }
 {
     matches!(

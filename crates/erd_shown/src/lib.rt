@@ -2,18 +2,30 @@
 //! other.
 #![tactic(auto)]
 
+mod ballots;
+mod ballots_beside;
+mod beside;
 mod contents;
+mod counts;
 mod keys;
 mod laws;
+mod lines;
 mod lookups;
 mod members;
 mod names;
 mod objects;
+mod partners;
 mod references;
+mod row_texts;
 mod rows;
 mod selections;
+mod texts;
 mod values;
 
+pub use ballots::ballot_text;
+pub use ballots_beside::write_ballots_beside;
+pub use beside::rows_between;
 pub use laws::{members_tell, objects_tell};
 pub use objects::write_object;
+pub use partners::{occurrences, partners_of};
 pub use rows::{Row, rows_of};

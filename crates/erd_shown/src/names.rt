@@ -1,4 +1,4 @@
-ghost use Rattle.std.specs.Prelude.{◌≡◌, ◌++◌, ◌∷◌, [], OnOk, Some, map, option_copied, option_map};
+ghost use Rattle.std.specs.Prelude.{◌≡◌, ◌++◌, ◌∷◌, [], pos, OnOk, Some, map, option_copied, option_map};
 ghost use Rattle.serde_json.specs.Data.{boolean};
 ghost use Rattle.serde_json.specs.View.{items_of};
 ghost use Rattle.erd_text.specs.Tokens.{items_tokens, value_tokens};
@@ -78,6 +78,13 @@ fn write_whole(number: i128, out: &mut Output) -> Result<(), AllocError>
     } else {
         out.null()
     }
+}
+
+/// Writes a count or a position as a number.
+pub(crate) fn write_count(count: usize, out: &mut Output) -> Result<(), AllocError>
+    ensures { OnOk result (out.new ≡ out.old ++ value_tokens (shown_whole (pos count))) }
+{
+    write_whole(count as i128, out)
 }
 
 /// Writes the text of a label, or null if there is none.

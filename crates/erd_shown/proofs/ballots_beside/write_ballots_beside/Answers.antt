@@ -1,0 +1,50 @@
+use Rattle.erd_text.proofs.Common.{◌≡◌, ◌++◌, ℕ, List, Bool, Option, map, sym, ap, ap₂, ◌∙◌, subst, view, Data, value_tokens}
+use Rattle.std.proofs.lemmas.Result.{on_ok_weaker}
+use Rattle.std.proofs.lemmas.Simd.{map-map}
+use Rattle.std.specs.Ordering.{eq_by_cmp}
+use Rattle.erd_meaning.specs.Keys.{Preference}
+use Rattle.erd_meaning.specs.declared.keys.key.Key.{Key}
+use Rattle.erd_shown.specs.Ballots.{line_data, lines_data, lines_of, thing_at}
+use Rattle.erd_shown.specs.KeyData.{array_of}
+use Rattle.erd_shown.specs.Partners.{partners}
+use Rattle.erd_shown.specs.RowData.{beside_data, thing_cmp, things_of}
+use Rattle.erd_shown.specs.Rows.{AreRows}
+use Rattle.erd_shown.specs.code.LineLists.{of_line}
+use Rattle.erd_shown.specs.code.LineTexts.{things_in, written_lines}
+use Rattle.erd_shown.specs.declared.lines.Line.{Line}
+use Rattle.erd_shown.specs.declared.rows.Row.{Row}
+use Rattle.erd_shown.proofs.ballots_beside.write_ballots_beside.Goals as goal
+
+-- what the lines of the ballot of a style are, and their objects
+things_there : (π : Preference) (t d : Data) (ls : List Line) → map of_line ls ≡ lines_of d → things_in π t ls ≡ things_of π t d
+things_there π t d ls is = sym (map-map (λ (l : ℕ × Data). thing_at π t l.1) of_line ls) ∙ ap (map (λ (l : ℕ × Data). thing_at π t l.1)) is
+
+lines_there : (π : Preference) (t d : Data) (ls : List Line) → map of_line ls ≡ lines_of d → written_lines π t ls ≡ lines_data π t d
+lines_there π t d ls is = ap array_of (sym (map-map (line_data π t) of_line ls) ∙ ap (map (line_data π t)) is)
+
+pub returns : goal.returns
+returns c =
+    let π = c.args.left.now.prefer in
+    let t = view c.args.left.now.tree in
+    let d = view c.args.style.now in
+    let ρ = c.args.right.now.prefer in
+    let u = view c.args.right.now.tree in
+    let e = view c.args.other.now in
+    let same = eq_by_cmp thing_cmp in
+    let left = things_there π t d c.deref.result.now (ap (map of_line) c.deref.ensures.value ∙ c.in_ok-ones.ensures) in
+    let right = things_there ρ u e c.deref-2.result.now (ap (map of_line) c.deref-2.ensures.value ∙ c.in_ok-others.ensures) in
+    on_ok_weaker c.write_beside.result
+    (λ wrote. record {
+      rows = c.deref-5.result.now;
+      are_rows =
+          subst (λ (xs : List (Option ℕ)). AreRows (partners same (things_of π t d) (things_of ρ u e)) xs c.deref-5.result.now) (ap₂ (partners same) right left)
+          (subst (λ (xs : List (Option ℕ)). AreRows xs (partners same (things_in ρ u c.deref-2.result.now) (things_in π t c.deref.result.now)) c.deref-5.result.now) (ap₂ (partners same) left right)
+          (subst (λ (rows : List Row). AreRows (partners same (things_in π t c.deref.result.now) (things_in ρ u c.deref-2.result.now)) (partners same (things_in ρ u c.deref-2.result.now) (things_in π t c.deref.result.now)) rows)
+          (sym c.deref-5.ensures.value) c.in_ok-rows.ensures));
+      wrote =
+          wrote
+          ∙ ap₂ (λ (a b : Data). c.args.out.now ++ value_tokens (beside_data a b c.deref-5.result.now))
+          (lines_there π t d c.deref-3.result.now (ap (map of_line) c.deref-3.ensures.value ∙ c.in_ok-ones.ensures))
+          (lines_there ρ u e c.deref-4.result.now (ap (map of_line) c.deref-4.ensures.value ∙ c.in_ok-others.ensures));
+    })
+    c.write_beside.ensures

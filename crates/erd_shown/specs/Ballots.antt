@@ -1,0 +1,66 @@
+-- The ballot of a style as JSON, with keys and names in place of references. All of this is the profile's own.
+use Rattle.std.specs.Prelude.{ℕ, pos, List, [], ◌∷◌, Bool, true, false, if◌then◌else◌, slice_get, Option, map, codes}
+use Rattle.std.specs.Option.{option_map_or}
+use Rattle.serde_json.specs.Data.{Data, null, string, object, Members, no_members, member}
+use Rattle.serde_json.specs.Find.{get}
+use Rattle.erd_tables.specs.declared.class.Family.TheVariants as family
+use Rattle.erd_check.specs.Values.{entries_at, text_at}
+use Rattle.erd_meaning.specs.Keys.{Preference, key_of}
+use Rattle.erd_meaning.specs.Objects.{objects}
+use Rattle.erd_meaning.specs.Records.{class_of_node, is_header_class}
+use Rattle.erd_meaning.specs.SelectionNames.{key_named}
+use Rattle.erd_meaning.specs.declared.keys.key.Key.{Key}
+use Rattle.erd_shown.specs.KeyData.{array_of, shown_key_or_null, shown_whole}
+use Rattle.erd_shown.specs.ContentData.{shown_name_named}
+use Rattle.erd_shown.specs.Lines.{content_lines}
+use Rattle.erd_shown.specs.Shown.{keys_data}
+
+-- What a line is, whatever else is said of it: whether it is a header, and its key.
+abbrev pub thing_at : Preference → Data → Data → Bool × Option Key
+thing_at π t d =
+    if is_header_class (class_of_node d)
+    then (true, key_named π t family.Header (text_at (codes "HeaderId") d))
+    else (false, key_named π t family.Contest (text_at (codes "ContestId") d))
+
+-- The same as JSON: the word `header` or `contest`, and the key.
+abbrev pub thing_data : Bool × Option Key → Data
+thing_data (is_header, key) = array_of (string (if is_header then codes "header" else codes "contest") ∷ shown_key_or_null key ∷ [])
+
+-- What a line is, as the last member of its object.
+abbrev pub what_members : Bool × Option Key → Members
+what_members thing = member (codes "what") (thing_data thing) no_members
+
+-- A line: how many headers stand around it, the names of the selections that the ballot lists for it, in their order, and what it
+-- is. A contest for which the ballot lists no selections has all of them, in no order.
+abbrev pub line_data : Preference → Data → ℕ × Data → Data
+line_data π t (depth, d) =
+    object (member (codes "depth") (shown_whole (pos depth))
+    (member (codes "selections") (array_of (map (shown_name_named π t) (entries_at (codes "OrderedContestSelectionIds") d)))
+    (what_members (thing_at π t d))))
+
+-- The lines of the ballot of a style, in their order.
+abbrev pub lines_of : Data → List (ℕ × Data)
+lines_of d = option_map_or (content_lines 0) (get (codes "OrderedContent") d) []
+
+abbrev pub lines_data : Preference → Data → Data → Data
+lines_data π t d = array_of (map (line_data π t) (lines_of d))
+
+-- The parties and the units whose voters get the ballot of a style, in rising order, as the last members of its object.
+abbrev pub voters_members : Preference → Data → Data → Members
+voters_members π t d =
+    member (codes "parties") (keys_data π t family.Party (entries_at (codes "PartyIds") d))
+    (member (codes "units") (keys_data π t family.Unit (entries_at (codes "GpUnitIds") d)) no_members)
+
+-- The ballot of a style with this key: its lines, and which voters get it.
+abbrev pub keyed_ballot : Preference → Data → Option Key → Data → Data
+keyed_ballot π t key d =
+    object (member (codes "key") (shown_key_or_null key)
+    (member (codes "lines") (lines_data π t d) (voters_members π t d)))
+
+-- The ballot of a style.
+abbrev pub ballot_data : Preference → Data → Data → Data
+ballot_data π t d = keyed_ballot π t (key_of π d) d
+
+-- The ballot of the style at this position of the report, or null if there is none.
+abbrev pub ballot_in : Preference → Data → ℕ → Data
+ballot_in π t i = option_map_or (λ o. ballot_data π t o.value) (slice_get (objects family.Style t) i) null

@@ -1,0 +1,60 @@
+-- Two ballots beside each other as JSON. All of this is the profile's own.
+use Rattle.std.specs.Prelude.{ℕ, pos, ◌≡◌, ◌++◌, List, Bool, Option, Some, None, map, codes}
+use Rattle.std.specs.declared.cmp.Ordering.{Ordering}
+use Rattle.std.specs.Ordering.{bool_cmp, eq_by_cmp, ordering_then}
+use Rattle.std.specs.Option.{option_cmp}
+use Rattle.json.specs.Token.{Token}
+use Rattle.serde_json.specs.Data.{Data, null, string, object, Members, no_members, member}
+use Rattle.erd_text.specs.Tokens.{value_tokens}
+use Rattle.erd_meaning.specs.Keys.{Preference, key_cmp}
+use Rattle.erd_meaning.specs.declared.keys.key.Key.{Key}
+use Rattle.erd_shown.specs.Ballots.{lines_data, lines_of, thing_at}
+use Rattle.erd_shown.specs.KeyData.{array_of, shown_whole}
+use Rattle.erd_shown.specs.Partners.{partners}
+use Rattle.erd_shown.specs.Rows.{AreRows}
+use Rattle.erd_shown.specs.declared.rows.Row.{Row}
+use Rattle.erd_shown.specs.declared.rows.Row.TheVariants.{Both, Removed, Added, MovedAway, MovedHere}
+
+-- The position of a line in its ballot, or null.
+abbrev pub number_or_null : Option ℕ → Data
+number_or_null None = null
+number_or_null (Some i) = shown_whole (pos i)
+
+-- The positions of a row, as the last members of its object.
+abbrev pub places_members : Option ℕ → Option ℕ → Members
+places_members left right = member (codes "left") (number_or_null left) (member (codes "right") (number_or_null right) no_members)
+
+-- A row of this kind.
+abbrev pub row_of : List ℕ → Option ℕ → Option ℕ → Data
+row_of how left right = object (member (codes "how") (string how) (places_members left right))
+
+-- A row: what it says, and the positions of the line in the left ballot and in the right one.
+abbrev pub row_data : Row → Data
+row_data (Both i j) = row_of (codes "both") (Some i) (Some j)
+row_data (Removed i) = row_of (codes "removed") (Some i) None
+row_data (Added j) = row_of (codes "added") None (Some j)
+row_data (MovedAway i j) = row_of (codes "moved away") (Some i) (Some j)
+row_data (MovedHere i j) = row_of (codes "moved here") (Some i) (Some j)
+
+-- The order of things: headers are greater, and then by the key.
+abbrev pub thing_cmp : Bool × Option Key → Bool × Option Key → Ordering
+thing_cmp a b = ordering_then (bool_cmp a.0 b.0) (option_cmp key_cmp a.1 b.1)
+
+-- What the lines of the ballot of a style are, in their order.
+abbrev pub things_of : Preference → Data → Data → List (Bool × Option Key)
+things_of π t d = map (λ l. thing_at π t l.1) (lines_of d)
+
+-- The rows, as the last member of an object.
+abbrev pub rows_members : List Row → Members
+rows_members rows = member (codes "rows") (array_of (map row_data rows)) no_members
+
+-- Two ballots with these rows: the lines of both, and the rows.
+abbrev pub beside_data : Data → Data → List Row → Data
+beside_data left right rows = object (member (codes "left") left (member (codes "right") right (rows_members rows)))
+
+-- The ballots of two styles, in two reports, are written beside each other. Each line of either stands in one row, in its
+-- order; a header or contest that a ballot lists several times is told apart by the number of the occurrence.
+pub record AreBeside (π : Preference) (t d : Data) (ρ : Preference) (u e : Data) (before after : List Token) : Type 0 where
+  pub rows : List Row
+  pub are_rows : AreRows (partners (eq_by_cmp thing_cmp) (things_of π t d) (things_of ρ u e)) (partners (eq_by_cmp thing_cmp) (things_of ρ u e) (things_of π t d)) rows
+  pub wrote : after ≡ before ++ value_tokens (beside_data (lines_data π t d) (lines_data ρ u e) rows)

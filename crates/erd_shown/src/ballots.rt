@@ -1,0 +1,190 @@
+ghost use Rattle.std.specs.Prelude.{◌≡◌, ◌++◌, map, string_bytes, IfOk, OnOk, option_copied, true};
+ghost use Rattle.serde_json.specs.View.{view};
+ghost use Rattle.serde_json.specs.Written.{compact_text};
+ghost use Rattle.erd_text.specs.Tokens.{members_tokens, value_tokens};
+ghost use Rattle.erd_check.specs.Values.{entries_at};
+ghost use Rattle.erd_meaning.specs.Keys.{has_keys};
+ghost use Rattle.erd_shown.specs.Ballots.{ballot_in, keyed_ballot, line_data, lines_data, lines_of, thing_at, voters_members, what_members};
+ghost use Rattle.erd_shown.specs.Shown.{keys_data};
+ghost use Rattle.erd_shown.specs.code.LineLists.{of_line};
+ghost use Rattle.erd_shown.specs.code.LineTexts.{written_lines};
+
+use crate::contents::{is_header, write_selections};
+use crate::keys::write_key_or_null;
+use crate::lines::{Line, push_content};
+use crate::lookups::key_named;
+use crate::names::write_count;
+use crate::references::write_reference_set;
+use crate::texts::text_of;
+use erd_check::values::{entries_at, text_at};
+use erd_meaning::{Key, Report};
+use erd_tables::Family;
+use erd_text::Output;
+use serde_json::Value;
+use std::alloc::{AllocError, Global};
+
+/// Returns the ballot of the style at a position of a report, as compact JSON: its key, its lines in their order, and the
+/// parties and units whose voters get it. A line has how many headers stand around it, what it is, and the names of the
+/// selections that the ballot lists for it. Returns `null` if there is no such style.
+///
+/// # Errors
+///
+/// `AllocError` if out of memory.
+///
+/// ```
+/// let text = ballot_text(alloc, report, 0)?;
+/// assert_eq!(rt; text.as_str(), BALLOT_LINES);
+/// ```
+pub fn ballot_text(alloc: Global, report: &Report, position: usize) -> Result<String, AllocError>
+    ensures { IfOk result (λ text. string_bytes text ≡ compact_text (ballot_in report.now.prefer (view report.now.tree) position)) }
+{
+    let mut out = Output::new(alloc);
+    write_ballot(alloc, report, position, &mut out)?;
+    text_of(out)
+}
+
+/// Writes the ballot of the style at a position of a report, or null if there is no such style.
+fn write_ballot(
+    alloc: Global,
+    report: &Report,
+    position: usize,
+    out: &mut Output,
+) -> Result<(), AllocError>
+    ensures { OnOk result (out.new ≡ out.old ++ value_tokens (ballot_in report.now.prefer (view report.now.tree) position)) }
+{
+    let key = report.key_at(Family::Style, position);
+    match report.object(Family::Style, position) {
+        Some(style) => write_style(alloc, report, key, style, out),
+        None => out.null(),
+    }
+}
+
+/// Writes the ballot of a style with this key.
+fn write_style(
+    alloc: Global,
+    report: &Report,
+    key: Option<&Key>,
+    style: &Value,
+    out: &mut Output,
+) -> Result<(), AllocError>
+    ensures { OnOk result (out.new ≡ out.old ++ value_tokens (keyed_ballot report.now.prefer (view report.now.tree) (option_copied key.entry) (view style.now))) }
+{
+    out.begin_object()?;
+    out.key("key")?;
+    write_key_or_null(key, out)?;
+    out.key("lines")?;
+    write_lines_of(alloc, report, style, out)?;
+    write_voters(alloc, report, style, out)
+}
+
+/// Writes which voters get the ballot of a style, and the end of the object.
+fn write_voters(
+    alloc: Global,
+    report: &Report,
+    style: &Value,
+    out: &mut Output,
+) -> Result<(), AllocError>
+    ensures { OnOk result (out.new ≡ out.old ++ members_tokens (voters_members report.now.prefer (view report.now.tree) (view style.now))) }
+{
+    out.key("parties")?;
+    write_keys_at(alloc, report, Family::Party, style, "PartyIds", out)?;
+    out.key("units")?;
+    write_keys_at(alloc, report, Family::Unit, style, "GpUnitIds", out)?;
+    out.end_object()
+}
+
+/// Writes the keys of what a member names, in rising order.
+fn write_keys_at(
+    alloc: Global,
+    report: &Report,
+    family: Family,
+    style: &Value,
+    name: &str,
+    out: &mut Output,
+) -> Result<(), AllocError>
+    requires keyed { has_keys family ≡ true }
+    ensures { OnOk result (out.new ≡ out.old ++ value_tokens (keys_data report.now.prefer (view report.now.tree) family (entries_at name.now (view style.now)))) }
+{
+    write_reference_set(alloc, report, family, entries_at(style, name), out)
+}
+
+/// Writes the lines of the ballot of a style.
+fn write_lines_of(
+    alloc: Global,
+    report: &Report,
+    style: &Value,
+    out: &mut Output,
+) -> Result<(), AllocError>
+    ensures { OnOk result (out.new ≡ out.old ++ value_tokens (lines_data report.now.prefer (view report.now.tree) (view style.now))) }
+{
+    let lines = lines_of(alloc, style)?;
+    write_lines(report, &lines, out)
+}
+
+/// Returns the lines of the ballot of a style.
+pub(crate) fn lines_of<'a>(alloc: Global, style: &'a Value) -> Result<Vec<Line<'a>>, AllocError>
+    ensures { IfOk result (λ lines. map of_line lines.items ≡ lines_of (view style.now)) }
+{
+    let mut lines = Vec::new(alloc);
+    if let Some(content) = style.get("OrderedContent") {
+        push_content(0, content, &mut lines)?;
+    }
+    Ok(lines)
+}
+
+/// Writes lines as an array.
+pub(crate) fn write_lines(
+    report: &Report,
+    lines: &[Line],
+    out: &mut Output,
+) -> Result<(), AllocError>
+    ensures { OnOk result (out.new ≡ out.old ++ value_tokens (written_lines report.now.prefer (view report.now.tree) lines.now)) }
+{
+    out.begin_array()?;
+    for line in lines {
+        write_line(report, line, out)?;
+    }
+    out.end_array()
+}
+
+/// Writes a line.
+fn write_line(report: &Report, line: &Line, out: &mut Output) -> Result<(), AllocError>
+    ensures { OnOk result (out.new ≡ out.old ++ value_tokens (line_data report.now.prefer (view report.now.tree) (of_line line.now))) }
+{
+    out.begin_object()?;
+    out.key("depth")?;
+    write_count(line.depth, out)?;
+    out.key("selections")?;
+    write_selections(report, line.node, out)?;
+    write_what(report, line.node, out)
+}
+
+/// Writes what a line is, and the end of the object.
+fn write_what(report: &Report, node: &Value, out: &mut Output) -> Result<(), AllocError>
+    ensures { OnOk result (out.new ≡ out.old ++ members_tokens (what_members (thing_at report.now.prefer (view report.now.tree) (view node.now)))) }
+{
+    let (is_header, key) = thing_at(report, node);
+    out.key("what")?;
+    out.begin_array()?;
+    out.string(if is_header { "header" } else { "contest" })?;
+    write_key_or_null(key, out)?;
+    out.end_array()?;
+    out.end_object()
+}
+
+/// Returns whether a line is a header, and its key.
+pub(crate) fn thing_at<'a>(report: &'a Report, node: &Value) -> (bool, Option<&'a Key>)
+    ensures { (result.0, option_copied result.1) ≡ thing_at report.now.prefer (view report.now.tree) (view node.now) }
+{
+    if is_header(node) {
+        (
+            true,
+            key_named(report, Family::Header, text_at(node, "HeaderId")),
+        )
+    } else {
+        (
+            false,
+            key_named(report, Family::Contest, text_at(node, "ContestId")),
+        )
+    }
+}

@@ -1,0 +1,109 @@
+ghost use Rattle.std.specs.Prelude.{◌≡◌, ◌++◌, map, IfOk, OnOk};
+ghost use Rattle.serde_json.specs.View.{view};
+ghost use Rattle.erd_text.specs.Tokens.{members_tokens, value_tokens};
+ghost use Rattle.std.specs.Ordering.{eq_by_cmp};
+ghost use Rattle.erd_shown.specs.Partners.{partners};
+ghost use Rattle.erd_shown.specs.RowData.{AreBeside, beside_data, rows_members, thing_cmp};
+ghost use Rattle.erd_shown.specs.Rows.{AreRows};
+ghost use Rattle.erd_shown.specs.code.LineTexts.{things_in, written_lines};
+ghost use Rattle.erd_shown.specs.code.LineLists.{of_thing};
+
+use crate::ballots::{lines_of, thing_at, write_lines};
+use crate::beside::rows_between;
+use crate::lines::Line;
+use crate::row_texts::write_rows;
+use crate::rows::Row;
+use erd_meaning::{Key, Report};
+use erd_text::Output;
+use serde_json::Value;
+use std::alloc::{AllocError, Global};
+
+/// What a line is: whether it is a header, and its key.
+type Thing<'a> = (bool, Option<&'a Key>);
+
+/// Writes the ballots of two styles beside each other, as JSON: the lines of both, and rows with the positions of lines. Each
+/// line of either ballot stands in one row, in its order. A row is of a line of both, of a line of one, or of a line that
+/// moved.
+///
+/// # Errors
+///
+/// `AllocError` if out of memory.
+///
+/// ```
+/// write_ballots_beside(alloc, left, style, right, other, &mut out)?;
+/// ```
+pub fn write_ballots_beside(
+    alloc: Global,
+    left: &Report,
+    style: &Value,
+    right: &Report,
+    other: &Value,
+    out: &mut Output,
+) -> Result<(), AllocError>
+    ensures { OnOk result (AreBeside left.now.prefer (view left.now.tree) (view style.now) right.now.prefer (view right.now.tree) (view other.now) out.old out.new) }
+{
+    let ones = lines_of(alloc, style)?;
+    let others = lines_of(alloc, other)?;
+    let rows = rows_of_lines(alloc, left, &ones, right, &others)?;
+    write_beside(left, &ones, right, &others, &rows, out)
+}
+
+/// Returns the rows of lines of two ballots.
+fn rows_of_lines(
+    alloc: Global,
+    left: &Report,
+    ones: &[Line],
+    right: &Report,
+    others: &[Line],
+) -> Result<Vec<Row>, AllocError>
+    ensures { IfOk result (λ rows. AreRows
+        (partners (eq_by_cmp thing_cmp) (things_in left.now.prefer (view left.now.tree) ones.now) (things_in right.now.prefer (view right.now.tree) others.now))
+        (partners (eq_by_cmp thing_cmp) (things_in right.now.prefer (view right.now.tree) others.now) (things_in left.now.prefer (view left.now.tree) ones.now)) rows.items) }
+{
+    let left_things = things_at(alloc, left, ones)?;
+    let right_things = things_at(alloc, right, others)?;
+    rows_between(alloc, &left_things, &right_things)
+}
+
+/// Writes lines of two ballots and their rows.
+fn write_beside(
+    left: &Report,
+    ones: &[Line],
+    right: &Report,
+    others: &[Line],
+    rows: &[Row],
+    out: &mut Output,
+) -> Result<(), AllocError>
+    ensures { OnOk result (out.new ≡ out.old ++ value_tokens (beside_data (written_lines left.now.prefer (view left.now.tree) ones.now) (written_lines right.now.prefer (view right.now.tree) others.now) rows.now)) }
+{
+    out.begin_object()?;
+    out.key("left")?;
+    write_lines(left, ones, out)?;
+    out.key("right")?;
+    write_lines(right, others, out)?;
+    write_rows_member(rows, out)
+}
+
+/// Writes the rows as the last member of an object.
+fn write_rows_member(rows: &[Row], out: &mut Output) -> Result<(), AllocError>
+    ensures { OnOk result (out.new ≡ out.old ++ members_tokens (rows_members rows.now)) }
+{
+    out.key("rows")?;
+    write_rows(rows, out)?;
+    out.end_object()
+}
+
+/// Returns what the lines are.
+fn things_at<'a>(
+    alloc: Global,
+    report: &'a Report,
+    lines: &[Line],
+) -> Result<Vec<Thing<'a>>, AllocError>
+    ensures { IfOk result (λ things. map of_thing things.items ≡ things_in report.now.prefer (view report.now.tree) lines.now) }
+{
+    let mut things = Vec::new(alloc);
+    for line in lines {
+        things.push(thing_at(report, line.node))?;
+    }
+    Ok(things)
+}
