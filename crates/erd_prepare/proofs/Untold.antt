@@ -79,10 +79,10 @@ module _ (r : Rule) (z : List Step) where
   deeper p x s e = ap (λ y. y ++ s ∷ []) e ∙ append_assoc z x (s ∷ [])
 
   kept_object : (p x : List Step) → p ≡ z ++ x → (w : Option Want) (ms : Members)
-      → (is_untold z (told_members r p (scope_in w (object ms)) ms) ≡ true → prepared_members r p (scope_in w (object ms)) ms ≡ ms)
+      → (is_untold z (told_members r p (r.scopes w (object ms)) ms) ≡ true → prepared_members r p (r.scopes w (object ms)) ms ≡ ms)
       → is_untold z (told_object r p w ms) ≡ true → prepared_object r p w ms ≡ object ms
   kept_object p x e w ms later u =
-      let s = scope_in w (object ms) in
+      let s = r.scopes w (object ms) in
       let parts = both_untold z (told_members r p s ms) (told_puts p (object ms) (r.puts p w (object ms))) u in
       ap object (put_kept p x (object ms) (r.puts p w (object ms)) (prepared_members r p s ms) e parts.1 ∙ later parts.0)
 
@@ -97,7 +97,7 @@ module _ (r : Rule) (z : List Step) where
     kept p x e w (object ms) u =
         shape_kept p x (object ms) (r.shapes p w (object ms)) _ _ e u
         (λ h. wrap_kept p x (object ms) (r.wraps p w (object ms)) (told_object r p (entry_in w) ms) (told_object r p w ms) (list_of_one (prepared_object r p (entry_in w) ms)) (prepared_object r p w ms) e h
-        (kept_object p x e w ms (λ k. kept_members p x e (scope_in w (object ms)) ms k)))
+        (kept_object p x e w ms (λ k. kept_members p x e (r.scopes w (object ms)) ms k)))
 
     kept_items : (p x : List Step) → p ≡ z ++ x → (w : Option Want) (i : ℕ) (ds : Items) → is_untold z (told_items r p w i ds) ≡ true → prepared_items r p w i ds ≡ ds
     kept_items p x e w i no_items u = refl
@@ -194,13 +194,13 @@ found_item false n j p q d e inner rest at same u h = h u
 
 module _ (r : Rule) where
   object_stays : (p : List Step) (w : Option Want) (ms : Members) (s : Step) (q : List Step)
-      → ((k : List ℕ) → is_untold (p ++ Name k ∷ q) (told_members r p (scope_in w (object ms)) ms) ≡ true
-      → option_and_then (value_at (place_after r (p ++ Name k ∷ []) (want_of_name (scope_in w (object ms)) k) (member_named ms k) q)) (member_named (prepared_members r p (scope_in w (object ms)) ms) k)
+      → ((k : List ℕ) → is_untold (p ++ Name k ∷ q) (told_members r p (r.scopes w (object ms)) ms) ≡ true
+      → option_and_then (value_at (place_after r (p ++ Name k ∷ []) (want_of_name (r.scopes w (object ms)) k) (member_named ms k) q)) (member_named (prepared_members r p (r.scopes w (object ms)) ms) k)
       ≡ option_and_then (value_at q) (member_named ms k))
       → is_untold (p ++ s ∷ q) (told_object r p w ms) ≡ true → value_at (place_after r p w (Some (object ms)) (s ∷ q)) (prepared_object r p w ms) ≡ value_at (s ∷ q) (object ms)
   object_stays p w ms (At i) q later u = refl
   object_stays p w ms (Name k) q later u =
-      let s = scope_in w (object ms) in
+      let s = r.scopes w (object ms) in
       let parts = both_untold (p ++ Name k ∷ q) (told_members r p s ms) (told_puts p (object ms) (r.puts p w (object ms))) u in
       let at = place_after r (p ++ Name k ∷ []) (want_of_name s k) (member_named ms k) q in
       ap (option_and_then (value_at at)) (puts_apart k p q (object ms) (r.puts p w (object ms)) (prepared_members r p s ms) parts.1) ∙ later k parts.0
@@ -238,7 +238,7 @@ module _ (r : Rule) where
     stays p w (object ms) (s ∷ q) u =
         shape_stays p (s ∷ q) (place_after r p w (Some (object ms)) (s ∷ q)) (object ms) (r.shapes p w (object ms)) _ _ u
         (λ h. wrap_stays p (s ∷ q) (place_after r p w (Some (object ms)) (s ∷ q)) (object ms) (r.wraps p w (object ms)) (told_object r p (entry_in w) ms) (told_object r p w ms)
-        (list_of_one (prepared_object r p (entry_in w) ms)) (prepared_object r p w ms) h (object_stays p w ms s q (λ k v. members_stay p (scope_in w (object ms)) ms k q v)))
+        (list_of_one (prepared_object r p (entry_in w) ms)) (prepared_object r p w ms) h (object_stays p w ms s q (λ k v. members_stay p (r.scopes w (object ms)) ms k q v)))
 
     items_stay : (p : List Step) (w : Option Want) (j : ℕ) (ds : Items) (i n : ℕ) (q : List Step) → n ≡ j + i → is_untold (p ++ At n ∷ q) (told_items r p w j ds) ≡ true
         → option_and_then (value_at (place_after r (p ++ At n ∷ []) (entry_in w) (entry_number ds i) q)) (entry_number (prepared_items r p w j ds) (entries_kept r p w j ds i)) ≡ option_and_then (value_at q) (entry_number ds i)

@@ -8,5 +8,8 @@ pub mod Local
 pub mod LocalSteps
 pub mod Styles
 pub mod Plans
+pub mod ClassNames
+pub mod Kinds
+pub mod WholeNumbers
 pub mod Steps
 pub mod Laws

@@ -14,11 +14,12 @@ use Rattle.erd_check.specs.declared.want.Scope.{Scope}
 use Rattle.erd_check.specs.declared.want.Scope.TheVariants as scope
 use Rattle.erd_check.specs.declared.want.Want.{Want}
 use Rattle.erd_check.specs.declared.want.Want.TheVariants.{Member}
-use Rattle.erd_prepare.specs.Rules.{Rule}
+use Rattle.erd_prepare.specs.Rules.{Rule, scope_in}
 
 -- A step that leaves out these members and does nothing else.
 abbrev pub dropping : (Scope → List ℕ → Data → Bool) → Rule
 dropping drops = record {
+  scopes = scope_in;
   shapes = λ p w d. None;
   wraps = λ p w d. false;
   drops = λ p s k d. drops s k d;

@@ -13,7 +13,7 @@ use Rattle.erd_check.specs.Values.{entries_at, text_at}
 use Rattle.erd_check.specs.Wants.{class_of_object}
 use Rattle.erd_check.specs.declared.want.Want.{Want}
 use Rattle.erd_check.specs.declared.want.Want.TheVariants.{Object}
-use Rattle.erd_prepare.specs.Rules.{Rule}
+use Rattle.erd_prepare.specs.Rules.{Rule, scope_in}
 
 -- ---- the text of a label
 
@@ -93,6 +93,7 @@ named several w d = []
 -- The step, given whether there are several elections.
 abbrev pub naming_if : Bool → Rule
 naming_if several = record {
+  scopes = scope_in;
   shapes = λ p w d. None;
   wraps = λ p w d. false;
   drops = λ p s k d. false;

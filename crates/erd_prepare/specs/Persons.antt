@@ -13,7 +13,7 @@ use Rattle.erd_tables.specs.declared.member.MemberKind.TheVariants as kind
 use Rattle.erd_check.specs.Faults.{is_object}
 use Rattle.erd_check.specs.declared.want.Want.{Want}
 use Rattle.erd_check.specs.declared.want.Want.TheVariants.{Member}
-use Rattle.erd_prepare.specs.Rules.{Rule}
+use Rattle.erd_prepare.specs.Rules.{Rule, scope_in}
 
 -- The texts among the entries of an array.
 abbrev pub texts_of : Items → List (List ℕ)
@@ -59,6 +59,7 @@ is_unused_person is_used w d = false
 -- The step, given which texts are used.
 abbrev pub persons_unless : (List ℕ → Bool) → Rule
 persons_unless is_used = record {
+  scopes = scope_in;
   shapes = λ p w d. None;
   wraps = λ p w d. false;
   drops = λ p s k d. false;

@@ -7,7 +7,7 @@ use Rattle.erd_tables.specs.declared.place.Step.{Step}
 use Rattle.erd_tables.specs.declared.place.Step.TheVariants.{Name, At}
 use Rattle.erd_check.specs.Wants.{want_of_name}
 use Rattle.erd_check.specs.declared.want.Want.{Want}
-use Rattle.erd_prepare.specs.Rules.{Rule, Told, entry_in, scope_in}
+use Rattle.erd_prepare.specs.Rules.{Rule, Told, entry_in}
 
 -- ---- the value at a place
 
@@ -65,12 +65,12 @@ step_after r p w (array ds) (At i) = At (entries_kept r p w 0 ds i)
 step_after r p w d s = s
 
 -- What is asked one step below a value.
-abbrev pub want_below : Option Want → Data → Step → Option Want
-want_below w d (Name k) = want_of_name (scope_in w d) k
-want_below w d (At i) = entry_in w
+abbrev pub want_below : Rule → Option Want → Data → Step → Option Want
+want_below r w d (Name k) = want_of_name (r.scopes w d) k
+want_below r w d (At i) = entry_in w
 
 -- The place afterwards of what stands at a place below the value at p, if a value stands there.
 abbrev pub place_after : Rule → List Step → Option Want → Option Data → List Step → List Step
 place_after r p w d [] = []
 place_after r p w None (s ∷ q) = s ∷ q
-place_after r p w (Some d) (s ∷ q) = step_after r p w d s ∷ place_after r (p ++ s ∷ []) (want_below w d s) (value_below d s) q
+place_after r p w (Some d) (s ∷ q) = step_after r p w d s ∷ place_after r (p ++ s ∷ []) (want_below r w d s) (value_below d s) q

@@ -13,9 +13,11 @@ use Rattle.erd_check.specs.declared.want.Scope.{Scope}
 use Rattle.erd_check.specs.declared.want.Scope.TheVariants as scope
 use Rattle.erd_check.specs.declared.want.Want.{Want}
 
--- A step. Each part is given the place: the other form that a value gets, if any; whether an object becomes a list of itself;
--- whether a member goes, and an entry of an array of which this is asked; and the members that are put into an object.
+-- A step. It says what decides what is asked of the members of a value. Each other part is given the place: the other form that
+-- a value gets, if any; whether an object becomes a list of itself; whether a member goes, and an entry of an array of which
+-- this is asked; and the members that are put into an object.
 pub record Rule : Type 0 where
+  pub scopes : Option Want → Data → Scope
   pub shapes : List Step → Option Want → Data → Option Data
   pub wraps : List Step → Option Want → Data → Bool
   pub drops : List Step → Scope → List ℕ → Data → Bool
@@ -66,8 +68,8 @@ abbrev mutual
   prepared r p w (array ds) = unwrap_or (r.shapes p w (array ds)) (array (prepared_items r p w 0 ds))
   prepared r p w (object ms) =
       unwrap_or (r.shapes p w (object ms))
-      (if r.wraps p w (object ms) then list_of_one (object_with r p (entry_in w) ms (prepared_members r p (scope_in (entry_in w) (object ms)) ms))
-      else object_with r p w ms (prepared_members r p (scope_in w (object ms)) ms))
+      (if r.wraps p w (object ms) then list_of_one (object_with r p (entry_in w) ms (prepared_members r p (r.scopes (entry_in w) (object ms)) ms))
+      else object_with r p w ms (prepared_members r p (r.scopes w (object ms)) ms))
 
   -- The entries of the array at a place, from position i on.
   pub prepared_items : Rule → List Step → Option Want → ℕ → Items → Items
@@ -85,7 +87,7 @@ abbrev mutual
 
 -- An object after the step, that is no list of itself.
 abbrev pub prepared_object : Rule → List Step → Option Want → Members → Data
-prepared_object r p w ms = object_with r p w ms (prepared_members r p (scope_in w (object ms)) ms)
+prepared_object r p w ms = object_with r p w ms (prepared_members r p (r.scopes w (object ms)) ms)
 
 -- ---- what is told
 
@@ -113,8 +115,8 @@ abbrev mutual
   told r p w (object ms) =
       told_shape p (object ms) (r.shapes p w (object ms))
       (if r.wraps p w (object ms) then told_change p (object ms) (Some (list_of_one (object ms)))
-      ∷ (told_members r p (scope_in (entry_in w) (object ms)) ms ++ told_puts p (object ms) (r.puts p (entry_in w) (object ms)))
-      else told_members r p (scope_in w (object ms)) ms ++ told_puts p (object ms) (r.puts p w (object ms)))
+      ∷ (told_members r p (r.scopes (entry_in w) (object ms)) ms ++ told_puts p (object ms) (r.puts p (entry_in w) (object ms)))
+      else told_members r p (r.scopes w (object ms)) ms ++ told_puts p (object ms) (r.puts p w (object ms)))
 
   pub told_items : Rule → List Step → Option Want → ℕ → Items → List Told
   told_items r p w i no_items = []
@@ -130,4 +132,4 @@ abbrev mutual
 
 -- Told of what is in an object, that is no list of itself.
 abbrev pub told_object : Rule → List Step → Option Want → Members → List Told
-told_object r p w ms = told_members r p (scope_in w (object ms)) ms ++ told_puts p (object ms) (r.puts p w (object ms))
+told_object r p w ms = told_members r p (r.scopes w (object ms)) ms ++ told_puts p (object ms) (r.puts p w (object ms))

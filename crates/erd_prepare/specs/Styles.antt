@@ -8,7 +8,7 @@ use Rattle.erd_tables.specs.declared.member.MemberKind.TheVariants as kind
 use Rattle.erd_check.specs.Faults.{is_empty_array}
 use Rattle.erd_check.specs.declared.want.Want.{Want}
 use Rattle.erd_check.specs.declared.want.Want.TheVariants.{Member}
-use Rattle.erd_prepare.specs.Rules.{Rule}
+use Rattle.erd_prepare.specs.Rules.{Rule, scope_in}
 
 -- True for a style of no unit. The list of styles stands in an election.
 abbrev pub is_unused_style : Option Want → Data → Bool
@@ -18,6 +18,7 @@ is_unused_style w d = false
 -- The step: each style of no unit goes.
 abbrev pub unused_styles : Rule
 unused_styles = record {
+  scopes = scope_in;
   shapes = λ p w d. None;
   wraps = λ p w d. false;
   drops = λ p s k d. false;

@@ -11,8 +11,9 @@ ghost use Rattle.erd_check.specs.declared.want.Want.TheVariants.{Object};
 ghost use Rattle.erd_prepare.specs.Changes.{told_by};
 ghost use Rattle.erd_prepare.specs.Rules.{entry_in, list_of_one, prepared, prepared_items, prepared_members, put_all, seen, told, told_change, told_items, told_members, told_puts};
 
-use crate::asked::{entry_in, scope_in};
+use crate::asked::entry_in;
 use crate::change::Change;
+use crate::left::Left;
 use crate::mender::Mender;
 use erd_check::path::Path;
 use erd_check::want::{Scope, Want, want_in};
@@ -28,6 +29,8 @@ pub struct Done {
     pub tree: Value,
     /// What the step did, with the places of the report before it.
     pub changes: Vec<Change>,
+    /// What the step left as it is, and why.
+    pub left: Vec<Left>,
 }
 
 /// Does a step on a report, which stays as it is.
@@ -43,7 +46,11 @@ pub fn prepare<M: Mender>(alloc: Global, mender: &M, report: &Value) -> Result<D
     let mending = Mending { alloc, mender };
     let want = Some(Want::Object(Role::Report));
     let tree = value_after(&mending, report, want, &Path::Root, &mut changes)?;
-    Ok(Done { tree, changes })
+    Ok(Done {
+        tree,
+        changes,
+        left: Vec::new(alloc),
+    })
 }
 
 /// A step, with the memory that it takes.
@@ -82,12 +89,12 @@ fn value_after<M: Mender>(
             if mending.mender.wraps(path, want, value) {
                 push_list(mending.alloc, value, path, changes)?;
                 let inner = entry_in(want);
-                let scope = scope_in(inner, value);
+                let scope = mending.mender.scope(mending.alloc, inner, value)?;
                 let kept = members_after(mending, members, scope, path, changes)?;
                 let object = object_with(mending, value, inner, path, kept, changes)?;
                 list_of_one(mending.alloc, object)
             } else {
-                let scope = scope_in(want, value);
+                let scope = mending.mender.scope(mending.alloc, want, value)?;
                 let kept = members_after(mending, members, scope, path, changes)?;
                 object_with(mending, value, want, path, kept, changes)
             }
@@ -197,41 +204,51 @@ fn members_after<M: Mender>(
 {
     let mut kept = Map::new(mending.alloc);
     for (name, member) in members.iter() {
-        add_member(mending, name, member, scope, path, &mut kept, changes)?;
+        let place = ObjectPlace {
+            path: &*path,
+            scope,
+        };
+        add_member(mending, name, member, &place, &mut kept, changes)?;
     }
     Ok(kept)
 }
 
-/// Adds a member of an object of this scope, unless it is left out. The path is that of the object.
+/// An object whose members are gone through: where it stands, and what decides what is asked of them.
+#[derive(Clone, Copy)]
+struct ObjectPlace<'p> {
+    path: &'p Path<'p>,
+    scope: Scope,
+}
+
+/// Adds a member of the object at a place, unless it is left out.
 #[cycle(prepare)]
 fn add_member<M: Mender>(
     mending: &Mending<M>,
     name: &String,
     member: &Value,
-    scope: Scope,
-    path: &Path,
+    place: &ObjectPlace,
     kept: &mut Map<String, Value>,
     changes: &mut Vec<Change>,
 ) -> Result<(), AllocError>
     ensures tree { IfOk result (λ _. members_view kept.new.entries
-        ≡ (if (M.rule mending.now.mender.now).drops (steps_of path.now ++ Name (string_bytes name.now) ∷ []) scope (string_bytes name.now) (view member.now) then members_view kept.old.entries
+        ≡ (if (M.rule mending.now.mender.now).drops (steps_of place.now.path.now ++ Name (string_bytes name.now) ∷ []) place.now.scope (string_bytes name.now) (view member.now) then members_view kept.old.entries
         else put (string_bytes name.now)
-        (prepared (M.rule mending.now.mender.now) (steps_of path.now ++ Name (string_bytes name.now) ∷ []) (want_of_name scope (string_bytes name.now)) (view member.now))
+        (prepared (M.rule mending.now.mender.now) (steps_of place.now.path.now ++ Name (string_bytes name.now) ∷ []) (want_of_name place.now.scope (string_bytes name.now)) (view member.now))
         (members_view kept.old.entries))) }
     ensures changes { IfOk result (λ _. told_by changes.new.items ≡ told_by changes.old.items
-        ++ (if (M.rule mending.now.mender.now).drops (steps_of path.now ++ Name (string_bytes name.now) ∷ []) scope (string_bytes name.now) (view member.now)
-        then told_change (steps_of path.now ++ Name (string_bytes name.now) ∷ []) (view member.now) None ∷ []
-        else told (M.rule mending.now.mender.now) (steps_of path.now ++ Name (string_bytes name.now) ∷ []) (want_of_name scope (string_bytes name.now)) (view member.now))) }
+        ++ (if (M.rule mending.now.mender.now).drops (steps_of place.now.path.now ++ Name (string_bytes name.now) ∷ []) place.now.scope (string_bytes name.now) (view member.now)
+        then told_change (steps_of place.now.path.now ++ Name (string_bytes name.now) ∷ []) (view member.now) None ∷ []
+        else told (M.rule mending.now.mender.now) (steps_of place.now.path.now ++ Name (string_bytes name.now) ∷ []) (want_of_name place.now.scope (string_bytes name.now)) (view member.now))) }
 {
     let text = name.as_str();
-    let at = Path::Member(&*path, text);
+    let at = Path::Member(&*place.path, text);
     if mending
         .mender
-        .drops(mending.alloc, &at, scope, text, member)?
+        .drops(mending.alloc, &at, place.scope, text, member)?
     {
         push_change(mending.alloc, &at, Some(member.clone()?), None, changes)
     } else {
-        let inner = want_in(scope, text);
+        let inner = want_in(place.scope, text);
         let after = value_after(mending, member, inner, &at, changes)?;
         keep_member(name, after, kept)
     }
@@ -304,7 +321,11 @@ fn push_change(
     ensures { IfOk result (λ _. told_by changes.new.items
         ≡ told_by changes.old.items ++ record { place = steps_of path.now; before = option_map view before; after = option_map view after } ∷ []) }
 {
-    let place = place_of(alloc, path)?;
+    let near = match changes.last() {
+        Some(change) => Some(&change.place),
+        None => None,
+    };
+    let place = place_near(alloc, path, near)?;
     changes.push(Change {
         place,
         before,
@@ -317,25 +338,58 @@ fn push_change(
 pub(crate) fn place_of(alloc: Global, path: &Path) -> Result<Place, AllocError>
     ensures { IfOk result (λ place. place ≡ steps_of path.now) }
 {
+    place_near(alloc, path, None)
+}
+
+/// Returns the place that a path leads to. It shares the names that a place nearby has at the same positions, so that the places
+/// below one long name hold the name once.
+fn place_near(alloc: Global, path: &Path, near: Option<&Place>) -> Result<Place, AllocError>
+    ensures { IfOk result (λ place. place ≡ steps_of path.now) }
+{
     let mut steps = Vec::new(alloc);
-    push_steps(alloc, path, &mut steps)?;
+    push_steps(alloc, path, near, &mut steps)?;
     Ok(Place::of(steps))
 }
 
-fn push_steps(alloc: Global, path: &Path, steps: &mut Vec<Step>) -> Result<(), AllocError>
+fn push_steps(
+    alloc: Global,
+    path: &Path,
+    near: Option<&Place>,
+    steps: &mut Vec<Step>,
+) -> Result<(), AllocError>
     ensures { IfOk result (λ _. steps.new.items ≡ steps.old.items ++ steps_of path.now) }
 {
     match path {
         Path::Root => Ok(()),
         Path::Member(parent, name) => {
-            push_steps(alloc, parent, steps)?;
-            steps.push(Step::Name(Text::shared(alloc, name)?))?;
+            push_steps(alloc, parent, near, steps)?;
+            let name = name_near(alloc, step_near(near, steps.len()), name)?;
+            steps.push(Step::Name(name))?;
             Ok(())
         }
         Path::Entry(parent, index) => {
-            push_steps(alloc, parent, steps)?;
+            push_steps(alloc, parent, near, steps)?;
             steps.push(Step::At(*index))?;
             Ok(())
         }
     }
+}
+
+fn step_near(near: Option<&Place>, at: usize) -> Option<&Step> {
+    match near {
+        Some(place) => place.step(at),
+        None => None,
+    }
+}
+
+/// Returns the name as a text. It shares the bytes of the step nearby if that is the step to a member of this name.
+fn name_near(alloc: Global, near: Option<&Step>, name: &str) -> Result<Text, AllocError>
+    ensures { IfOk result (λ text. text ≡ name.now) }
+{
+    if let Some(Step::Name(text)) = near {
+        if text.as_str() == name {
+            return text.try_clone(alloc);
+        }
+    }
+    Text::shared(alloc, name)
 }

@@ -5,14 +5,15 @@ ghost use Rattle.erd_prepare.specs.Steps.{IsStepDone};
 
 use crate::engine::Done;
 use crate::known_objects::{KnownObject, known_objects};
-use crate::plan::{Edit, Plan, carry_out};
+use crate::left::{LeftReason, Planned, carry_out_planned};
+use crate::plan::{Edit, Plan};
 use erd_check::values::entries_of;
 use erd_check::want::Want;
 use erd_tables::class::{Class, Role};
 use erd_tables::member::MemberKind;
 use serde_json::Value;
 use std::alloc::{AllocError, Global};
-use std::collections::{BTreeMap, BTreeSet};
+use std::collections::BTreeSet;
 
 /// Takes out each line all of whose candidates are nobody's `@id`. A voter no longer sees the line.
 ///
@@ -22,29 +23,64 @@ use std::collections::{BTreeMap, BTreeSet};
 pub fn take_out_gone_candidates(alloc: Global, report: &Value) -> Result<Done, AllocError>
     ensures done { IfOk result (IsStepDone (view report.now)) }
 {
-    carry_out(alloc, &gone_in(alloc, report)?, report)
+    let planned = gone_in(alloc, report)?;
+    carry_out_planned(alloc, planned, report)
 }
 
-fn gone_in(alloc: Global, report: &Value) -> Result<Plan, AllocError> {
-    let mut plan = Plan {
-        edits: BTreeMap::new(alloc),
-    };
+fn gone_in(alloc: Global, report: &Value) -> Result<Planned, AllocError> {
+    let mut planned = Planned::new(alloc);
     let objects = known_objects(alloc, report)?;
     let ids = ids_of(alloc, &objects)?;
+    let candidates = candidates_of(alloc, &objects)?;
     let mut gone = BTreeSet::new(alloc);
     let mut others = BTreeSet::new(alloc);
     for object in &objects {
         if is_gone(object, &ids) {
-            plan.edits.insert(object.place.clone()?, Edit::LeaveOut)?;
+            planned.plan.add(object.place.clone()?, Edit::LeaveOut)?;
             add_id(object, &mut gone)?;
         } else {
+            if lacks_one(object, &candidates) {
+                planned.leave(object.place.clone()?, LeftReason::SomeGone)?;
+            }
             add_id(object, &mut others)?;
         }
     }
     for object in &objects {
-        plan_lists(alloc, object, &gone, &others, &mut plan)?;
+        plan_lists(alloc, object, &gone, &others, &mut planned.plan)?;
     }
-    Ok(plan)
+    Ok(planned)
+}
+
+/// Returns the `@id`s of all candidates.
+fn candidates_of<'a>(
+    alloc: Global,
+    objects: &Vec<KnownObject<'a>>,
+) -> Result<BTreeSet<&'a str>, AllocError> {
+    let mut ids = BTreeSet::new(alloc);
+    for object in objects {
+        if object.class == Class::Candidate {
+            add_id(object, &mut ids)?;
+        }
+    }
+    Ok(ids)
+}
+
+/// Returns whether a line names one that is no candidate.
+fn lacks_one<'a>(object: &KnownObject<'a>, candidates: &BTreeSet<&'a str>) -> bool {
+    if object.class != Class::CandidateSelection {
+        return false;
+    }
+    let Some(named) = object.members.get("CandidateIds") else {
+        return false;
+    };
+    for candidate in entries_of(named) {
+        if let Value::String(id) = candidate {
+            if !candidates.contains(&id.as_str()) {
+                return true;
+            }
+        }
+    }
+    false
 }
 
 /// Returns the `@id`s of all objects of families.

@@ -1,30 +1,50 @@
 //! Steps that make a refused report ready for the check, each of which tells what it did.
 #![tactic(auto)]
 
+mod area_codes;
+mod areas;
 mod asked;
 mod change;
+mod class_names;
+mod codes;
 mod devices;
 mod engine;
 mod gone_candidates;
+mod kinds;
 mod known_objects;
 mod laws;
+mod left;
+mod left_behind;
 mod local;
 mod mender;
 mod names;
 mod nulls;
+mod objects;
 mod persons;
+mod pieces;
 mod plan;
 mod repeated;
 mod shared_codes;
 mod step_name;
 mod styles;
 mod triple;
+mod twin_ids;
+mod unused_ids;
+mod vendor_identifiers;
+mod vendor_members;
+mod ways;
+mod whole_numbers;
 
+pub use area_codes::{put_counties_in_front, put_towns_in_front};
 pub use change::Change;
+pub use class_names::write_class_names;
+pub use codes::tell_codes_apart;
 pub use devices::take_out_devices;
 pub use engine::{Done, prepare};
 pub use gone_candidates::take_out_gone_candidates;
+pub use kinds::write_kinds;
 pub use laws::{nulls_are_gone, untold_is_unchanged, untold_stays};
+pub use left::{Left, LeftReason, Planned};
 pub use local::{Local, take_out};
 pub use mender::Mender;
 pub use names::name_objects;
@@ -35,6 +55,7 @@ pub use repeated::take_out_repeated;
 pub use shared_codes::take_out_shared_codes;
 pub use step_name::{STEPS, StepName, do_step};
 pub use styles::take_out_unused_styles;
-
-#[cfg(test)]
-mod tests;
+pub use twin_ids::tell_ids_apart;
+pub use unused_ids::take_out_unused_ids;
+pub use vendor_identifiers::take_vendor_identifiers;
+pub use whole_numbers::write_whole_numbers;

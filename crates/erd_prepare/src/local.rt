@@ -11,6 +11,7 @@ ghost use Rattle.erd_prepare.specs.Local.{counts_nothing, dropping, is_coordinat
 ghost use Rattle.erd_prepare.specs.Changes.{told_by};
 ghost use Rattle.erd_prepare.specs.Rules.{prepared, told};
 
+use crate::asked::scope_in;
 use crate::engine::{Done, prepare};
 use crate::mender::Mender;
 use erd_check::path::Path;
@@ -51,6 +52,15 @@ pub fn take_out(alloc: Global, what: Local, report: &Value) -> Result<Done, Allo
 
 impl Mender for Local {
     ghost rule = { λ s. dropping (dropped_by s) };
+
+    fn scope(
+        &self,
+        _alloc: Global,
+        want: Option<Want>,
+        value: &Value,
+    ) -> Result<Scope, AllocError> {
+        Ok(scope_in(want, value))
+    }
 
     fn shape(
         &self,
@@ -206,6 +216,16 @@ fn is_count_name(name: &str) -> bool
     ensures { result ≡ is_count_name name.now }
 {
     name == "VoteCounts" || name == "OtherCounts"
+}
+
+/// Returns whether a member has counts that are not zero.
+pub(crate) fn is_counted(scope: Scope, name: &str, value: &Value) -> bool {
+    is_count_name(name) && is_outside_member(want_in(scope, name)) && !counts_nothing(value)
+}
+
+/// Returns whether a label that an object must have has no translation.
+pub(crate) fn is_required_text(scope: Scope, name: &str, value: &Value) -> bool {
+    is_label(want_in(scope, name)) && is_required_in(scope, name) && is_untranslated(value)
 }
 
 /// Returns whether every number in a value is zero.

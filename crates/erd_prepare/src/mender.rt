@@ -16,6 +16,14 @@ pub trait Mender {
     // What the step does.
     ghost rule: { Self → Rule };
 
+    /// Returns what decides what the table asks of the members of a value, given what it asks of the value.
+    ///
+    /// # Errors
+    ///
+    /// `AllocError` if out of memory.
+    fn scope(&self, alloc: Global, want: Option<Want>, value: &Value) -> Result<Scope, AllocError>
+        ensures { IfOk result (λ scope. scope ≡ (rule self.now).scopes want (view value.now)) };
+
     /// Returns another form of the value, or `None` if it keeps its form.
     ///
     /// # Errors

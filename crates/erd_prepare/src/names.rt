@@ -7,7 +7,9 @@ ghost use Rattle.erd_prepare.specs.Names.{has_no_identifier, identifier_of_name,
 ghost use Rattle.erd_prepare.specs.Changes.{told_by};
 ghost use Rattle.erd_prepare.specs.Rules.{prepared, seen, told};
 
+use crate::asked::scope_in;
 use crate::engine::{Done, prepare};
+use crate::known_objects::KnownObject;
 use crate::mender::Mender;
 use erd_check::path::Path;
 use erd_check::values::{class_of_object, entries_at, is_empty_array, text_at};
@@ -37,6 +39,15 @@ struct Names {
 
 impl Mender for Names {
     ghost rule = { λ s. naming_if s.several };
+
+    fn scope(
+        &self,
+        _alloc: Global,
+        want: Option<Want>,
+        value: &Value,
+    ) -> Result<Scope, AllocError> {
+        Ok(scope_in(want, value))
+    }
 
     fn shape(
         &self,
@@ -93,6 +104,18 @@ impl Mender for Names {
             }
             _ => Ok(Vec::new(alloc)),
         }
+    }
+}
+
+/// Returns whether an object of the report is known by an identifier and has none.
+pub(crate) fn needs_name(report: &Value, object: &KnownObject) -> bool {
+    let several = entries_at(report, "Election").len() > 1;
+    if !is_known_by(several, object.role) {
+        return false;
+    }
+    match object.members.get("ExternalIdentifier") {
+        Some(value) => is_nothing(value),
+        None => true,
     }
 }
 
@@ -186,7 +209,7 @@ fn label_at<'a>(object: &'a Value, name: &str) -> Option<&'a str>
     }
 }
 
-fn text_of_label(label: &Value) -> Option<&str>
+pub(crate) fn text_of_label(label: &Value) -> Option<&str>
     ensures { option_map (λ s. s.now) result ≡ text_of_label (view label.now) }
 {
     match label {

@@ -7,6 +7,7 @@ ghost use Rattle.erd_prepare.specs.Nulls.{nulls};
 ghost use Rattle.erd_prepare.specs.Changes.{told_by};
 ghost use Rattle.erd_prepare.specs.Rules.{prepared, told};
 
+use crate::asked::scope_in;
 use crate::engine::{Done, prepare};
 use crate::mender::Mender;
 use erd_check::path::Path;
@@ -32,6 +33,15 @@ pub struct Nulls;
 
 impl Mender for Nulls {
     ghost rule = { λ s. nulls };
+
+    fn scope(
+        &self,
+        _alloc: Global,
+        want: Option<Want>,
+        value: &Value,
+    ) -> Result<Scope, AllocError> {
+        Ok(scope_in(want, value))
+    }
 
     fn shape(
         &self,

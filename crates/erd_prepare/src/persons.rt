@@ -10,6 +10,7 @@ ghost use Rattle.erd_prepare.specs.Persons.{Adds, is_among, persons_unless, refe
 ghost use Rattle.erd_prepare.specs.Changes.{told_by};
 ghost use Rattle.erd_prepare.specs.Rules.{prepared, told};
 
+use crate::asked::scope_in;
 use crate::engine::{Done, prepare};
 use crate::mender::Mender;
 use erd_check::path::Path;
@@ -42,6 +43,15 @@ struct Persons {
 
 impl Mender for Persons {
     ghost rule = { λ s. persons_unless (contains_text s.used) };
+
+    fn scope(
+        &self,
+        _alloc: Global,
+        want: Option<Want>,
+        value: &Value,
+    ) -> Result<Scope, AllocError> {
+        Ok(scope_in(want, value))
+    }
 
     fn shape(
         &self,
@@ -112,7 +122,7 @@ impl Persons {
 
 /// Adds the texts of all references in a value.
 #[cycle(references)]
-fn add_references(value: &Value, used: &mut BTreeSet<String>) -> Result<(), AllocError>
+pub(crate) fn add_references(value: &Value, used: &mut BTreeSet<String>) -> Result<(), AllocError>
     ensures { IfOk result (λ _. Adds (references (view value.now)) used.old used.new) }
 {
     match value {

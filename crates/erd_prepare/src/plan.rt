@@ -8,13 +8,15 @@ ghost use Rattle.erd_tables.specs.declared.class.Role.TheVariants.{Report};
 ghost use Rattle.erd_check.specs.Paths.{steps_of};
 ghost use Rattle.erd_check.specs.declared.want.Want.TheVariants.{Object};
 ghost use Rattle.erd_prepare.specs.Changes.{told_by};
-ghost use Rattle.erd_prepare.specs.Plans.{has_role, is_left_out, is_listed, planned};
-ghost use Rattle.erd_prepare.specs.Rules.{prepared, told};
+ghost use Rattle.erd_prepare.specs.Plans.{has_role, is_left_out, is_listed, member_put, planned};
+ghost use Rattle.erd_prepare.specs.Rules.{prepared, seen, told};
 
+use crate::asked::scope_in;
 use crate::engine::{Done, place_of, prepare};
 use crate::mender::Mender;
 use erd_check::path::Path;
 use erd_check::want::{Scope, Want};
+use erd_tables::member::MemberKind;
 use erd_tables::pointer;
 use serde_json::Value;
 use std::alloc::{AllocError, Global};
@@ -29,6 +31,8 @@ pub enum Edit {
     Write(Value),
     /// This member is put into the object there.
     PutIn(String, Value),
+    /// These members are put into the object there.
+    PutAll(Vec<(String, Value)>),
 }
 
 /// What a step is to do, by the JSON Pointers of the places.
@@ -51,6 +55,15 @@ pub fn carry_out(alloc: Global, plan: &Plan, report: &Value) -> Result<Done, All
 
 impl Mender for Plan {
     ghost rule = { λ s. planned s };
+
+    fn scope(
+        &self,
+        _alloc: Global,
+        want: Option<Want>,
+        value: &Value,
+    ) -> Result<Scope, AllocError> {
+        Ok(scope_in(want, value))
+    }
 
     fn shape(
         &self,
@@ -108,18 +121,34 @@ impl Mender for Plan {
         want: Option<Want>,
         _object: &Value,
     ) -> Result<Vec<(String, Value)>, AllocError> {
-        let mut puts = Vec::new(alloc);
         if !is_listed(want) {
-            return Ok(puts);
+            return Ok(Vec::new(alloc));
         }
-        if let Some(Edit::PutIn(name, value)) = self.edit_at(alloc, at)? {
-            puts.push((name.clone()?, value.clone()?))?;
+        match self.edit_at(alloc, at)? {
+            Some(edit) => member_put(alloc, edit),
+            None => Ok(Vec::new(alloc)),
         }
-        Ok(puts)
     }
 }
 
 impl Plan {
+    /// Returns the plan that does nothing.
+    pub(crate) fn new(alloc: Global) -> Plan {
+        Plan {
+            edits: BTreeMap::new(alloc),
+        }
+    }
+
+    /// Plans an edit at the place with a JSON Pointer. It is done in place of an earlier one there.
+    ///
+    /// # Errors
+    ///
+    /// `AllocError` if out of memory.
+    pub(crate) fn add(&mut self, place: String, edit: Edit) -> Result<(), AllocError> {
+        self.edits.insert(place, edit)?;
+        Ok(())
+    }
+
     /// Returns what is planned for a place, if anything is.
     fn edit_at(&self, alloc: Global, at: &Path) -> Result<Option<&Edit>, AllocError>
         ensures { IfOk result (λ edit. option_map (λ e. e.now) edit ≡ get_by_text self.now.edits (pointer_text (steps_of at.now))) }
@@ -145,11 +174,39 @@ fn is_left_out(edit: &Edit) -> bool
     matches!(edit, Edit::LeaveOut)
 }
 
+/// Returns copies of the members that an edit puts into the object there.
+fn member_put(alloc: Global, edit: &Edit) -> Result<Vec<(String, Value)>, AllocError>
+    ensures { IfOk result (λ ms. seen ms.items ≡ member_put edit.now) }
+{
+    let mut puts = Vec::new(alloc);
+    match edit {
+        Edit::LeaveOut | Edit::Write(_) => Ok(puts),
+        Edit::PutIn(name, value) => {
+            puts.push((name.clone()?, value.clone()?))?;
+            Ok(puts)
+        }
+        Edit::PutAll(members) => members_again(alloc, members),
+    }
+}
+
+fn members_again(
+    alloc: Global,
+    members: &Vec<(String, Value)>,
+) -> Result<Vec<(String, Value)>, AllocError>
+    ensures { IfOk result (λ ms. seen ms.items ≡ seen members.now.items) }
+{
+    let mut again = Vec::new(alloc);
+    for member in members {
+        again.push((member.0.clone()?, member.1.clone()?))?;
+    }
+    Ok(again)
+}
+
 fn is_listed(want: Option<Want>) -> bool
     ensures { result ≡ is_listed want }
 {
     match want {
-        Some(Want::Carried) | None => false,
+        Some(Want::Carried | Want::Member(MemberKind::StrangeIdentity, _)) | None => false,
         Some(_) => true,
     }
 }

@@ -3,24 +3,35 @@ ghost use Rattle.std.specs.Prelude.{◌≡◌, [], Some, IfOk};
 ghost use Rattle.serde_json.specs.View.{view};
 ghost use Rattle.erd_prepare.specs.Steps.{IsStepDone};
 
+use crate::class_names::write_class_names;
 use crate::devices::take_out_devices;
 use crate::engine::Done;
 use crate::gone_candidates::take_out_gone_candidates;
+use crate::kinds::write_kinds;
+use crate::left_behind::{name_all, take_out_counts, take_out_empty_texts};
 use crate::local::{Local, take_out};
-use crate::names::name_objects;
 use crate::nulls::take_out_nulls;
 use crate::persons::take_out_unused_persons;
 use crate::repeated::take_out_repeated;
 use crate::shared_codes::take_out_shared_codes;
 use crate::styles::take_out_unused_styles;
+use crate::twin_ids::tell_ids_apart;
+use crate::vendor_identifiers::take_vendor_identifiers;
+use crate::whole_numbers::write_whole_numbers;
 use serde_json::Value;
 use std::alloc::{AllocError, Global};
 
 /// A step, by its name.
 #[derive(Clone, Copy, PartialEq, Eq)]
 pub enum StepName {
+    /// Writes the class of each object whose class is plain from its place.
+    ClassNames,
     /// Takes out each member whose value is null.
     Nulls,
+    /// Gives values of the wrong kind the right one, where there is but one right form.
+    Kinds,
+    /// Puts the family in front of each `@id` that objects of several families have.
+    TwinIds,
     /// Takes out what is on no ballot: groups of offices, administration and registration.
     Outside,
     /// Takes out vote counts of zero.
@@ -29,8 +40,12 @@ pub enum StepName {
     Devices,
     /// Takes out coordinates.
     Coordinates,
+    /// Writes numbers that are whole without a fraction.
+    WholeNumbers,
     /// Takes out each `@id` where none belongs.
     StrayIds,
+    /// Makes the number of an object in its vendor's database its identifier, where it has none.
+    VendorIdentifiers,
     /// Takes out entries that a set has twice.
     Repeated,
     /// Takes out lines of candidates who are gone. A voter no longer sees them.
@@ -50,13 +65,18 @@ pub enum StepName {
 }
 
 /// The steps, in the order in which they are done.
-pub const STEPS: [StepName; 14] = [
+pub const STEPS: [StepName; 19] = [
+    StepName::ClassNames,
     StepName::Nulls,
+    StepName::Kinds,
+    StepName::TwinIds,
     StepName::Outside,
     StepName::Counts,
     StepName::Devices,
     StepName::Coordinates,
+    StepName::WholeNumbers,
     StepName::StrayIds,
+    StepName::VendorIdentifiers,
     StepName::Repeated,
     StepName::GoneCandidates,
     StepName::UnusedStyles,
@@ -71,12 +91,17 @@ impl StepName {
     /// Returns the name by which a caller chooses the step.
     pub fn text(self) -> &'static str {
         match self {
+            StepName::ClassNames => "class-names",
             StepName::Nulls => "nulls",
+            StepName::Kinds => "kinds",
+            StepName::TwinIds => "twin-ids",
             StepName::Outside => "outside",
             StepName::Counts => "counts",
             StepName::Devices => "devices",
             StepName::Coordinates => "coordinates",
+            StepName::WholeNumbers => "whole-numbers",
             StepName::StrayIds => "stray-ids",
+            StepName::VendorIdentifiers => "vendor-identifiers",
             StepName::Repeated => "repeated",
             StepName::GoneCandidates => "gone-candidates",
             StepName::UnusedStyles => "unused-styles",
@@ -98,19 +123,24 @@ pub fn do_step(alloc: Global, step: StepName, report: &Value) -> Result<Done, Al
     ensures done { IfOk result (IsStepDone (view report.now)) }
 {
     match step {
+        StepName::ClassNames => write_class_names(alloc, report),
         StepName::Nulls => take_out_nulls(alloc, report),
+        StepName::Kinds => write_kinds(alloc, report),
+        StepName::TwinIds => tell_ids_apart(alloc, report),
         StepName::Outside => take_out(alloc, Local::Outside, report),
-        StepName::Counts => take_out(alloc, Local::Counts, report),
+        StepName::Counts => take_out_counts(alloc, report),
         StepName::Devices => take_out_devices(alloc, report),
         StepName::Coordinates => take_out(alloc, Local::Coordinates, report),
+        StepName::WholeNumbers => write_whole_numbers(alloc, report),
         StepName::StrayIds => take_out(alloc, Local::StrayIds, report),
+        StepName::VendorIdentifiers => take_vendor_identifiers(alloc, report),
         StepName::Repeated => take_out_repeated(alloc, report),
         StepName::GoneCandidates => take_out_gone_candidates(alloc, report),
         StepName::UnusedStyles => take_out_unused_styles(alloc, report),
         StepName::UnusedPersons => take_out_unused_persons(alloc, report),
         StepName::EmptyLists => take_out(alloc, Local::EmptyLists, report),
-        StepName::EmptyTexts => take_out(alloc, Local::EmptyTexts, report),
-        StepName::Names => name_objects(alloc, report),
+        StepName::EmptyTexts => take_out_empty_texts(alloc, report),
+        StepName::Names => name_all(alloc, report),
         StepName::SharedCodes => take_out_shared_codes(alloc, report),
     }
 }

@@ -10,6 +10,7 @@ ghost use Rattle.erd_prepare.specs.Changes.{told_by};
 ghost use Rattle.erd_prepare.specs.Rules.{prepared, told};
 ghost use Rattle.erd_prepare.specs.Styles.{unused_styles};
 
+use crate::asked::scope_in;
 use crate::engine::{Done, prepare};
 use crate::mender::Mender;
 use erd_check::path::Path;
@@ -38,6 +39,15 @@ struct UnusedStyles;
 
 impl Mender for UnusedStyles {
     ghost rule = { λ s. unused_styles };
+
+    fn scope(
+        &self,
+        _alloc: Global,
+        want: Option<Want>,
+        value: &Value,
+    ) -> Result<Scope, AllocError> {
+        Ok(scope_in(want, value))
+    }
 
     fn shape(
         &self,

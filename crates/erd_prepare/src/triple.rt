@@ -4,9 +4,9 @@ use serde_json::Value;
 /// The three texts of an identifier, in the order in which keys compare them.
 #[derive(Clone, Copy, PartialEq, Eq, PartialOrd, Ord)]
 pub(crate) struct Triple<'a> {
-    kind: &'a str,
-    other: &'a str,
-    code: &'a str,
+    pub(crate) kind: &'a str,
+    pub(crate) other: &'a str,
+    pub(crate) code: &'a str,
 }
 
 /// Returns the triple of an entry of `ExternalIdentifier`, or `None` if it has none. An `OtherType` that is absent or null is the

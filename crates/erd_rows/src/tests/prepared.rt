@@ -1,8 +1,6 @@
-use crate::local::{Local, take_out};
-use crate::names::name_objects;
-use crate::nulls::take_out_nulls;
-use crate::persons::take_out_unused_persons;
-use crate::step_name::{StepName, do_step};
+use erd_prepare::{
+    Local, StepName, do_step, name_objects, take_out, take_out_nulls, take_out_unused_persons,
+};
 use erd_tables::pointer;
 use serde_json::Value;
 use std::alloc::Global;
