@@ -24,8 +24,8 @@ pub use Rattle.erd_canon.specs.DataValues.{step_data, fault_data, faults_data, r
 pub use Rattle.erd_canon.specs.EngineTexts.{text_of_lines, IsRefusal, IsCheckText, IsCanonicalOutput, IsCanonicalErrors, comparison_line, lines_of_side, IsCompareText, IsComparison, IsRefusedReport}
 pub use Rattle.erd_canon.specs.ExactLines.{words_of, IsFileName, IsPreferenceWord, HasPlainWords}
 pub use Rattle.erd_canon.specs.Limits.{most_bytes}
-pub use Rattle.erd_canon.specs.ReadLines.{subcommand_request, request_in, IsLineRead, IsFaultFor}
-pub use Rattle.erd_canon.specs.Options.{preference_words, options_in}
+pub use Rattle.erd_canon.specs.ReadLines.{check_request, compare_request, differences_request, subcommand_request, request_in, IsLineRead, IsFaultFor}
+pub use Rattle.erd_canon.specs.Options.{preference_words, asks_json, preference_in}
 pub use Rattle.erd_canon.specs.Reading.{Exceeds, IsReadWhole}
 pub use Rattle.erd_canon.specs.Refused.{IsSomeReport, RefusedAs, refusal_for, RefusedSide}
 pub use Rattle.erd_canon.specs.Run.{IsChecked, IsAnswered, IsSideRefused, IsCompared, IsAnswerWritten, IsCheckWritten, IsCompareWritten, IsToldCheck, IsToldCompare, IsToldRun}

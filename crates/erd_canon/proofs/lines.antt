@@ -1,3 +1,3 @@
 pub mod PlainWords
-pub mod PreferenceWords
+pub mod OptionWords
 pub mod LineReadings

@@ -4,3 +4,4 @@ pub mod Comparisons
 pub mod Listings
 pub mod Agreement
 pub mod Moving
+pub mod Answering

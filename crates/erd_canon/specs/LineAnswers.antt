@@ -1,27 +1,30 @@
 -- What the words of a command line are answered with as data. docs/DATA.md describes the answers.
-use Rattle.std.specs.Prelude.{◌≡◌, ℕ, List, [], ◌∷◌, map, codes, Option, Some, None, Result, Ok, Err}
+use Rattle.std.specs.Prelude.{◌≡◌, ℕ, Bool, true, false, List, [], ◌∷◌, map, codes, Option, Some, None, Result, Ok, Err}
 use Rattle.serde_json.specs.Data.{Data, string, array, object, member}
 use Rattle.serde_json.specs.View.{items_of}
 use Rattle.erd_canon.specs.DataAnswers.{IsDataText}
-use Rattle.erd_canon.specs.Options.{no_options, option_members}
+use Rattle.erd_canon.specs.Options.{option_members}
 use Rattle.erd_canon.specs.ReadLines.{IsLineRead, IsReadExactly}
 use Rattle.erd_canon.specs.declared.commands.request.LineFault.{LineFault}
 use Rattle.erd_canon.specs.declared.commands.request.LineFault.TheVariants.{Help, Usage, Memory}
-use Rattle.erd_canon.specs.declared.commands.request.Options.{Options}
 use Rattle.erd_canon.specs.declared.commands.request.Request.{Request}
-use Rattle.erd_canon.specs.declared.commands.request.Request.TheVariants.{Filter, Check, Canon, Compare}
+use Rattle.erd_canon.specs.declared.commands.request.Request.TheVariants.{Filter, Check, Canon, Compare, CheckData, CompareData, Differences, DifferencesData}
 
 -- The JSON object of a command. Its members are `command`, `files` with the names of the files, and each option.
-abbrev pub command_data : List ℕ → List (List ℕ) → Options → Data
-command_data command files options =
-    object (member (codes "command") (string command) (member (codes "files") (array (items_of (map string files))) (option_members options)))
+abbrev pub command_data : List ℕ → List (List ℕ) → Bool → Option (List ℕ) → Data
+command_data command files json prefer =
+    object (member (codes "command") (string command) (member (codes "files") (array (items_of (map string files))) (option_members json prefer)))
 
 -- The JSON object of a request. The command without a word is `filter`, and the left file of a comparison is the first.
 abbrev pub request_data : Request → Data
-request_data Filter = command_data (codes "filter") [] no_options
-request_data (Check file options) = command_data (codes "check") (file ∷ []) options
-request_data (Canon file options) = command_data (codes "canon") (file ∷ []) options
-request_data (Compare left right options) = command_data (codes "compare") (left ∷ right ∷ []) options
+request_data Filter = command_data (codes "filter") [] false None
+request_data (Check file prefer) = command_data (codes "check") (file ∷ []) false prefer
+request_data (Canon file prefer) = command_data (codes "canon") (file ∷ []) false prefer
+request_data (Compare left right prefer) = command_data (codes "compare") (left ∷ right ∷ []) false prefer
+request_data (CheckData file prefer) = command_data (codes "check") (file ∷ []) true prefer
+request_data (CompareData left right prefer) = command_data (codes "compare") (left ∷ right ∷ []) true prefer
+request_data (Differences left right prefer) = command_data (codes "differences") (left ∷ right ∷ []) false prefer
+request_data (DifferencesData left right prefer) = command_data (codes "differences") (left ∷ right ∷ []) true prefer
 
 -- A line that was read as this is answered with this exit status and this text: a request with no status and the text of its
 -- object, help with status 0 and the help text, wrong words with status 3 and the text that says why. Running out of memory is

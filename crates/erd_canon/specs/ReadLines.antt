@@ -1,26 +1,46 @@
 -- What any words of a command line are read as, by the rules of the program in `clap`'s grammar.
-use Rattle.std.specs.Prelude.{◌≡◌, ◌≢◌, true, ℕ, List, [], ◌∷◌, Option, Some, None, Result, Ok, Err, MatchResult, codes, bytes_eq, if◌then◌else◌, unwrap_or}
+use Rattle.std.specs.Prelude.{◌≡◌, ◌≢◌, true, false, ℕ, Bool, List, [], ◌∷◌, Option, Some, None, Result, Ok, Err, MatchResult, codes, bytes_eq, if◌then◌else◌, unwrap_or}
 use Rattle.clap.specs.Words.{IsAmong, Row, fault_of, first_of, subcommand_of, takes}
 use Rattle.clap.specs.declared.error.kind.ErrorKind.{ErrorKind}
 use Rattle.clap.specs.declared.error.kind.ErrorKind.TheVariants.{DisplayHelp, OutOfMemory}
 use Rattle.erd_canon.specs.declared.commands.request.LineFault.{LineFault}
 use Rattle.erd_canon.specs.declared.commands.request.LineFault.TheVariants.{Help, Usage, Memory}
 use Rattle.erd_canon.specs.declared.commands.request.Request.{Request}
-use Rattle.erd_canon.specs.declared.commands.request.Request.TheVariants.{Filter, Check, Canon, Compare}
+use Rattle.erd_canon.specs.declared.commands.request.Request.TheVariants.{Filter, Check, Canon, Compare, CheckData, CompareData, Differences, DifferencesData}
 use Rattle.erd_canon.specs.ExactLines.{HasPlainWords, words_of}
-use Rattle.erd_canon.specs.Options.{options_in}
+use Rattle.erd_canon.specs.Options.{asks_json, preference_in}
 use Rattle.erd_canon.specs.Subcommands.{program}
 
 -- The word that was given for the required argument with this name.
 abbrev pub word_for : List ℕ → List Row → List ℕ
 word_for id rows = unwrap_or (first_of id rows) []
 
+-- The request to check a file, with JSON or with lines as the answer.
+abbrev pub check_request : Bool → List ℕ → Option (List ℕ) → Request
+check_request false file prefer = Check file prefer
+check_request true file prefer = CheckData file prefer
+
+-- The request to compare two files, with JSON or with a line as the answer.
+abbrev pub compare_request : Bool → List ℕ → List ℕ → Option (List ℕ) → Request
+compare_request false left right prefer = Compare left right prefer
+compare_request true left right prefer = CompareData left right prefer
+
+-- The request to list the differences of two files, with JSON or with lines as the answer.
+abbrev pub differences_request : Bool → List ℕ → List ℕ → Option (List ℕ) → Request
+differences_request false left right prefer = Differences left right prefer
+differences_request true left right prefer = DifferencesData left right prefer
+
+-- The request of the subcommand with this name that takes two files.
+abbrev pub pair_request : List ℕ → Bool → List ℕ → List ℕ → Option (List ℕ) → Request
+pair_request name json left right prefer =
+    if bytes_eq name (codes "compare") then compare_request json left right prefer else differences_request json left right prefer
+
 -- The request of the subcommand with this name, for what was given for its arguments.
 abbrev pub subcommand_request : List ℕ → List Row → Request
 subcommand_request name rows =
-    if bytes_eq name (codes "check") then Check (word_for (codes "FILE") rows) (options_in rows)
-    else (if bytes_eq name (codes "canon") then Canon (word_for (codes "FILE") rows) (options_in rows)
-    else Compare (word_for (codes "LEFT") rows) (word_for (codes "RIGHT") rows) (options_in rows))
+    if bytes_eq name (codes "check") then check_request (asks_json rows) (word_for (codes "FILE") rows) (preference_in rows)
+    else (if bytes_eq name (codes "canon") then Canon (word_for (codes "FILE") rows) (preference_in rows)
+    else pair_request name (asks_json rows) (word_for (codes "LEFT") rows) (word_for (codes "RIGHT") rows) (preference_in rows))
 
 -- The request of the subcommand that was found in the words, if any.
 abbrev pub request_in : Option (List ℕ × List Row) → Request

@@ -6,7 +6,7 @@ pub use Rattle.std.specs.Slice.Iter.{iter_rest}
 pub use Rattle.serde_json.specs.Data.{string, Data}
 pub use Rattle.serde_json.specs.View.{view}
 pub use Rattle.serde_json.specs.Written.{comma_if, compact_text}
-pub use Rattle.clap.specs.Words.{app_of, first_of, found_of, kind_of, rows_of, rule_of, subcommand_rows_of}
+pub use Rattle.clap.specs.Words.{app_of, first_of, found_of, kind_of, rows_of, rule_of, subcommand_rows_of, with_rule}
 pub use Rattle.erd_tables.specs.Faults.{fault_line, reason_number, reason_text}
 pub use Rattle.erd_tables.specs.Places.{escaped_byte, escaped_name, pointer_text, step_text}
 pub use Rattle.erd_check.specs.Numbers.{HasFittingNumbers}
@@ -29,9 +29,10 @@ pub use Rattle.erd_canon.specs.Pieces.{whole_line, IsCheckLines, IsCheckPiece, I
 pub use Rattle.erd_canon.specs.Writing.{IsAnswerPartWritten, IsCheckPartWritten, IsComparePartWritten, IsPartWritten}
 pub use Rattle.erd_canon.specs.Devices.{between, Reader, Writer}
 pub use Rattle.erd_canon.specs.Engines.{IsCanonRun, IsCheckRun, IsCompareRun}
+pub use Rattle.erd_canon.specs.Answering.{listing_lines, IsCheckLine, IsCompareLine, IsListed, IsListLine, IsPairPartWritten, IsPairRun, IsPairWritten, IsReportPartWritten, IsReportRun, IsReportWritten}
 pub use Rattle.erd_canon.specs.Statuses.{fault_status, fault_words, outcome_status}
-pub use Rattle.erd_canon.specs.Options.{options_in, preference_data}
+pub use Rattle.erd_canon.specs.Options.{asks_json, preference_in, preference_data}
 pub use Rattle.erd_canon.specs.ExactLines.{words_of, HasPlainWords}
-pub use Rattle.erd_canon.specs.Subcommands.{canon_subcommand, check_subcommand, compare_subcommand, file_rule, prefer_rule, program}
-pub use Rattle.erd_canon.specs.ReadLines.{request_in, subcommand_request, word_for, IsFaultFor, IsLineRead}
+pub use Rattle.erd_canon.specs.Subcommands.{canon_subcommand, check_subcommand, compare_subcommand, differences_subcommand, file_rule, json_rule, prefer_rule, program}
+pub use Rattle.erd_canon.specs.ReadLines.{check_request, compare_request, differences_request, pair_request, request_in, subcommand_request, word_for, IsFaultFor, IsLineRead}
 pub use Rattle.erd_canon.specs.LineAnswers.{command_data, request_data, IsAnswerTo, IsLineData}

@@ -5,7 +5,7 @@ pub(crate) mod compare;
 mod fault_texts;
 mod fault_values;
 pub(crate) mod line;
-mod listed;
+pub(crate) mod listed;
 mod notation;
 pub(crate) mod piece;
 pub(crate) mod pieces;

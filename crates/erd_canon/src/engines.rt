@@ -1,5 +1,6 @@
 //! The engines behind the subcommands. Each reads its input, writes the result and returns an outcome.
 
+pub(crate) mod answers;
 pub(crate) mod buffered;
 pub(crate) mod lines;
 pub(crate) mod outcome;

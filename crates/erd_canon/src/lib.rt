@@ -16,7 +16,7 @@ pub use bytes::disposal::{Disposal, Free};
 pub use bytes::laws::{is_its_own_form, one_form_for_one_meaning, same_form_when_rearranged};
 pub use bytes::refusal::{Refusal, Side};
 pub use commands::prefer::Prefer;
-pub use commands::request::{FileName, LineFault, Options, Request};
+pub use commands::request::{FileName, LineFault, Request};
 pub use commands::words::command_line;
 pub use data::check::{Answer, check_data, check_data_with};
 pub use data::compare::{compare_data, compare_data_with, differences_data, differences_data_with};
@@ -33,6 +33,9 @@ pub use devices::read_from::ReadFrom;
 pub use devices::sink::{Sink, write_out};
 pub use devices::source::{Failed, MOST_BYTES, Source};
 pub use devices::write_to::WriteTo;
+pub use engines::answers::{
+    run_check_data, run_compare_data, run_differences, run_differences_data,
+};
 pub use engines::outcome::{Outcome, RunFault};
 pub use engines::runs::{
     run_canon, run_canon_disposing, run_canon_with, run_check, run_check_disposing, run_check_with,

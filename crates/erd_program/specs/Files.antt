@@ -1,8 +1,9 @@
 -- What is done with standard input, or with the files that a request names.
 use Rattle.std.specs.Prelude.{◌≡◌, ◌++◌, ◌∷◌, [], ℕ, List, None, Result, Ok, Err, codes}
+use Rattle.erd_canon.specs.Answering.{IsCheckLine, IsCompareLine, IsListed, IsListLine, IsPairRun, IsReportRun}
 use Rattle.erd_canon.specs.Devices.{BeforeAfter, Writer, between}
 use Rattle.erd_canon.specs.Engines.{IsCanonRun, IsCheckRun, IsCompareRun}
-use Rattle.erd_canon.specs.declared.commands.request.Options.{Options}
+use Rattle.erd_meaning.specs.Keys.{Preference}
 use Rattle.erd_canon.specs.declared.engines.outcome.Outcome.{Outcome}
 use Rattle.erd_canon.specs.declared.engines.outcome.RunFault.{RunFault}
 use Rattle.erd_program.specs.declared.files.WorldFault.{WorldFault}
@@ -25,13 +26,17 @@ pub record IsInputCanonicalised {F File I O E : Type 0} (known : Outside F File 
   pub status_is : status ≡ run_status answer
   pub told : IsTold known.err answer (between err_left err.after)
 
--- The engine checked the file as the options say.
-abbrev pub IsFileChecked : {F File I O E : Type 0} → Options → Outside F File I O E → Result Outcome RunFault → BeforeAfter File → BeforeAfter O → BeforeAfter E → Type 0
-IsFileChecked options known answer file out err = IsCheckRun known.file known.out options.prefer answer file out × (err.after ≡ err.before)
+-- The engine checked the file under the preference.
+abbrev pub IsFileChecked : {F File I O E : Type 0} → Preference → Outside F File I O E → Result Outcome RunFault → BeforeAfter File → BeforeAfter O → BeforeAfter E → Type 0
+IsFileChecked prefer known answer file out err = IsCheckRun known.file known.out prefer answer file out × (err.after ≡ err.before)
 
--- The engine canonicalised the file as the options say.
-abbrev pub IsFileCanonicalised : {F File I O E : Type 0} → Options → Outside F File I O E → Result Outcome RunFault → BeforeAfter File → BeforeAfter O → BeforeAfter E → Type 0
-IsFileCanonicalised options known answer file out err = IsCanonRun known.file known.out known.err options.prefer answer file out err
+-- The engine canonicalised the file under the preference.
+abbrev pub IsFileCanonicalised : {F File I O E : Type 0} → Preference → Outside F File I O E → Result Outcome RunFault → BeforeAfter File → BeforeAfter O → BeforeAfter E → Type 0
+IsFileCanonicalised prefer known answer file out err = IsCanonRun known.file known.out known.err prefer answer file out err
+
+-- The engine checked the file under the preference, with JSON as the answer.
+abbrev pub IsFileCheckedAsData : {F File I O E : Type 0} → Preference → Outside F File I O E → Result Outcome RunFault → BeforeAfter File → BeforeAfter O → BeforeAfter E → Type 0
+IsFileCheckedAsData prefer known answer file out err = IsReportRun known.file known.out (IsCheckLine prefer) answer file out × (err.after ≡ err.before)
 
 -- The engine ran on the file, and the file was closed as the engine left it. The program ended with the answer.
 pub record IsFileDone {F File I O E : Type 0} (known : Outside F File I O E) (Run : Outside F File I O E → Result Outcome RunFault → BeforeAfter File → BeforeAfter O → BeforeAfter E → Type 0) (name : List ℕ) (file : File) (status : ℕ) (closed : BeforeAfter (List (List ℕ × File))) (out : BeforeAfter O) (err : BeforeAfter E) : Type 0 where
@@ -43,29 +48,45 @@ pub record IsFileDone {F File I O E : Type 0} (known : Outside F File I O E) (Ru
   pub status_is : status ≡ run_status answer
   pub told : IsTold known.err answer (between err_left err.after)
 
--- The two files were compared as the options say, and closed as the engine left them. The program ended with the answer.
-pub record AreFilesCompared {F File I O E : Type 0} (known : Outside F File I O E) (options : Options) (left_name right_name : List ℕ) (left right : File) (status : ℕ) (closed : BeforeAfter (List (List ℕ × File))) (out : BeforeAfter O) (err : BeforeAfter E) : Type 0 where
+-- The engine compared the two files under the preference, with a line as the answer.
+abbrev pub AreFilesCompared : {F File I O E : Type 0} → Preference → Outside F File I O E → Result Outcome RunFault → BeforeAfter File → BeforeAfter File → BeforeAfter O → Type 0
+AreFilesCompared prefer known answer left right out = IsCompareRun known.file known.file known.out prefer answer left right out
+
+-- The engine compared the two files under the preference, with JSON as the answer.
+abbrev pub AreFilesComparedAsData : {F File I O E : Type 0} → Preference → Outside F File I O E → Result Outcome RunFault → BeforeAfter File → BeforeAfter File → BeforeAfter O → Type 0
+AreFilesComparedAsData prefer known answer left right out = IsPairRun known.file known.file known.out (IsCompareLine prefer) answer left right out
+
+-- The engine listed the differences of the two files under the preference, a line each.
+abbrev pub AreFilesListed : {F File I O E : Type 0} → Preference → Outside F File I O E → Result Outcome RunFault → BeforeAfter File → BeforeAfter File → BeforeAfter O → Type 0
+AreFilesListed prefer known answer left right out = IsPairRun known.file known.file known.out (IsListed prefer) answer left right out
+
+-- The engine listed the differences of the two files under the preference, with JSON as the answer.
+abbrev pub AreFilesListedAsData : {F File I O E : Type 0} → Preference → Outside F File I O E → Result Outcome RunFault → BeforeAfter File → BeforeAfter File → BeforeAfter O → Type 0
+AreFilesListedAsData prefer known answer left right out = IsPairRun known.file known.file known.out (IsListLine prefer) answer left right out
+
+-- The engine ran on the two files, and they were closed as the engine left them. The program ended with the answer.
+pub record AreFilesDone {F File I O E : Type 0} (known : Outside F File I O E) (Run : Outside F File I O E → Result Outcome RunFault → BeforeAfter File → BeforeAfter File → BeforeAfter O → Type 0) (left_name right_name : List ℕ) (left right : File) (status : ℕ) (closed : BeforeAfter (List (List ℕ × File))) (out : BeforeAfter O) (err : BeforeAfter E) : Type 0 where
   pub answer : Result Outcome RunFault
   pub left_left : File
   pub right_left : File
-  pub run : IsCompareRun known.file known.file known.out options.prefer answer (between left left_left) (between right right_left) out
+  pub run : Run known answer (between left left_left) (between right right_left) out
   pub are_closed : closed.after ≡ closed.before ++ (left_name, left_left) ∷ (right_name, right_left) ∷ []
   pub status_is : status ≡ run_status answer
   pub told : IsTold known.err answer err
 
--- What is done for `check` and `canon`, by what opening the file gave.
+-- What is done for a command on one file, by what opening the file gave.
 abbrev pub IsFileAnswer : {F File I O E : Type 0} → Outside F File I O E → (Outside F File I O E → Result Outcome RunFault → BeforeAfter File → BeforeAfter O → BeforeAfter E → Type 0) → List ℕ → Result File WorldFault → ℕ → BeforeAfter (List (List ℕ × File)) → BeforeAfter O → BeforeAfter E → Type 0
 IsFileAnswer known Run name (Ok file) status closed out err = IsFileDone known Run name file status closed out err
 IsFileAnswer known Run name (Err fault) status closed out err =
     (closed.after ≡ closed.before) × IsRefused known.err (codes "cannot open") fault status out err
 
--- What is done for `compare`, by what opening the left file and then the right one gave. If one of them could not be
+-- What is done for a command on two files, by what opening the left file and then the right one gave. If one of them could not be
 -- opened, the other one was closed as it was.
-abbrev pub IsCompareAnswer : {F File I O E : Type 0} → Outside F File I O E → Options → List ℕ → List ℕ → Result File WorldFault → Result File WorldFault → ℕ → BeforeAfter (List (List ℕ × File)) → BeforeAfter O → BeforeAfter E → Type 0
-IsCompareAnswer known options left right (Ok a) (Ok b) status closed out err = AreFilesCompared known options left right a b status closed out err
-IsCompareAnswer known options left right (Ok a) (Err fault) status closed out err =
+abbrev pub IsPairAnswer : {F File I O E : Type 0} → Outside F File I O E → (Outside F File I O E → Result Outcome RunFault → BeforeAfter File → BeforeAfter File → BeforeAfter O → Type 0) → List ℕ → List ℕ → Result File WorldFault → Result File WorldFault → ℕ → BeforeAfter (List (List ℕ × File)) → BeforeAfter O → BeforeAfter E → Type 0
+IsPairAnswer known Run left right (Ok a) (Ok b) status closed out err = AreFilesDone known Run left right a b status closed out err
+IsPairAnswer known Run left right (Ok a) (Err fault) status closed out err =
     (closed.after ≡ closed.before ++ (left, a) ∷ []) × IsRefused known.err (codes "cannot open") fault status out err
-IsCompareAnswer known options left right (Err fault) (Ok b) status closed out err =
+IsPairAnswer known Run left right (Err fault) (Ok b) status closed out err =
     (closed.after ≡ closed.before ++ (right, b) ∷ []) × IsRefused known.err (codes "cannot open") fault status out err
-IsCompareAnswer known options left right (Err fault) (Err other) status closed out err =
+IsPairAnswer known Run left right (Err fault) (Err other) status closed out err =
     (closed.after ≡ closed.before) × IsRefused known.err (codes "cannot open") fault status out err

@@ -2,9 +2,8 @@
 use Rattle.std.specs.Prelude.{◌≡◌, ◌⊎◌, ◌++◌, ◌∷◌, [], ℕ, true, false, List, Result, Ok, Err, codes}
 use Rattle.std.specs.Io.KnownBytes.{Appends}
 use Rattle.erd_canon.specs.Devices.{BeforeAfter, Writer, between}
-use Rattle.erd_canon.specs.declared.commands.request.Options.{Options}
 use Rattle.erd_canon.specs.declared.commands.request.Request.{Request}
-use Rattle.erd_canon.specs.declared.commands.request.Request.TheVariants.{Filter, Check, Canon, Compare}
+use Rattle.erd_canon.specs.declared.commands.request.Request.TheVariants.{Filter, Check, Canon, Compare, CheckData, CompareData, Differences, DifferencesData}
 use Rattle.erd_canon.specs.declared.commands.request.LineFault.{LineFault}
 use Rattle.erd_canon.specs.declared.commands.request.LineFault.TheVariants as line
 use Rattle.erd_canon.specs.declared.engines.outcome.Outcome.{Outcome}
@@ -15,7 +14,7 @@ use Rattle.erd_canon.specs.Writing.{IsPartWritten}
 use Rattle.erd_program.specs.declared.files.WorldFault.{WorldFault}
 use Rattle.erd_program.specs.declared.files.WorldFault.TheVariants.{Memory}
 use Rattle.erd_program.specs.declared.world.World.{World}
-use Rattle.erd_program.specs.Files.{IsCompareAnswer, IsFileAnswer, IsFileCanonicalised, IsFileChecked, IsInputCanonicalised, IsRefused}
+use Rattle.erd_program.specs.Files.{AreFilesCompared, AreFilesComparedAsData, AreFilesListed, AreFilesListedAsData, IsFileAnswer, IsFileCanonicalised, IsFileChecked, IsFileCheckedAsData, IsInputCanonicalised, IsPairAnswer, IsRefused}
 use Rattle.erd_program.specs.Messages.{IsSaid, fault_text}
 use Rattle.erd_program.specs.World.{Outside}
 
@@ -36,14 +35,14 @@ pub record IsFileOpened {F File I O E : Type 0} (known : Outside F File I O E) (
       (between world.before.out world.after.out) (between world.before.err world.after.err)
 
 -- The left file was opened first, and it was still as opening it gave it when the right file was opened: neither was read before
--- both were opened. Standard input was left alone. The files were compared if there are both.
-pub record AreFilesOpened {F File I O E : Type 0} (known : Outside F File I O E) (left right : List ℕ) (options : Options) (status : ℕ) (world : BeforeAfter (World F I O E)) : Type 0 where
+-- both were opened. Standard input was left alone. The engine ran on the files if there are both.
+pub record AreFilesOpened {F File I O E : Type 0} (known : Outside F File I O E) (Run : Outside F File I O E → Result Outcome RunFault → BeforeAfter File → BeforeAfter File → BeforeAfter O → Type 0) (left right : List ℕ) (status : ℕ) (world : BeforeAfter (World F I O E)) : Type 0 where
   pub left_given : Result File WorldFault
   pub right_given : Result File WorldFault
   pub input : LeavesInput world
   pub opened : known.opened world.after.files ≡ known.opened world.before.files ++ (left, left_given) ∷ (right, right_given) ∷ []
   pub beside : known.beside world.after.files ≡ known.beside world.before.files ++ (right, left_given) ∷ []
-  pub answer : IsCompareAnswer known options left right left_given right_given status (between (known.closed world.before.files) (known.closed world.after.files))
+  pub answer : IsPairAnswer known Run left right left_given right_given status (between (known.closed world.before.files) (known.closed world.after.files))
       (between world.before.out world.after.out) (between world.before.err world.after.err)
 
 -- The program did what the request asks for.
@@ -51,9 +50,13 @@ abbrev pub IsDone : {F File I O E : Type 0} → Outside F File I O E → Request
 IsDone known Filter status world =
     LeavesFiles world
     × IsInputCanonicalised known status (between world.before.input world.after.input) (between world.before.out world.after.out) (between world.before.err world.after.err)
-IsDone known (Check name options) status world = IsFileOpened known (IsFileChecked options) name status world
-IsDone known (Canon name options) status world = IsFileOpened known (IsFileCanonicalised options) name status world
-IsDone known (Compare left right options) status world = AreFilesOpened known left right options status world
+IsDone known (Check name prefer) status world = IsFileOpened known (IsFileChecked prefer) name status world
+IsDone known (Canon name prefer) status world = IsFileOpened known (IsFileCanonicalised prefer) name status world
+IsDone known (Compare left right prefer) status world = AreFilesOpened known (AreFilesCompared prefer) left right status world
+IsDone known (CheckData name prefer) status world = IsFileOpened known (IsFileCheckedAsData prefer) name status world
+IsDone known (CompareData left right prefer) status world = AreFilesOpened known (AreFilesComparedAsData prefer) left right status world
+IsDone known (Differences left right prefer) status world = AreFilesOpened known (AreFilesListed prefer) left right status world
+IsDone known (DifferencesData left right prefer) status world = AreFilesOpened known (AreFilesListedAsData prefer) left right status world
 
 -- The text of the help was written and flushed, with status 0. Or else that failed: a first part of it was written, and
 -- `write failed` to standard error, with status 3.

@@ -1,16 +1,17 @@
 ghost use Rattle.std.specs.Prelude.{◌≡◌, ◌++◌, ◌∷◌, [], IfOk, false};
 ghost use Rattle.erd_canon.specs.Devices.{between};
-ghost use Rattle.erd_program.specs.Files.{AreFilesCompared, IsFileDone, IsInputCanonicalised};
+ghost use Rattle.erd_program.specs.Files.{AreFilesDone, IsFileDone, IsInputCanonicalised};
 ghost use Rattle.erd_program.specs.Program.{AreFilesOpened, IsFileOpened};
 ghost use Rattle.erd_program.specs.World.{outside};
-ghost use Rattle.erd_program.specs.code.Commands.{StreamsWork, run_of};
+ghost use Rattle.erd_program.specs.code.Commands.{StreamsWork, pair_run, pair_run_of, run_of};
 
 use crate::files::{Files, WorldFault};
 use crate::messages::{ended, refused};
 use crate::world::World;
 use erd_canon::{
-    Disposal, FileName, Options, Outcome, RunFault, Sink, Source, run_canon_disposing,
-    run_check_disposing, run_compare_disposing,
+    Disposal, FileName, Outcome, Prefer, RunFault, Sink, Source, run_canon_disposing,
+    run_check_data, run_check_disposing, run_compare_data, run_compare_disposing, run_differences,
+    run_differences_data,
 };
 use std::alloc::Global;
 
@@ -22,6 +23,16 @@ const CANNOT_OPEN: &str = "cannot open\n";
 pub(crate) enum FileCommand {
     Check,
     Canon,
+    CheckData,
+}
+
+/// A command that names two files.
+#[derive(Clone, Copy)]
+pub(crate) enum PairCommand {
+    Compare,
+    CompareData,
+    Differences,
+    DifferencesData,
 }
 
 /// Writes the canonical form of standard input, with no preference.
@@ -47,21 +58,21 @@ pub(crate) fn filter<F: Files, I: Source, O: Sink, E: Sink, D: Disposal>(
     ended(answer, &mut world.err)
 }
 
-/// Opens the file and carries out the command on it, as the options say.
+/// Opens the file and carries out the command on it, under the preference.
 pub(crate) fn one_file<F: Files, I: Source, O: Sink, E: Sink, D: Disposal>(
     alloc: Global,
     world: &mut World<F, I, O, E>,
     name: &FileName,
     command: FileCommand,
-    options: &Options,
+    prefer: &Prefer,
     disposal: &D,
 ) -> u8
     requires works { StreamsWork I.reader O.writer E.writer world.old.input world.old.out world.old.err }
     ensures { IsFileOpened (outside F.opened F.beside F.closed F.File.reader I.reader O.writer E.writer)
-        (run_of command options.now) name.now result (between world.old world.new) }
+        (run_of command prefer.now) name.now result (between world.old world.new) }
 {
     match world.files.open(name) {
-        Ok(file) => open_file(alloc, world, (name, file), command, options, disposal),
+        Ok(file) => open_file(alloc, world, (name, file), command, prefer, disposal),
         Err(fault) => refused(fault, CANNOT_OPEN, &mut world.err),
     }
 }
@@ -72,7 +83,7 @@ fn open_file<F: Files, I: Source, O: Sink, E: Sink, D: Disposal>(
     world: &mut World<F, I, O, E>,
     named: (&FileName, F::File),
     command: FileCommand,
-    options: &Options,
+    prefer: &Prefer,
     disposal: &D,
 ) -> u8
     requires file_works { F.File.reader.has_failed named.1 ≡ false }
@@ -80,11 +91,11 @@ fn open_file<F: Files, I: Source, O: Sink, E: Sink, D: Disposal>(
     ensures input { world.new.input ≡ world.old.input }
     ensures opened { F.opened world.new.files ≡ F.opened world.old.files }
     ensures done { IsFileDone (outside F.opened F.beside F.closed F.File.reader I.reader O.writer E.writer)
-        (run_of command options.now) named.entry.0.now named.entry.1 result (between (F.closed world.old.files) (F.closed world.new.files))
+        (run_of command prefer.now) named.entry.0.now named.entry.1 result (between (F.closed world.old.files) (F.closed world.new.files))
         (between world.old.out world.new.out) (between world.old.err world.new.err) }
 {
     let (name, mut file) = named;
-    let answer = run(alloc, world, &mut file, command, options, disposal);
+    let answer = run(alloc, world, &mut file, command, prefer, disposal);
     world.files.close(name, file);
     ended(answer, &mut world.err)
 }
@@ -95,17 +106,17 @@ fn run<F: Files, I: Source, O: Sink, E: Sink, D: Disposal>(
     world: &mut World<F, I, O, E>,
     file: &mut F::File,
     command: FileCommand,
-    options: &Options,
+    prefer: &Prefer,
     disposal: &D,
 ) -> Result<Outcome, RunFault>
     requires file_works { F.File.reader.has_failed file.old ≡ false }
     requires works { StreamsWork I.reader O.writer E.writer world.old.input world.old.out world.old.err }
     ensures input { world.new.input ≡ world.old.input }
     ensures files { world.new.files ≡ world.old.files }
-    ensures done { run_of command options.now (outside F.opened F.beside F.closed F.File.reader I.reader O.writer E.writer)
+    ensures done { run_of command prefer.now (outside F.opened F.beside F.closed F.File.reader I.reader O.writer E.writer)
         result (between file.old file.new) (between world.old.out world.new.out) (between world.old.err world.new.err) }
 {
-    let prefer = options.prefer.text();
+    let prefer = prefer.text();
     match command {
         FileCommand::Check => run_check_disposing(alloc, file, &mut world.out, prefer, disposal),
         FileCommand::Canon => {
@@ -118,33 +129,29 @@ fn run<F: Files, I: Source, O: Sink, E: Sink, D: Disposal>(
                 disposal,
             )
         }
+        FileCommand::CheckData => run_check_data(alloc, file, &mut world.out, prefer),
     }
 }
 
-/// Opens both files and then compares them as the options say.
-pub(crate) fn compare<F: Files, I: Source, O: Sink, E: Sink, D: Disposal>(
+/// Opens both files and then carries out the command on them, under the preference.
+pub(crate) fn two_files<F: Files, I: Source, O: Sink, E: Sink, D: Disposal>(
     alloc: Global,
     world: &mut World<F, I, O, E>,
-    left: &FileName,
-    right: &FileName,
-    options: &Options,
+    names: (&FileName, &FileName),
+    command: PairCommand,
+    prefer: &Prefer,
     disposal: &D,
 ) -> u8
     requires works { StreamsWork I.reader O.writer E.writer world.old.input world.old.out world.old.err }
     ensures { AreFilesOpened (outside F.opened F.beside F.closed F.File.reader I.reader O.writer E.writer)
-        left.now right.now options.now result (between world.old world.new) }
+        (pair_run_of command prefer.now) names.entry.0.now names.entry.1.now result (between world.old world.new) }
 {
+    let (left, right) = names;
     let (left_file, right_file) = open_both(&mut world.files, left, right);
     match (left_file, right_file) {
         (Ok(left_file), Ok(right_file)) => {
-            compare_files(
-                alloc,
-                world,
-                (left, left_file),
-                (right, right_file),
-                options,
-                disposal,
-            )
+            let named = ((left, left_file), (right, right_file));
+            open_files(alloc, world, named, command, prefer, disposal)
         }
         (Ok(left_file), Err(fault)) => {
             world.files.close(left, left_file);
@@ -175,38 +182,61 @@ fn open_both<F: Files>(
     (left_file, right_file)
 }
 
-// Compares the open files and closes them. Each comes with its name.
-fn compare_files<F: Files, I: Source, O: Sink, E: Sink, D: Disposal>(
+// Carries out the command on the open files and closes them. Each comes with its name.
+fn open_files<F: Files, I: Source, O: Sink, E: Sink, D: Disposal>(
     alloc: Global,
     world: &mut World<F, I, O, E>,
-    left: (&FileName, F::File),
-    right: (&FileName, F::File),
-    options: &Options,
+    named: ((&FileName, F::File), (&FileName, F::File)),
+    command: PairCommand,
+    prefer: &Prefer,
     disposal: &D,
 ) -> u8
-    requires left_works { F.File.reader.has_failed left.1 ≡ false }
-    requires right_works { F.File.reader.has_failed right.1 ≡ false }
+    requires left_works { F.File.reader.has_failed named.0.1 ≡ false }
+    requires right_works { F.File.reader.has_failed named.1.1 ≡ false }
     requires works { StreamsWork I.reader O.writer E.writer world.old.input world.old.out world.old.err }
     ensures input { world.new.input ≡ world.old.input }
     ensures opened { F.opened world.new.files ≡ F.opened world.old.files }
     ensures beside { F.beside world.new.files ≡ F.beside world.old.files }
-    ensures done { AreFilesCompared (outside F.opened F.beside F.closed F.File.reader I.reader O.writer E.writer)
-        options.now left.entry.0.now right.entry.0.now left.entry.1 right.entry.1
+    ensures done { AreFilesDone (outside F.opened F.beside F.closed F.File.reader I.reader O.writer E.writer)
+        (pair_run_of command prefer.now) named.entry.0.0.now named.entry.1.0.now named.entry.0.1 named.entry.1.1
         result (between (F.closed world.old.files) (F.closed world.new.files)) (between world.old.out world.new.out)
         (between world.old.err world.new.err) }
 {
-    let (left_name, mut left_file) = left;
-    let (right_name, mut right_file) = right;
-    let prefer = options.prefer.text();
-    let answer = run_compare_disposing(
+    let ((left_name, mut left_file), (right_name, mut right_file)) = named;
+    let answer = run_pair(
         alloc,
         &mut left_file,
         &mut right_file,
         &mut world.out,
-        prefer,
+        (command, prefer),
         disposal,
     );
     world.files.close(left_name, left_file);
     world.files.close(right_name, right_file);
     ended(answer, &mut world.err)
+}
+
+// Runs the engine on the files.
+fn run_pair<S: Source, O: Sink, D: Disposal>(
+    alloc: Global,
+    left: &mut S,
+    right: &mut S,
+    out: &mut O,
+    asked: (PairCommand, &Prefer),
+    disposal: &D,
+) -> Result<Outcome, RunFault>
+    requires left_works { S.reader.has_failed left.old ≡ false }
+    requires right_works { S.reader.has_failed right.old ≡ false }
+    requires out_works { O.writer.has_failed out.old ≡ false }
+    ensures { pair_run asked.entry.0 asked.entry.1.now S.reader O.writer result (between left.old left.new) (between right.old right.new)
+        (between out.old out.new) }
+{
+    let (command, prefer) = asked;
+    let prefer = prefer.text();
+    match command {
+        PairCommand::Compare => run_compare_disposing(alloc, left, right, out, prefer, disposal),
+        PairCommand::CompareData => run_compare_data(alloc, left, right, out, prefer),
+        PairCommand::Differences => run_differences(alloc, left, right, out, prefer),
+        PairCommand::DifferencesData => run_differences_data(alloc, left, right, out, prefer),
+    }
 }

@@ -7,7 +7,7 @@ ghost use Rattle.erd_program.specs.Program.{AreWordsAnswered, IsDone, IsHelped, 
 ghost use Rattle.erd_program.specs.World.{outside};
 ghost use Rattle.erd_program.specs.code.Commands.{StreamsWork};
 
-use crate::commands::{FileCommand, compare, filter, one_file};
+use crate::commands::{FileCommand, PairCommand, filter, one_file, two_files};
 use crate::files::{Files, WorldFault};
 use crate::messages::{ended, refused, say};
 use crate::world::World;
@@ -23,7 +23,8 @@ const WRONG: u8 = 3;
 ///
 /// The words are parsed by `command_line`. Standard input is read only if they ask for nothing else. The files that they
 /// name are opened in the order of the words, both before either is read, and closed before the program ends. The streams
-/// must not have failed before. The trees and the reports of a run go to the disposal.
+/// must not have failed before. The trees and the reports of the filter, a check, a canonical
+/// form and a comparison go to the disposal; a run that answers with JSON or lists differences frees them.
 pub fn run_program<F: Files, I: Source, O: Sink, E: Sink, D: Disposal>(
     alloc: Global,
     words: Result<Vec<String>, WorldFault>,
@@ -72,14 +73,54 @@ fn done<F: Files, I: Source, O: Sink, E: Sink, D: Disposal>(
 {
     match request {
         Request::Filter => filter(alloc, world, disposal),
-        Request::Check(name, options) => {
-            one_file(alloc, world, name, FileCommand::Check, options, disposal)
+        Request::Check(name, prefer) => {
+            one_file(alloc, world, name, FileCommand::Check, prefer, disposal)
         }
-        Request::Canon(name, options) => {
-            one_file(alloc, world, name, FileCommand::Canon, options, disposal)
+        Request::Canon(name, prefer) => {
+            one_file(alloc, world, name, FileCommand::Canon, prefer, disposal)
         }
-        Request::Compare(left, right, options) => {
-            compare(alloc, world, left, right, options, disposal)
+        Request::Compare(left, right, prefer) => {
+            two_files(
+                alloc,
+                world,
+                (left, right),
+                PairCommand::Compare,
+                prefer,
+                disposal,
+            )
+        }
+        Request::CheckData(name, prefer) => {
+            one_file(alloc, world, name, FileCommand::CheckData, prefer, disposal)
+        }
+        Request::CompareData(left, right, prefer) => {
+            two_files(
+                alloc,
+                world,
+                (left, right),
+                PairCommand::CompareData,
+                prefer,
+                disposal,
+            )
+        }
+        Request::Differences(left, right, prefer) => {
+            two_files(
+                alloc,
+                world,
+                (left, right),
+                PairCommand::Differences,
+                prefer,
+                disposal,
+            )
+        }
+        Request::DifferencesData(left, right, prefer) => {
+            two_files(
+                alloc,
+                world,
+                (left, right),
+                PairCommand::DifferencesData,
+                prefer,
+                disposal,
+            )
         }
     }
 }

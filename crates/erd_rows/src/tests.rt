@@ -16,6 +16,7 @@ mod pair_calls;
 mod parts;
 mod places;
 mod preferred_rows;
+mod prepared;
 mod program;
 mod readers;
 mod refusing;

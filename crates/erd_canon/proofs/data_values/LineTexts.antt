@@ -5,7 +5,7 @@ use Rattle.erd_canon.specs.Options.{preference_data}
 use Rattle.erd_canon.specs.ReadLines.{IsReadExactly}
 use Rattle.erd_canon.specs.declared.commands.request.LineFault.{LineFault}
 use Rattle.erd_canon.specs.declared.commands.request.Request.{Request}
-use Rattle.erd_canon.specs.declared.commands.request.Request.TheVariants.{Filter, Check, Canon, Compare}
+use Rattle.erd_canon.specs.declared.commands.request.Request.TheVariants.{Filter, Check, Canon, Compare, CheckData, CompareData, Differences, DifferencesData}
 
 -- a preference does not nest, and has no number
 preference_flat : (prefer : Option (List ℕ)) → (depth (preference_data prefer) ≤ 0) × (has_float (preference_data prefer) ≡ false)
@@ -19,9 +19,13 @@ last_has_float prefer = ap (λ (b : Bool). b || false) (preference_flat prefer).
 -- the object of a request nests little, and has no number
 pub request_value : (r : Request) → (depth (request_data r) ≤ 2) × (has_float (request_data r) ≡ false)
 request_value Filter = (omega arith, refl)
-request_value (Check file options) = (omega (arith, (preference_flat options.prefer).0), last_has_float options.prefer)
-request_value (Canon file options) = (omega (arith, (preference_flat options.prefer).0), last_has_float options.prefer)
-request_value (Compare left right options) = (omega (arith, (preference_flat options.prefer).0), last_has_float options.prefer)
+request_value (Check file prefer) = (omega (arith, (preference_flat prefer).0), last_has_float prefer)
+request_value (Canon file prefer) = (omega (arith, (preference_flat prefer).0), last_has_float prefer)
+request_value (Compare left right prefer) = (omega (arith, (preference_flat prefer).0), last_has_float prefer)
+request_value (CheckData file prefer) = (omega (arith, (preference_flat prefer).0), last_has_float prefer)
+request_value (CompareData left right prefer) = (omega (arith, (preference_flat prefer).0), last_has_float prefer)
+request_value (Differences left right prefer) = (omega (arith, (preference_flat prefer).0), last_has_float prefer)
+request_value (DifferencesData left right prefer) = (omega (arith, (preference_flat prefer).0), last_has_float prefer)
 
 -- the answer to what was read from the words
 pub line_data : (words : List (List ℕ)) (found line : Result Request LineFault) (status : Option ℕ) (text : List ℕ) → found ≡ line → IsReadExactly words found → IsLineRead words found

@@ -43,7 +43,7 @@ module _ {A B : Type 0} (f : A → B) where
   take_map (suc n) [] = refl
   take_map (suc n) (x ∷ xs) = ap (λ ys. f x ∷ ys) (take_map n xs)
 
-  map_made : {C : Type 0} (g : B → C) (xs : List A) → map g (map f xs) ≡ map (λ x. g (f x)) xs
+  pub map_made : {C : Type 0} (g : B → C) (xs : List A) → map g (map f xs) ≡ map (λ x. g (f x)) xs
   map_made g [] = refl
   map_made g (x ∷ xs) = ap (λ ys. g (f x) ∷ ys) (map_made g xs)
 
@@ -104,7 +104,7 @@ found_lines piece [] told text other is lines = absurd (true≢false (sym is ∙
 found_lines piece (d ∷ ds) told text other is lines = lines
 
 -- the lists of two accepted reports
-same_outcome : (ds : List DetailedDifference) → listing_outcome ds ≡ listing_outcome (map (λ d. d.difference) ds)
+pub same_outcome : (ds : List DetailedDifference) → listing_outcome ds ≡ listing_outcome (map (λ d. d.difference) ds)
 same_outcome [] = refl
 same_outcome (d ∷ ds) = refl
 

@@ -1,6 +1,7 @@
 -- The answers as data on worked rows, by computation.
-use Rattle.erd_canon.proofs.Common.{◌≡◌, ℕ, List, [], ◌∷◌, Some, None, codes, refl, inl, inr, digits, serde_json_on_literals, Data, string, read, compact_text, Fault, reason, IsAcceptedReport, faults_data, refused_data, comparison_data, Bad, Good, NotJson}
+use Rattle.erd_canon.proofs.Common.{◌≡◌, ℕ, List, [], ◌∷◌, Some, None, codes, refl, inl, inr, digits, serde_json_on_literals, Data, string, read, compact_text, Fault, reason, IsAcceptedReport, faults_data, refused_data, comparison_data, text_of_lines, Bad, Good, NotJson}
 use Rattle.erd_tables.specs.declared.place.Step.TheVariants.{Name, At}
+use Rattle.erd_canon.specs.Answering.{IsCheckLine, listing_lines}
 use Rattle.erd_canon.specs.DataAnswers.{IsCheckedData, IsComparedData, IsDataText}
 use Rattle.erd_canon.proofs.examples.EngineExamples.{no_bytes, null_refused, root_kind}
 
@@ -29,6 +30,14 @@ no_faults_text = record { written = refl; reads_back = ((codes "[]", (refl, refl
 
 accepted_checked : (b : List ℕ) (t : Data) → IsAcceptedReport None b t → IsCheckedData None b Good (codes "[]")
 accepted_checked b t accepted = record { value = faults_data []; checked = ((t, accepted), refl); is_text = no_faults_text }
+
+-- and as the program writes it
+accepted_line : (b : List ℕ) (t : Data) → IsAcceptedReport None b t → IsCheckLine None b Good (codes "[]\n")
+accepted_line b t accepted = (codes "[]", accepted_checked b t accepted, refl)
+
+-- where nothing differs, one line says so
+no_differences : text_of_lines (listing_lines []) ≡ codes "same\n"
+no_differences = refl
 
 -- no bytes are no JSON
 bytes_checked : IsCheckedData None [] NotJson (codes "\"not JSON\"")

@@ -1,27 +1,30 @@
 -- The exact lines, and what `clap` makes of others, on examples.
 use Rattle.erd_canon.proofs.Common.{◌≡◌, ℕ, Bool, true, false, List, [], ◌∷◌, map, Option, Some, None, codes, refl, arith, clap_on_literals, subcommand_of, takes, Kinds, fault_of, DisplayHelp, MissingRequiredArgument, UnknownArgument, words_of, HasPlainWords, request_in, program}
-use Rattle.erd_canon.specs.declared.commands.request.Options.{Options}
 use Rattle.erd_canon.specs.declared.commands.request.Request.{Request}
-use Rattle.erd_canon.specs.declared.commands.request.Request.TheVariants.{Filter, Check, Canon, Compare}
-
--- the options of a line with this type, or with none
-abbrev under : Option (List ℕ) → Options
-under prefer = record { prefer = prefer }
+use Rattle.erd_canon.specs.declared.commands.request.Request.TheVariants.{Filter, Check, Canon, Compare, CheckData, CompareData, Differences, DifferencesData}
 
 -- the rows of the program's table; a type stands between the subcommand and the first file
-words : map words_of (Filter ∷ Check (codes "a") (under None) ∷ Canon (codes "a") (under None) ∷ Compare (codes "a") (codes "b") (under None)
-    ∷ Check (codes "a") (under (Some (codes "fips"))) ∷ Compare (codes "a") (codes "b") (under (Some (codes "fips"))) ∷ [])
+words : map words_of (Filter ∷ Check (codes "a") None ∷ Canon (codes "a") None ∷ Compare (codes "a") (codes "b") None
+    ∷ Check (codes "a") (Some (codes "fips")) ∷ Compare (codes "a") (codes "b") (Some (codes "fips")) ∷ [])
     ≡ [] ∷ (codes "check" ∷ codes "a" ∷ []) ∷ (codes "canon" ∷ codes "a" ∷ []) ∷ (codes "compare" ∷ codes "a" ∷ codes "b" ∷ [])
     ∷ (codes "check" ∷ codes "--prefer" ∷ codes "fips" ∷ codes "a" ∷ []) ∷ (codes "compare" ∷ codes "--prefer" ∷ codes "fips" ∷ codes "a" ∷ codes "b" ∷ []) ∷ []
 words = refl
 
+-- `--json` stands behind the subcommand, and a type behind it
+words_for_json : map words_of (CheckData (codes "a") None ∷ CompareData (codes "a") (codes "b") None ∷ Differences (codes "a") (codes "b") (Some (codes "fips"))
+    ∷ DifferencesData (codes "a") (codes "b") (Some (codes "fips")) ∷ [])
+    ≡ (codes "check" ∷ codes "--json" ∷ codes "a" ∷ []) ∷ (codes "compare" ∷ codes "--json" ∷ codes "a" ∷ codes "b" ∷ [])
+    ∷ (codes "differences" ∷ codes "--prefer" ∷ codes "fips" ∷ codes "a" ∷ codes "b" ∷ [])
+    ∷ (codes "differences" ∷ codes "--json" ∷ codes "--prefer" ∷ codes "fips" ∷ codes "a" ∷ codes "b" ∷ []) ∷ []
+words_for_json = refl
+
 -- a name may have blanks and hyphens inside, and so may a type
-names : HasPlainWords (Compare (codes "a -b") (codes " -") (under (Some (codes " -c"))))
+names : HasPlainWords (Compare (codes "a -b") (codes " -") (Some (codes " -c")))
 names = (λ e. absurd (omega (arith, e)), λ e. absurd (omega (arith, e)), λ e. absurd (omega (arith, e)))
 
 -- it is not empty, and does not begin with a hyphen, on either side
-no_names : (HasPlainWords (Check [] (under None)) → ⊥) × (HasPlainWords (Check (codes "a") (under (Some []))) → ⊥) × (HasPlainWords (Canon (codes "-a") (under None)) → ⊥)
-    × (HasPlainWords (Compare (codes "a") (codes "-") (under None)) → ⊥) × (HasPlainWords (Canon (codes "a") (under (Some (codes "--prefer")))) → ⊥)
+no_names : (HasPlainWords (Check [] None) → ⊥) × (HasPlainWords (Check (codes "a") (Some [])) → ⊥) × (HasPlainWords (Canon (codes "-a") None) → ⊥)
+    × (HasPlainWords (Compare (codes "a") (codes "-") None) → ⊥) × (HasPlainWords (Canon (codes "a") (Some (codes "--prefer"))) → ⊥)
 no_names = (λ h. h.0, λ h. h.1, λ h. h.0 refl, λ h. h.1 refl, λ h. h.1 refl)
 
 -- whether the words after the program's name are a line of it
@@ -42,6 +45,13 @@ other_types : map is_line ((codes "check" ∷ codes "--prefer" ∷ codes "a" ∷
 unfolding clap_on_literals
 other_types = refl
 
+-- `--json` where there is no subcommand, after `canon`, twice, and with a value
+other_json : map is_line ((codes "--json" ∷ []) ∷ (codes "canon" ∷ codes "--json" ∷ codes "a" ∷ []) ∷ (codes "check" ∷ codes "--json" ∷ codes "--json" ∷ codes "a" ∷ [])
+    ∷ (codes "check" ∷ codes "--json=true" ∷ codes "a" ∷ []) ∷ [])
+    ≡ false ∷ false ∷ false ∷ false ∷ []
+unfolding clap_on_literals
+other_json = refl
+
 -- ---- what other words are read as
 
 abbrev read_as : List (List ℕ) → Request
@@ -57,9 +67,16 @@ type_joined_taken = refl
 -- the type after an equals sign, the option after a file, and a file whose name begins with a hyphen, after two hyphens
 read_so : map read_as ((codes "compare" ∷ codes "--prefer=fips" ∷ codes "a" ∷ codes "b" ∷ []) ∷ (codes "check" ∷ codes "a" ∷ codes "--prefer" ∷ codes "fips" ∷ [])
     ∷ (codes "compare" ∷ codes "a" ∷ codes "--prefer=fips" ∷ codes "b" ∷ []) ∷ (codes "canon" ∷ codes "--" ∷ codes "-a" ∷ []) ∷ [])
-    ≡ Compare (codes "a") (codes "b") (under (Some (codes "fips"))) ∷ Check (codes "a") (under (Some (codes "fips"))) ∷ Compare (codes "a") (codes "b") (under (Some (codes "fips"))) ∷ Canon (codes "-a") (under None) ∷ []
+    ≡ Compare (codes "a") (codes "b") (Some (codes "fips")) ∷ Check (codes "a") (Some (codes "fips")) ∷ Compare (codes "a") (codes "b") (Some (codes "fips")) ∷ Canon (codes "-a") None ∷ []
 unfolding clap_on_literals
 read_so = refl
+
+-- `--json` behind a type, and after a file
+json_read : map read_as ((codes "compare" ∷ codes "--prefer" ∷ codes "fips" ∷ codes "--json" ∷ codes "a" ∷ codes "b" ∷ []) ∷ (codes "check" ∷ codes "a" ∷ codes "--json" ∷ [])
+    ∷ (codes "differences" ∷ codes "a" ∷ codes "--json" ∷ codes "b" ∷ []) ∷ [])
+    ≡ CompareData (codes "a") (codes "b") (Some (codes "fips")) ∷ CheckData (codes "a") None ∷ DifferencesData (codes "a") (codes "b") None ∷ []
+unfolding clap_on_literals
+json_read = refl
 
 -- help, and words that are none of the program's
 faults : map faults_of ((codes "--help" ∷ []) ∷ (codes "check" ∷ codes "-h" ∷ []) ∷ (codes "check" ∷ []) ∷ (codes "check" ∷ codes "--nosuch" ∷ codes "a" ∷ []) ∷ [])

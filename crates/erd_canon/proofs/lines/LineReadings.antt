@@ -1,23 +1,33 @@
 -- What `clap` makes of the exact lines.
-use Rattle.erd_canon.proofs.Common.{◌≡◌, ℕ, Bool, true, false, ◌&&◌, ◌⊎◌, List, [], ◌∷◌, ◌++◌, length, nat_lt, Some, None, Ok, Err, codes, Option, Result, MatchResult, unwrap_or, sym, refl, ap, ◌∙◌, subst, ap₂, inl, inr, arith, lt-ltb, clap_on_literals, Shape, step_passes, turn_passes, level_passes, arg_by_index, Held, value, Walk, to_positional, walked, finished, nothing_held, rows_after, Row, Text, first_of, is_simple, subcommand_of, takes, IsAmong, fault_of, is_simple_and_free, OutOfMemory, preference_words, words_of, IsPreferenceWord, HasPlainWords, options_in, subcommand_request, request_in, IsLineRead, IsFaultFor, program}
+use Rattle.erd_canon.proofs.Common.{◌≡◌, ℕ, Bool, true, false, ◌&&◌, ◌⊎◌, List, [], ◌∷◌, ◌++◌, length, nat_lt, Some, None, Ok, Err, codes, Option, Result, MatchResult, unwrap_or, sym, refl, ap, ◌∙◌, subst, ap₂, inl, inr, arith, lt-ltb, clap_on_literals, Shape, step_passes, turn_passes, level_passes, arg_by_index, Held, value, Walk, to_positional, walked, finished, nothing_held, rows_after, Row, Text, first_of, is_simple, subcommand_of, takes, IsAmong, fault_of, is_simple_and_free, OutOfMemory, words_of, IsPreferenceWord, HasPlainWords, asks_json, preference_in, check_request, compare_request, differences_request, subcommand_request, request_in, IsLineRead, IsFaultFor, program}
 use Rattle.clap.specs.declared.error.kind.ErrorKind.{ErrorKind}
 use Rattle.erd_canon.proofs.lines.PlainWords.{IsPlainWord, at, walked_plain, turn_plain}
-use Rattle.erd_canon.proofs.lines.PreferenceWords.{Prefers, canon_prefers, check_prefers, compare_prefers, ends, file_plain, held_first, level_preferring, rows_preferring, subcommand}
-use Rattle.erd_canon.specs.declared.commands.request.Options.{Options}
+use Rattle.erd_canon.proofs.lines.OptionWords.{Knows, canon_knows, check_knows, compare_knows, differences_knows, ends, file_plain, held_first, level_options, option_words, rows_options, subcommand}
 use Rattle.erd_canon.specs.declared.commands.request.Request.{Request}
-use Rattle.erd_canon.specs.declared.commands.request.Request.TheVariants.{Filter, Check, Canon, Compare}
+use Rattle.erd_canon.specs.declared.commands.request.Request.TheVariants.{Filter, Check, Canon, Compare, CheckData, CompareData, Differences, DifferencesData}
 use Rattle.erd_canon.specs.declared.commands.request.LineFault.{LineFault}
 use Rattle.erd_canon.specs.declared.commands.request.LineFault.TheVariants.{Help, Usage, Memory}
+
+-- the names of a subcommand, what was given for its file or files, the preference, and whether JSON is asked for
+abbrev pub HasFile : List ℕ → Bool → List ℕ → Option Text → List ℕ × List Row → Type 0
+HasFile name json file prefer met = (met.0 ≡ name)
+    × ((first_of (codes "FILE") met.1 ≡ Some file) × ((first_of (codes "TYPE") met.1 ≡ prefer) × (asks_json met.1 ≡ json)))
+
+abbrev pub HasPair : List ℕ → Bool → List ℕ → List ℕ → Option Text → List ℕ × List Row → Type 0
+HasPair name json left right prefer met = (met.0 ≡ name)
+    × ((first_of (codes "LEFT") met.1 ≡ Some left) × ((first_of (codes "RIGHT") met.1 ≡ Some right)
+    × ((first_of (codes "TYPE") met.1 ≡ prefer) × (asks_json met.1 ≡ json))))
 
 -- the result of the parse, a subcommand and its matches or neither, makes this request.
 abbrev pub IsAskedBy : Option (List ℕ × List Row) → Request → Type 0
 IsAskedBy None Filter = Unit {0}
-IsAskedBy (Some met) (Check file options) = (met.0 ≡ codes "check")
-    × ((first_of (codes "FILE") met.1 ≡ Some file) × (first_of (codes "TYPE") met.1 ≡ options.prefer))
-IsAskedBy (Some met) (Canon file options) = (met.0 ≡ codes "canon")
-    × ((first_of (codes "FILE") met.1 ≡ Some file) × (first_of (codes "TYPE") met.1 ≡ options.prefer))
-IsAskedBy (Some met) (Compare left right options) = (met.0 ≡ codes "compare")
-    × ((first_of (codes "LEFT") met.1 ≡ Some left) × ((first_of (codes "RIGHT") met.1 ≡ Some right) × (first_of (codes "TYPE") met.1 ≡ options.prefer)))
+IsAskedBy (Some met) (Check file prefer) = HasFile (codes "check") false file prefer met
+IsAskedBy (Some met) (CheckData file prefer) = HasFile (codes "check") true file prefer met
+IsAskedBy (Some met) (Canon file prefer) = HasFile (codes "canon") false file prefer met
+IsAskedBy (Some met) (Compare left right prefer) = HasPair (codes "compare") false left right prefer met
+IsAskedBy (Some met) (CompareData left right prefer) = HasPair (codes "compare") true left right prefer met
+IsAskedBy (Some met) (Differences left right prefer) = HasPair (codes "differences") false left right prefer met
+IsAskedBy (Some met) (DifferencesData left right prefer) = HasPair (codes "differences") true left right prefer met
 IsAskedBy _ _ = ⊥
 
 -- the walk after one word
@@ -31,16 +41,16 @@ unfolding clap_on_literals
 level_one s h word plain =
     ap₂ (λ (b : Bool) (w : Walk). (b && true) && ends s w.held) (turn_plain s h 1 word plain) (walked_plain s.rules h 1 word plain)
 
--- the rows after a preference and one file
-abbrev rows_one : ℕ → Option Text → Text → List Row
-rows_one i prefer word = finished (subcommand i).rules (first (subcommand i) (held_first prefer) word).held
+-- the rows after the options and one file
+abbrev rows_one : ℕ → Bool → Option Text → Text → List Row
+rows_one i json prefer word = finished (subcommand i).rules (first (subcommand i) (held_first json prefer) word).held
 
 -- what a level finds in them
-one_found : (i : ℕ) (prefer : Option Text) (word : Text) → Prefers (subcommand i) → IsPreferenceWord prefer → IsPlainWord word
-    → rows_after (subcommand i).rules [] (preference_words prefer ++ word ∷ []) ≡ rows_one i prefer word
-one_found i prefer word knows h plain =
-    rows_preferring (subcommand i) prefer (word ∷ []) knows h
-    ∙ ap (λ (w : Walk). finished (subcommand i).rules w.held) (walked_plain (subcommand i).rules (held_first prefer) 1 word plain)
+one_found : (i : ℕ) (json : Bool) (prefer : Option Text) (word : Text) → Knows (subcommand i) json → IsPreferenceWord prefer → IsPlainWord word
+    → rows_after (subcommand i).rules [] (option_words json prefer ++ word ∷ []) ≡ rows_one i json prefer word
+one_found i json prefer word knows h plain =
+    rows_options (subcommand i) json prefer (word ∷ []) knows h
+    ∙ ap (λ (w : Walk). finished (subcommand i).rules w.held) (walked_plain (subcommand i).rules (held_first json prefer) 1 word plain)
 
 -- ---- no word
 
@@ -59,36 +69,43 @@ type_passes x xs = ap (λ (b : Bool). ((b && true) && true) && true) (lt-ltb 0 (
 
 -- ---- one file
 
--- the subcommand of this place and name takes one file after a preference
-record TakesFile (i : ℕ) (name : Text) (prefer : Option Text) : Type 0 where
+-- the subcommand of this place and name takes one file after the options
+record TakesFile (i : ℕ) (name : Text) (json : Bool) (prefer : Option Text) : Type 0 where
   passes : (word : Text) → IsPreferenceWord prefer
-      → ((step_passes (subcommand i) 1 (held_first prefer) value && true) && ends (subcommand i) (first (subcommand i) (held_first prefer) word).held) ≡ true
-  enters : (program_name word : Text) → takes program (program_name ∷ name ∷ (preference_words prefer ++ word ∷ []))
-      ≡ (level_passes (subcommand i) [] nothing_held (preference_words prefer ++ word ∷ []) false && true)
-  named : (program_name word : Text) → subcommand_of program (program_name ∷ name ∷ (preference_words prefer ++ word ∷ []))
-      ≡ Some (name, rows_after (subcommand i).rules [] (preference_words prefer ++ word ∷ []))
-  words : (word : Text) → (first_of (codes "FILE") (rows_one i prefer word) ≡ Some word) × (first_of (codes "TYPE") (rows_one i prefer word) ≡ prefer)
+      → ((step_passes (subcommand i) 1 (held_first json prefer) value && true) && ends (subcommand i) (first (subcommand i) (held_first json prefer) word).held) ≡ true
+  enters : (program_name word : Text) → takes program (program_name ∷ name ∷ (option_words json prefer ++ word ∷ []))
+      ≡ (level_passes (subcommand i) [] nothing_held (option_words json prefer ++ word ∷ []) false && true)
+  named : (program_name word : Text) → subcommand_of program (program_name ∷ name ∷ (option_words json prefer ++ word ∷ []))
+      ≡ Some (name, rows_after (subcommand i).rules [] (option_words json prefer ++ word ∷ []))
+  words : (word : Text) → (first_of (codes "FILE") (rows_one i json prefer word) ≡ Some word)
+      × ((first_of (codes "TYPE") (rows_one i json prefer word) ≡ prefer) × (asks_json (rows_one i json prefer word) ≡ json))
 
-check_takes : (prefer : Option Text) → TakesFile 0 (codes "check") prefer
+check_takes : (json : Bool) (prefer : Option Text) → TakesFile 0 (codes "check") json prefer
 unfolding clap_on_literals
-check_takes None = record { passes = λ word h. refl; enters = λ name word. refl; named = λ name word. refl; words = λ word. (refl, refl) }
-check_takes (Some []) = record { passes = λ word h. absurd h; enters = λ name word. refl; named = λ name word. refl; words = λ word. (refl, refl) }
-check_takes (Some (x ∷ xs)) = record { passes = λ word h. type_passes x xs; enters = λ name word. refl; named = λ name word. refl; words = λ word. (refl, refl) }
+check_takes false None = record { passes = λ word h. refl; enters = λ name word. refl; named = λ name word. refl; words = λ word. (refl, (refl, refl)) }
+check_takes false (Some []) = record { passes = λ word h. absurd h; enters = λ name word. refl; named = λ name word. refl; words = λ word. (refl, (refl, refl)) }
+check_takes false (Some (x ∷ xs)) = record { passes = λ word h. type_passes x xs; enters = λ name word. refl; named = λ name word. refl; words = λ word. (refl, (refl, refl)) }
+check_takes true None = record { passes = λ word h. refl; enters = λ name word. refl; named = λ name word. refl; words = λ word. (refl, (refl, refl)) }
+check_takes true (Some []) = record { passes = λ word h. absurd h; enters = λ name word. refl; named = λ name word. refl; words = λ word. (refl, (refl, refl)) }
+check_takes true (Some (x ∷ xs)) = record { passes = λ word h. type_passes x xs; enters = λ name word. refl; named = λ name word. refl; words = λ word. (refl, (refl, refl)) }
 
-canon_takes : (prefer : Option Text) → TakesFile 1 (codes "canon") prefer
+canon_takes : (prefer : Option Text) → TakesFile 1 (codes "canon") false prefer
 unfolding clap_on_literals
-canon_takes None = record { passes = λ word h. refl; enters = λ name word. refl; named = λ name word. refl; words = λ word. (refl, refl) }
-canon_takes (Some []) = record { passes = λ word h. absurd h; enters = λ name word. refl; named = λ name word. refl; words = λ word. (refl, refl) }
-canon_takes (Some (x ∷ xs)) = record { passes = λ word h. type_passes x xs; enters = λ name word. refl; named = λ name word. refl; words = λ word. (refl, refl) }
+canon_takes None = record { passes = λ word h. refl; enters = λ name word. refl; named = λ name word. refl; words = λ word. (refl, (refl, refl)) }
+canon_takes (Some []) = record { passes = λ word h. absurd h; enters = λ name word. refl; named = λ name word. refl; words = λ word. (refl, (refl, refl)) }
+canon_takes (Some (x ∷ xs)) = record { passes = λ word h. type_passes x xs; enters = λ name word. refl; named = λ name word. refl; words = λ word. (refl, (refl, refl)) }
 
-module _ (i : ℕ) (name : Text) (knows : Prefers (subcommand i)) (prefer : Option Text) (file : TakesFile i name prefer) (program_name word : Text) (plain : IsPlainWord word) (h : IsPreferenceWord prefer) where
-  takes-file : takes program (program_name ∷ name ∷ (preference_words prefer ++ word ∷ [])) ≡ true
+module _ (i : ℕ) (name : Text) (json : Bool) (knows : Knows (subcommand i) json) (prefer : Option Text) (file : TakesFile i name json prefer) (program_name word : Text) (plain : IsPlainWord word) (h : IsPreferenceWord prefer) where
+  takes-file : takes program (program_name ∷ name ∷ (option_words json prefer ++ word ∷ [])) ≡ true
   takes-file =
       file.enters program_name word
-      ∙ ap (λ b. b && true) (level_preferring (subcommand i) prefer (word ∷ []) knows h ∙ (level_one (subcommand i) (held_first prefer) word plain ∙ file.passes word h))
+      ∙ ap (λ b. b && true) (level_options (subcommand i) json prefer (word ∷ []) knows h ∙ (level_one (subcommand i) (held_first json prefer) word plain ∙ file.passes word h))
 
-  file_found : subcommand_of program (program_name ∷ name ∷ (preference_words prefer ++ word ∷ [])) ≡ Some (name, rows_one i prefer word)
-  file_found = file.named program_name word ∙ ap (λ (r : List Row). Some (name, r)) (one_found i prefer word knows h plain)
+  file_found : HasFile name json word prefer (name, rows_one i json prefer word)
+  file_found = (refl, file.words word)
+
+  file_met : subcommand_of program (program_name ∷ name ∷ (option_words json prefer ++ word ∷ [])) ≡ Some (name, rows_one i json prefer word)
+  file_met = file.named program_name word ∙ ap (λ (r : List Row). Some (name, r)) (one_found i json prefer word knows h plain)
 
 -- ---- two files
 
@@ -119,87 +136,91 @@ level_two s h left right goes_on plain plain2 =
     (ap₂ (λ (b : Bool) (d : Bool). b && (d && true)) (turn_plain s h 1 left plain) (turn_two s h left right goes_on plain plain2))
     (walked_two s h left right goes_on plain plain2)
 
--- `compare` as built
-abbrev comparing : Shape
-comparing = subcommand 2
+-- the rows after the options and two files
+abbrev rows_two : ℕ → Bool → Option Text → Text → Text → List Row
+rows_two i json prefer left right = finished (subcommand i).rules (second (subcommand i) (held_first json prefer) left right).held
 
-compare_goes_on : (prefer : Option Text) (left : Text) → GoesOn comparing (held_first prefer) left
+-- the subcommand of this place and name takes two files after the options
+record TakesPair (i : ℕ) (name : Text) (json : Bool) (prefer : Option Text) : Type 0 where
+  goes_on : (left : Text) → GoesOn (subcommand i) (held_first json prefer) left
+  passes : (left right : Text) → IsPreferenceWord prefer
+      → ((step_passes (subcommand i) 1 (held_first json prefer) value && (step_passes (subcommand i) 2 (first (subcommand i) (held_first json prefer) left).held value && true))
+      && ends (subcommand i) (second (subcommand i) (held_first json prefer) left right).held) ≡ true
+  enters : (program_name left right : Text) → takes program (program_name ∷ name ∷ (option_words json prefer ++ left ∷ right ∷ []))
+      ≡ (level_passes (subcommand i) [] nothing_held (option_words json prefer ++ left ∷ right ∷ []) false && true)
+  named : (program_name left right : Text) → subcommand_of program (program_name ∷ name ∷ (option_words json prefer ++ left ∷ right ∷ []))
+      ≡ Some (name, rows_after (subcommand i).rules [] (option_words json prefer ++ left ∷ right ∷ []))
+  words : (left right : Text) → (first_of (codes "LEFT") (rows_two i json prefer left right) ≡ Some left)
+      × ((first_of (codes "RIGHT") (rows_two i json prefer left right) ≡ Some right)
+      × ((first_of (codes "TYPE") (rows_two i json prefer left right) ≡ prefer) × (asks_json (rows_two i json prefer left right) ≡ json)))
+
+compare_takes : (json : Bool) (prefer : Option Text) → TakesPair 2 (codes "compare") json prefer
 unfolding clap_on_literals
-compare_goes_on None left = refl
-compare_goes_on (Some type) left = refl
+compare_takes false None = record { goes_on = λ left. refl; passes = λ left right h. refl; enters = λ name left right. refl; named = λ name left right. refl; words = λ left right. (refl, (refl, (refl, refl))) }
+compare_takes false (Some []) = record { goes_on = λ left. refl; passes = λ left right h. absurd h; enters = λ name left right. refl; named = λ name left right. refl; words = λ left right. (refl, (refl, (refl, refl))) }
+compare_takes false (Some (x ∷ xs)) = record { goes_on = λ left. refl; passes = λ left right h. type_passes x xs; enters = λ name left right. refl; named = λ name left right. refl; words = λ left right. (refl, (refl, (refl, refl))) }
+compare_takes true None = record { goes_on = λ left. refl; passes = λ left right h. refl; enters = λ name left right. refl; named = λ name left right. refl; words = λ left right. (refl, (refl, (refl, refl))) }
+compare_takes true (Some []) = record { goes_on = λ left. refl; passes = λ left right h. absurd h; enters = λ name left right. refl; named = λ name left right. refl; words = λ left right. (refl, (refl, (refl, refl))) }
+compare_takes true (Some (x ∷ xs)) = record { goes_on = λ left. refl; passes = λ left right h. type_passes x xs; enters = λ name left right. refl; named = λ name left right. refl; words = λ left right. (refl, (refl, (refl, refl))) }
 
-two_pass : (prefer : Option Text) (left right : Text) → IsPreferenceWord prefer
-    → ((step_passes comparing 1 (held_first prefer) value && (step_passes comparing 2 (first comparing (held_first prefer) left).held value && true))
-    && ends comparing (second comparing (held_first prefer) left right).held) ≡ true
+differences_takes : (json : Bool) (prefer : Option Text) → TakesPair 3 (codes "differences") json prefer
 unfolding clap_on_literals
-two_pass None left right h = refl
-two_pass (Some []) left right h = absurd h
-two_pass (Some (x ∷ xs)) left right h = type_passes x xs
+differences_takes false None = record { goes_on = λ left. refl; passes = λ left right h. refl; enters = λ name left right. refl; named = λ name left right. refl; words = λ left right. (refl, (refl, (refl, refl))) }
+differences_takes false (Some []) = record { goes_on = λ left. refl; passes = λ left right h. absurd h; enters = λ name left right. refl; named = λ name left right. refl; words = λ left right. (refl, (refl, (refl, refl))) }
+differences_takes false (Some (x ∷ xs)) = record { goes_on = λ left. refl; passes = λ left right h. type_passes x xs; enters = λ name left right. refl; named = λ name left right. refl; words = λ left right. (refl, (refl, (refl, refl))) }
+differences_takes true None = record { goes_on = λ left. refl; passes = λ left right h. refl; enters = λ name left right. refl; named = λ name left right. refl; words = λ left right. (refl, (refl, (refl, refl))) }
+differences_takes true (Some []) = record { goes_on = λ left. refl; passes = λ left right h. absurd h; enters = λ name left right. refl; named = λ name left right. refl; words = λ left right. (refl, (refl, (refl, refl))) }
+differences_takes true (Some (x ∷ xs)) = record { goes_on = λ left. refl; passes = λ left right h. type_passes x xs; enters = λ name left right. refl; named = λ name left right. refl; words = λ left right. (refl, (refl, (refl, refl))) }
 
-enters-compare : (name left right : Text) (prefer : Option Text)
-    → takes program (name ∷ codes "compare" ∷ (preference_words prefer ++ left ∷ right ∷ []))
-    ≡ (level_passes comparing [] nothing_held (preference_words prefer ++ left ∷ right ∷ []) false && true)
-unfolding clap_on_literals
-enters-compare name left right None = refl
-enters-compare name left right (Some type) = refl
+module _ (i : ℕ) (name : Text) (json : Bool) (knows : Knows (subcommand i) json) (prefer : Option Text) (pair : TakesPair i name json prefer) (program_name left right : Text) (left_plain : IsPlainWord left) (right_plain : IsPlainWord right) (h : IsPreferenceWord prefer) where
+  takes-pair : takes program (program_name ∷ name ∷ (option_words json prefer ++ left ∷ right ∷ [])) ≡ true
+  takes-pair =
+      let held = held_first json prefer in
+      pair.enters program_name left right
+      ∙ ap (λ b. b && true) (level_options (subcommand i) json prefer (left ∷ right ∷ []) knows h
+      ∙ (level_two (subcommand i) held left right (pair.goes_on left) left_plain right_plain ∙ pair.passes left right h))
 
-pub takes-compare : (name left right : Text) (prefer : Option Text) → IsPlainWord left → IsPlainWord right → IsPreferenceWord prefer
-    → takes program (name ∷ codes "compare" ∷ (preference_words prefer ++ left ∷ right ∷ [])) ≡ true
-takes-compare name left right prefer plain plain2 h =
-    let held = held_first prefer in
-    enters-compare name left right prefer
-    ∙ ap (λ b. b && true) (level_preferring comparing prefer (left ∷ right ∷ []) compare_prefers h
-    ∙ (level_two comparing held left right (compare_goes_on prefer left) plain plain2 ∙ two_pass prefer left right h))
+  pair_found : HasPair name json left right prefer (name, rows_two i json prefer left right)
+  pair_found = (refl, pair.words left right)
 
--- the rows after a preference and two files
-abbrev rows_two : Option Text → Text → Text → List Row
-rows_two prefer left right = finished comparing.rules (second comparing (held_first prefer) left right).held
-
-names-compare : (name left right : Text) (prefer : Option Text)
-    → subcommand_of program (name ∷ codes "compare" ∷ (preference_words prefer ++ left ∷ right ∷ []))
-    ≡ Some (codes "compare", rows_after comparing.rules [] (preference_words prefer ++ left ∷ right ∷ []))
-unfolding clap_on_literals
-names-compare name left right None = refl
-names-compare name left right (Some type) = refl
-
-pub compare_found : (name left right : Text) (prefer : Option Text) → IsPlainWord left → IsPlainWord right → IsPreferenceWord prefer
-    → subcommand_of program (name ∷ codes "compare" ∷ (preference_words prefer ++ left ∷ right ∷ [])) ≡ Some (codes "compare", rows_two prefer left right)
-compare_found name left right prefer plain plain2 h =
-    let found = rows_preferring comparing prefer (left ∷ right ∷ []) compare_prefers h
-    ∙ ap (λ (w : Walk). finished comparing.rules w.held) (walked_two comparing (held_first prefer) left right (compare_goes_on prefer left) plain plain2) in
-    names-compare name left right prefer ∙ ap (λ (r : List Row). Some (codes "compare", r)) found
-
-pub compare_words : (prefer : Option Text) (left right : Text)
-    → (first_of (codes "LEFT") (rows_two prefer left right) ≡ Some left)
-    × ((first_of (codes "RIGHT") (rows_two prefer left right) ≡ Some right) × (first_of (codes "TYPE") (rows_two prefer left right) ≡ prefer))
-unfolding clap_on_literals
-compare_words None left right = (refl, (refl, refl))
-compare_words (Some type) left right = (refl, (refl, refl))
+  pair_met : subcommand_of program (program_name ∷ name ∷ (option_words json prefer ++ left ∷ right ∷ [])) ≡ Some (name, rows_two i json prefer left right)
+  pair_met =
+      let found = rows_options (subcommand i) json prefer (left ∷ right ∷ []) knows h
+      ∙ ap (λ (w : Walk). finished (subcommand i).rules w.held) (walked_two (subcommand i) (held_first json prefer) left right (pair.goes_on left) left_plain right_plain) in
+      pair.named program_name left right ∙ ap (λ (r : List Row). Some (name, r)) found
 
 -- ---- each exact line
 
 pub takes-line : (request : Request) (name : Text) → HasPlainWords request → takes program (name ∷ words_of request) ≡ true
 takes-line Filter name h = takes-none name
-takes-line (Check file options) name h =
-    takes-file 0 (codes "check") check_prefers options.prefer (check_takes options.prefer) name file (file_plain file h.0) h.1
-takes-line (Canon file options) name h =
-    takes-file 1 (codes "canon") canon_prefers options.prefer (canon_takes options.prefer) name file (file_plain file h.0) h.1
-takes-line (Compare left right options) name h =
-    takes-compare name left right options.prefer (file_plain left h.0) (file_plain right h.1) h.2
+takes-line (Check file prefer) name h = takes-file 0 (codes "check") false (check_knows false) prefer (check_takes false prefer) name file (file_plain file h.0) h.1
+takes-line (CheckData file prefer) name h = takes-file 0 (codes "check") true (check_knows true) prefer (check_takes true prefer) name file (file_plain file h.0) h.1
+takes-line (Canon file prefer) name h = takes-file 1 (codes "canon") false canon_knows prefer (canon_takes prefer) name file (file_plain file h.0) h.1
+takes-line (Compare left right prefer) name h =
+    takes-pair 2 (codes "compare") false (compare_knows false) prefer (compare_takes false prefer) name left right (file_plain left h.0) (file_plain right h.1) h.2
+takes-line (CompareData left right prefer) name h =
+    takes-pair 2 (codes "compare") true (compare_knows true) prefer (compare_takes true prefer) name left right (file_plain left h.0) (file_plain right h.1) h.2
+takes-line (Differences left right prefer) name h =
+    takes-pair 3 (codes "differences") false (differences_knows false) prefer (differences_takes false prefer) name left right (file_plain left h.0) (file_plain right h.1) h.2
+takes-line (DifferencesData left right prefer) name h =
+    takes-pair 3 (codes "differences") true (differences_knows true) prefer (differences_takes true prefer) name left right (file_plain left h.0) (file_plain right h.1) h.2
 
 pub line_found : (request : Request) (name : Text) → HasPlainWords request → IsAskedBy (subcommand_of program (name ∷ words_of request)) request
 line_found Filter name h = subst (λ (o : Option (Text × List Row)). IsAskedBy o Filter) (sym (none_found name)) tt
-line_found (Check file options) name h =
-    let takes = check_takes options.prefer in
-    subst (λ (o : Option (Text × List Row)). IsAskedBy o (Check file options))
-    (sym (file_found 0 (codes "check") check_prefers options.prefer takes name file (file_plain file h.0) h.1)) (refl, takes.words file)
-line_found (Canon file options) name h =
-    let takes = canon_takes options.prefer in
-    subst (λ (o : Option (Text × List Row)). IsAskedBy o (Canon file options))
-    (sym (file_found 1 (codes "canon") canon_prefers options.prefer takes name file (file_plain file h.0) h.1)) (refl, takes.words file)
-line_found (Compare left right options) name h =
-    subst (λ (o : Option (Text × List Row)). IsAskedBy o (Compare left right options))
-    (sym (compare_found name left right options.prefer (file_plain left h.0) (file_plain right h.1) h.2)) (refl, compare_words options.prefer left right)
+line_found (Check file prefer) name h =
+    subst (λ (o : Option (Text × List Row)). IsAskedBy o (Check file prefer)) (sym (file_met 0 (codes "check") false (check_knows false) prefer (check_takes false prefer) name file (file_plain file h.0) h.1)) (file_found 0 (codes "check") false (check_knows false) prefer (check_takes false prefer) name file (file_plain file h.0) h.1)
+line_found (CheckData file prefer) name h =
+    subst (λ (o : Option (Text × List Row)). IsAskedBy o (CheckData file prefer)) (sym (file_met 0 (codes "check") true (check_knows true) prefer (check_takes true prefer) name file (file_plain file h.0) h.1)) (file_found 0 (codes "check") true (check_knows true) prefer (check_takes true prefer) name file (file_plain file h.0) h.1)
+line_found (Canon file prefer) name h =
+    subst (λ (o : Option (Text × List Row)). IsAskedBy o (Canon file prefer)) (sym (file_met 1 (codes "canon") false canon_knows prefer (canon_takes prefer) name file (file_plain file h.0) h.1)) (file_found 1 (codes "canon") false canon_knows prefer (canon_takes prefer) name file (file_plain file h.0) h.1)
+line_found (Compare left right prefer) name h =
+    subst (λ (o : Option (Text × List Row)). IsAskedBy o (Compare left right prefer)) (sym (pair_met 2 (codes "compare") false (compare_knows false) prefer (compare_takes false prefer) name left right (file_plain left h.0) (file_plain right h.1) h.2)) (pair_found 2 (codes "compare") false (compare_knows false) prefer (compare_takes false prefer) name left right (file_plain left h.0) (file_plain right h.1) h.2)
+line_found (CompareData left right prefer) name h =
+    subst (λ (o : Option (Text × List Row)). IsAskedBy o (CompareData left right prefer)) (sym (pair_met 2 (codes "compare") true (compare_knows true) prefer (compare_takes true prefer) name left right (file_plain left h.0) (file_plain right h.1) h.2)) (pair_found 2 (codes "compare") true (compare_knows true) prefer (compare_takes true prefer) name left right (file_plain left h.0) (file_plain right h.1) h.2)
+line_found (Differences left right prefer) name h =
+    subst (λ (o : Option (Text × List Row)). IsAskedBy o (Differences left right prefer)) (sym (pair_met 3 (codes "differences") false (differences_knows false) prefer (differences_takes false prefer) name left right (file_plain left h.0) (file_plain right h.1) h.2)) (pair_found 3 (codes "differences") false (differences_knows false) prefer (differences_takes false prefer) name left right (file_plain left h.0) (file_plain right h.1) h.2)
+line_found (DifferencesData left right prefer) name h =
+    subst (λ (o : Option (Text × List Row)). IsAskedBy o (DifferencesData left right prefer)) (sym (pair_met 3 (codes "differences") true (differences_knows true) prefer (differences_takes true prefer) name left right (file_plain left h.0) (file_plain right h.1) h.2)) (pair_found 3 (codes "differences") true (differences_knows true) prefer (differences_takes true prefer) name left right (file_plain left h.0) (file_plain right h.1) h.2)
 
 pub program_simple : is_simple program ≡ true
 unfolding clap_on_literals
@@ -214,26 +235,40 @@ program_free = refl
 abbrev word : Option (List ℕ) → List ℕ
 word found = unwrap_or found []
 
--- the options with this preference
-abbrev preferring : Option Text → Options
-preferring prefer = record { prefer = prefer }
-
--- the options are those that were given
-options_are : (rows : List Row) (options : Options) → first_of (codes "TYPE") rows ≡ options.prefer → options_in rows ≡ options
-options_are rows options is = ap preferring is
-
 -- the request that is asked for is the one that the parse makes
+file_request : (request : Bool → List ℕ → Option (List ℕ) → Request) (json : Bool) (file : List ℕ) (prefer : Option (List ℕ)) (rows : List Row)
+    → first_of (codes "FILE") rows ≡ Some file → first_of (codes "TYPE") rows ≡ prefer → asks_json rows ≡ json
+    → request (asks_json rows) (word (first_of (codes "FILE") rows)) (preference_in rows) ≡ request json file prefer
+file_request request json file prefer rows file_is type_is json_is =
+    ap (λ (b : Bool). request b (word (first_of (codes "FILE") rows)) (preference_in rows)) json_is ∙ ap₂ (request json) (ap word file_is) type_is
+
+pair_request_is : (request : Bool → List ℕ → List ℕ → Option (List ℕ) → Request) (json : Bool) (left right : List ℕ) (prefer : Option (List ℕ)) (rows : List Row)
+    → first_of (codes "LEFT") rows ≡ Some left → first_of (codes "RIGHT") rows ≡ Some right → first_of (codes "TYPE") rows ≡ prefer → asks_json rows ≡ json
+    → request (asks_json rows) (word (first_of (codes "LEFT") rows)) (word (first_of (codes "RIGHT") rows)) (preference_in rows) ≡ request json left right prefer
+pair_request_is request json left right prefer rows left_is right_is type_is json_is =
+    ap (λ (b : Bool). request b (word (first_of (codes "LEFT") rows)) (word (first_of (codes "RIGHT") rows)) (preference_in rows)) json_is
+    ∙ (ap₂ (λ (a : List ℕ) (b : List ℕ). request json a b (preference_in rows)) (ap word left_is) (ap word right_is) ∙ ap (request json left right) type_is)
+
+-- and its name leads there
+named : (found : List ℕ × List Row) (name : List ℕ) → found.0 ≡ name → request_in (Some found) ≡ subcommand_request name found.1
+named found name is = ap (λ (n : List ℕ). subcommand_request n found.1) is
+
 pub asked_is : (found : Option (List ℕ × List Row)) (request : Request) → IsAskedBy found request → request_in found ≡ request
 asked_is None Filter h = refl
-asked_is (Some found) (Check file options) (is, (file_is, type_is)) =
-    ap (λ (name : List ℕ). subcommand_request name found.1) is ∙ ap₂ Check (ap word file_is) (options_are found.1 options type_is)
-asked_is (Some found) (Canon file options) (is, (file_is, type_is)) =
-    ap (λ (name : List ℕ). subcommand_request name found.1) is ∙ ap₂ Canon (ap word file_is) (options_are found.1 options type_is)
-asked_is (Some found) (Compare left right options) (is, (left_is, (right_is, type_is))) =
-    let named : request_in (Some found) ≡ subcommand_request (codes "compare") found.1 = ap (λ (name : List ℕ). subcommand_request name found.1) is in
-    let both : Compare (word (first_of (codes "LEFT") found.1)) (word (first_of (codes "RIGHT") found.1)) (options_in found.1) ≡ Compare left right (options_in found.1) =
-    ap₂ (λ (a : List ℕ) (b : List ℕ). Compare a b (options_in found.1)) (ap word left_is) (ap word right_is) in
-    named ∙ (both ∙ ap (Compare left right) (options_are found.1 options type_is))
+asked_is (Some found) (Check file prefer) (is, (file_is, (type_is, json_is))) =
+    named found (codes "check") is ∙ file_request check_request false file prefer found.1 file_is type_is json_is
+asked_is (Some found) (CheckData file prefer) (is, (file_is, (type_is, json_is))) =
+    named found (codes "check") is ∙ file_request check_request true file prefer found.1 file_is type_is json_is
+asked_is (Some found) (Canon file prefer) (is, (file_is, (type_is, json_is))) =
+    named found (codes "canon") is ∙ ap₂ Canon (ap word file_is) type_is
+asked_is (Some found) (Compare left right prefer) (is, (left_is, (right_is, (type_is, json_is)))) =
+    named found (codes "compare") is ∙ pair_request_is compare_request false left right prefer found.1 left_is right_is type_is json_is
+asked_is (Some found) (CompareData left right prefer) (is, (left_is, (right_is, (type_is, json_is)))) =
+    named found (codes "compare") is ∙ pair_request_is compare_request true left right prefer found.1 left_is right_is type_is json_is
+asked_is (Some found) (Differences left right prefer) (is, (left_is, (right_is, (type_is, json_is)))) =
+    named found (codes "differences") is ∙ pair_request_is differences_request false left right prefer found.1 left_is right_is type_is json_is
+asked_is (Some found) (DifferencesData left right prefer) (is, (left_is, (right_is, (type_is, json_is)))) =
+    named found (codes "differences") is ∙ pair_request_is differences_request true left right prefer found.1 left_is right_is type_is json_is
 asked_is _ _ h = absurd h
 
 -- where the answer is a request, or else out of memory

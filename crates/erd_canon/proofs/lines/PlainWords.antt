@@ -1,5 +1,5 @@
 -- How `clap` reads a word that is no flag, at a command with no subcommands.
-use Rattle.erd_canon.proofs.Common.{◌≡◌, ℕ, Bool, true, false, ◌&&◌, ◌≢◌, List, [], ◌∷◌, ◌==◌, None, bytes_eq, refl, ap, ap₂, ne_eqb, Shape, word_passes, step_passes, turn_passes, Rule, arg_by_id, arg_by_index, Held, option, idle, next, value, option_word, word_met, Walk, to_positional, after_step, walked, Text}
+use Rattle.erd_canon.proofs.Common.{◌≡◌, ℕ, Bool, true, false, ◌&&◌, ◌≢◌, List, [], ◌∷◌, ◌==◌, Some, None, Option, option_map, unwrap_or, Bor, bytes_eq, refl, ap, ap₂, ne_eqb, Shape, word_passes, step_passes, turn_passes, Rule, arg_by_id, arg_by_index, Held, option, idle, next, value, option_word, word_met, Walk, to_positional, after_step, walked, Text}
 use Rattle.clap.specs.Lexer.{long_of, short_of}
 use Rattle.clap.specs.Walk.{Step}
 
@@ -67,3 +67,10 @@ walked_waited c id h p word plain =
 pub turn_waited : (s : Shape) (id : Text) (h : Held) (p : ℕ) (word : Text) → IsPlainWord word → turn_passes s [] (waits_for id h p) word ≡ true
 turn_waited s id h p word plain =
     ap₂ (λ (b : Bool) (m : Held × Step). b && step_passes s p m.0 m.1) (waited_passes s id word h plain) (waited_met s.rules id p word h plain)
+
+-- ---- what was given for an argument
+
+-- the text behind the reference, or the empty one
+pub text_or : (o : Option (Bor (List ℕ))) (d : Bor (List ℕ)) → d.now ≡ [] → (unwrap_or o d).now ≡ unwrap_or (option_map (λ s. s.now) o) []
+text_or None d e = e
+text_or (Some s) d e = refl

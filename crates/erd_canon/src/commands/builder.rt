@@ -1,13 +1,13 @@
-ghost use Rattle.std.specs.Prelude.{◌≡◌, IfOk, false, map};
-ghost use Rattle.erd_canon.specs.Words.{canon_subcommand, check_subcommand, compare_subcommand, file_rule, prefer_rule, program, app_of, rule_of};
+ghost use Rattle.std.specs.Prelude.{◌≡◌, IfOk, codes, false, map};
+ghost use Rattle.erd_canon.specs.Words.{canon_subcommand, check_subcommand, compare_subcommand, differences_subcommand, file_rule, json_rule, prefer_rule, program, app_of, rule_of, with_rule};
 ghost use Rattle.clap.specs.declared.builder.command.Command.TheViews.{out-Command};
 
 use crate::commands::help;
 use clap::builder::ValueParser;
-use clap::{Arg, Command};
+use clap::{Arg, ArgAction, Command};
 use std::alloc::{AllocError, Global};
 
-/// Returns the command of the program, with its three subcommands.
+/// Returns the command of the program, with its four subcommands.
 pub(crate) fn program_command<'a>(alloc: Global) -> Result<Command<'a>, AllocError>
     ensures { IfOk result (λ command. app_of command ≡ program) }
 {
@@ -17,10 +17,11 @@ pub(crate) fn program_command<'a>(alloc: Global) -> Result<Command<'a>, AllocErr
         .after_help(help::PROGRAM_ENDS)
         .subcommand(check_command(alloc)?)?
         .subcommand(canon_command(alloc)?)?
-        .subcommand(compare_command(alloc)?)
+        .subcommand(compare_command(alloc)?)?
+        .subcommand(differences_command(alloc)?)
 }
 
-// The subcommand `check [--prefer TYPE] FILE`.
+// The subcommand `check [--json] [--prefer TYPE] FILE`.
 fn check_command<'a>(alloc: Global) -> Result<Command<'a>, AllocError>
     ensures app { IfOk result (λ command. app_of command ≡ check_subcommand) }
     ensures local { IfOk result (λ command. (out-Command command).has_globals ≡ false) }
@@ -29,6 +30,7 @@ fn check_command<'a>(alloc: Global) -> Result<Command<'a>, AllocError>
         .about(help::CHECK)
         .long_about(help::CHECK_AT_LENGTH)
         .after_help(help::CHECK_ENDS)
+        .arg(json_argument(alloc))?
         .arg(prefer_argument(alloc))?
         .arg(file_argument(alloc, "FILE", help::FILE))
 }
@@ -46,16 +48,40 @@ fn canon_command<'a>(alloc: Global) -> Result<Command<'a>, AllocError>
         .arg(file_argument(alloc, "FILE", help::FILE))
 }
 
-// The subcommand `compare [--prefer TYPE] LEFT RIGHT`.
+// The subcommand `compare [--json] [--prefer TYPE] LEFT RIGHT`.
 fn compare_command<'a>(alloc: Global) -> Result<Command<'a>, AllocError>
     ensures app { IfOk result (λ command. app_of command ≡ compare_subcommand) }
     ensures local { IfOk result (λ command. (out-Command command).has_globals ≡ false) }
 {
-    Command::new(alloc, "compare")
+    let command = Command::new(alloc, "compare")
         .about(help::COMPARE)
         .long_about(help::COMPARE_AT_LENGTH)
         .after_help(help::COMPARE_ENDS)
-        .arg(prefer_argument(alloc))?
+        .arg(json_argument(alloc))?
+        .arg(prefer_argument(alloc))?;
+    with_two_files(alloc, command)
+}
+
+// The subcommand `differences [--json] [--prefer TYPE] LEFT RIGHT`.
+fn differences_command<'a>(alloc: Global) -> Result<Command<'a>, AllocError>
+    ensures app { IfOk result (λ command. app_of command ≡ differences_subcommand) }
+    ensures local { IfOk result (λ command. (out-Command command).has_globals ≡ false) }
+{
+    let command = Command::new(alloc, "differences")
+        .about(help::DIFFERENCES)
+        .long_about(help::DIFFERENCES_AT_LENGTH)
+        .after_help(help::DIFFERENCES_ENDS)
+        .arg(json_argument(alloc))?
+        .arg(prefer_argument(alloc))?;
+    with_two_files(alloc, command)
+}
+
+// Adds the arguments `LEFT` and `RIGHT`.
+fn with_two_files<'a>(alloc: Global, command: Command<'a>) -> Result<Command<'a>, AllocError>
+    ensures app { IfOk result (λ r. app_of r ≡ with_rule (with_rule (app_of command.entry) (file_rule (codes "LEFT"))) (file_rule (codes "RIGHT"))) }
+    ensures local { (out-Command command.entry).has_globals ≡ false → IfOk result (λ r. (out-Command r).has_globals ≡ false) }
+{
+    command
         .arg(file_argument(alloc, "LEFT", help::LEFT))?
         .arg(file_argument(alloc, "RIGHT", help::RIGHT))
 }
@@ -66,6 +92,18 @@ fn file_argument<'a>(alloc: Global, id: &'a str, text: &'a str) -> Arg<'a>
     ensures local { result.global ≡ false }
 {
     Arg::new(alloc, id).required(true).help(text)
+}
+
+// The option `--json`.
+fn json_argument<'a>(alloc: Global) -> Arg<'a>
+    ensures rule { rule_of result ≡ json_rule }
+    ensures local { result.global ≡ false }
+{
+    Arg::new(alloc, "json")
+        .long("json")
+        .action(ArgAction::SetTrue)
+        .help(help::JSON)
+        .long_help(help::JSON_AT_LENGTH)
 }
 
 // The option `--prefer TYPE`. It rejects an empty type.

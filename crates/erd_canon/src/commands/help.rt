@@ -96,14 +96,47 @@ pub const COMPARE_ENDS: &str = "Exit status:
 Example:
   erd compare vendor-a.json vendor-b.json";
 
+/// What `differences` does.
+pub const DIFFERENCES: &str =
+    "Lists all differences in meaning of two reports, or says that there is none";
+
+/// What `differences` reads and writes.
+pub const DIFFERENCES_AT_LENGTH: &str =
+    "Reads the reports in LEFT and RIGHT, and writes to standard output `same`, or a line for each difference
+in what they mean, in rising order. Each line is one that `erd compare` writes, which has the first:
+
+  style [\"local-level\",\"\",\"S1\"]: member \"OrderedContent\"
+
+If a report is refused, it writes the lines of `erd check` for that report, each after `left: ` or
+`right: `. The right report is judged only if the left one is accepted.";
+
+/// The exit statuses of `differences`, and an example.
+pub const DIFFERENCES_ENDS: &str = "Exit status:
+  0  same
+  1  different, or a report is refused: the lines are on standard output
+  2  a report is not JSON
+  3  wrong arguments, a file that cannot be opened, more than 67,108,864 bytes, a failed read or write
+  4  no memory
+
+Example:
+  erd differences vendor-a.json vendor-b.json";
+
 /// The argument of `check` and `canon`.
 pub const FILE: &str = "The file that has the report";
 
-/// The first argument of `compare`.
+/// The first argument of `compare` and `differences`.
 pub const LEFT: &str = "The file that has the left report";
 
-/// The second argument of `compare`.
+/// The second argument of `compare` and `differences`.
 pub const RIGHT: &str = "The file that has the right report";
+
+/// The option `--json`, in short.
+pub const JSON: &str = "Answer with JSON on one line, in place of lines of text";
+
+/// The option `--json`, and what its answer has.
+pub const JSON_AT_LENGTH: &str =
+    "Answer with JSON on one line, in place of lines of text. The line has the places of faults and the keys
+of objects as values of their own; the exit status is the same";
 
 /// The option `--prefer`, in short.
 pub const PREFER: &str =

@@ -28,7 +28,7 @@ impl Prefer {
     /// Returns the preferred type, or `None` if there is none. It allocates no memory.
     ///
     /// ```
-    /// assert_eq!(rt; options.prefer.text(), Some("fips"));
+    /// assert_eq!(rt; prefer.text(), Some("fips"));
     /// ```
     pub fn text(&self) -> Option<&str>
         ensures { option_copied result ≡ self.now }

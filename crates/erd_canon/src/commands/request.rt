@@ -6,24 +6,26 @@ use thiserror::Error;
 /// The name of a file, as written on the command line.
 pub type FileName = Text;
 
-/// The options of a command.
-#[derive(Debug, Drop)]
-pub struct Options {
-    /// The type of identifier that keys follow, if the words name one (`--prefer`).
-    pub prefer: Prefer,
-}
-
-/// What a command line asks for.
+/// What a command line asks for. The preference is the type of identifier that keys follow, if the words name one
+/// (`--prefer`).
 #[derive(Debug, Drop)]
 pub enum Request {
     /// Write the canonical form of the report on standard input.
     Filter,
-    /// Check whether the report in this file is accepted, as the options say.
-    Check(FileName, Options),
-    /// Write the canonical form of the report in this file, as the options say.
-    Canon(FileName, Options),
-    /// Write the first difference between the reports in the left file and the right file, as the options say.
-    Compare(FileName, FileName, Options),
+    /// Check whether the report in this file is accepted, under the preference.
+    Check(FileName, Prefer),
+    /// Write the canonical form of the report in this file, under the preference.
+    Canon(FileName, Prefer),
+    /// Write the first difference between the reports in the left file and the right file, under the preference.
+    Compare(FileName, FileName, Prefer),
+    /// Check the report in this file under the preference, and answer with JSON (`--json`).
+    CheckData(FileName, Prefer),
+    /// Compare the reports in the left file and the right file under the preference, and answer with JSON (`--json`).
+    CompareData(FileName, FileName, Prefer),
+    /// Write all differences between the reports in the left file and the right file, under the preference.
+    Differences(FileName, FileName, Prefer),
+    /// List all differences between the reports in the left file and the right file under the preference, as JSON (`--json`).
+    DifferencesData(FileName, FileName, Prefer),
 }
 
 /// Why a command line gives no request.

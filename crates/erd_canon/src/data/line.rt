@@ -2,7 +2,7 @@ ghost use Rattle.std.specs.Prelude.{◌≡◌, ◌∷◌, [], map, string_bytes,
 ghost use Rattle.erd_canon.specs.Words.{view, IsAnswerTo, IsLineData, command_data, request_data, preference_data};
 
 use crate::commands::prefer::Prefer;
-use crate::commands::request::{FileName, LineFault, Options, Request};
+use crate::commands::request::{FileName, LineFault, Request};
 use crate::commands::words::command_line;
 use erd_tables::Text;
 use serde_json::{Value, json};
@@ -21,9 +21,9 @@ pub struct LineAnswer {
 
 /// Parses the words of a command line, as `command_line` does, and answers with a text. The first word is the program's name.
 ///
-/// For a request, the text is a JSON object with the command, the names of the files and the preferred type of identifier. For
-/// words that ask for help, it is the help text. For words that are not a command line of the program, the text says why, and how
-/// the program is called.
+/// For a request, the text is a JSON object with the command, the names of the files, whether JSON is asked for, and the
+/// preferred type of identifier. For words that ask for help, it is the help text. For words that are not a command line of the
+/// program, the text says why, and how the program is called.
 ///
 /// # Errors
 ///
@@ -34,7 +34,7 @@ pub struct LineAnswer {
 /// assert_eq!(rt; answer.status, None);
 /// assert_eq!(rt;
 ///     answer.text.as_str(),
-///     r#"{"command":"check","files":["county.json"],"prefer":"fips"}"#
+///     r#"{"command":"check","files":["county.json"],"json":false,"prefer":"fips"}"#
 /// );
 /// ```
 pub fn command_line_data(alloc: Global, words: &[String]) -> Result<LineAnswer, AllocError>
@@ -83,10 +83,24 @@ fn request_value(alloc: Global, request: &Request) -> Result<Value, AllocError>
     ensures { IfOk result (λ value. view value ≡ request_data request.now) }
 {
     match request {
-        Request::Filter => json!(in alloc; {"command": "filter", "files": [], "prefer": null}),
-        Request::Check(file, options) => on_one_file(alloc, "check", file, options),
-        Request::Canon(file, options) => on_one_file(alloc, "canon", file, options),
-        Request::Compare(left, right, options) => on_two_files(alloc, left, right, options),
+        Request::Filter => {
+            json!(in alloc; {"command": "filter", "files": [], "json": false, "prefer": null})
+        }
+        Request::Check(file, prefer) => on_one_file(alloc, "check", file, false, prefer),
+        Request::Canon(file, prefer) => on_one_file(alloc, "canon", file, false, prefer),
+        Request::Compare(left, right, prefer) => {
+            on_two_files(alloc, "compare", (left, right), false, prefer)
+        }
+        Request::CheckData(file, prefer) => on_one_file(alloc, "check", file, true, prefer),
+        Request::CompareData(left, right, prefer) => {
+            on_two_files(alloc, "compare", (left, right), true, prefer)
+        }
+        Request::Differences(left, right, prefer) => {
+            on_two_files(alloc, "differences", (left, right), false, prefer)
+        }
+        Request::DifferencesData(left, right, prefer) => {
+            on_two_files(alloc, "differences", (left, right), true, prefer)
+        }
     }
 }
 
@@ -95,28 +109,30 @@ fn on_one_file(
     alloc: Global,
     command: &str,
     file: &FileName,
-    options: &Options,
+    json: bool,
+    prefer: &Prefer,
 ) -> Result<Value, AllocError>
-    ensures { IfOk result (λ value. view value ≡ command_data command.now (file.now ∷ []) options.now) }
+    ensures { IfOk result (λ value. view value ≡ command_data command.now (file.now ∷ []) json prefer.now) }
 {
     let file = file.as_str();
-    let prefer = preference_value(alloc, &options.prefer)?;
-    json!(in alloc; {"command": command, "files": [file], "prefer": prefer})
+    let prefer = preference_value(alloc, prefer)?;
+    json!(in alloc; {"command": command, "files": [file], "json": json, "prefer": prefer})
 }
 
-// The JSON object of a comparison.
+// The JSON object of a command for two files.
 fn on_two_files(
     alloc: Global,
-    left: &FileName,
-    right: &FileName,
-    options: &Options,
+    command: &str,
+    files: (&FileName, &FileName),
+    json: bool,
+    prefer: &Prefer,
 ) -> Result<Value, AllocError>
-    ensures { IfOk result (λ value. view value ≡ command_data (codes "compare") (left.now ∷ right.now ∷ []) options.now) }
+    ensures { IfOk result (λ value. view value ≡ command_data command.now (files.entry.0.now ∷ files.entry.1.now ∷ []) json prefer.now) }
 {
-    let left = left.as_str();
-    let right = right.as_str();
-    let prefer = preference_value(alloc, &options.prefer)?;
-    json!(in alloc; {"command": "compare", "files": [left, right], "prefer": prefer})
+    let left = files.0.as_str();
+    let right = files.1.as_str();
+    let prefer = preference_value(alloc, prefer)?;
+    json!(in alloc; {"command": command, "files": [left, right], "json": json, "prefer": prefer})
 }
 
 // The JSON value of a preference: its type as a string, or null.

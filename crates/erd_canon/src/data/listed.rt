@@ -137,7 +137,7 @@ fn push_noted<T: Listed>(
 }
 
 /// Appends the line of an entry, behind the words for a side, with a line feed, and returns how many bytes that is.
-fn push_entry_line<T: Listed>(
+pub(crate) fn push_entry_line<T: Listed>(
     alloc: Global,
     side: &str,
     entry: &T,

@@ -1,12 +1,16 @@
--- What a command does with its one file, and what a command needs of the streams.
+-- What a command does with its one file or its two files, and what a command needs of the streams.
 use Rattle.std.specs.Prelude.{◌≡◌, false, Result}
+use Rattle.erd_canon.specs.Answering.{IsCompareLine, IsListed, IsListLine, IsPairRun}
 use Rattle.erd_canon.specs.Devices.{BeforeAfter, Reader, Writer}
-use Rattle.erd_canon.specs.declared.commands.request.Options.{Options}
+use Rattle.erd_canon.specs.Engines.{IsCompareRun}
+use Rattle.erd_meaning.specs.Keys.{Preference}
 use Rattle.erd_canon.specs.declared.engines.outcome.Outcome.{Outcome}
 use Rattle.erd_canon.specs.declared.engines.outcome.RunFault.{RunFault}
 use Rattle.erd_program.specs.declared.commands.FileCommand.{FileCommand}
-use Rattle.erd_program.specs.declared.commands.FileCommand.TheVariants.{Canon, Check}
-use Rattle.erd_program.specs.Files.{IsFileCanonicalised, IsFileChecked}
+use Rattle.erd_program.specs.declared.commands.FileCommand.TheVariants.{Canon, Check, CheckData}
+use Rattle.erd_program.specs.declared.commands.PairCommand.{PairCommand}
+use Rattle.erd_program.specs.declared.commands.PairCommand.TheVariants as pair
+use Rattle.erd_program.specs.Files.{IsFileCanonicalised, IsFileChecked, IsFileCheckedAsData}
 use Rattle.erd_program.specs.World.{Outside}
 
 -- No stream has failed.
@@ -16,6 +20,18 @@ pub record StreamsWork {I O E : Type 0} (reader : Reader I) (writer : Writer O) 
   pub err_works : errors.has_failed err ≡ false
 
 -- What the engine did for the command.
-abbrev pub run_of : {F File I O E : Type 0} → FileCommand → Options → Outside F File I O E → Result Outcome RunFault → BeforeAfter File → BeforeAfter O → BeforeAfter E → Type 0
-run_of Check options = λ known answer file out err. IsFileChecked options known answer file out err
-run_of Canon options = λ known answer file out err. IsFileCanonicalised options known answer file out err
+abbrev pub run_of : {F File I O E : Type 0} → FileCommand → Preference → Outside F File I O E → Result Outcome RunFault → BeforeAfter File → BeforeAfter O → BeforeAfter E → Type 0
+run_of Check prefer = λ known answer file out err. IsFileChecked prefer known answer file out err
+run_of Canon prefer = λ known answer file out err. IsFileCanonicalised prefer known answer file out err
+run_of CheckData prefer = λ known answer file out err. IsFileCheckedAsData prefer known answer file out err
+
+-- What the engine did for the command on two files, over what is known of their readers and of the writer.
+abbrev pub pair_run : {File O : Type 0} → PairCommand → Preference → Reader File → Writer O → Result Outcome RunFault → BeforeAfter File → BeforeAfter File → BeforeAfter O → Type 0
+pair_run pair.Compare prefer reader writer answer left right out = IsCompareRun reader reader writer prefer answer left right out
+pair_run pair.CompareData prefer reader writer answer left right out = IsPairRun reader reader writer (IsCompareLine prefer) answer left right out
+pair_run pair.Differences prefer reader writer answer left right out = IsPairRun reader reader writer (IsListed prefer) answer left right out
+pair_run pair.DifferencesData prefer reader writer answer left right out = IsPairRun reader reader writer (IsListLine prefer) answer left right out
+
+-- The same over what is known of the outside.
+abbrev pub pair_run_of : {F File I O E : Type 0} → PairCommand → Preference → Outside F File I O E → Result Outcome RunFault → BeforeAfter File → BeforeAfter File → BeforeAfter O → Type 0
+pair_run_of command prefer = λ known answer left right out. pair_run command prefer known.file known.out answer left right out

@@ -1,7 +1,7 @@
 //! The requests that command lines give, with each request for memory refused in turn.
 use crate::tests::answers::{Answer, right_if};
 use crate::tests::refusing::each_refused;
-use erd_canon::{LineFault, Options, Request, command_line};
+use erd_canon::{FileName, LineFault, Prefer, Request, command_line};
 use std::alloc::{AllocError, Global};
 use std::test::Fail;
 
@@ -68,6 +68,49 @@ const HELP_AND_USAGE: &[Line] = &[
     ("erd|--check|a", "usage"),
     ("erd|--version", "usage"),
     ("erd|help|nosuch", "usage"),
+];
+
+// The option `--json` stands behind the command and before `--prefer`; `clap` takes it elsewhere too, once.
+const FOR_DATA: &[Line] = &[
+    ("erd|check|--json|a", "check as data [a]"),
+    ("erd|compare|--json|a|b", "compare as data [a] [b]"),
+    ("erd|differences|a|b", "differences [a] [b]"),
+    ("erd|differences|--json|a|b", "differences as data [a] [b]"),
+    (
+        "erd|check|--json|--prefer|fips|a",
+        "check as data [a] under [fips]",
+    ),
+    (
+        "erd|compare|--json|--prefer|fips|a|b",
+        "compare as data [a] [b] under [fips]",
+    ),
+    (
+        "erd|differences|--prefer|fips|a|b",
+        "differences [a] [b] under [fips]",
+    ),
+    (
+        "erd|differences|--json|--prefer|fips|a|b",
+        "differences as data [a] [b] under [fips]",
+    ),
+    (
+        "erd|check|--prefer|fips|--json|a",
+        "check as data [a] under [fips]",
+    ),
+    ("erd|compare|a|--json|b", "compare as data [a] [b]"),
+    (
+        "erd|differences|differences|json",
+        "differences [differences] [json]",
+    ),
+    ("erd|check|--|--json", "check [--json]"),
+    ("erd|check|--json|--json|a", "usage"),
+    ("erd|check|--json=true|a", "usage"),
+    ("erd|canon|--json|a", "usage"),
+    ("erd|--json|check|a", "usage"),
+    ("erd|--json", "usage"),
+    ("erd|differences|a", "usage"),
+    ("erd|differences|a|b|c", "usage"),
+    ("erd|differences|--help", "help"),
+    ("erd|help|differences", "help"),
 ];
 
 // A type is any text that is not empty and does not begin with a hyphen. In the place of a file name or a type, the words of
@@ -145,8 +188,8 @@ fn words_of(alloc: Global, line: &str) -> Result<Vec<String>, AllocError> {
 }
 
 // The preference in brackets, or the empty text if there is none.
-fn under(alloc: Global, options: &Options) -> Result<String, AllocError> {
-    match options.prefer.text() {
+fn under(alloc: Global, prefer: &Prefer) -> Result<String, AllocError> {
+    match prefer.text() {
         Some(kind) => format!(in alloc; " under [{kind}]"),
         None => String::from_str(alloc, ""),
     }
@@ -156,20 +199,42 @@ fn under(alloc: Global, options: &Options) -> Result<String, AllocError> {
 fn told(alloc: Global, request: &Request) -> Result<String, AllocError> {
     match request {
         Request::Filter => String::from_str(alloc, "filter"),
-        Request::Check(file, options) => {
-            let (file, prefer) = (file.as_str(), under(alloc, options)?);
-            format!(in alloc; "check [{file}]{prefer}")
+        Request::Check(file, prefer) => of_file(alloc, "check", file, prefer),
+        Request::Canon(file, prefer) => of_file(alloc, "canon", file, prefer),
+        Request::Compare(left, right, prefer) => of_files(alloc, "compare", left, right, prefer),
+        Request::CheckData(file, prefer) => of_file(alloc, "check as data", file, prefer),
+        Request::CompareData(left, right, prefer) => {
+            of_files(alloc, "compare as data", left, right, prefer)
         }
-        Request::Canon(file, options) => {
-            let (file, prefer) = (file.as_str(), under(alloc, options)?);
-            format!(in alloc; "canon [{file}]{prefer}")
+        Request::Differences(left, right, prefer) => {
+            of_files(alloc, "differences", left, right, prefer)
         }
-        Request::Compare(left, right, options) => {
-            let (left, right) = (left.as_str(), right.as_str());
-            let prefer = under(alloc, options)?;
-            format!(in alloc; "compare [{left}] [{right}]{prefer}")
+        Request::DifferencesData(left, right, prefer) => {
+            of_files(alloc, "differences as data", left, right, prefer)
         }
     }
+}
+
+fn of_file(
+    alloc: Global,
+    command: &str,
+    file: &FileName,
+    prefer: &Prefer,
+) -> Result<String, AllocError> {
+    let (file, prefer) = (file.as_str(), under(alloc, prefer)?);
+    format!(in alloc; "{command} [{file}]{prefer}")
+}
+
+fn of_files(
+    alloc: Global,
+    command: &str,
+    left: &FileName,
+    right: &FileName,
+    prefer: &Prefer,
+) -> Result<String, AllocError> {
+    let (left, right) = (left.as_str(), right.as_str());
+    let prefer = under(alloc, prefer)?;
+    format!(in alloc; "{command} [{left}] [{right}]{prefer}")
 }
 
 // The request of this line.
@@ -220,6 +285,10 @@ fn of_preferences(alloc: Global) -> Result<(), Fail> {
     all_are(alloc, PREFERENCES)
 }
 
+fn of_data(alloc: Global) -> Result<(), Fail> {
+    all_are(alloc, FOR_DATA)
+}
+
 #[test]
 fn refused_lines(rt: HostRuntime) -> Result<(), Fail> {
     of_requests(rt.alloc())
@@ -231,7 +300,8 @@ fn command_lines(rt: HostRuntime) -> Result<(), Fail> {
     of_requests(alloc)?;
     of_names_of_files(alloc)?;
     of_help_and_usage(alloc)?;
-    of_preferences(alloc)
+    of_preferences(alloc)?;
+    of_data(alloc)
 }
 
 // A line that asks for help or is wrong, and parts of the text about it.

@@ -249,32 +249,32 @@ fn canon_flushes(rt: &impl Abort, alloc: Global, one: &[u8]) {
     let (out, err) = (FailingWriter::at_flush(), FailingWriter::after(0));
     let run = canon_run(alloc, PLAIN, one, out, err);
     assert!(rt; run.answer == Err(RunFault::Write) && run.out.failed());
-    assert_eq!(rt; run.out.writer.taken, ONE_UNIT_CANONICAL.len());
-    assert_eq!(rt; run.out.writer.flushes, 1);
-    assert_eq!(rt; run.err.writer.flushes, 0);
+    assert!(rt; run.out.writer.taken == ONE_UNIT_CANONICAL.len());
+    assert!(rt; run.out.writer.flushes == 1);
+    assert!(rt; run.err.writer.flushes == 0);
 }
 
 fn error_flushes(rt: &impl Abort, alloc: Global, one: &[u8]) {
     let (out, err) = (FailingWriter::after(usize::MAX), FailingWriter::at_flush());
     let run = canon_run(alloc, PLAIN, one, out, err);
     assert!(rt; run.answer == Err(RunFault::Write) && run.err.failed());
-    assert_eq!(rt; run.out.writer.flushes, 1);
-    assert_eq!(rt; run.err.writer.flushes, 1);
-    assert_eq!(rt; run.err.writer.writes, 0);
+    assert!(rt; run.out.writer.flushes == 1);
+    assert!(rt; run.err.writer.flushes == 1);
+    assert!(rt; run.err.writer.writes == 0);
 }
 
 fn check_flushes(rt: &impl Abort, alloc: Global, one: &[u8]) {
     let run = check_run(alloc, PLAIN, one, FailingWriter::at_flush());
     assert!(rt; run.answer == Err(RunFault::Write) && run.out.failed());
-    assert_eq!(rt; run.out.writer.taken, ACCEPTED.len());
-    assert_eq!(rt; run.out.writer.flushes, 1);
+    assert!(rt; run.out.writer.taken == ACCEPTED.len());
+    assert!(rt; run.out.writer.flushes == 1);
 }
 
 fn compare_flushes(rt: &impl Abort, alloc: Global, one: &[u8]) {
     let run = compare_run(alloc, PLAIN, one, one, FailingWriter::at_flush());
     assert!(rt; run.answer == Err(RunFault::Write) && run.out.failed());
-    assert_eq!(rt; run.out.writer.taken, SAME.len());
-    assert_eq!(rt; run.out.writer.flushes, 1);
+    assert!(rt; run.out.writer.taken == SAME.len());
+    assert!(rt; run.out.writer.flushes == 1);
 }
 
 // Each writer is flushed once. A flush that fails ends the run.
@@ -320,8 +320,8 @@ const WORDS: &[(RunFault, &str)] = &[
 fn words_are(rt: &impl Abort, alloc: Global, table: &[(RunFault, &str)]) -> Result<(), Fail> {
     for (fault, words) in table {
         let text = fault.to_string(alloc)?;
-        assert_eq!(rt; text.as_str(), *words);
-        assert_eq!(rt; fault.words(), *words);
+        assert!(rt; text.as_str() == *words);
+        assert!(rt; fault.words() == *words);
     }
     Ok(())
 }

@@ -13,10 +13,10 @@ use std::test::Fail;
 fn faults(rt: HostRuntime) -> Result<(), Fail> {
     let alloc = rt.alloc();
     let answer = check_data(alloc, BARE.as_bytes())?;
-    assert_eq!(rt; answer.outcome.status(), 1);
-    assert_eq!(rt;
-        answer.text.as_str(),
-        r#"[{"name":"Election","place":[],"reason":2},{"name":"Status","place":[],"reason":2}]"#
+    assert!(rt; answer.outcome.status() == 1);
+    assert!(rt;
+        answer.text.as_str()
+            == r#"[{"name":"Election","place":[],"reason":2},{"name":"Status","place":[],"reason":2}]"#
     );
     Ok(())
 }
@@ -26,14 +26,12 @@ fn differences(rt: HostRuntime) -> Result<(), Fail> {
     let alloc = rt.alloc();
     let (one, other) = (REPORT.as_bytes(), OTHER_NAME.as_bytes());
     let answer = compare_data(alloc, one, other)?;
-    assert_eq!(rt;
-        answer.text.as_str(),
-        r#"{"how":"member","key":null,"member":"Name","part":"election"}"#
+    assert!(rt;
+        answer.text.as_str() == r#"{"how":"member","key":null,"member":"Name","part":"election"}"#
     );
     let answer = differences_data(alloc, one, other)?;
-    assert_eq!(rt;
-        answer.text.as_str(),
-        r#"[{"how":"member","key":null,"member":"Name","part":"election"}]"#
+    assert!(rt;
+        answer.text.as_str() == r#"[{"how":"member","key":null,"member":"Name","part":"election"}]"#
     );
     Ok(())
 }
@@ -42,11 +40,11 @@ fn differences(rt: HostRuntime) -> Result<(), Fail> {
 fn nothing_under_a_preference(rt: HostRuntime) -> Result<(), Fail> {
     let (alloc, one) = (rt.alloc(), REPORT.as_bytes());
     let answer = check_data_with(alloc, one, Some("fips"))?;
-    assert_eq!(rt; answer.text.as_str(), "[]");
+    assert!(rt; answer.text.as_str() == "[]");
     let answer = compare_data_with(alloc, one, one, Some("fips"))?;
-    assert_eq!(rt; answer.text.as_str(), "null");
+    assert!(rt; answer.text.as_str() == "null");
     let answer = differences_data_with(alloc, one, one, Some("fips"))?;
-    assert_eq!(rt; answer.text.as_str(), "[]");
+    assert!(rt; answer.text.as_str() == "[]");
     Ok(())
 }
 
@@ -58,14 +56,12 @@ fn texts_of_values(
 ) -> Result<(), Fail> {
     let difference = &detailed.difference;
     let text = difference.to_value(alloc)?.to_string(alloc)?;
-    assert_eq!(rt;
-        text.as_str(),
-        r#"{"how":"member","key":null,"member":"Name","part":"election"}"#
+    assert!(rt;
+        text.as_str() == r#"{"how":"member","key":null,"member":"Name","part":"election"}"#
     );
     let text = detailed.to_value(alloc)?.to_string(alloc)?;
-    assert_eq!(rt;
-        text.as_str(),
-        r#"{"how":"member","key":null,"member":"Name","part":"election"}"#
+    assert!(rt;
+        text.as_str() == r#"{"how":"member","key":null,"member":"Name","part":"election"}"#
     );
     Ok(())
 }

@@ -2,9 +2,9 @@
 use crate::tests::{CANONICAL, OTHER_NAME, REPORT};
 use erd_canon::{
     Disposal, Free, Outcome, ReadFrom, Request, RunFault, Sink, Source, WriteTo, command_line,
-    command_line_data, run_canon, run_canon_disposing, run_canon_with, run_check,
-    run_check_disposing, run_check_with, run_compare, run_compare_disposing, run_compare_with,
-    write_out,
+    command_line_data, run_canon, run_canon_disposing, run_canon_with, run_check, run_check_data,
+    run_check_disposing, run_check_with, run_compare, run_compare_data, run_compare_disposing,
+    run_compare_with, run_differences, run_differences_data, write_out,
 };
 use std::alloc::{AllocError, Global};
 use std::mem;
@@ -17,8 +17,8 @@ fn check(rt: HostRuntime) -> Result<(), Fail> {
     let mut reader = ReadFrom::of(REPORT.as_bytes());
     let mut out = WriteTo::of(Vec::new(alloc));
     let outcome = run_check(alloc, &mut reader, &mut out)?;
-    assert_eq!(rt; outcome, Outcome::Good);
-    assert_eq!(rt; out.writer.as_slice(), "accepted\n".as_bytes());
+    assert!(rt; outcome == Outcome::Good);
+    assert!(rt; out.writer.as_slice() == "accepted\n".as_bytes());
     Ok(())
 }
 
@@ -29,8 +29,8 @@ fn canon(rt: HostRuntime) -> Result<(), Fail> {
     let mut out = WriteTo::of(Vec::new(alloc));
     let mut err = WriteTo::of(Vec::new(alloc));
     let outcome = run_canon(alloc, &mut reader, &mut out, &mut err)?;
-    assert_eq!(rt; outcome.status(), 0);
-    assert_eq!(rt; out.writer.as_slice(), CANONICAL.as_bytes());
+    assert!(rt; outcome.status() == 0);
+    assert!(rt; out.writer.as_slice() == CANONICAL.as_bytes());
     went_well(&rt, &reader, &out);
     Ok(())
 }
@@ -46,7 +46,7 @@ fn compare(rt: HostRuntime) -> Result<(), Fail> {
     let mut right = ReadFrom::of(OTHER_NAME.as_bytes());
     let mut out = WriteTo::of(Vec::new(alloc));
     let outcome = run_compare(alloc, &mut left, &mut right, &mut out)?;
-    assert_eq!(rt; outcome.status(), 1);
+    assert!(rt; outcome.status() == 1);
     wrote(&rt, &out, "election: member \"Name\"\n");
     Ok(())
 }
@@ -60,10 +60,7 @@ fn check_under_a_preference(rt: HostRuntime) -> Result<(), Fail> {
     let (alloc, prefer) = (rt.alloc(), Some("local-level"));
     let mut reader = ReadFrom::of(REPORT.as_bytes());
     let mut out = WriteTo::of(Vec::new(alloc));
-    assert_eq!(rt;
-        run_check_with(alloc, &mut reader, &mut out, prefer)?,
-        Outcome::Good
-    );
+    assert!(rt; run_check_with(alloc, &mut reader, &mut out, prefer)? == Outcome::Good);
     Ok(())
 }
 
@@ -73,10 +70,7 @@ fn canon_under_a_preference(rt: HostRuntime) -> Result<(), Fail> {
     let mut reader = ReadFrom::of(REPORT.as_bytes());
     let mut out = WriteTo::of(Vec::new(alloc));
     let mut err = WriteTo::of(Vec::new(alloc));
-    assert_eq!(rt;
-        run_canon_with(alloc, &mut reader, &mut out, &mut err, prefer)?,
-        Outcome::Good
-    );
+    assert!(rt; run_canon_with(alloc, &mut reader, &mut out, &mut err, prefer)? == Outcome::Good);
     Ok(())
 }
 
@@ -86,11 +80,53 @@ fn compare_under_a_preference(rt: HostRuntime) -> Result<(), Fail> {
     let mut left = ReadFrom::of(REPORT.as_bytes());
     let mut right = ReadFrom::of(REPORT.as_bytes());
     let mut out = WriteTo::of(Vec::new(alloc));
-    assert_eq!(rt;
-        run_compare_with(alloc, &mut left, &mut right, &mut out, prefer)?,
-        Outcome::Good
+    assert!(rt; run_compare_with(alloc, &mut left, &mut right, &mut out, prefer)? == Outcome::Good);
+    assert!(rt; out.writer.as_slice() == "same\n".as_bytes());
+    Ok(())
+}
+
+#[test]
+fn check_as_data(rt: HostRuntime) -> Result<(), Fail> {
+    let (alloc, prefer) = (rt.alloc(), Some("local-level"));
+    let mut reader = ReadFrom::of(REPORT.as_bytes());
+    let mut out = WriteTo::of(Vec::new(alloc));
+    assert!(rt; run_check_data(alloc, &mut reader, &mut out, prefer)? == Outcome::Good);
+    assert!(rt; out.writer.as_slice() == "[]\n".as_bytes());
+    Ok(())
+}
+
+#[test]
+fn compare_as_data(rt: HostRuntime) -> Result<(), Fail> {
+    let (alloc, prefer) = (rt.alloc(), Some("local-level"));
+    let mut left = ReadFrom::of(REPORT.as_bytes());
+    let mut right = ReadFrom::of(REPORT.as_bytes());
+    let mut out = WriteTo::of(Vec::new(alloc));
+    assert!(rt; run_compare_data(alloc, &mut left, &mut right, &mut out, prefer)? == Outcome::Good);
+    assert!(rt; out.writer.as_slice() == "null\n".as_bytes());
+    Ok(())
+}
+
+#[test]
+fn differences(rt: HostRuntime) -> Result<(), Fail> {
+    let (alloc, prefer) = (rt.alloc(), Some("local-level"));
+    let mut left = ReadFrom::of(REPORT.as_bytes());
+    let mut right = ReadFrom::of(OTHER_NAME.as_bytes());
+    let mut out = WriteTo::of(Vec::new(alloc));
+    assert!(rt; run_differences(alloc, &mut left, &mut right, &mut out, prefer)? == Outcome::Bad);
+    assert!(rt; out.writer.as_slice() == "election: member \"Name\"\n".as_bytes());
+    Ok(())
+}
+
+#[test]
+fn differences_as_data(rt: HostRuntime) -> Result<(), Fail> {
+    let (alloc, prefer) = (rt.alloc(), Some("local-level"));
+    let mut left = ReadFrom::of(REPORT.as_bytes());
+    let mut right = ReadFrom::of(REPORT.as_bytes());
+    let mut out = WriteTo::of(Vec::new(alloc));
+    assert!(rt;
+        run_differences_data(alloc, &mut left, &mut right, &mut out, prefer)? == Outcome::Good
     );
-    assert_eq!(rt; out.writer.as_slice(), "same\n".as_bytes());
+    assert!(rt; out.writer.as_slice() == "[]\n".as_bytes());
     Ok(())
 }
 
@@ -117,7 +153,7 @@ fn check_and_leave(rt: HostRuntime) -> Result<(), Fail> {
     let mut reader = ReadFrom::of(REPORT.as_bytes());
     let mut out = WriteTo::of(Vec::new(alloc));
     let outcome = run_check_disposing(alloc, &mut reader, &mut out, prefer, disposal)?;
-    assert_eq!(rt; outcome, Outcome::Good);
+    assert!(rt; outcome == Outcome::Good);
     Ok(())
 }
 
@@ -128,7 +164,7 @@ fn canon_and_leave(rt: HostRuntime) -> Result<(), Fail> {
     let mut out = WriteTo::of(Vec::new(alloc));
     let mut err = WriteTo::of(Vec::new(alloc));
     let outcome = run_canon_disposing(alloc, &mut reader, &mut out, &mut err, prefer, disposal)?;
-    assert_eq!(rt; outcome, Outcome::Good);
+    assert!(rt; outcome == Outcome::Good);
     Ok(())
 }
 
@@ -139,7 +175,7 @@ fn compare_and_leave(rt: HostRuntime) -> Result<(), Fail> {
     let mut right = ReadFrom::of(REPORT.as_bytes());
     let mut out = WriteTo::of(Vec::new(alloc));
     let outcome = run_compare_disposing(alloc, &mut left, &mut right, &mut out, prefer, disposal)?;
-    assert_eq!(rt; outcome, Outcome::Good);
+    assert!(rt; outcome == Outcome::Good);
     Ok(())
 }
 
@@ -147,25 +183,25 @@ fn compare_and_leave(rt: HostRuntime) -> Result<(), Fail> {
 fn sources(rt: HostRuntime) {
     let mut source = ReadFrom::of("abc".as_bytes());
     let mut buffer = [0; 2];
-    assert_eq!(rt; source.read(&mut buffer).ok(), Some(2));
+    assert!(rt; source.read(&mut buffer).ok() == Some(2));
 }
 
 #[test]
 fn sinks(rt: HostRuntime) {
     let mut sink = WriteTo::of(Vec::new(rt.alloc()));
-    assert_eq!(rt; sink.write("abc".as_bytes()).ok(), Some(3));
+    assert!(rt; sink.write("abc".as_bytes()).ok() == Some(3));
     assert!(rt; write_out(&mut sink, "def".as_bytes()).is_ok());
     assert!(rt; sink.flush().is_ok());
 }
 
 #[test]
 fn statuses_of_faults(rt: HostRuntime) {
-    assert_eq!(rt; RunFault::Memory.status(), 4);
+    assert!(rt; RunFault::Memory.status() == 4);
 }
 
 #[test]
 fn words_of_faults(rt: HostRuntime) {
-    assert_eq!(rt; RunFault::Memory.words(), "no memory");
+    assert!(rt; RunFault::Memory.words() == "no memory");
 }
 
 // The words of a command line, the first of which is the name of the program.
@@ -181,11 +217,11 @@ fn line_of(alloc: Global) -> Result<Vec<String>, AllocError> {
 fn lines(rt: HostRuntime) -> Result<(), Fail> {
     let alloc = rt.alloc();
     let words = line_of(alloc)?;
-    let Request::Check(file, options) = command_line(alloc, &words)? else {
+    let Request::Check(file, prefer) = command_line(alloc, &words)? else {
         return Err(Fail::from("another request"));
     };
-    assert_eq!(rt; file.as_str(), "county.json");
-    assert_eq!(rt; options.prefer.text(), Some("fips"));
+    assert!(rt; file.as_str() == "county.json");
+    assert!(rt; prefer.text() == Some("fips"));
     Ok(())
 }
 
@@ -194,10 +230,10 @@ fn lines_as_data(rt: HostRuntime) -> Result<(), Fail> {
     let alloc = rt.alloc();
     let words = line_of(alloc)?;
     let answer = command_line_data(alloc, &words)?;
-    assert_eq!(rt; answer.status, None);
-    assert_eq!(rt;
-        answer.text.as_str(),
-        r#"{"command":"check","files":["county.json"],"prefer":"fips"}"#
+    assert!(rt; answer.status == None);
+    assert!(rt;
+        answer.text.as_str()
+            == r#"{"command":"check","files":["county.json"],"json":false,"prefer":"fips"}"#
     );
     Ok(())
 }

@@ -15,7 +15,7 @@ fn second_fault(rt: HostRuntime) -> Result<(), Fail> {
     };
     let answer = check_data_piece(alloc, BARE.as_bytes(), None, &piece)?;
     let fault = r#"[{"name":"Status","place":[],"reason":2}]"#;
-    assert_eq!(rt; answer.text.as_slice(), fault.as_bytes());
+    assert!(rt; answer.text.as_slice() == fault.as_bytes());
     assert!(rt; answer.told.count == 1 && answer.told.all == 2);
     Ok(())
 }
@@ -29,7 +29,7 @@ fn no_form(rt: HostRuntime) -> Result<(), Fail> {
         enough_bytes: 1_048_576,
     };
     let answer = canonical_data_piece(alloc, "{".as_bytes(), None, &piece)?;
-    assert_eq!(rt; answer.text.as_slice(), "\"not JSON\"".as_bytes());
+    assert!(rt; answer.text.as_slice() == "\"not JSON\"".as_bytes());
     Ok(())
 }
 
@@ -43,7 +43,7 @@ fn first_fault_of_a_side(rt: HostRuntime) -> Result<(), Fail> {
     };
     let answer = compare_data_piece(alloc, BARE.as_bytes(), one, None, &piece)?;
     let why = r#"{"faults":[{"name":"Election","place":[],"reason":2}],"refused":"left"}"#;
-    assert_eq!(rt; answer.text.as_slice(), why.as_bytes());
+    assert!(rt; answer.text.as_slice() == why.as_bytes());
     assert!(rt; answer.told.count == 1 && answer.told.all == 2);
     Ok(())
 }
@@ -57,7 +57,7 @@ fn no_second_difference(rt: HostRuntime) -> Result<(), Fail> {
         enough_bytes: 1_048_576,
     };
     let answer = differences_data_piece(alloc, one, other, None, &piece)?;
-    assert_eq!(rt; answer.text.as_slice(), "[]".as_bytes());
+    assert!(rt; answer.text.as_slice() == "[]".as_bytes());
     assert!(rt; answer.outcome.status() == 1 && answer.told.all == 1);
     Ok(())
 }

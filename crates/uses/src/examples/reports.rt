@@ -36,7 +36,7 @@ fn preference(rt: &impl Abort, report: &Report) {
 }
 
 fn count_of_elections(rt: &impl Abort, report: &Report) {
-    assert_eq!(rt; report.election_count(), 1);
+    assert!(rt; report.election_count() == 1);
 }
 
 fn election(rt: &impl Abort, report: &Report) -> Result<(), Fail> {
@@ -54,11 +54,11 @@ fn key_of_election(rt: &impl Abort, report: &Report) {
 }
 
 fn election_of_candidate(rt: &impl Abort, report: &Report) {
-    assert_eq!(rt; report.election_of(Family::Candidate, 0), Some(0));
+    assert!(rt; report.election_of(Family::Candidate, 0) == Some(0));
 }
 
 fn count_of_selections(rt: &impl Abort, report: &Report) {
-    assert_eq!(rt; report.count(Family::Selection), 2);
+    assert!(rt; report.count(Family::Selection) == 2);
 }
 
 fn candidates(rt: &impl Abort, report: &Report) {
@@ -67,18 +67,15 @@ fn candidates(rt: &impl Abort, report: &Report) {
 }
 
 fn target(rt: &impl Abort, report: &Report) {
-    assert_eq!(rt; report.target("k1"), Some((Family::Candidate, 0)));
+    assert!(rt; report.target("k1") == Some((Family::Candidate, 0)));
 }
 
 fn target_of(rt: &impl Abort, report: &Report) {
-    assert_eq!(rt;
-        report.target_of(Family::Contest, "k1"),
-        Some((Family::Candidate, 0))
-    );
+    assert!(rt; report.target_of(Family::Contest, "k1") == Some((Family::Candidate, 0)));
 }
 
 fn first_selection(rt: &impl Abort, report: &Report) {
-    assert_eq!(rt; report.first_selection(0), 0);
+    assert!(rt; report.first_selection(0) == 0);
 }
 
 // What the report has, by position.
@@ -97,44 +94,41 @@ fn positions(rt: &impl Abort, tree: &Value, report: &Report) -> Result<(), Fail>
 }
 
 fn sorted_places(rt: &impl Abort, alloc: Global) -> Result<(), Fail> {
-    assert_eq!(rt;
-        places_in(alloc, &[2, 0, 1])?.as_slice(),
-        [1, 2, 0].as_slice()
-    );
+    assert!(rt; places_in(alloc, &[2, 0, 1])?.as_slice() == [1, 2, 0].as_slice());
     Ok(())
 }
 
 fn key_of_unit(rt: &impl Abort, alloc: Global, report: &Report) -> Result<(), Fail> {
     let county = key(alloc, "fips", "20")?;
-    assert_eq!(rt; report.key_at(Family::Unit, 0), Some(&county));
+    assert!(rt; report.key_at(Family::Unit, 0) == Some(&county));
     Ok(())
 }
 
 fn unit_of_key(rt: &impl Abort, alloc: Global, report: &Report) -> Result<(), Fail> {
     let county = key(alloc, "fips", "20")?;
-    assert_eq!(rt; report.find(Family::Unit, &county), Some(0));
+    assert!(rt; report.find(Family::Unit, &county) == Some(0));
     Ok(())
 }
 
 fn rising_keys(rt: &impl Abort, alloc: Global, report: &Report) -> Result<(), Fail> {
-    assert_eq!(rt; report.rising_keys(alloc, Family::Unit)?.len(), 1);
+    assert!(rt; report.rising_keys(alloc, Family::Unit)?.len() == 1);
     Ok(())
 }
 
 fn rising_units(rt: &impl Abort, report: &Report) {
-    assert_eq!(rt; report.rising(Family::Unit).first(), Some(&0));
+    assert!(rt; report.rising(Family::Unit).first() == Some(&0));
 }
 
 fn rank_of_candidate(rt: &impl Abort, report: &Report) {
-    assert_eq!(rt; report.rank_at(Family::Candidate, 0), Some(0));
+    assert!(rt; report.rank_at(Family::Candidate, 0) == Some(0));
 }
 
 fn rising_elections(rt: &impl Abort, report: &Report) {
-    assert_eq!(rt; report.rising_elections().first(), Some(&0));
+    assert!(rt; report.rising_elections().first() == Some(&0));
 }
 
 fn rank_of_election(rt: &impl Abort, report: &Report) {
-    assert_eq!(rt; report.election_rank_at(0), Some(0));
+    assert!(rt; report.election_rank_at(0) == Some(0));
 }
 
 // The positions of objects and elections in the order of their keys.
@@ -148,7 +142,7 @@ fn places(rt: &impl Abort, report: &Report) {
 // What the report finds by names.
 fn names(rt: &impl Abort, alloc: Global, report: &Report) -> Result<(), Fail> {
     let (contest, name) = report.selection_at(1).ok_or("no write-in line")?;
-    assert_eq!(rt; contest, 0);
+    assert!(rt; contest == 0);
     selection_of_name(rt, report, contest, name);
     lent_name(rt, alloc, name);
     parts_of_name(rt, name);
@@ -158,11 +152,8 @@ fn names(rt: &impl Abort, alloc: Global, report: &Report) -> Result<(), Fail> {
 }
 
 fn parts_of_name(rt: &impl Abort, name: &SelectionName) {
-    assert_eq!(rt;
-        type_text(name.class()),
-        "ElectionResults.CandidateSelection"
-    );
-    assert_eq!(rt; name.key_count(), 0);
+    assert!(rt; type_text(name.class()) == "ElectionResults.CandidateSelection");
+    assert!(rt; name.key_count() == 0);
     assert!(rt; name.is_write_in());
 }
 
@@ -179,15 +170,15 @@ fn value_inside(rt: &impl Abort, alloc: Global, name: &SelectionName) -> Result<
         how: How::OnlyRight,
     };
     let text = inside.to_value(alloc)?.to_string(alloc)?;
-    assert_eq!(rt;
-        text.as_str(),
-        r#"{"how":"only right","name":["ElectionResults.CandidateSelection",[],true,null,null,null]}"#
+    assert!(rt;
+        text.as_str()
+            == r#"{"how":"only right","name":["ElectionResults.CandidateSelection",[],true,null,null,null]}"#
     );
     Ok(())
 }
 
 fn selection_of_name(rt: &impl Abort, report: &Report, contest: usize, name: &SelectionName) {
-    assert_eq!(rt; report.find_selection(contest, name), Some(1));
+    assert!(rt; report.find_selection(contest, name) == Some(1));
 }
 
 fn copied_name(rt: &impl Abort, alloc: Global, name: &SelectionName) -> Result<(), Fail> {
@@ -204,13 +195,13 @@ fn lent_name(rt: &impl Abort, alloc: Global, name: &SelectionName) {
 // The names with the ranks of the keys in them.
 fn ranks(rt: &impl Abort, report: &Report) -> Result<(), Fail> {
     let (_, ranked) = report.ranked_name_at(0).ok_or("no selection")?;
-    assert_eq!(rt; ranked.family(), Family::Candidate);
+    assert!(rt; ranked.family() == Family::Candidate);
     rank_of_name(rt, ranked);
     write_in_line(rt, report, ranked)
 }
 
 fn rank_of_name(rt: &impl Abort, ranked: &RankedName<SelectionName>) {
-    assert_eq!(rt; ranked.ranks().first(), Some(&0));
+    assert!(rt; ranked.ranks().first() == Some(&0));
 }
 
 fn write_in_line(
@@ -219,7 +210,7 @@ fn write_in_line(
     ranked: &RankedName<SelectionName>,
 ) -> Result<(), Fail> {
     let (_, write_in) = report.ranked_name_at(1).ok_or("no write-in line")?;
-    assert_eq!(rt; write_in.compare(ranked), Ordering::Less);
+    assert!(rt; write_in.compare(ranked) == Ordering::Less);
     let (_, name) = report.selection_at(1).ok_or("no write-in line")?;
     assert!(rt; write_in.name() == name);
     Ok(())
@@ -228,8 +219,8 @@ fn write_in_line(
 // Numbers for keys of two reports, which are hashed under the salts of both.
 fn numbers(rt: &impl Abort, alloc: Global, report: &Report) -> Result<(), Fail> {
     let mut numbers = SaltedSet::new(alloc, report.salt().joined(&report.salt()));
-    assert_eq!(rt; numbers.insert_full(20)?, (0, true));
-    assert_eq!(rt; numbers.insert_full(20)?, (0, false));
+    assert!(rt; numbers.insert_full(20)? == (0, true));
+    assert!(rt; numbers.insert_full(20)? == (0, false));
     Ok(())
 }
 
@@ -266,7 +257,7 @@ fn forms(rt: HostRuntime) -> Result<(), Fail> {
     let report = report_of(alloc, &tree)?;
     let form = normal_tree(alloc, &report)?;
     let text = normal_text(alloc, &report)?;
-    assert_eq!(rt; text.as_slice(), form.to_string(alloc)?.as_bytes());
+    assert!(rt; text.as_slice() == form.to_string(alloc)?.as_bytes());
     Ok(())
 }
 
@@ -294,10 +285,7 @@ fn has_key(rt: &impl Abort, report: &Report, wanted: &Key) {
 }
 
 fn least_key(rt: &impl Abort, alloc: Global, county: &Value) -> Result<(), Fail> {
-    assert_eq!(rt;
-        key_of(alloc, county, None)?,
-        Some(key(alloc, "fips", "20")?)
-    );
+    assert!(rt; key_of(alloc, county, None)? == Some(key(alloc, "fips", "20")?));
     Ok(())
 }
 
@@ -306,7 +294,7 @@ fn preferences(rt: HostRuntime) -> Result<(), Fail> {
     let alloc = rt.alloc();
     let tree = Value::from_str(alloc, BALLOT)?;
     let report = resolve_with(alloc, shape(alloc, &tree)?, Some("local-level"))?;
-    assert_eq!(rt; report.preference(), Some("local-level"));
+    assert!(rt; report.preference() == Some("local-level"));
     preferred_key(&rt, alloc, &report)
 }
 
@@ -315,7 +303,7 @@ fn accepted(rt: HostRuntime) -> Result<(), Fail> {
     let alloc = rt.alloc();
     let tree = Value::from_str(alloc, BALLOT)?;
     let report = accept_with(alloc, &tree, Some("local-level"))?;
-    assert_eq!(rt; report.preference(), Some("local-level"));
+    assert!(rt; report.preference() == Some("local-level"));
     Ok(())
 }
 
@@ -323,7 +311,7 @@ fn accepted(rt: HostRuntime) -> Result<(), Fail> {
 fn orders(rt: HostRuntime) -> Result<(), Fail> {
     let alloc = rt.alloc();
     let (one, other) = (key(alloc, "fips", "20")?, key(alloc, "local-level", "U1")?);
-    assert_eq!(rt; one.order(&other), Ordering::Less);
+    assert!(rt; one.order(&other) == Ordering::Less);
     Ok(())
 }
 
@@ -340,7 +328,7 @@ fn sorted_keys(rt: HostRuntime) -> Result<(), Fail> {
     let alloc = rt.alloc();
     let (one, other) = (key(alloc, "fips", "20")?, key(alloc, "local-level", "U1")?);
     let sorted = in_order(alloc, vec![in alloc; (other, 2), (one, 1)]?)?;
-    assert_eq!(rt; sorted.first().map(|pair| pair.1), Some(1));
+    assert!(rt; sorted.first().map(|pair| pair.1) == Some(1));
     Ok(())
 }
 
@@ -349,6 +337,6 @@ fn compact_texts(rt: HostRuntime) -> Result<(), Fail> {
     let alloc = rt.alloc();
     let value = Value::from_str(alloc, r#"{ "a": [1, 2] }"#)?;
     let text = CompactText::of(alloc, &value)?;
-    assert_eq!(rt; text.order(&text), Ordering::Equal);
+    assert!(rt; text.order(&text) == Ordering::Equal);
     Ok(())
 }

@@ -1,7 +1,10 @@
 //! Examples of `erd_shown`.
 use crate::callers::report_of;
 use erd_meaning::Report;
-use erd_shown::{Row, rows_of, write_object};
+use erd_shown::{
+    Row, ballot_text, occurrences, partners_of, rows_between, rows_of, write_ballots_beside,
+    write_object,
+};
 use erd_tables::{Family, Role};
 use erd_text::Output;
 use serde_json::Value;
@@ -21,10 +24,18 @@ const CONTEST: &str =
 const STYLE: &str =
     r#"{"class":"ElectionResults.BallotStyle","election":["local-level","","E1"],"members":{"ExternalIdentifier":[{"@type":"ElectionResults.ExternalIdentifier","Type":"local-level","Value":"B1"}],"GpUnitIds":[["fips","","20"]],"OrderedContent":[{"carried":{},"contest":["local-level","","C1"],"selections":[["ElectionResults.CandidateSelection",[["local-level","","K1"]],false,null,null,null]]}]}}"#;
 
+// The ballot of the style: its contest, with the selection that it lists, and the unit whose voters get it.
+const BALLOT_LINES: &str =
+    r#"{"key":["local-level","","B1"],"lines":[{"depth":0,"selections":[["ElectionResults.CandidateSelection",[["local-level","","K1"]],false,null,null,null]],"what":["contest",["local-level","","C1"]]}],"parties":[],"units":[["fips","","20"]]}"#;
+
+// The ballot beside itself.
+const BESIDE: &str =
+    r#"{"left":[{"depth":0,"selections":[["ElectionResults.CandidateSelection",[["local-level","","K1"]],false,null,null,null]],"what":["contest",["local-level","","C1"]]}],"right":[{"depth":0,"selections":[["ElectionResults.CandidateSelection",[["local-level","","K1"]],false,null,null,null]],"what":["contest",["local-level","","C1"]]}],"rows":[{"how":"both","left":0,"right":0}]}"#;
+
 fn no_header(rt: &impl Abort, alloc: Global, report: &Report) -> Result<(), Fail> {
     let mut out = Output::new(alloc);
     write_object(alloc, report, Role::OfFamily(Family::Header), 0, &mut out)?;
-    assert_eq!(rt; out.into_text().as_slice(), b"null".as_slice());
+    assert!(rt; out.into_text().as_slice() == b"null".as_slice());
     Ok(())
 }
 
@@ -37,7 +48,7 @@ fn object_is(
 ) -> Result<(), Fail> {
     let mut out = Output::new(alloc);
     write_object(alloc, report, Role::OfFamily(family), 0, &mut out)?;
-    assert_eq!(rt; out.into_text().as_slice(), text.as_bytes());
+    assert!(rt; out.into_text().as_slice() == text.as_bytes());
     Ok(())
 }
 
@@ -59,8 +70,66 @@ fn objects(rt: HostRuntime) -> Result<(), Fail> {
 fn rows_of_two_ballots(rt: HostRuntime) -> Result<(), Fail> {
     let alloc = rt.alloc();
     let rows = rows_of(alloc, &[Some(1), None], &[None, Some(0)], &[true, true])?;
-    assert_eq!(rt; rows.first(), Some(&Row::Added(0)));
-    assert_eq!(rt; rows.get(1), Some(&Row::Both(0, 1)));
-    assert_eq!(rt; rows.get(2), Some(&Row::Removed(1)));
+    assert!(rt; rows.first() == Some(&Row::Added(0)));
+    assert!(rt; rows.get(1) == Some(&Row::Both(0, 1)));
+    assert!(rt; rows.get(2) == Some(&Row::Removed(1)));
+    Ok(())
+}
+
+fn ballots_are(rt: &impl Abort, alloc: Global, report: &Report) -> Result<(), Fail> {
+    let text = ballot_text(alloc, report, 0)?;
+    assert!(rt; text.as_str() == BALLOT_LINES);
+    Ok(())
+}
+
+fn ballots_stand_beside(
+    rt: &impl Abort,
+    alloc: Global,
+    left: &Report,
+    right: &Report,
+) -> Result<(), Fail> {
+    let style = left.object(Family::Style, 0).ok_or("no style")?;
+    let other = right.object(Family::Style, 0).ok_or("no style")?;
+    let mut out = Output::new(alloc);
+    write_ballots_beside(alloc, left, style, right, other, &mut out)?;
+    assert!(rt; out.into_text().as_slice() == BESIDE.as_bytes());
+    Ok(())
+}
+
+#[test]
+fn ballots(rt: HostRuntime) -> Result<(), Fail> {
+    let alloc = rt.alloc();
+    let tree = Value::from_str(alloc, BALLOT)?;
+    let report = report_of(alloc, &tree)?;
+    ballots_are(&rt, alloc, &report)
+}
+
+#[test]
+fn ballots_beside(rt: HostRuntime) -> Result<(), Fail> {
+    let alloc = rt.alloc();
+    let left_tree = Value::from_str(alloc, BALLOT)?;
+    let right_tree = Value::from_str(alloc, BALLOT)?;
+    let left = report_of(alloc, &left_tree)?;
+    let right = report_of(alloc, &right_tree)?;
+    ballots_stand_beside(&rt, alloc, &left, &right)
+}
+
+#[test]
+fn occurrences_and_partners(rt: HostRuntime) -> Result<(), Fail> {
+    let alloc = rt.alloc();
+    let counted = occurrences(alloc, &[7, 8, 7])?;
+    assert!(rt; counted.get(2) == Some(&(7, 1)));
+    let partners = partners_of(alloc, &[7, 8, 7], &[9, 7, 7, 7])?;
+    assert!(rt; partners.as_slice() == [Some(1), None, Some(2)].as_slice());
+    Ok(())
+}
+
+#[test]
+fn rows_between_two_lists(rt: HostRuntime) -> Result<(), Fail> {
+    let alloc = rt.alloc();
+    let rows = rows_between(alloc, &[1, 2, 3], &[2, 3, 1])?;
+    assert!(rt; rows.first() == Some(&Row::MovedAway(0, 2)));
+    assert!(rt; rows.get(1) == Some(&Row::Both(1, 0)));
+    assert!(rt; rows.get(3) == Some(&Row::MovedHere(0, 2)));
     Ok(())
 }

@@ -19,7 +19,7 @@ fn tokens(rt: HostRuntime) -> Result<(), Fail> {
     out.end_array()?;
     out.end_object()?;
     let text = out.into_text();
-    assert_eq!(rt; text.as_slice(), r#"{"a":["x",1,-1,true,null]}"#.as_bytes());
+    assert!(rt; text.as_slice() == r#"{"a":["x",1,-1,true,null]}"#.as_bytes());
     Ok(())
 }
 
@@ -33,10 +33,7 @@ fn values(rt: HostRuntime) -> Result<(), Fail> {
     write_value(&value, &mut out)?;
     write_rising_values(alloc, entries_of(&value), &mut out)?;
     out.end_array()?;
-    assert_eq!(rt;
-        out.into_text().as_slice(),
-        r#"[["b","a",1],["a","b",1]]"#.as_bytes()
-    );
+    assert!(rt; out.into_text().as_slice() == r#"[["b","a",1],["a","b",1]]"#.as_bytes());
     Ok(())
 }
 
@@ -46,10 +43,7 @@ fn labels(rt: HostRuntime) -> Result<(), Fail> {
     let label = Value::from_str(alloc, r#"{ "Text": ["No", "Nein"], "Label": "no" }"#)?;
     let mut out = Output::new(alloc);
     write_label(alloc, &label, &mut out)?;
-    assert_eq!(rt;
-        out.into_text().as_slice(),
-        r#"{"Label":"no","Text":["Nein","No"]}"#.as_bytes()
-    );
+    assert!(rt; out.into_text().as_slice() == r#"{"Label":"no","Text":["Nein","No"]}"#.as_bytes());
     Ok(())
 }
 
@@ -58,6 +52,6 @@ fn plain_labels(rt: HostRuntime) -> Result<(), Fail> {
     let alloc = rt.alloc();
     let label = Value::String(String::from_str(alloc, "No")?);
     let text = label_text(alloc, &label)?;
-    assert_eq!(rt; text.as_str(), "\"No\"");
+    assert!(rt; text.as_str() == "\"No\"");
     Ok(())
 }

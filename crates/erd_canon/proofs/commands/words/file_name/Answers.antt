@@ -1,11 +1,7 @@
-use Rattle.erd_canon.proofs.Common.{◌≡◌, ℕ, List, [], Some, None, Option, option_map, unwrap_or, refl, ap, ◌∙◌, Bor, found_of}
+use Rattle.erd_canon.proofs.Common.{ℕ, List, [], Option, unwrap_or, refl, ap, ◌∙◌, Bor, found_of}
 use Rattle.clap.proofs.WalkLemmas.{first_value-rows}
+use Rattle.erd_canon.proofs.lines.PlainWords.{text_or}
 use Rattle.erd_canon.proofs.commands.words.file_name.Goals as goal
-
--- the text behind the reference, or the empty one
-text_or : (o : Option (Bor (List ℕ))) (d : Bor (List ℕ)) → d.now ≡ [] → (unwrap_or o d).now ≡ unwrap_or (option_map (λ s. s.now) o) []
-text_or None d e = e
-text_or (Some s) d e = refl
 
 pub returns : goal.returns
 returns c =

@@ -1,0 +1,367 @@
+//! The engines that answer with one text, which is in memory as a whole before it is written.
+
+ghost use Rattle.std.specs.Prelude.{◌≡◌, ◌⊎◌, ◌∷◌, ◌++◌, [], false, true, map, string_bytes, Err, IfErr, IfOk, OnOk, option_copied};
+ghost use Rattle.erd_canon.specs.Words.{between, difference_line, listing_lines, listing_outcome, text_of_lines, Appends, IsCheckLine, IsCompareLine, IsListed, IsListLine, IsPairPartWritten, IsPairRun, IsPairWritten, IsPartWritten, IsReportPartWritten, IsReportRun, IsReportWritten};
+ghost use Rattle.erd_canon.specs.code.PairCommands.{pair_answers};
+
+use crate::bytes::differences::differences_of;
+use crate::bytes::refusal::Side;
+use crate::data::check::{Answer, check_data_with};
+use crate::data::compare::{compare_data_with, differences_data_with, outcome_of};
+use crate::data::listed::push_entry_line;
+use crate::devices::sink::Sink;
+use crate::devices::source::{Source, read_all};
+use crate::engines::outcome::{Outcome, RunFault};
+use crate::engines::write_and_flush::{write_one, write_refusal};
+use erd_compare::DetailedDifference;
+use std::alloc::{AllocError, Global};
+
+/// A command on two reports that answers with one text.
+#[derive(Clone, Copy)]
+pub(crate) enum PairCommand {
+    CompareData,
+    Differences,
+    DifferencesData,
+}
+
+/// Reads a report to its end, checks it under a preferred type of identifier, or under none, writes the answer to `out` as
+/// JSON, and flushes `out`.
+///
+/// It writes the text that `check_data_with` answers, and one line feed. The text is in memory as a whole before anything is
+/// written. A report may have at most 67,108,864 bytes. The devices must not have failed before the call. After a failure, the
+/// run reads, writes and flushes nothing more.
+///
+/// # Errors
+///
+/// - `RunFault::Read` if and only if a read failed.
+/// - `RunFault::Write` if and only if a write or a flush failed.
+/// - `RunFault::TooLong` if a reader gave more than 67,108,864 bytes.
+/// - `RunFault::Memory` if out of memory.
+///
+/// ```
+/// assert_eq!(rt; run_check_data(alloc, &mut reader, &mut out, prefer)?, Outcome::Good);
+/// assert_eq!(rt; out.writer.as_slice(), "[]\n".as_bytes());
+/// ```
+pub fn run_check_data<S: Source, O: Sink>(
+    alloc: Global,
+    reader: &mut S,
+    out: &mut O,
+    prefer: Option<&str>,
+) -> Result<Outcome, RunFault>
+    requires reader_works { S.reader.has_failed reader.old ≡ false }
+    requires out_works { O.writer.has_failed out.old ≡ false }
+    ensures { IsReportRun S.reader O.writer (IsCheckLine (option_copied prefer.entry)) result (between reader.old reader.new) (between out.old out.new) }
+{
+    let bytes = read_all(alloc, reader)?;
+    write_check_data(alloc, bytes.as_slice(), out, prefer)
+}
+
+// Checks the bytes and writes the answer as JSON.
+fn write_check_data<O: Sink>(
+    alloc: Global,
+    bytes: &[u8],
+    out: &mut O,
+    prefer: Option<&str>,
+) -> Result<Outcome, RunFault>
+    requires { O.writer.has_failed out.old ≡ false }
+    ensures written { IfOk result (λ outcome. IsReportWritten (IsCheckLine (option_copied prefer.entry)) bytes.now outcome (O.writer.contents out.old) (O.writer.contents out.new)) }
+    ensures flushed { OnOk result (O.writer.is_flushed out.new ≡ true) }
+    ensures works { OnOk result (O.writer.has_failed out.new ≡ false) }
+    ensures memory { result ≡ Err RunFault.Memory → out.new ≡ out.old }
+    ensures broken { result ≡ Err RunFault.Write → IsReportPartWritten (IsCheckLine (option_copied prefer.entry)) bytes.now (O.writer.contents out.old) (O.writer.contents out.new) }
+    ensures write { result ≡ Err RunFault.Write → O.writer.has_failed out.new ≡ true }
+    ensures faults { IfErr result (λ fault. (fault ≡ RunFault.Memory) ⊎ (fault ≡ RunFault.Write)) }
+{
+    match check_data_with(alloc, bytes, prefer) {
+        Ok(answer) => write_line(answer, out),
+        Err(_) => Err(RunFault::Memory),
+    }
+}
+
+// Writes the text of the answer and a line feed, then flushes, and returns the outcome.
+fn write_line<O: Sink>(answer: Answer, out: &mut O) -> Result<Outcome, RunFault>
+    requires { O.writer.has_failed out.old ≡ false }
+    ensures outcome { IfOk result (λ outcome. outcome ≡ answer.outcome) }
+    ensures wrote { OnOk result (Appends (O.writer.contents out.old) (O.writer.contents out.new) (string_bytes answer.text ++ 10 ∷ [])) }
+    ensures flushed { OnOk result (O.writer.is_flushed out.new ≡ true) }
+    ensures works { OnOk result (O.writer.has_failed out.new ≡ false) }
+    ensures memory { result ≡ Err RunFault.Memory → out.new ≡ out.old }
+    ensures broken { result ≡ Err RunFault.Write → IsPartWritten (O.writer.contents out.old) (O.writer.contents out.new) (string_bytes answer.text ++ 10 ∷ []) }
+    ensures write { result ≡ Err RunFault.Write → O.writer.has_failed out.new ≡ true }
+    ensures faults { IfErr result (λ fault. (fault ≡ RunFault.Memory) ⊎ (fault ≡ RunFault.Write)) }
+{
+    let Answer { outcome, mut text } = answer;
+    text.push('\n')?;
+    write_one(out, outcome, text.as_bytes())
+}
+
+/// Reads two reports to their ends, first the left report and then the right one, compares them under a preferred type of
+/// identifier, or under none, writes the answer to `out` as JSON, and flushes `out`.
+///
+/// It writes the text that `compare_data_with` answers, and one line feed. The text is in memory as a whole before anything is
+/// written. A report may have at most 67,108,864 bytes. The devices must not have failed before the call. After a failure, the
+/// run reads, writes and flushes nothing more.
+///
+/// # Errors
+///
+/// As `run_check_data`.
+///
+/// ```
+/// assert_eq!(rt; run_compare_data(alloc, &mut left, &mut right, &mut out, prefer)?, Outcome::Good);
+/// assert_eq!(rt; out.writer.as_slice(), "null\n".as_bytes());
+/// ```
+pub fn run_compare_data<S: Source, T: Source, O: Sink>(
+    alloc: Global,
+    left: &mut S,
+    right: &mut T,
+    out: &mut O,
+    prefer: Option<&str>,
+) -> Result<Outcome, RunFault>
+    requires left_works { S.reader.has_failed left.old ≡ false }
+    requires right_works { T.reader.has_failed right.old ≡ false }
+    requires out_works { O.writer.has_failed out.old ≡ false }
+    ensures { IsPairRun S.reader T.reader O.writer (IsCompareLine (option_copied prefer.entry)) result
+        (between left.old left.new) (between right.old right.new) (between out.old out.new) }
+{
+    run_pair(alloc, left, right, out, PairCommand::CompareData, prefer)
+}
+
+/// Reads two reports to their ends, first the left report and then the right one, lists all differences in what they mean under a
+/// preferred type of identifier, or under none, writes them to `out`, and flushes `out`.
+///
+/// It writes `same`, or a line for each difference, in rising order. If the left report is refused, or else if the right one
+/// is, it writes what `run_compare_with` writes. The lines of the differences are in memory as a whole before anything is
+/// written. A report may have at most 67,108,864 bytes. The devices must not have failed before the call. After a failure, the
+/// run reads, writes and flushes nothing more.
+///
+/// # Errors
+///
+/// As `run_check_data`.
+///
+/// ```
+/// assert_eq!(rt; run_differences(alloc, &mut left, &mut right, &mut out, prefer)?, Outcome::Bad);
+/// assert_eq!(rt; out.writer.as_slice(), "election: member \"Name\"\n".as_bytes());
+/// ```
+pub fn run_differences<S: Source, T: Source, O: Sink>(
+    alloc: Global,
+    left: &mut S,
+    right: &mut T,
+    out: &mut O,
+    prefer: Option<&str>,
+) -> Result<Outcome, RunFault>
+    requires left_works { S.reader.has_failed left.old ≡ false }
+    requires right_works { T.reader.has_failed right.old ≡ false }
+    requires out_works { O.writer.has_failed out.old ≡ false }
+    ensures { IsPairRun S.reader T.reader O.writer (IsListed (option_copied prefer.entry)) result
+        (between left.old left.new) (between right.old right.new) (between out.old out.new) }
+{
+    run_pair(alloc, left, right, out, PairCommand::Differences, prefer)
+}
+
+/// Reads two reports to their ends, first the left report and then the right one, lists all differences in what they mean under a
+/// preferred type of identifier, or under none, writes the answer to `out` as JSON, and flushes `out`.
+///
+/// It writes the text that `differences_data_with` answers, and one line feed. The text is in memory as a whole before anything
+/// is written. A report may have at most 67,108,864 bytes. The devices must not have failed before the call. After a failure,
+/// the run reads, writes and flushes nothing more.
+///
+/// # Errors
+///
+/// As `run_check_data`.
+///
+/// ```
+/// assert_eq!(rt; run_differences_data(alloc, &mut left, &mut right, &mut out, prefer)?, Outcome::Good);
+/// assert_eq!(rt; out.writer.as_slice(), "[]\n".as_bytes());
+/// ```
+pub fn run_differences_data<S: Source, T: Source, O: Sink>(
+    alloc: Global,
+    left: &mut S,
+    right: &mut T,
+    out: &mut O,
+    prefer: Option<&str>,
+) -> Result<Outcome, RunFault>
+    requires left_works { S.reader.has_failed left.old ≡ false }
+    requires right_works { T.reader.has_failed right.old ≡ false }
+    requires out_works { O.writer.has_failed out.old ≡ false }
+    ensures { IsPairRun S.reader T.reader O.writer (IsListLine (option_copied prefer.entry)) result
+        (between left.old left.new) (between right.old right.new) (between out.old out.new) }
+{
+    run_pair(
+        alloc,
+        left,
+        right,
+        out,
+        PairCommand::DifferencesData,
+        prefer,
+    )
+}
+
+// Reads both reports and writes what the command answers.
+fn run_pair<S: Source, T: Source, O: Sink>(
+    alloc: Global,
+    left: &mut S,
+    right: &mut T,
+    out: &mut O,
+    command: PairCommand,
+    prefer: Option<&str>,
+) -> Result<Outcome, RunFault>
+    requires left_works { S.reader.has_failed left.old ≡ false }
+    requires right_works { T.reader.has_failed right.old ≡ false }
+    requires out_works { O.writer.has_failed out.old ≡ false }
+    ensures { IsPairRun S.reader T.reader O.writer (pair_answers command (option_copied prefer.entry)) result
+        (between left.old left.new) (between right.old right.new) (between out.old out.new) }
+{
+    let left_bytes = read_all(alloc, left)?;
+    let right_bytes = read_all(alloc, right)?;
+    write_pair(
+        alloc,
+        left_bytes.as_slice(),
+        right_bytes.as_slice(),
+        out,
+        command,
+        prefer,
+    )
+}
+
+// Writes what the command answers for the bytes of two reports.
+fn write_pair<O: Sink>(
+    alloc: Global,
+    left: &[u8],
+    right: &[u8],
+    out: &mut O,
+    command: PairCommand,
+    prefer: Option<&str>,
+) -> Result<Outcome, RunFault>
+    requires { O.writer.has_failed out.old ≡ false }
+    ensures written { IfOk result (λ outcome. IsPairWritten (pair_answers command (option_copied prefer.entry)) left.now right.now outcome (O.writer.contents out.old) (O.writer.contents out.new)) }
+    ensures flushed { OnOk result (O.writer.is_flushed out.new ≡ true) }
+    ensures works { OnOk result (O.writer.has_failed out.new ≡ false) }
+    ensures memory { result ≡ Err RunFault.Memory → out.new ≡ out.old }
+    ensures broken { result ≡ Err RunFault.Write
+        → IsPairPartWritten (pair_answers command (option_copied prefer.entry)) left.now right.now (O.writer.contents out.old) (O.writer.contents out.new) }
+    ensures write { result ≡ Err RunFault.Write → O.writer.has_failed out.new ≡ true }
+    ensures faults { IfErr result (λ fault. (fault ≡ RunFault.Memory) ⊎ (fault ≡ RunFault.Write)) }
+{
+    match command {
+        PairCommand::CompareData => write_compare_data(alloc, left, right, out, prefer),
+        PairCommand::Differences => write_listed(alloc, left, right, out, prefer),
+        PairCommand::DifferencesData => write_differences_data(alloc, left, right, out, prefer),
+    }
+}
+
+// Compares the bytes of two reports and writes the answer as JSON.
+fn write_compare_data<O: Sink>(
+    alloc: Global,
+    left: &[u8],
+    right: &[u8],
+    out: &mut O,
+    prefer: Option<&str>,
+) -> Result<Outcome, RunFault>
+    requires { O.writer.has_failed out.old ≡ false }
+    ensures written { IfOk result (λ outcome. IsPairWritten (IsCompareLine (option_copied prefer.entry)) left.now right.now outcome (O.writer.contents out.old) (O.writer.contents out.new)) }
+    ensures flushed { OnOk result (O.writer.is_flushed out.new ≡ true) }
+    ensures works { OnOk result (O.writer.has_failed out.new ≡ false) }
+    ensures memory { result ≡ Err RunFault.Memory → out.new ≡ out.old }
+    ensures broken { result ≡ Err RunFault.Write
+        → IsPairPartWritten (IsCompareLine (option_copied prefer.entry)) left.now right.now (O.writer.contents out.old) (O.writer.contents out.new) }
+    ensures write { result ≡ Err RunFault.Write → O.writer.has_failed out.new ≡ true }
+    ensures faults { IfErr result (λ fault. (fault ≡ RunFault.Memory) ⊎ (fault ≡ RunFault.Write)) }
+{
+    match compare_data_with(alloc, left, right, prefer) {
+        Ok(answer) => write_line(answer, out),
+        Err(_) => Err(RunFault::Memory),
+    }
+}
+
+// Lists the differences of the bytes of two reports and writes the answer as JSON.
+fn write_differences_data<O: Sink>(
+    alloc: Global,
+    left: &[u8],
+    right: &[u8],
+    out: &mut O,
+    prefer: Option<&str>,
+) -> Result<Outcome, RunFault>
+    requires { O.writer.has_failed out.old ≡ false }
+    ensures written { IfOk result (λ outcome. IsPairWritten (IsListLine (option_copied prefer.entry)) left.now right.now outcome (O.writer.contents out.old) (O.writer.contents out.new)) }
+    ensures flushed { OnOk result (O.writer.is_flushed out.new ≡ true) }
+    ensures works { OnOk result (O.writer.has_failed out.new ≡ false) }
+    ensures memory { result ≡ Err RunFault.Memory → out.new ≡ out.old }
+    ensures broken { result ≡ Err RunFault.Write
+        → IsPairPartWritten (IsListLine (option_copied prefer.entry)) left.now right.now (O.writer.contents out.old) (O.writer.contents out.new) }
+    ensures write { result ≡ Err RunFault.Write → O.writer.has_failed out.new ≡ true }
+    ensures faults { IfErr result (λ fault. (fault ≡ RunFault.Memory) ⊎ (fault ≡ RunFault.Write)) }
+{
+    match differences_data_with(alloc, left, right, prefer) {
+        Ok(answer) => write_line(answer, out),
+        Err(_) => Err(RunFault::Memory),
+    }
+}
+
+// Lists the differences of the bytes of two reports, a line each.
+fn write_listed<O: Sink>(
+    alloc: Global,
+    left: &[u8],
+    right: &[u8],
+    out: &mut O,
+    prefer: Option<&str>,
+) -> Result<Outcome, RunFault>
+    requires { O.writer.has_failed out.old ≡ false }
+    ensures written { IfOk result (λ outcome. IsPairWritten (IsListed (option_copied prefer.entry)) left.now right.now outcome (O.writer.contents out.old) (O.writer.contents out.new)) }
+    ensures flushed { OnOk result (O.writer.is_flushed out.new ≡ true) }
+    ensures works { OnOk result (O.writer.has_failed out.new ≡ false) }
+    ensures memory { result ≡ Err RunFault.Memory → out.new ≡ out.old }
+    ensures broken { result ≡ Err RunFault.Write
+        → IsPairPartWritten (IsListed (option_copied prefer.entry)) left.now right.now (O.writer.contents out.old) (O.writer.contents out.new) }
+    ensures write { result ≡ Err RunFault.Write → O.writer.has_failed out.new ≡ true }
+    ensures faults { IfErr result (λ fault. (fault ≡ RunFault.Memory) ⊎ (fault ≡ RunFault.Write)) }
+{
+    // no line tells what differs inside selections
+    match differences_of(alloc, left, right, prefer, usize::MAX, 0) {
+        Ok(found) => write_found(alloc, &found, out),
+        Err(Side::Left(refusal)) => write_refusal(alloc, b"left: ", &refusal, out),
+        Err(Side::Right(refusal)) => write_refusal(alloc, b"right: ", &refusal, out),
+        Err(Side::Memory) => Err(RunFault::Memory),
+    }
+}
+
+// Writes the lines for the differences of two accepted reports.
+fn write_found<O: Sink>(
+    alloc: Global,
+    found: &[DetailedDifference],
+    out: &mut O,
+) -> Result<Outcome, RunFault>
+    requires { O.writer.has_failed out.old ≡ false }
+    ensures outcome { IfOk result (λ outcome. outcome ≡ listing_outcome found.now) }
+    ensures wrote { OnOk result (Appends (O.writer.contents out.old) (O.writer.contents out.new) (text_of_lines (listing_lines (map (λ d. d.difference) found.now)))) }
+    ensures flushed { OnOk result (O.writer.is_flushed out.new ≡ true) }
+    ensures works { OnOk result (O.writer.has_failed out.new ≡ false) }
+    ensures memory { result ≡ Err RunFault.Memory → out.new ≡ out.old }
+    ensures broken { result ≡ Err RunFault.Write
+        → IsPartWritten (O.writer.contents out.old) (O.writer.contents out.new) (text_of_lines (listing_lines (map (λ d. d.difference) found.now))) }
+    ensures write { result ≡ Err RunFault.Write → O.writer.has_failed out.new ≡ true }
+    ensures faults { IfErr result (λ fault. (fault ≡ RunFault.Memory) ⊎ (fault ≡ RunFault.Write)) }
+{
+    let text = listing_text(alloc, found)?;
+    write_one(out, outcome_of(found), text.as_bytes())
+}
+
+// The lines for the differences of two accepted reports, each ended by one line feed.
+fn listing_text(alloc: Global, found: &[DetailedDifference]) -> Result<String, AllocError>
+    ensures { IfOk result (λ text. string_bytes text ≡ text_of_lines (listing_lines (map (λ d. d.difference) found.now))) }
+{
+    if found.is_empty() {
+        return String::from_str(alloc, "same\n");
+    }
+    lines_of(alloc, found)
+}
+
+// The lines of the differences, each ended by one line feed.
+fn lines_of(alloc: Global, found: &[DetailedDifference]) -> Result<String, AllocError>
+    ensures { IfOk result (λ text. string_bytes text ≡ text_of_lines (map (λ d. difference_line d.difference) found.now)) }
+{
+    let mut text = String::new(alloc);
+    for difference in found {
+        push_entry_line(alloc, "", difference, &mut text)?;
+    }
+    Ok(text)
+}
