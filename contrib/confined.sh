@@ -1,5 +1,5 @@
 #!/bin/sh
-# Runs one command of erd on files of strangers, in a process of its own with limits:
+# Runs one command of erd on untrusted files, in a process of its own with limits:
 #
 #     confined.sh check|canon [--prefer TYPE] FILE
 #     confined.sh compare [--prefer TYPE] LEFT RIGHT

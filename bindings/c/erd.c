@@ -206,10 +206,11 @@ enum erd_outcome erd_compare_data(const void *left, size_t left_size, const void
     return call(&it, ROOM_FOR_LINES, text, length);
 }
 
-/* Room for the text of a list, so that most lists are made at once: as many bytes as are enough, at most a mebibyte, and then one
- * entry more. */
+/* Room for the text of a list, so that most lists are made at once: as many bytes as are enough, at most a mebibyte, the commas
+ * between entries of 16 bytes or more, and then one entry more. */
 static size_t room_for_list(const struct wanted *wanted) {
-    return (wanted->enough_bytes < ROOM_FOR_PIECE ? wanted->enough_bytes : ROOM_FOR_PIECE) + ROOM_FOR_LINES;
+    size_t entries = wanted->enough_bytes < ROOM_FOR_PIECE ? wanted->enough_bytes : ROOM_FOR_PIECE;
+    return entries + entries / 16 + ROOM_FOR_LINES;
 }
 
 /* A call for a piece of a list. Without a piece, it asks for the whole list. */

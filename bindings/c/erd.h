@@ -10,7 +10,7 @@
 #include <stddef.h>
 
 /* The version of this header. A program may compare it with erd_version. */
-#define ERD_VERSION "0.1.0"
+#define ERD_VERSION "0.2.0"
 
 #ifdef __cplusplus
 extern "C" {
@@ -187,7 +187,7 @@ enum erd_line {
  *
  * With ERD_LINE_REQUEST the text is compact JSON in UTF-8, with no line end. It looks like
  *
- *     {"command":"check","files":["county.json"],"prefer":"fips"}
+ *     {"command":"check","files":["county.json"],"json":false,"prefer":"fips"}
  *
  * `command` is "check", "canon" or "compare", or "filter" if there is no word behind the name. `files` has the names of the
  * files, of a comparison the left one first. `prefer` is null if the words state no preference. Words that are not UTF-8 are

@@ -191,9 +191,11 @@ export class Erd {
 
 /** What the words of a command line ask for. */
 export interface CommandRequest {
-    readonly command: 'filter' | 'check' | 'canon' | 'compare';
+    readonly command: 'filter' | 'check' | 'canon' | 'compare' | 'differences';
     /** The names of the files, in the order of the words. */
     readonly files: string[];
+    /** Whether the answer is to be JSON. */
+    readonly json: boolean;
     readonly prefer: string | null;
 }
 

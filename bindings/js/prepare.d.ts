@@ -1,8 +1,8 @@
 /** A step, in the order in which they are done. */
 export interface Step {
     name: string;
-    /** `taken`: no ballot has what is taken out. `chosen`: what a voter sees stays as it is. `seen`: a voter sees another ballot. */
-    group: 'taken' | 'chosen' | 'seen';
+    /** `removed`: no ballot has it. `filled-in`: what a voter sees stays as it is. `visible`: a voter sees another ballot. */
+    group: 'removed' | 'filled-in' | 'visible';
     title: string;
     /** What it does. */
     does: string;
@@ -10,10 +10,10 @@ export interface Step {
     loses: string;
 }
 
-/** What a step did, or would do at its turn if it is not chosen. */
+/** What a step did, or would do at its turn if it is not done. */
 export interface Done {
     name: string;
-    chosen: boolean;
+    done: boolean;
     /** Each change, with its place in the tree as it was before the step. A value that is not there is undefined. */
     made: { place: (string | number)[]; before: unknown; after: unknown }[];
     /** What the step left as it is, and why. */
@@ -43,7 +43,7 @@ export class Preparation {
  * many there are, and `more` is whether some are not told.
  */
 export function told(done: Done): {
-    step: string; chosen: boolean; count: number;
+    step: string; done: boolean; count: number;
     changes: { pointer: string; before: string | null; after: string | null }[];
     left_count: number;
     left: { pointer: string; why: string }[];

@@ -3,7 +3,8 @@
 # The options, as tests/pages/tables.py --write writes them:
 _erd_options() {
     case $1 in
-    check | canon | compare) options='--prefer' ;;
+    check | compare | differences) options='--json --prefer' ;;
+    canon) options='--prefer' ;;
     esac
 }
 _erd_values() {
@@ -20,10 +21,10 @@ _erd() {
     local subcommand=${COMP_WORDS[1]} files=0 offered='' options='' values='' i
     COMPREPLY=()
     if [ "$COMP_CWORD" -eq 1 ]; then
-        offered='check canon compare help --help'
+        offered='check canon compare differences help --help'
     elif [ "$subcommand" = help ]; then
-        [ "$COMP_CWORD" -eq 2 ] && offered='check canon compare help'
-    elif [[ $subcommand == @(check|canon|compare) ]]; then
+        [ "$COMP_CWORD" -eq 2 ] && offered='check canon compare differences help'
+    elif [[ $subcommand == @(check|canon|compare|differences) ]]; then
         # bash makes three words of --prefer=TYPE
         [ "$word" = = ] && word=''
         [ "$before" = = ] && before=${COMP_WORDS[COMP_CWORD - 2]}
@@ -39,7 +40,7 @@ _erd() {
             offered=$values
         elif [[ $word == -* && $files -eq 0 ]]; then
             offered="$options --help"
-        elif [ "$files" -lt "$([ "$subcommand" = compare ] && echo 2 || echo 1)" ]; then
+        elif [ "$files" -lt "$([[ $subcommand == @(compare|differences) ]] && echo 2 || echo 1)" ]; then
             compopt -o default
         fi
     fi

@@ -2,10 +2,12 @@
 
 # The options, as tests/pages/tables.py --write writes them:
 set -g __erd_with_value --prefer
-complete -c erd -n '__fish_seen_subcommand_from check canon compare' -l prefer -x -a 'fips local-level national-level ocd-id other state-level' \
+complete -c erd -n '__fish_seen_subcommand_from check compare differences' -l json \
+    -d 'answer with JSON on one line, in place of lines of text'
+complete -c erd -n '__fish_seen_subcommand_from check canon compare differences' -l prefer -x -a 'fips local-level national-level ocd-id other state-level' \
     -d 'the type of identifier that the keys of objects follow, such as fips or local-level'
 
-# Whether another file may be named: one by check and canon, and two by compare.
+# Whether another file may be named: one by check and canon, and two by compare and differences.
 function __erd_takes_file
     set -l words (commandline -opc)
     set -l files 0
@@ -22,7 +24,7 @@ function __erd_takes_file
     switch "$words[2]"
         case check canon
             test $files -lt 1
-        case compare
+        case compare differences
             test $files -lt 2
         case '*'
             false
@@ -33,7 +35,8 @@ complete -c erd -f
 complete -c erd -n __fish_use_subcommand -a check -d 'tell whether a report is accepted, or its faults'
 complete -c erd -n __fish_use_subcommand -a canon -d 'write the canonical form of a report'
 complete -c erd -n __fish_use_subcommand -a compare -d 'tell the first difference in what two reports mean'
+complete -c erd -n __fish_use_subcommand -a differences -d 'list all differences in what two reports mean'
 complete -c erd -n __fish_use_subcommand -a help -d 'write the help of a subcommand'
-complete -c erd -n '__fish_seen_subcommand_from help' -a 'check canon compare help'
+complete -c erd -n '__fish_seen_subcommand_from help' -a 'check canon compare differences help'
 complete -c erd -l help -d 'write the help'
 complete -c erd -n __erd_takes_file -F

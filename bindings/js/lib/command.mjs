@@ -2,19 +2,9 @@
 import { readFileSync } from 'node:fs';
 import { load } from '../index.mjs';
 import { bytesOfFile, checkThere, opened, STANDARD_ERROR, STANDARD_OUTPUT, Stop, versionOfPackage, write } from './files.mjs';
+import { tellOfXml } from './xml.mjs';
 
-const WITH_JSON = ['check', 'compare', 'differences'];
-
-// What stands in the help of `differences` in place of what `compare` does, in short and in full.
-const SHORT_HELP = 'Lists all differences in meaning of two reports, or says that there is none\n';
-const LONG_HELP = `Reads the reports in LEFT and RIGHT, and writes to standard output \`same\`, or a line for each difference
-in what they mean, in rising order. Each line is one that \`erd compare\` writes, which has the first:
-
-  style ["local-level","","S1"]: member "OrderedContent"
-
-If a report is refused, it writes the lines of \`erd check\` for that report, each after \`left: \` or
-\`right: \`. The right report is judged only if the left one is accepted.
-`;
+const NOT_JSON = 2;
 
 /** Does what the words ask for, and returns the status. */
 export async function run(words) {
@@ -24,44 +14,26 @@ export async function run(words) {
         return 0;
     }
     const erd = await load();
-    const at = placeOfJson(words);
-    const { request, status, bytes } = asked(erd, at < 0 ? words : words.filter((_, index) => index !== at));
+    const { request, status, bytes } = erd.commandLine(words);
     if (request === undefined) {
         write(status === 0 ? STANDARD_OUTPUT : STANDARD_ERROR, bytes);
         return status;
     }
-    return answered(erd, request, at >= 0);
-}
-
-// Where the word `--json` stands as an option: not as the type of `--prefer`, and not behind `--`. A second one is no word of a command.
-function placeOfJson(words) {
-    const end = words.indexOf('--');
-    const at = words.findIndex((word, index) => word === '--json' && words[index - 1] !== '--prefer');
-    return WITH_JSON.includes(words[0]) && (end < 0 || at < end) ? at : -1;
-}
-
-// The command of this package alone is asked for before the proved code is: the words behind it are those of `compare`.
-function asked(erd, [first, ...rest]) {
-    if (first !== 'differences') {
-        return erd.commandLine(first === undefined ? [] : [first, ...rest]);
-    }
-    const { request, ...text } = erd.commandLine(['compare', ...rest]);
-    return request === undefined ? { ...text, bytes: ofDifferences(text) } : { request: { ...request, command: first } };
-}
-
-// The text about words of `compare` as one about those of `differences`.
-function ofDifferences({ status, bytes }) {
-    const [does, ...rest] = Buffer.from(bytes).toString().split('\nUsage: ');
-    const about = does.split('\n').length > 2 ? LONG_HELP : SHORT_HELP;
-    const behind = rest.map((part) => `\nUsage: ${part}`.replaceAll('erd compare', 'erd differences'));
-    return Buffer.from([status === 0 ? about : does, ...behind].join(''));
+    return answered(erd, request);
 }
 
 /** Does what a command asks for, and returns the status. */
-function answered(erd, { command, files, prefer }, isJson) {
+function answered(erd, { command, files, json, prefer }) {
     const reports = opened(files).map(bytesOfFile);
-    const name = command === 'filter' ? 'canon' : command;
-    if (isJson) {
+    const status = judged(erd, command === 'filter' ? 'canon' : command, { reports, prefer, json });
+    if (status === NOT_JSON) {
+        tellOfXml(reports);
+    }
+    return status;
+}
+
+function judged(erd, name, { reports, prefer, json }) {
+    if (json) {
         return erd.writtenAsJson(name, reports, { prefer }, writeLine).status;
     }
     let status = 0;

@@ -74,7 +74,7 @@ function compactText(value) {
     return JSON.stringify(value);
 }
 
-/** The text with each character that a terminal may act on as an escape: a stranger's names may hold such characters. */
+/** The text with each character that a terminal may act on as an escape: names in an untrusted file may hold such characters. */
 export function visible(text) {
     return text.replace(/[\p{C}\p{Zl}\p{Zp}]/gu, (letter) => `\\u{${letter.codePointAt(0).toString(16)}}`);
 }

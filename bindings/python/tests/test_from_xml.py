@@ -1,6 +1,5 @@
 """The converter from XML. The XML is written by the tests' own writer, from memory of the public schema."""
 
-import copy
 import doctest
 import hashlib
 import json
@@ -8,18 +7,17 @@ import os
 import random
 import subprocess
 import sys
-from xml.etree import ElementTree
 
 import pytest
 from xml_reports import REPORTS
-from xml_writer import born_of, xml_of
+from xml_writer import born_of, mutant_of, xml_of
 
 import erd
 from erd import from_xml
 
 EXAMPLES = ['county-general.json', 'county.vendor-a.json', 'county.vendor-b.json', 'one-unit.json', 'small-ballot.json',
             'two-elections.vendor-a.json', 'two-elections.vendor-b.json']
-CASES = [(name, version) for name, (_, versions) in REPORTS.items() for version in versions] + [(name, 2) for name in EXAMPLES]
+CASES = [(name, version) for name, (_, versions) in REPORTS.items() for version in versions] + [(name, 2) for name in EXAMPLES] + [('one-unit.json', 1)]
 # What two of the examples carry beside the schema.
 CARRIED = {'county.vendor-a.json': ['BallotText'], 'county.vendor-b.json': ['BallotText']}
 ENVELOPE = ['Format', 'GeneratedDate', 'Issuer', 'IssuerAbbreviation', 'VendorApplicationId', 'Notes', 'SequenceStart', 'SequenceEnd',
@@ -69,17 +67,6 @@ def test_json_that_was_made_from_xml(top, name, version, form):
     found = from_xml.convert(born_of(xml, form))
     assert told_of(found) == CARRIED.get(name, [])
     assert erd.compare(found.form, from_xml.convert(xml).form).same
-
-
-def mutant_of(xml, dice):
-    """The XML with an element that is dropped or doubled."""
-    root = ElementTree.fromstring(xml)
-    parent, at = dice.choice([(node, at) for node in root.iter() for at in range(len(node))])
-    if dice.random() < 0.5:
-        del parent[at]
-    else:
-        parent.insert(at, copy.deepcopy(parent[at]))
-    return ElementTree.tostring(root)
 
 
 def seen(base, found):

@@ -279,7 +279,7 @@ def test_prepare(run, top, tmp_path):
     rows = rows_by_name(run('--json', folder))
     assert [rows[name]['verdict'] for name in ('export.json', 'again.json', 'broken.json')] == ['refused', 'refused', 'not JSON']
     assert 'prepared' not in rows['export.json']
-    rows = rows_by_name(run('--json', '--prepare', 'taken,chosen', '--jobs', 2, folder))
+    rows = rows_by_name(run('--json', '--prepare', 'removed,filled-in', '--jobs', 2, folder))
     assert [rows[name]['verdict'] for name in ('export.json', 'again.json', 'broken.json')] == ['accepted', 'accepted', 'not JSON']
     assert [rows[name]['group'] for name in ('again.json', 'export.json')] == [1, 2]
     assert rows['export.json']['prepared'].startswith('outside 18, coordinates 3, ')

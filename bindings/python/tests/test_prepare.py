@@ -13,7 +13,7 @@ from erd import prepare
 def test_raw_examples(top, name):
     data = (top / 'examples' / f'{name}.raw.json').read_bytes()
     assert not erd.check(data).accepted
-    prepared, done = prepare.prepare(data, prepare.steps_of('taken', 'chosen', 'seen'))
+    prepared, done = prepare.prepare(data, prepare.steps_of('removed', 'filled-in', 'visible'))
     assert erd.check(prepared).accepted
     assert all(step.made for step in done)
 

@@ -91,7 +91,7 @@ TYPE = ['--prefer', 'local-level']
     (added, [], LEFT + ['7.json']),
     (None, TYPE, FILES),
     (None, ['--pattern', '?.json'], FILES),
-    (None, ['--prepare', 'seen'], FILES),
+    (None, ['--prepare', 'visible'], FILES),
 ], ids=['none', 'another-size', 'the-same-size', 'the-same-time', 'removed', 'added', 'another-preference', 'another-pattern', 'other-steps'])
 def test_change(runs, change, words, judged):
     if change is not None:

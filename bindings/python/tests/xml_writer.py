@@ -1,6 +1,7 @@
 """Writes reports as XML, for the tests: by the names of the members, from memory of the public schema, and without the converter's
-table. And makes JSON of XML as the usual converters do."""
+table. And makes JSON of XML as the usual converters do, and XML in which an element is dropped or doubled."""
 
+import copy
 import json
 from xml.etree import ElementTree
 from xml.sax.saxutils import escape, quoteattr
@@ -93,3 +94,14 @@ def member_of(node, form):
         else:
             members[name] = held
     return {**members, '#text': text} if text.strip() or not len(node) else members
+
+
+def mutant_of(xml, dice):
+    """The XML with an element that is dropped or doubled."""
+    root = ElementTree.fromstring(xml)
+    parent, at = dice.choice([(node, at) for node in root.iter() for at in range(len(node))])
+    if dice.random() < 0.5:
+        del parent[at]
+    else:
+        parent.insert(at, copy.deepcopy(parent[at]))
+    return ElementTree.tostring(root)

@@ -1,7 +1,9 @@
 // What the command `erd-prepare` reads and writes.
 import { bytesOfFile, checkThere, opened, STANDARD_ERROR, STANDARD_OUTPUT, Stop, versionOfPackage, write, writeFile } from '../files.mjs';
 import { repeatedNames } from '../repeated.mjs';
+import { NotJson } from '../scanner.mjs';
 import { pointerOf, visible } from '../words.mjs';
+import { isXml, WHERE_CONVERTED } from '../xml.mjs';
 import { Preparation, STEPS, stepsOf, told } from './prepared.mjs';
 import { GROUP_WORDS, LEFT_WORDS, STEP_WORDS } from './step_words.mjs';
 import { withoutMark } from './tree.mjs';
@@ -13,15 +15,15 @@ export const USAGE = `Writes a copy of a report on which steps were done that ma
 Usage: erd-prepare [--steps NAMES] [--without NAMES] [--report REPORT] FILE > PREPARED
        erd-prepare --list [FILE]
 
-  --steps NAMES    which steps are done: names of steps or of groups, with commas between them (default: taken)
+  --steps NAMES    which steps are done: names of steps or of groups, with commas between them (default: removed)
   --without NAMES  which of these are not done
   --report REPORT  also write each change to this file, as JSON
   --list           list all steps, or those that would do something to FILE
   -h, --help       print this help
   --version        print the version
 
-The groups are taken (${GROUP_WORDS.taken.toLowerCase()}), chosen (${GROUP_WORDS.chosen.toLowerCase()})
-and seen (${GROUP_WORDS.seen.toLowerCase()}). FILE stays as it is. What was done is told on standard error.
+The groups are removed (${GROUP_WORDS.removed.toLowerCase()}), filled-in (${GROUP_WORDS['filled-in'].toLowerCase()})
+and visible (${GROUP_WORDS.visible.toLowerCase()}). FILE stays as it is. What was done is told on standard error.
 
 Exit status:
   0  written
@@ -41,7 +43,7 @@ const PLAIN = { '--list': 'lists', '--help': 'helps', '-h': 'helps', '--version'
 
 /** What the arguments ask for. */
 export function argumentsOf(words) {
-    const asked = { steps: ['taken'], without: [], report: null, lists: false, helps: false, versions: false, files: [] };
+    const asked = { steps: ['removed'], without: [], report: null, lists: false, helps: false, versions: false, files: [] };
     const left = [...words];
     while (left.length > 0) {
         const [name, ...rest] = left.shift().split('=');
@@ -94,9 +96,9 @@ export function run(words) {
         return 0;
     }
     const bytes = bytesOfFile(opened([file])[0]);
-    const preparation = new Preparation(bytes);
+    const preparation = preparationOf(bytes);
     if (lists) {
-        const { steps: found } = preparation.prepare(stepsOf('taken', 'chosen'), { tellsOthers: true });
+        const { steps: found } = preparation.prepare(stepsOf('removed', 'filled-in'), { tellsOthers: true });
         write(STANDARD_OUTPUT, found.filter(({ made }) => made.length > 0).map(counted).join(''));
         return 0;
     }
@@ -110,13 +112,21 @@ export function run(words) {
     return 0;
 }
 
+function preparationOf(bytes) {
+    try {
+        return new Preparation(bytes);
+    } catch (error) {
+        throw error instanceof NotJson && isXml(bytes) ? new Stop(`not JSON; ${WHERE_CONVERTED}`, 2) : error;
+    }
+}
+
 function listed({ name, group, title, does, loses }) {
     return `${name} (${group}): ${title}. ${does} ${loses}\n`;
 }
 
 function counted({ name, made }) {
     const { group, title } = STEPS.find((step) => step.name === name);
-    return `${String(made.length).padStart(6)}  ${name.padEnd(18)}  ${group.padEnd(6)}  ${title}\n`;
+    return `${String(made.length).padStart(6)}  ${name.padEnd(18)}  ${group.padEnd(9)}  ${title}\n`;
 }
 
 function repeats(bytes) {

@@ -34,34 +34,34 @@ export const MARK_STEP = 'byte-order-mark';
 
 // The steps in the order in which they are done, whatever order a caller names them in. `act` changes a tree of its own in place.
 const TREE_STEPS = [
-    ['nulls', 'taken', takeOutNulls],
-    ['kinds', 'chosen', writeKinds],
-    ['class-names', 'chosen', writeClassNames],
-    ['twin-ids', 'chosen', tellIdsApart],
-    ['outside', 'taken', takeOutOutside],
-    ['counts', 'taken', takeOutCounts],
-    ['devices', 'taken', takeOutDevices],
-    ['coordinates', 'taken', takeOutCoordinates],
-    ['whole-numbers', 'chosen', writeWholeNumbers],
-    ['stray-ids', 'taken', takeOutStrayIds],
-    ['vendor-identifiers', 'chosen', takeVendorIdentifiers],
-    ['vendor-texts', 'chosen', renameVendorMembers],
-    ['repeated', 'chosen', takeOutRepeated],
-    ['gone-candidates', 'seen', takeOutGoneCandidates],
-    ['unused-styles', 'seen', takeOutUnusedStyles],
-    ['unused-persons', 'taken', takeOutUnusedPersons],
-    ['empty-lists', 'taken', takeOutEmptyLists],
-    ['empty-texts', 'taken', takeOutEmptyTexts],
-    ['names', 'chosen', nameObjects],
-    ['county-codes', 'chosen', putCountiesInFront],
-    ['shared-codes', 'chosen', takeOutSharedCodes],
-    ['codes', 'chosen', tellCodesApart],
-    ['write-in-lines', 'chosen', numberWriteIns],
-    ['party-lines', 'chosen', namePartyLines],
+    ['nulls', 'removed', takeOutNulls],
+    ['kinds', 'filled-in', writeKinds],
+    ['class-names', 'filled-in', writeClassNames],
+    ['twin-ids', 'filled-in', tellIdsApart],
+    ['outside', 'removed', takeOutOutside],
+    ['counts', 'removed', takeOutCounts],
+    ['devices', 'removed', takeOutDevices],
+    ['coordinates', 'removed', takeOutCoordinates],
+    ['whole-numbers', 'filled-in', writeWholeNumbers],
+    ['stray-ids', 'removed', takeOutStrayIds],
+    ['vendor-identifiers', 'filled-in', takeVendorIdentifiers],
+    ['vendor-texts', 'filled-in', renameVendorMembers],
+    ['repeated', 'filled-in', takeOutRepeated],
+    ['gone-candidates', 'visible', takeOutGoneCandidates],
+    ['unused-styles', 'visible', takeOutUnusedStyles],
+    ['unused-persons', 'removed', takeOutUnusedPersons],
+    ['empty-lists', 'removed', takeOutEmptyLists],
+    ['empty-texts', 'removed', takeOutEmptyTexts],
+    ['names', 'filled-in', nameObjects],
+    ['county-codes', 'filled-in', putCountiesInFront],
+    ['shared-codes', 'filled-in', takeOutSharedCodes],
+    ['codes', 'filled-in', tellCodesApart],
+    ['write-in-lines', 'filled-in', numberWriteIns],
+    ['party-lines', 'filled-in', namePartyLines],
 ].map(([name, group, act]) => ({ name, group, act }));
 
-/** Every step in order: its name, its group (`taken`, `chosen` or `seen`) and its words. */
-export const STEPS = [{ name: MARK_STEP, group: 'taken' }, ...TREE_STEPS].map(({ name, group }) => {
+/** Every step in order: its name, its group (`removed`, `filled-in` or `visible`) and its words. */
+export const STEPS = [{ name: MARK_STEP, group: 'removed' }, ...TREE_STEPS].map(({ name, group }) => {
     const [title, does, loses] = STEP_WORDS[name];
     return { name, group, title, does, loses };
 });
@@ -92,9 +92,9 @@ export class Preparation {
 
     /**
      * Does these steps, in the fixed order, on a copy. Each step that changes or leaves something is told; with `tellsOthers` those too
-     * that are not chosen: what they would do at their turn. `changesOf` makes what keeps the changes of a step on a tree.
+     * that are not done: what they would do at their turn. `changesOf` makes what keeps the changes of a step on a tree.
      * @param {Iterable<string>} names
-     * @returns {{bytes: Uint8Array, steps: {name: string, chosen: boolean, made: object[], left: object[]}[]}}
+     * @returns {{bytes: Uint8Array, steps: {name: string, done: boolean, made: object[], left: object[]}[]}}
      */
     prepare(names, { tellsOthers = false, changesOf = () => new Changes() } = {}) {
         const chosen = new Set(names);
@@ -109,21 +109,21 @@ export class Preparation {
             const own = isChosen ? tree : copyOf(tree);
             const { made, left } = actOn(own, step, changesOf(own));
             if (made.length > 0 || left.length > 0) {
-                steps.push({ name: step.name, chosen: isChosen, made, left });
+                steps.push({ name: step.name, done: isChosen, made, left });
             }
         }
-        const told = steps.filter((step) => tellsOthers || step.chosen);
+        const told = steps.filter((step) => tellsOthers || step.done);
         return { bytes: this.#written(tree, told), steps: told };
     }
 
     #markStep(isChosen) {
         const made = this.hasMark ? [{ place: [], before: '\ufeff', after: undefined }] : [];
-        return made.length > 0 ? [{ name: MARK_STEP, chosen: isChosen, made, left: [] }] : [];
+        return made.length > 0 ? [{ name: MARK_STEP, done: isChosen, made, left: [] }] : [];
     }
 
     // A file of which nothing was changed keeps its bytes.
     #written(tree, steps) {
-        const done = steps.filter((step) => step.chosen && step.made.length > 0).map(({ name }) => name);
+        const done = steps.filter((step) => step.done && step.made.length > 0).map(({ name }) => name);
         if (done.every((name) => name === MARK_STEP)) {
             return done.length > 0 ? this.bytes.subarray(3) : this.bytes;
         }
@@ -147,13 +147,13 @@ const ENOUGH_TEXT = 2 ** 20;
  * of what is left, these are the first thousand, and fewer if they have more than a megabyte together: `count` and `left_count` are how
  * many there are, and `more` is whether some are not told.
  */
-export function told({ name, chosen, made, left }) {
+export function told({ name, done, made, left }) {
     const changes = first(made, ({ place, before, after }) => ({
         pointer: pointerOf(place), before: textOrNull(before), after: textOrNull(after),
     }));
     const stays = first(left, ({ place, why }) => ({ pointer: pointerOf(place), why }));
     return {
-        step: name, chosen, count: made.length, changes, left_count: left.length, left: stays,
+        step: name, done, count: made.length, changes, left_count: left.length, left: stays,
         more: changes.length < made.length || stays.length < left.length,
     };
 }

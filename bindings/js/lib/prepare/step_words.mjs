@@ -2,9 +2,9 @@
 
 /** The groups of steps. */
 export const GROUP_WORDS = {
-    taken: 'Removed: no ballot has it',
-    chosen: 'Written: what a voter sees stays as it is',
-    seen: 'Changes what a voter sees',
+    removed: 'No ballot has it',
+    'filled-in': 'What a voter sees stays as it is',
+    visible: 'Changes what a voter sees',
 };
 
 /** The words of each step: its title, what it does, and what it gives up or what to look at. */

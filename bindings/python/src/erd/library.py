@@ -15,7 +15,7 @@ from typing import Any, Callable, Dict, Generic, Iterator, Optional, Sequence, T
 GOOD, BAD, NOT_JSON, WRONG, NO_MEMORY = range(5)
 
 # What the words of a command line are: `enum erd_line`.
-LINE_HELP, LINE_REQUEST, LINE_WRONG = 0, 1, 3
+LINE_REQUEST, LINE_WRONG = 1, 3
 
 NAME = {'win32': 'erd.dll', 'darwin': 'liberd.dylib'}.get(sys.platform, 'liberd.so.0')
 

@@ -71,7 +71,7 @@ class Fault:
     def line(self) -> str:
         """The line that `erd check` writes for this fault, without its line feed.
 
-        Names stand in it as they are, so it may hold control characters of a stranger's file.
+        Names stand in it as they are, so it may hold control characters of an untrusted file.
         """
         return f'{self.pointer}: {self.words}'
 

@@ -18,7 +18,7 @@ from .tree import NotJson
 __all__ = ['STEPS', 'Done', 'NotJson', 'Preparation', 'Step', 'prepare', 'steps_of']
 
 
-def prepare(data: bytes, names: Iterable[str] = tuple(steps_of('taken'))) -> Tuple[bytes, List[Done]]:
+def prepare(data: bytes, names: Iterable[str] = tuple(steps_of('removed'))) -> Tuple[bytes, List[Done]]:
     """Returns the bytes of a copy of the report on which these steps were done, and what each step did. Raises NotJson if the
     bytes are not JSON, and ValueError for a name that no step has."""
     return Preparation(data).prepare(names)

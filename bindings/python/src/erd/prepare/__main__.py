@@ -29,8 +29,8 @@ def parser() -> argparse.ArgumentParser:
     words = Parser(prog='erd-prepare', allow_abbrev=False, description=(
         'Writes a copy of a report on which steps were done that make an export ready for erd. FILE stays as it is. What was done is '
         f'told on standard error. The groups of steps are {groups}.'))
-    words.add_argument('--steps', metavar='NAMES', type=names_of, default=steps_of('taken'),
-                       help='which steps are done: names of steps or of groups, with commas between them (default: taken)')
+    words.add_argument('--steps', metavar='NAMES', type=names_of, default=steps_of('removed'),
+                       help='which steps are done: names of steps or of groups, with commas between them (default: removed)')
     words.add_argument('--without', metavar='NAMES', type=names_of, default=[], help='which of these are not done')
     words.add_argument('--report', metavar='REPORT', help='also write each change to this file, as JSON')
     words.add_argument('--list', action='store_true', dest='lists', help='list all steps, or those that would do something to FILE')
@@ -52,7 +52,7 @@ def names_of(text: str) -> List[str]:
 def counted(done: Done) -> str:
     """Returns a line of the list of a file."""
     group, title = next((step.group, step.title) for step in STEPS if step.name == done.name)
-    return f'{len(done.made):6}  {done.name:18}  {group:6}  {title}\n'
+    return f'{len(done.made):6}  {done.name:18}  {group:9}  {title}\n'
 
 
 def place_text(place: tuple) -> str:
@@ -85,7 +85,7 @@ def answer(words: argparse.Namespace) -> int:
         data = read(file.handle)
     preparation = Preparation(data)
     if words.lists:
-        _, found = preparation.prepare(steps_of('taken', 'chosen'), tells_others=True)
+        _, found = preparation.prepare(steps_of('removed', 'filled-in'), tells_others=True)
         write(STANDARD_OUTPUT, ''.join(counted(done) for done in found if done.made).encode('utf-8'))
         return 0
     prepared, steps = preparation.prepare(set(words.steps) - set(words.without))

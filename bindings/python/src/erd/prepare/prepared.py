@@ -48,35 +48,35 @@ class TreeStep(NamedTuple):
 
 # The steps in the order in which they are done, whatever order a caller names them in.
 TREE_STEPS = [
-    TreeStep('nulls', 'taken', take_out_nulls),
-    TreeStep('kinds', 'chosen', write_kinds),
-    TreeStep('class-names', 'chosen', write_class_names),
-    TreeStep('twin-ids', 'chosen', tell_ids_apart),
-    TreeStep('outside', 'taken', take_out_outside),
-    TreeStep('counts', 'taken', take_out_counts),
-    TreeStep('devices', 'taken', take_out_devices),
-    TreeStep('coordinates', 'taken', take_out_coordinates),
-    TreeStep('whole-numbers', 'chosen', write_whole_numbers),
-    TreeStep('stray-ids', 'taken', take_out_stray_ids),
-    TreeStep('vendor-identifiers', 'chosen', take_vendor_identifiers),
-    TreeStep('vendor-texts', 'chosen', rename_vendor_members),
-    TreeStep('repeated', 'chosen', take_out_repeated),
-    TreeStep('gone-candidates', 'seen', take_out_gone_candidates),
-    TreeStep('unused-styles', 'seen', take_out_unused_styles),
-    TreeStep('unused-persons', 'taken', take_out_unused_persons),
-    TreeStep('empty-lists', 'taken', take_out_empty_lists),
-    TreeStep('empty-texts', 'taken', take_out_empty_texts),
-    TreeStep('names', 'chosen', name_objects),
-    TreeStep('county-codes', 'chosen', put_counties_in_front),
-    TreeStep('shared-codes', 'chosen', take_out_shared_codes),
-    TreeStep('codes', 'chosen', tell_codes_apart),
-    TreeStep('write-in-lines', 'chosen', number_write_ins),
-    TreeStep('party-lines', 'chosen', name_party_lines),
+    TreeStep('nulls', 'removed', take_out_nulls),
+    TreeStep('kinds', 'filled-in', write_kinds),
+    TreeStep('class-names', 'filled-in', write_class_names),
+    TreeStep('twin-ids', 'filled-in', tell_ids_apart),
+    TreeStep('outside', 'removed', take_out_outside),
+    TreeStep('counts', 'removed', take_out_counts),
+    TreeStep('devices', 'removed', take_out_devices),
+    TreeStep('coordinates', 'removed', take_out_coordinates),
+    TreeStep('whole-numbers', 'filled-in', write_whole_numbers),
+    TreeStep('stray-ids', 'removed', take_out_stray_ids),
+    TreeStep('vendor-identifiers', 'filled-in', take_vendor_identifiers),
+    TreeStep('vendor-texts', 'filled-in', rename_vendor_members),
+    TreeStep('repeated', 'filled-in', take_out_repeated),
+    TreeStep('gone-candidates', 'visible', take_out_gone_candidates),
+    TreeStep('unused-styles', 'visible', take_out_unused_styles),
+    TreeStep('unused-persons', 'removed', take_out_unused_persons),
+    TreeStep('empty-lists', 'removed', take_out_empty_lists),
+    TreeStep('empty-texts', 'removed', take_out_empty_texts),
+    TreeStep('names', 'filled-in', name_objects),
+    TreeStep('county-codes', 'filled-in', put_counties_in_front),
+    TreeStep('shared-codes', 'filled-in', take_out_shared_codes),
+    TreeStep('codes', 'filled-in', tell_codes_apart),
+    TreeStep('write-in-lines', 'filled-in', number_write_ins),
+    TreeStep('party-lines', 'filled-in', name_party_lines),
 ]
 
 
 class Step(NamedTuple):
-    """A step: its name, its group (`taken`, `chosen` or `seen`) and its words."""
+    """A step: its name, its group (`removed`, `filled-in` or `visible`) and its words."""
 
     name: str
     group: str
@@ -86,15 +86,15 @@ class Step(NamedTuple):
 
 
 STEPS = [Step(name, group, *STEP_WORDS[name]) for name, group in
-         [(MARK_STEP, 'taken'), *((step.name, step.group) for step in TREE_STEPS)]]
+         [(MARK_STEP, 'removed'), *((step.name, step.group) for step in TREE_STEPS)]]
 """Every step, in the order in which they are done."""
 
 
 class Done(NamedTuple):
-    """What a step did, or would do at its turn if it is not chosen."""
+    """What a step did, or would do at its turn if it is not done."""
 
     name: str
-    chosen: bool
+    done: bool
     made: List[Change]
     left: List[Left]
 
@@ -106,7 +106,7 @@ class Done(NamedTuple):
                           for place, before, after in self.made))
         left = _first(({'pointer': pointer_of(place), 'why': why} for place, why in self.left))
         return {
-            'step': self.name, 'chosen': self.chosen, 'count': len(self.made), 'changes': changes, 'left_count': len(self.left),
+            'step': self.name, 'done': self.done, 'count': len(self.made), 'changes': changes, 'left_count': len(self.left),
             'left': left, 'more': len(changes) < len(self.made) or len(left) < len(self.left),
         }
 
@@ -165,7 +165,7 @@ class Preparation:
 
     def prepare(self, names: Iterable[str], *, tells_others: bool = False) -> Tuple[bytes, List[Done]]:
         """Does these steps, in the fixed order, on a copy. Each step that changes or leaves something is told; with `tells_others`
-        those too that are not chosen: what they would do at their turn.
+        those too that are not done: what they would do at their turn.
 
         >>> Preparation(b'{"@type":"ElectionResults.ElectionReport","Notes":null}').prepare(['nulls'])[0]
         b'{"@type":"ElectionResults.ElectionReport"}'
@@ -182,12 +182,12 @@ class Preparation:
                 changes = _act_on(tree if is_chosen else copy_of(tree), step)
                 if changes.made or changes.left:
                     done.append(Done(step.name, is_chosen, changes.made, changes.left))
-        told = [it for it in done if it.chosen or tells_others]
+        told = [it for it in done if it.done or tells_others]
         return self._written(tree, told), told
 
     def _written(self, tree: Tree, told: List[Done]) -> bytes:
         """Returns the bytes of the tree. A file of which nothing was changed keeps its bytes."""
-        done = [it.name for it in told if it.chosen and it.made]
+        done = [it.name for it in told if it.done and it.made]
         if all(name == MARK_STEP for name in done):
             return self.data[len(MARK):] if done else self.data
         return _encoded('\ufeff' if self.has_mark and MARK_STEP not in done else '', tree, b'\n' in self.data)

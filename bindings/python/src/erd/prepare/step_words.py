@@ -5,9 +5,9 @@ from __future__ import annotations
 from typing import Dict, Tuple
 
 GROUP_WORDS = {
-    'taken': 'Removed: no ballot has it',
-    'chosen': 'Written: what a voter sees stays as it is',
-    'seen': 'Changes what a voter sees',
+    'removed': 'No ballot has it',
+    'filled-in': 'What a voter sees stays as it is',
+    'visible': 'Changes what a voter sees',
 }
 """The groups of steps."""
 
