@@ -148,7 +148,7 @@ def page(wasm):
         'style': style,
         'script': script,
         'policy': html.escape(policy(style, script), quote=False),
-        'worker': in_script(joined('worker.mjs')),
+        'worker': packed(joined('worker.mjs').encode()),
         'tables': packed(tables(texts, template).encode()),
         'wasm': packed(wasm),
         'licences': packed(licences().encode()),

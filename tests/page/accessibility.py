@@ -58,6 +58,7 @@ def run(session):
         'many files': lambda: many(session),
         'the steps that prepare a copy': lambda: steps(session),
         'a prepared copy': lambda: copied(session),
+        'a file in XML': lambda: in_xml(session),
     }
     for name, show in states.items():
         show()
@@ -74,6 +75,13 @@ def many(session):
     session.fresh()
     session.choose(0, *(EXAMPLES / name for name in ('county.vendor-a.json', 'county.vendor-b.json', 'one-unit.json')))
     session.browser.until("return document.documentElement.dataset.busy === 'no' && document.querySelector('#many-files tbody tr') !== null")
+
+
+def in_xml(session):
+    """An accepted file that was converted from XML, of which two places were not understood."""
+    odd = b'<ElectionReport xmlns="http://itl.nist.gov/ns/voting/1500-100/v2"><Status>pre-election</Status><X/><Y Z="1"/></ElectionReport>'
+    session.judged(session.file('odd.xml', odd))
+    session.browser.until("return document.querySelectorAll('.notice').length > 1")
 
 
 def steps(session):

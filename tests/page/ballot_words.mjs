@@ -44,8 +44,9 @@ const [measure, governor] = one.ballot({ key }).items;
 equal('a measure has each statement, for and against', Object.fromEntries(textsOf(measure).filter(([role]) => Object.hasOwn(STATEMENTS, role))), STATEMENTS);
 equal('its way to vote', textsOf(measure).some(([role, text]) => role === 'variation' && /super-majority|majority/i.test(text)), true);
 equal('its answers in their order', measure.selections.map(textsOf), [[['name', 'Yes']], [['name', 'No']]]);
-equal('how many votes and which way', textsOf(governor).slice(1).map(([role, text]) => [role, /^Vote for 1$|rank/i.test(text)]),
-    [['votes', true], ['variation', true]]);
+equal('a ranked choice', textsOf(governor).slice(1), [['variation', 'Ranked choice: rank the choices in the order that you prefer'], ['votes', 'Votes allowed, by the file: 1']]);
+const counted = new BallotAnswers([report((election) => { election.Contest[1].VoteVariation = 'n-of-m'; })]).ballot({ key }).items[1];
+equal('how many votes and which way', textsOf(counted).slice(1), [['votes', 'Vote for 1'], ['variation', 'Way of voting: vote for several']]);
 equal('each party of a candidate', governor.selections.map(textsOf),
     [[['name', 'Ann'], ['party', 'Blue'], ['party', 'Green']], [['name', 'Bo'], ['party', 'Green']]]);
 
@@ -62,6 +63,36 @@ equal('another order: the ballots differ', two.seen(), { all: 1, differing: 1, s
 equal('another order: one of two has moved', two.ballot({ key }).items[1].selections.filter(({ mark }) => mark === 'moved').length, 1);
 equal('the same order: the ballots are the same', new BallotAnswers([ordered, ordered]).seen(), { all: 1, differing: 0, same: 1 });
 
+// What the file says of the candidates stands below their names, and rotation where the file says so.
+function known(election, [first, second], rotation) {
+    Object.assign(election.Candidate[0], { PersonId: 'pe1', ...first });
+    Object.assign(election.Candidate[1], second);
+    Object.assign(election.Contest[1], { HasRotation: rotation });
+    election.Contest[1].ContestSelection = [typed('CandidateSelection', { '@id': 'cs1', CandidateIds: ['ca1', 'ca2'] })];
+}
+function withPerson(...change) {
+    const { report: made } = report((election) => known(election, ...change));
+    return new Meaning({ ...made, Person: [typed('Person', { '@id': 'pe1', ExternalIdentifier: identified('P1'), Profession: label(['en', 'Teacher']) })] }, null);
+}
+const both = withPerson([{}, { IsIncumbent: true }], true);
+const ticket = new BallotAnswers([both]).ballot({ key }).items[1];
+equal('rotation', textsOf(ticket).at(-1), ['rotation', 'The choices change places from ballot to ballot (rotation).']);
+equal('what is said of candidates', textsOf(ticket.selections[0]),
+    [['name', 'Ann'], ['profession', 'Teacher'], ['name', 'Bo'], ['incumbent', 'Incumbent'], ['party', 'Blue'], ['party', 'Green']]);
+const plain = withPerson([{ IsIncumbent: false }, {}], false);
+equal('flags that are not set', [...textsOf(new BallotAnswers([plain]).ballot({ key }).items[1]), ...textsOf(new BallotAnswers([plain]).ballot({ key }).items[1].selections[0])]
+    .filter(([role]) => role === 'incumbent' || role === 'rotation'), []);
+const marks = new BallotAnswers([both, withPerson([{ IsIncumbent: true }, { IsIncumbent: true }], true)]).ballot({ key }).items[1].selections[0].lines;
+equal('who else is in office in the other file', marks.map(({ role, texts }) => [role, texts.map(({ pieces }) => pieces.map(({ mark }) => mark).join()).join()])
+    .filter(([role]) => role === 'incumbent'), [['incumbent', 'added'], ['incumbent', '']]);
+
+// A title that lacks a language of other titles is marked. That is no difference by itself.
+const titled = (...titles) => report((election) => titles.forEach((title, at) => { election.Contest[at].BallotTitle = title; }));
+const lackingIn = (meaning) => new BallotAnswers([meaning]).ballot({ key }).items.map(({ lacking }) => lacking);
+equal('titles that lack a language', lackingIn(titled(label(['en', 'Measure A'], ['es', 'Medida A']), label(['en', 'Governor']))), [[], ['es']]);
+equal('a title in no language', lackingIn(titled(label(['en', 'Measure A']), 'Governor')), [[], ['']]);
+equal('titles in no language alone', lackingIn(titled('Measure A', 'Governor')), [[], []]);
+
 // What one file lacks of all that, the other one shows as gone.
 const LACKING = [['ConStatement', 0, 'ConStatement'], ['ProStatement', 0, 'ProStatement'], ['VoteVariation', 1, 'variation'], ['VotesAllowed', 1, 'votes']];
 for (const [name, at, role] of LACKING) {
@@ -73,14 +104,15 @@ for (const [name, at, role] of LACKING) {
 
 // A difference that the ballots show is not told as left out, and each other one that a voter may see is.
 const ON_BALLOTS = {
-    contest: ['Name', 'BallotTitle', 'BallotSubTitle', 'VotesAllowed', 'VoteVariation', 'ContestSelection', 'ProStatement', 'ConStatement', 'FullText'],
-    candidate: ['BallotName', 'PartyId'], party: ['Name'], header: ['Name'], style: ['OrderedContent', 'PartyIds'], election: ['Name', 'StartDate'],
+    contest: ['Name', 'BallotTitle', 'BallotSubTitle', 'VotesAllowed', 'VoteVariation', 'ContestSelection', 'HasRotation', 'ProStatement', 'ConStatement', 'FullText'],
+    candidate: ['BallotName', 'PartyId', 'IsIncumbent'], person: ['Profession'], party: ['Name'], header: ['Name'], style: ['OrderedContent', 'PartyIds'], election: ['Name', 'StartDate'],
 };
 const NOT_ON_BALLOTS = { contest: ['NumberElected', 'OfficeIds'], candidate: ['CampaignSlogan'], person: ['FullName'], office: ['Name'], party: ['Color'] };
-const leftOut = (part, member, word, isShown) => leftOutOf([{ part, how: 'member', member, word, isCaused: false }], isShown).length;
+const leftOut = (part, member, word, isShown, isHidden = false) => leftOutOf([{ part, how: 'member', member, word, isCaused: false, isHidden }], isShown).length;
 for (const [table, told] of [[ON_BALLOTS, 0], [NOT_ON_BALLOTS, 1]]) {
     for (const [part, member] of Object.entries(table).flatMap(([name, members]) => members.map((one) => [name, one]))) {
         equal(`left out of ballots that differ: ${part} ${member}`, [leftOut(part, member, 'seen', true), leftOut(part, member, 'in doubt', true)], [told, told]);
+        equal(`left out of an object that no ballot shows: ${part} ${member}`, leftOut(part, member, 'seen', true, true), 1);
         equal(`left out of ballots that are the same: ${part} ${member}`, [leftOut(part, member, 'seen', false), leftOut(part, member, 'unseen', false)], [1, 0]);
     }
 }

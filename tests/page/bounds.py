@@ -21,19 +21,30 @@ def run(session):
     printed(session)
 
 
-class Memory:
-    """The most memory that the processes of pages take, from now on."""
+class Cost:
+    """The most memory that the processes of pages take from now on, and how long they work: a busy machine lets them wait longer."""
 
     def __init__(self, session):
         self.files = [path for path in map(pathlib.Path, tree_of(session.browser.process.pid)) if is_page(path)]
         for path in self.files:
             (path / 'clear_refs').write_text('5')
         self.before = [kilobytes(path, 'VmRSS') for path in self.files]
+        self.begin = [seconds_of(path) for path in self.files]
 
     def growth(self):
         """How many megabytes the greatest of them has grown at most."""
         there = [(path, before) for path, before in zip(self.files, self.before) if path.exists()]
         return max(kilobytes(path, 'VmHWM') - before for path, before in there) // 1000
+
+    def seconds(self):
+        """How many seconds of a processor they have worked together."""
+        there = [(path, begin) for path, begin in zip(self.files, self.begin) if path.exists()]
+        return round(sum(seconds_of(path) - begin for path, begin in there), 1)
+
+
+def seconds_of(path):
+    ticks = (path / 'stat').read_text().rpartition(') ')[2].split()[11:13]
+    return sum(map(int, ticks)) / os.sysconf('SC_CLK_TCK')
 
 
 def kilobytes(path, name):
@@ -51,16 +62,17 @@ def tree_of(pid):
     return [f'/proc/{pid}', *(path for child in below for path in tree_of(child))]
 
 
-def bounded(session, name, act):
+def bounded(session, name, act, most_seconds=MOST_SECONDS):
     """One case: what is done takes at most so many seconds and megabytes. A busy machine may need several tries."""
     tries = []
-    while len(tries) < TRIES and (not tries or tries[-1][0] > MOST_SECONDS or tries[-1][1] > MOST_MEGABYTES):
+    while len(tries) < TRIES and (not tries or tries[-1][0] > most_seconds or tries[-1][1] > MOST_MEGABYTES):
         session.fresh()
-        memory = Memory(session)
+        cost = Cost(session)
         begin = time.monotonic()
         act()
-        tries.append((round(time.monotonic() - begin, 1), memory.growth()))
-    session.said(f'bounds: {name}', '' if tries[-1][0] <= MOST_SECONDS and tries[-1][1] <= MOST_MEGABYTES else f'seconds and megabytes: {tries}')
+        tries.append((min(round(time.monotonic() - begin, 1), cost.seconds()), cost.growth()))
+    print(f'        {session.browser.name}: {name}: seconds and megabytes {tries}', flush=True)
+    session.said(f'bounds: {name}', '' if tries[-1][0] <= most_seconds and tries[-1][1] <= MOST_MEGABYTES else f'seconds and megabytes: {tries}')
 
 
 def opened(session, *paths):
@@ -124,7 +136,25 @@ def long_name(session):
 
 
 def many_differences(session):
-    """Two files with 200,000 differences: there is a list of the first of them, and a sentence on the others."""
+    """Two files of 2.7 MB with 200,000 differences: how many there are is told soon, and then there is a list of the first of them. And two of
+    20 MB with as many: a sentence says which are not listed."""
+    pair = []
+    for value in (1, 2):
+        one = report([], [style('BS-1', [])])
+        del one['Election'][0]['BallotStyle'][0]['OrderedContent']
+        one['GpUnit'][0].update({f'c{number}': value for number in range(200_000)})
+        pair.append(written(session, f'{value}.json', one))
+
+    def until(selector):
+        session.choose(0, *pair)
+        session.browser.until('return document.querySelector(arguments[0]) !== null', selector, seconds=120)
+
+    bounded(session, '200,000 differences, until they are counted', lambda: until('#count, #all-differences'))
+    session.has('bounds: how many there are', session.text('#count, #all-differences'), '200,000')
+    bounded(session, '200,000 differences, until some are listed', lambda: until('#all-differences'), 2 * MOST_SECONDS)
+    listed = [session.text('#all-differences'), len(session.texts('.differences > li'))]
+    session.equal('bounds: the list', listed, [answers.say('difference.all', count=200_000), 50])
+
     def units(prefix):
         return [typed('ReportingUnit', id=f'{prefix}{number}', ExternalIdentifier=identified(f'{prefix}{number}'), Type='precinct') for number in range(100_000)]
     made = {prefix: report([], [style('BS-1', [])]) for prefix in 'ab'}
@@ -153,7 +183,7 @@ def printed(session):
     session.browser.script("window.print = () => { window.printed = (window.printed ?? 0) + 1; }")
     session.browser.script("[...document.querySelectorAll('#ballots .controls button')].at(-1).click()")
     session.browser.until('return window.printed === 1')
-    first = len(session.texts('.print-pages > .ballot'))
+    first = len(session.texts('.print-pages .ballot-head'))
     session.said('bounds: ballots are printed in parts', '' if 0 < first < 200 else f'{first} ballots')
     session.equal('bounds: the next ones', session.text('#ballots .controls p:last-child button'), answers.say('ballots.printNext', next=first + 1, all=200))
     session.browser.script("dispatchEvent(new Event('afterprint'))")

@@ -175,7 +175,6 @@ def refused_texts(session):
         'byte order mark': (b'\xef\xbb\xbf' + whole, 'The file begins with a byte order mark'),
         'UTF-16': (whole.decode().encode('utf-16'), 'The file is encoded as UTF-16.'),
         'Windows-1252': (whole.replace(b'Governor', b'Gouverneur d\xe9l\xe9gu\xe9'), 'The file has a byte that is not UTF-8.'),
-        'the XML form': (b'<?xml version="1.0"?><ElectionReport/>', 'This is the XML form of the standard'),
         'a web page': (b'<!DOCTYPE html><title>x</title>', 'This is a web page.'),
         'XML': (b'<?xml version="1.0"?><x/>', 'This is XML'),
         'a picture': (b'\x89PNG\r\n\x1a\n', 'This is a picture.'),

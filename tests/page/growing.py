@@ -18,6 +18,7 @@ def units(name):
 
 def run(session):
     clicked_twice(session)
+    kinds(session)
     cancelled(session)
     told(session)
 
@@ -38,6 +39,23 @@ def clicked_twice(session):
     session.equal('growing: all are shown, each once', [len(shown), len(set(shown))], [COUNT, COUNT])
     session.equal('growing: the count', session.text('.shown-count'), answers.say('difference.shown', shown=COUNT, all=COUNT))
     session.equal('growing: nothing is wrong', session.texts('.trouble'), [])
+
+
+def kinds(session):
+    """A long list of several kinds stands in groups with their counts. Each is made when it is opened, and all entries are counted."""
+    left, right = units('Ward'), units('Precinct')
+    for number, (one, other) in enumerate(zip(left['GpUnit'][1:], right['GpUnit'][1:])):
+        one['Number'], other['Number'] = f'a{number}', f'b{number}'
+    right['GpUnit'] += [typed('ReportingUnit', id=f'z-{number}', Type='precinct', ExternalIdentifier=identified(f'Z{number}')) for number in range(3)]
+    session.judged(written(session, 'left.json', left), written(session, 'right.json', right))
+    names = [f'Units: {answers.TEXTS[f"member.{name}"]} ({name})' for name in ('Name', 'Number')]
+    session.equal('growing: kinds with their counts', session.texts('.kind > summary'), [*(f'{name} {COUNT}' for name in names), 'Units in right.json only 3'])
+    session.equal('growing: none is shown yet', session.text('.shown-count'), answers.say('difference.shown', shown=0, all=2 * COUNT + 3))
+    session.browser.script("[...document.querySelectorAll('.kind')].slice(1).forEach((one) => { one.open = true; })")
+    counted = lambda: [len(session.texts(f'.kind:nth-of-type({at}) .differences > li')) for at in (1, 2, 3)]  # noqa: E731
+    session.becomes('growing: those that are opened', counted, [0, 50, 3])
+    session.equal('growing: of one kind alone', [text for text in session.texts('.kind:nth-of-type(2) summary')[1:] if '(Number)' not in text], [])
+    session.equal('growing: these are counted', session.text('.shown-count'), answers.say('difference.shown', shown=53, all=2 * COUNT + 3))
 
 
 def cancelled(session):

@@ -21,7 +21,13 @@ parts=("$@")
 [ "${1:-}" != --pictures ] || parts=()
 [ "${1:-}" != --views ] || parts=(views)
 mkdir "$work/others"
-sed 's/^const MOST_WITH_VALUES = .*;$/const MOST_WITH_VALUES = 1;/' "$page" > "$work/others/short.html"
+python3 -c "
+import re, sys
+sys.path.insert(0, 'web')
+import build
+joined = build.joined
+build.joined = lambda first: re.sub('const MOST_WITH_VALUES = .*;', 'const MOST_WITH_VALUES = 1;', joined(first))
+build.main(sys.argv[1:])" "$wasm" "$work/others/short.html"
 said 'the page that shows no values' "$(! cmp -s "$page" "$work/others/short.html" || echo 'it is the same page')"
 if command -v node > /dev/null; then
     if [ ${#parts[@]} -eq 0 ]; then

@@ -10,8 +10,9 @@ import { boundedPointer, boundedText } from '../../web/scripts/bounded.mjs';
 import { Client } from '../../web/scripts/client.mjs';
 import { markIn, withMark, withoutMark } from '../../web/scripts/copy_mark.mjs';
 import { whyNotJson } from '../../web/scripts/diagnosis.mjs';
-import { envelopeIn } from '../../web/scripts/envelope.mjs';
+import { headIn } from '../../web/scripts/envelope.mjs';
 import { readTree } from '../../bindings/js/lib/prepare/tree.mjs';
+import { columnsOf } from '../../web/scripts/columns.mjs';
 import { compactText, readExactly } from '../../bindings/js/lib/exact.mjs';
 import { kindsOf } from '../../web/scripts/fault_kinds.mjs';
 import { firstLanguage } from '../../web/scripts/languages.mjs';
@@ -41,7 +42,7 @@ const NOT_JSON = {
     'a comma before a bracket': ['[1,]', 'commaBeforeEnd', 3], 'a comma before a brace': ['{"a":1,}', 'commaBeforeEnd', 7],
     'half a pair': ['"\\ud800"', 'halfSurrogate', 1], 'a zero in front': ['[01]', 'badNumber', 2], 'no colon': ['{"a" 1}', 'colonExpected', 5],
     'a name without quotes': ['{a:1}', 'nameExpected', 1], 'two values': ['1 2', 'moreAfterEnd', 2], 'an early end': ['[1', 'endsEarly', 2],
-    'the XML form': ['<?xml version="1.0"?>\n<er:ElectionReport>', 'xmlForm', null], 'UTF-16': [new Uint8Array([0xff, 0xfe, 0x7b, 0]), 'utf16', null],
+    'the XML form': ['<?xml version="1.0"?>\n<er:ElectionReport>', 'markup', null], 'UTF-16': [new Uint8Array([0xff, 0xfe, 0x7b, 0]), 'utf16', null],
     'UTF-16, high byte first': [new Uint8Array([0xfe, 0xff, 0, 0x7b]), 'utf16', null], 'Windows-1252': [latin, 'notUtf8', 70_001],
     'a character that is cut between two blocks': [split, 'notUtf8', 65_534],
     'an end within a character': [new Uint8Array([0x22, 0xe2, 0x82]), 'notUtf8', 1],
@@ -70,9 +71,9 @@ equal('an identifier on a trail', titleAt(named, ['Unit', 0, 'ExternalIdentifier
 const envelope = { Format: 'precinct-contest', GeneratedDate: '2026-09-14T08:30:00-06:00', Issuer: 'An "office"', IssuerAbbreviation: 'AO',
     VendorApplicationId: 'V 1', Notes: 'One\nTwo', SequenceStart: 1, SequenceEnd: 18446744073709551615n,
     ExternalIdentifier: [{ Type: 'other', OtherType: 'job', Value: '7' }, { Type: 'fips', Value: '9' }] };
-equal('the envelope', envelopeIn(bytesOf(compactText({ Election: [], ...envelope }))),
+equal('the envelope', headIn(bytesOf(compactText({ Election: [], ...envelope }))).envelope,
     { ...envelope, SequenceStart: '1', SequenceEnd: '18446744073709551615', ExternalIdentifier: 'other job 7\nfips 9' });
-equal('no envelope', envelopeIn(bytesOf('{"Election":[]}')), {});
+equal('no envelope', headIn(bytesOf('{"Election":[]}')), { envelope: {}, isTest: false, elections: [] });
 
 const faults = [{ place: ['a', 'OtherCounts'], reason: 5 }, { place: ['b', 'VoteCounts'], reason: 5 }, { place: ['c', 'VoteCounts'], reason: 5 }];
 equal('the member that occurs most is first', kindsOf(faults).map(({ names }) => names), [[['VoteCounts', 2], ['OtherCounts', 1]]]);
@@ -259,8 +260,11 @@ equal('a text that fits', boundedText(tree, 1000), `{"a":[1,{"b":"${'x'.repeat(5
 equal('a text that is cut', boundedText(tree, 12), '{"a":[1,{"b"…');
 equal('a pointer that is cut', [boundedPointer(['a/b', 0], 10), boundedPointer(['x'.repeat(30), 'y'], 10)], ['/a~1b/0', `/${'x'.repeat(9)}…`]);
 
-const copied = withMark(bytesOf('{\n "a": 1\n}'), { name: 'a "b".json', original: '0'.repeat(64), steps: [{ name: 'nulls', count: 3 }] });
-equal('the mark of a copy', markIn(JSON.parse(new TextDecoder().decode(copied)).Notes), { name: 'a "b".json', original: '0'.repeat(64), steps: [{ name: 'nulls', count: 3 }] });
+const copied = withMark(bytesOf('{\n "a": 1\n}'), { name: 'a "b".json', original: '0'.repeat(64), converted: null, steps: [{ name: 'nulls', count: 3 }] });
+equal('the mark of a copy', markIn(JSON.parse(new TextDecoder().decode(copied)).Notes),
+    { name: 'a "b".json', original: '0'.repeat(64), converted: false, steps: [{ name: 'nulls', count: 3 }] });
+const ofXml = { name: 'a", converted from XML (SHA-256 ".xml', original: '1'.repeat(64), converted: true, steps: [{ name: 'nulls', count: 3 }] };
+equal('the mark of a copy of XML', markIn(JSON.parse(new TextDecoder().decode(withMark(bytesOf('{}'), ofXml))).Notes), ofXml);
 equal('notes without the mark', [withoutMark(`x\n${JSON.parse(new TextDecoder().decode(copied)).Notes}`), withoutMark('y'), markIn('Prepared by hand')], ['x', 'y', null]);
 
 // ---- the words of the page
@@ -271,4 +275,17 @@ const SPANISH = JSON.parse(readFileSync(new URL('web/texts.es.json', ROOT)));
 equal('one word for the standard in Spanish', Object.keys(SPANISH).filter((key) => /estándar/i.test(JSON.stringify(SPANISH[key]))), []);
 equal('articles in Spanish', Object.keys(SPANISH).filter((key) => /^(member|subject)\./.test(key) && !/^(el|la|los|las) /i.test(SPANISH[key])), []);
 
+// ---- the columns of printed ballots: where each begins, of pieces as [height, item, whether it keeps the next one]
+
+const COLUMNS = {
+    'one piece after another': [[[40, 0], [40, 1], [40, 2], [40, 3], [40, 4]], [0, 2, 4]],
+    'a header goes with what follows': [[[80, 0], [10, 1, true], [30, 2]], [0, 1]],
+    'a short item stays whole': [[[50, 0], [20, 1], [20, 1], [20, 1]], [0, 1]],
+    'a long item is broken': [[[50, 0], ...Array.from({ length: 10 }, () => [20, 1])], [0, 3, 8]],
+    'what keeps together and is higher than a column': [[[60, 0, true], [60, 0, true], [60, 0]], [0, 1, 2]],
+    'nothing': [[], []],
+};
+for (const [name, [pieces, starts]] of Object.entries(COLUMNS)) {
+    equal(`columns: ${name}`, columnsOf(pieces.map(([height, item, keeps = false]) => ({ height, item, keeps })), 100), starts);
+}
 counts();

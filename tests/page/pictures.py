@@ -1,24 +1,22 @@
 """The pictures of the page for docs/: what a visitor sees first of each answer. They have no date in them."""
 
-# The name of each picture, the example, what stands at its top, its height, and whether it is dark.
+# The name of each picture, the example, what stands at its top, and its height.
 PICTURES = (
-    ('page-same', 0, 'h1', 800, False),
-    ('page-difference', 1, '[data-part="verdict"]', 1000, False),
-    ('page-faults', 2, '#result', 900, False),
-    ('page-dark', 1, '[data-part="verdict"]', 900, True),
-    ('page-ballots', 1, '.ballot > :nth-child(4)', 1000, False),
+    ('page-same', 0, 'h1', 800),
+    ('page-difference', 1, '[data-part="verdict"]', 1000),
+    ('page-faults', 2, '#result', 900),
+    ('page-ballots', 1, '.ballot > :nth-child(4)', 1000),
 )
 
 
 
 def run(session, folder):
-    for name, example, top, height, dark in PICTURES:
+    for name, example, top, height in PICTURES:
         session.fresh()
         session.browser.script("document.querySelectorAll('#examples button')[arguments[0]].click()", example)
         session.verdict()
         if name == 'page-ballots':
             ballot(session)
-        session.browser.scheme(dark)
         session.browser.resize(1000, height)
         session.browser.script('scrollTo(0, document.querySelector(arguments[0]).getBoundingClientRect().top + scrollY - 20)', top)
         picture = session.browser.picture()

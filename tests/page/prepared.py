@@ -86,12 +86,12 @@ def accepted(session, name, data):
     """One export."""
     path = session.file(name, data)
     clicks = begun(session, path)
-    chosen = steps_of('taken', 'chosen') + TICKED.get(name, [])
+    chosen = steps_of('removed', 'filled-in') + TICKED.get(name, [])
     prepared, done = Preparation(data).prepare(chosen)
     for step in TICKED.get(name, []):
         clicks.step(f'#step-0-{step}')
     session.becomes(f'{name}: the steps that are ticked', lambda: sorted(ticked(session)), sorted(it.name for it in done))
-    session.equal(f'{name}: no step that a voter sees is ticked by itself', [step for step in ticked(session) if step in steps_of('seen')],
+    session.equal(f'{name}: no step that a voter sees is ticked by itself', [step for step in ticked(session) if step in steps_of('visible')],
                   TICKED.get(name, []))
     previewed(session, name, done)
     prepared = marked(prepared, name, data, done)
@@ -138,7 +138,7 @@ def unticked(session):
     clicks = begun(session, path)
     clicks.step('#step-0-names')
     session.becomes('the focus stays', lambda: session.browser.script('return document.activeElement.id'), 'step-0-names')
-    names = [step for step in steps_of('taken', 'chosen') if step != 'names']
+    names = [step for step in steps_of('removed', 'filled-in') if step != 'names']
     clicks.on('#prepare-check-0')
     session.becomes('a copy without identifiers', session.verdict, 'Refused: 57 faults')
     prepared, done = Preparation(path.read_bytes()).prepare(names)

@@ -29,15 +29,20 @@ import notices
 import overview
 import pictures
 import prepared
+import printed
 import record
 import results
 import spanish
+import top
 import views
 import voter
+import xml_agree
+import xml_form
 from session import Session, report_of_units
 
 KINDS = {kind.name: kind for kind in (browsers.Chromium, browsers.Firefox)}
-PARTS = (flows, results, notices, lines, growing, voter, overview, ballots, record, filed, prepared, many, named, spanish, keyboard, hostile, bounds, large, network, accessibility)
+PARTS = (flows, top, results, notices, lines, growing, voter, overview, ballots, printed, record, filed, prepared, many, named, spanish, keyboard, hostile,
+         bounds, large, xml_form, xml_agree, network, accessibility)
 # The pictures for a person to look at are made where they are asked for by name.
 DEFAULT = [part.__name__ for part in PARTS]
 # A browser is west of Greenwich, and the other one is east of it.

@@ -3,6 +3,7 @@ import { orderOfKeys } from '../../bindings/js/lib/order.mjs';
 import { mergedItem, mergedLines } from './ballot_changes.mjs';
 import { Ballots } from './ballots.mjs';
 import { orderedChanges } from './order_changes.mjs';
+import { hasWords } from './search.mjs';
 
 const LANGUAGE_STRING = 'ElectionResults.LanguageString';
 
@@ -48,7 +49,7 @@ export class BallotAnswers {
         this.keptWords ??= new Map();
         if (!this.keptWords.has(key)) {
             const further = this.sides.flatMap((side) => side.wordsOf(key));
-            this.keptWords.set(key, [...new Set([code, ...units, ...parties, ...further])].join('\n').toLowerCase());
+            this.keptWords.set(key, [...new Set([code, ...units, ...parties, ...further])]);
         }
         return this.keptWords.get(key);
     }
@@ -165,10 +166,6 @@ function onlyOnes(entries, textOf) {
     const found = new Map();
     entries.forEach((entry) => found.set(textOf(entry), found.has(textOf(entry)) ? null : entry));
     return new Map([...found].filter(([, entry]) => entry !== null));
-}
-
-function hasWords(text, words) {
-    return words.toLowerCase().split(/\s+/).every((word) => text.includes(word));
 }
 
 function languagesIn(value) {

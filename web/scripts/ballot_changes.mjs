@@ -17,7 +17,7 @@ export function mergedItem({ left, right, mark, from, to, renamed }) {
     const other = right ?? left;
     const selections = other.selections === undefined ? {}
         : { selections: mergedSelections(one, other), unlisted: other.unlisted, ordered: one.unlisted === other.unlisted };
-    return { kind: other.kind, depth: other.depth, mark, from, to, renamed, lines: mergedLines(one.lines, other.lines), ...selections };
+    return { kind: other.kind, depth: other.depth, mark, from, to, renamed, lines: mergedLines(one.lines, other.lines), lacking: other.lacking, ...selections };
 }
 
 // Selections in no order don't move.
@@ -48,11 +48,14 @@ function linesOfBoth(left, right) {
     });
 }
 
+// What is said of a candidate belongs to the name before it.
+const OF_NAME = new Set(['profession', 'incumbent']);
+
 function byRole(lines) {
     const counts = {};
     return new Map(lines.map((line) => {
         counts[line.role] = (counts[line.role] ?? 0) + 1;
-        return [`${line.role} ${counts[line.role]}`, line];
+        return [`${line.role} ${OF_NAME.has(line.role) ? counts.name : counts[line.role]}`, line];
     }));
 }
 

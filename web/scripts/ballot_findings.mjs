@@ -1,5 +1,7 @@
 // What differs on the ballots of two files, each thing once with the ballots on which it is: a contest, a choice, or words.
 import { mergedItem, isUnchangedLine } from './ballot_changes.mjs';
+import { hasWords } from './search.mjs';
+import { endOf, shortened } from './visible.mjs';
 
 /** The most lines of ballots that are compared, and the most ballots of one thing that are named. */
 const MOST_COMPARED = 400_000;
@@ -35,7 +37,7 @@ export class BallotFindings {
 
     /** Some of the things that have these words, and how many have them. */
     some({ words, from, count }) {
-        const fitting = this.entries.filter((entry) => hasWords(entry, words));
+        const fitting = this.entries.filter((entry) => hasWords(wordsOf(entry), words));
         return { count: fitting.length, entries: fitting.slice(from, from + count).map((entry) => ({ ...entry, all: this.all })) };
     }
 
@@ -128,22 +130,17 @@ function passagesOf(texts) {
     const marks = pieces.map(({ mark }) => mark !== '');
     const [first, last] = [marks.indexOf(true), marks.lastIndexOf(true)];
     const before = first === 0 ? '' : ending(pieces[first - 1].text);
-    const after = last === pieces.length - 1 ? '' : beginning(pieces[last + 1].text, AROUND);
+    const after = last === pieces.length - 1 ? '' : shortened(pieces[last + 1].text, AROUND);
     return ['added', 'removed'].map((other) => {
         const own = pieces.slice(first, last + 1).filter(({ mark }) => mark !== other).map(({ text }) => text).join('');
-        return own === '' ? '' : before + beginning(own, LONGEST) + after;
+        return own === '' ? '' : before + shortened(own, LONGEST) + after;
     });
 }
 
-function beginning(text, most) {
-    return text.length <= most ? text : `${text.slice(0, most)}…`;
-}
-
 function ending(text) {
-    return text.length <= AROUND ? text : `…${text.slice(-AROUND)}`;
+    return text.length <= AROUND ? text : `…${endOf(text, AROUND)}`;
 }
 
-function hasWords({ subject, choice = '', left = '', right = '', styles }, words) {
-    const text = [subject, choice, left, right, ...styles.flatMap(({ code, units }) => [code, ...units])].join('\n').toLowerCase();
-    return words.toLowerCase().split(/\s+/).every((word) => text.includes(word));
+function wordsOf({ subject, choice = '', left = '', right = '', styles }) {
+    return [subject, choice, left, right, ...styles.flatMap(({ code, units }) => [code, ...units])];
 }

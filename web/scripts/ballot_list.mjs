@@ -1,28 +1,28 @@
 // The section of ballots: a list of ballot styles that can be narrowed by a precinct, each built when it is opened.
 import { attempted } from './attempts.mjs';
-import { ballotShown, itemsShown } from './ballot_view.mjs';
+import { BallotPrint, MOST_SAME, MOST_STYLES } from './ballot_print.mjs';
+import { ballotShown, itemsShown, spoken } from './ballot_view.mjs';
 import { button, element, theirs } from './dom.mjs';
 import { GrowingList } from './growing.mjs';
+import { filterField, folded } from './on_request.mjs';
 import { languageText, orderForReader, say } from './texts.mjs';
-import { beginningOf } from './visible.mjs';
+import { shortened } from './visible.mjs';
 
 const AT_ONCE = 50;
 const MOST_NAMES = 12;
-const MOST_PRINTED = 2000;
-const PARTS_PRINTED = 10;
-const MOST_NODES = 60_000;
 const LONGEST_NAMES = 400;
 
 /** All that is known and asked for the ballots of one file or two. */
 export class BallotList {
     /**
      * @param {import('./client.mjs').Client} client
-     * @param {{files: number, tell: (progress: object) => void}} known
+     * @param {{names: string[], sums: {sha256: string}[], version: string, tell: (progress: object) => void}} known
      */
-    constructor(client, { files, tell }) {
+    constructor(client, known) {
         this.client = client;
-        this.isPair = files === 2;
-        this.tell = tell;
+        this.isPair = known.names.length === 2;
+        this.known = known;
+        this.tell = known.tell;
         this.holder = element('div', {});
         this.lang = '';
     }
@@ -36,6 +36,7 @@ export class BallotList {
 
     async begin() {
         this.languages = await this.client.ask('languages', {}, this.tell);
+        this.printer = new BallotPrint({ ...this.known, isPair: this.isPair, languages: this.languages, part: (key, next) => this.part(key, next) });
         this.lists = element('div', {});
         this.holder.append(element('p', { class: 'note' }, say('ballots.note'), ' ', this.isPair ? say('ballots.noteTwo') : ''),
             this.controls(), this.lists);
@@ -43,29 +44,25 @@ export class BallotList {
     }
 
     controls() {
-        const filter = element('input', { type: 'search', id: 'ballot-filter', autocomplete: 'off' });
-        filter.addEventListener('input', () => this.narrowed(filter.value));
         const named = this.languages.map((lang) => [lang, theirs(languageText(lang)).textContent]).sort(([, one], [, other]) => orderForReader(one, other));
         const options = [['', say('ballots.allLanguages')], ...named].map(([lang, name]) => element('option', { value: lang }, name));
         const language = element('select', { id: 'ballot-language' }, ...options);
         language.addEventListener('change', () => this.speak(language.value));
         return element('div', { class: 'controls screen' },
-            element('p', {}, element('label', { for: 'ballot-filter' }, say('ballots.filter')), ' ', filter),
+            filterField('ballot-filter', say('ballots.filter'), this.lists, (words) => this.fill(words)),
             this.languages.length < 2 ? null : element('p', {}, element('label', { for: 'ballot-language' }, say('ballots.language')), ' ', language),
             this.printControl());
     }
 
     printControl() {
         const holder = element('p', {});
-        const all = button(say('ballots.printAll'), () => attempted(holder, () => this.printAll(all)));
+        const all = button(this.printLabel(), () => attempted(holder, () => this.printAll(all)));
         holder.append(all);
         return holder;
     }
 
-    // Waits until a reader has stopped typing.
-    narrowed(words) {
-        clearTimeout(this.waiting);
-        this.waiting = setTimeout(() => attempted(this.lists, () => this.fill(words)), 200);
+    printLabel() {
+        return say(this.isPair ? 'ballots.printDiffering' : 'ballots.printAll');
     }
 
     async fill(words = '') {
@@ -98,35 +95,30 @@ export class BallotList {
     }
 
     // A ballot style: what it is called, and the ballot when it is opened.
-    entry({ key, code, units, parties, mark }) {
+    entry(style) {
+        const { key, code, units, parties, mark } = style;
         const names = units.length > MOST_NAMES ? [...units.slice(0, MOST_NAMES), '…'] : units;
-        const summary = element('summary', {}, element('strong', {}, cut(code)), ' ', cut(names.join(', ')),
+        const summary = [element('strong', {}, cut(code)), ' ', cut(names.join(', ')),
             parties.length === 0 ? null : element('span', {}, ' (', cut(parties.join(', ')), ')'),
-            this.isPair ? element('span', { class: `badge ${mark}`.trim() }, say(`ballots.mark.${mark}`)) : null);
-        const holder = element('div', {});
-        const details = element('details', { class: 'style', 'data-key': key }, summary, holder);
-        details.addEventListener('toggle', () => attempted(holder, () => this.build(key, holder)), { once: true });
-        return element('li', {}, details);
+            this.isPair ? element('span', { class: `badge ${mark}`.trim() }, say(`ballots.mark.${mark}`)) : null];
+        return element('li', {}, folded({ class: 'style', 'data-key': key }, summary, () => this.build(style)));
     }
 
-    async build(key, holder) {
-        const ballot = await this.ballot(key, 1);
-        const print = button(say('ballots.printOne'), async () => this.print([await this.ballot(key, PARTS_PRINTED)]), { class: 'small screen' });
-        holder.replaceChildren(ballot, element('p', { class: 'screen' }, print));
+    async build(style) {
+        const ballot = await this.ballot(style.key);
+        const tried = element('p', { class: 'screen' });
+        tried.append(button(say('ballots.printOne'), () => attempted(tried, () => this.printer.print([style], this.lang, null)), { class: 'small' }));
+        return [ballot, tried];
     }
 
-    // A ballot, with so many of its parts at most. What is left can be shown.
-    async ballot(key, parts) {
-        let part = await this.part(key, null);
+    // The first part of a ballot. What is left can be shown.
+    async ballot(key) {
+        const part = await this.part(key, null);
         const ballot = ballotShown(part);
-        for (let shown = 1; part.next !== null && shown < parts; shown++) {
-            part = await this.part(key, part.next);
-            ballot.append(...itemsShown(part));
-        }
         if (part.next !== null) {
             ballot.append(this.rest(ballot, key, part));
         }
-        this.spoken(ballot);
+        spoken(ballot, this.lang);
         return ballot;
     }
 
@@ -139,7 +131,7 @@ export class BallotList {
         holder.append(button(say('ballots.rest'), () => attempted(holder, async () => {
             const part = await this.part(key, next);
             holder.replaceWith(...itemsShown(part), ...(part.next === null ? [] : [this.rest(ballot, key, part)]));
-            this.spoken(ballot);
+            spoken(ballot, this.lang);
         }), { class: 'small screen' }));
         return holder;
     }
@@ -147,50 +139,25 @@ export class BallotList {
     /** Shows one language alone, or all. */
     speak(lang) {
         this.lang = lang;
-        this.spoken(this.holder);
+        spoken(this.holder, lang);
     }
 
-    // Texts without a language stay.
-    spoken(node) {
-        for (const text of node.querySelectorAll('.text[data-lang]')) {
-            text.hidden = this.lang !== '' && text.dataset.lang !== '' && text.dataset.lang !== this.lang;
-        }
-    }
-
-    // Prints the ballots that the list has, those that are not shown yet too: as many at a time as a browser can take.
+    // Prints the ballots that the list has, those that are not shown yet too: as many at a time as a browser can take. Of two files those are
+    // printed that differ, and the others are named behind the last one.
     async printAll(all) {
-        const words = this.words;
+        const { words } = this;
+        const group = this.isPair ? 'differing' : 'all';
         const begin = this.printed?.words === words ? this.printed.next : 0;
-        const { entries, counts } = await this.styles('all', begin, MOST_PRINTED);
-        const ballots = [];
-        let nodes = 0;
-        for (const { key } of entries) {
-            ballots.push(await this.ballot(key, PARTS_PRINTED));
-            nodes += ballots.at(-1).querySelectorAll('*').length;
-            if (nodes > MOST_NODES) {
-                break;
-            }
-        }
-        const next = begin + ballots.length;
-        this.printed = { words, next: next < counts.all ? next : 0 };
-        all.textContent = next < counts.all ? say('ballots.printNext', { next: next + 1, all: counts.all }) : say('ballots.printAll');
-        this.print(ballots);
-    }
-
-    print(ballots) {
-        const pages = element('div', { class: 'print-pages' }, ...ballots);
-        document.body.append(pages);
-        document.documentElement.dataset.print = 'ballots';
-        const over = () => {
-            pages.remove();
-            delete document.documentElement.dataset.print;
-        };
-        addEventListener('afterprint', over, { once: true });
-        print();
+        const { entries, counts } = await this.styles(group, begin, MOST_STYLES);
+        const isLast = begin + entries.length === counts[group];
+        const same = this.isPair && isLast ? { entries: (await this.styles('same', 0, MOST_SAME)).entries, count: counts.same } : null;
+        const next = begin + await this.printer.print(entries, this.lang, same);
+        this.printed = { words, next: next < counts[group] ? next : 0 };
+        all.textContent = next < counts[group] ? say('ballots.printNext', { next: next + 1, all: counts[group] }) : this.printLabel();
     }
 }
 
 // The beginning of a long text.
 function cut(text) {
-    return theirs(text.length > LONGEST_NAMES ? `${beginningOf(text, LONGEST_NAMES)}…` : text);
+    return theirs(shortened(text, LONGEST_NAMES));
 }

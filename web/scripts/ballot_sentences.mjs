@@ -3,6 +3,7 @@ import { attempted } from './attempts.mjs';
 import { ballotShown } from './ballot_view.mjs';
 import { button, element, long, saidWith, theirs } from './dom.mjs';
 import { GrowingList } from './growing.mjs';
+import { filterField } from './on_request.mjs';
 import { say, sayIfKnown } from './texts.mjs';
 
 const AT_ONCE = 30;
@@ -33,12 +34,7 @@ export class BallotSentences {
     }
 
     controls() {
-        const filter = element('input', { type: 'search', id: 'finding-filter', autocomplete: 'off' });
-        filter.addEventListener('input', () => {
-            clearTimeout(this.waiting);
-            this.waiting = setTimeout(() => attempted(this.lists, () => this.fill(filter.value)), 200);
-        });
-        return element('div', { class: 'controls screen' }, element('p', {}, element('label', { for: 'finding-filter' }, say('finding.filter')), ' ', filter),
+        return element('div', { class: 'controls screen' }, filterField('finding-filter', say('finding.filter'), this.lists, (words) => this.fill(words)),
             element('p', { class: 'buttons' }, button(say('finding.previous'), () => this.step(-1), { class: 'small', id: 'finding-previous' }), ' ',
                 button(say('finding.next'), () => this.step(1), { class: 'small', id: 'finding-next' })));
     }

@@ -9,12 +9,19 @@ import { textOfTriple } from './values.mjs';
  * @typedef {{lang: string, text: string}[]} Label
  * A line of what is printed. `own` marks words of the page.
  * @typedef {{role: string, label: Label, own?: boolean}} Line
- * A header, a contest or a selection. `id` is equal for the same one in two files, and `print` for the same words.
- * @typedef {{kind: string, id: string, print: string, depth: number, lines: Line[], selections?: Item[], unlisted?: boolean}} Item
+ * A header, a contest or a selection. `id` is equal for the same one in two files, and `print` for the same words. `lacking` are the
+ * languages of other titles that the title of a contest has not; the empty one if its title is in no language.
+ * @typedef {{kind: string, id: string, print: string, depth: number, lines: Line[], selections?: Item[], unlisted?: boolean,
+ *     lacking?: string[]}} Item
  */
 
 const TITLES = ['BallotTitle', 'Name'];
-const STATEMENTS = ['SummaryText', 'FullText', 'ProStatement', 'ConStatement', 'EffectOfAbstain', 'PassageThreshold'];
+
+/** The statements on a contest. */
+export const STATEMENTS = ['SummaryText', 'FullText', 'ProStatement', 'ConStatement', 'EffectOfAbstain', 'PassageThreshold'];
+
+// The ways of voting in which a voter marks no number of lines.
+const NO_COUNT = new Set(['rcv', 'borda', 'range']);
 
 /** The ballots of one report. */
 export class Ballots {
@@ -84,10 +91,10 @@ export class Ballots {
 
     // A contest with those selections that the ballot lists. A ballot that lists none has all of them, in no order.
     contestOn({ ContestId, OrderedContestSelectionIds }, depth) {
-        const { id, print, lines, selections, all } = this.contest(ContestId);
+        const { id, print, lines, selections, all, lacking } = this.contest(ContestId);
         const unlisted = OrderedContestSelectionIds === undefined;
         const listed = unlisted ? all : OrderedContestSelectionIds.map((reference) => selections.get(reference));
-        return { kind: 'contest', id, print, depth, lines, selections: listed, unlisted };
+        return { kind: 'contest', id, print, depth, lines, selections: listed, unlisted, lacking };
     }
 
     // A contest and its selections by their names in the file. Many ballots have the same one.
@@ -96,17 +103,24 @@ export class Ballots {
             const { key, object } = this.meaning.named.get(reference);
             const selections = new Map((object.ContestSelection ?? []).map((selection) => [selection['@id'], this.selection(selection)]));
             const item = itemOf('contest', textOfKey(['contest', key]), 0, this.linesOfContest(object));
-            this.contests.set(reference, { ...item, selections, all: [...selections.values()] });
+            this.contests.set(reference, { ...item, selections, all: [...selections.values()], lacking: this.lackingIn(titleOf(object)) });
         }
         return this.contests.get(reference);
     }
 
+    // Which languages of the titles of contests a title is not in.
+    lackingIn(title) {
+        this.languages ??= [...new Set([...this.meaning.things.get('contest').values()].flatMap(({ object }) => languagesOf(titleOf(object))))].sort();
+        const own = languagesOf(title);
+        return own.length === 0 && this.languages.length > 0 ? [''] : this.languages.filter((language) => !own.includes(language));
+    }
+
     linesOfContest(contest) {
-        const title = TITLES.find((name) => Object.hasOwn(contest, name));
         return [
-            { role: 'title', label: labelOf(contest[title]) },
+            { role: 'title', label: titleOf(contest) },
             ...linesOf(contest, ['BallotSubTitle']),
             ...howToVote(contest),
+            ...(contest.HasRotation === true ? [ownLine('rotation', say('ballot.rotation'))] : []),
             ...this.retained(contest),
             ...linesOf(contest, STATEMENTS),
         ];
@@ -114,7 +128,17 @@ export class Ballots {
 
     // Who is to stay in office.
     retained({ CandidateId }) {
-        return CandidateId === undefined ? [] : [{ role: 'candidate', label: labelOf(this.meaning.named.get(CandidateId).object.BallotName) }];
+        return CandidateId === undefined ? [] : this.linesOfCandidate('candidate', this.meaning.named.get(CandidateId).object);
+    }
+
+    // The name of a candidate, and what the file says of the person.
+    linesOfCandidate(role, { BallotName, PersonId, IsIncumbent }) {
+        const person = PersonId === undefined ? {} : this.meaning.named.get(PersonId).object;
+        return [
+            { role, label: labelOf(BallotName) },
+            ...(person.Profession === undefined ? [] : [{ role: 'profession', label: labelOf(person.Profession) }]),
+            ...(IsIncumbent === true ? [ownLine('incumbent', say('ballot.incumbent'))] : []),
+        ];
     }
 
     selection(selection) {
@@ -128,7 +152,7 @@ export class Ballots {
         const candidates = topFirst((CandidateIds ?? []).map((reference) => this.meaning.named.get(reference).object));
         const parties = new Set(EndorsementPartyIds ?? candidates.map(({ PartyId }) => PartyId).filter((party) => party !== undefined));
         return [
-            ...candidates.map(({ BallotName }) => ({ role: 'name', label: labelOf(BallotName) })),
+            ...candidates.flatMap((candidate) => this.linesOfCandidate('name', candidate)),
             ...(Selection === undefined ? [] : [{ role: 'name', label: labelOf(Selection) }]),
             ...(PartyIds ?? []).map((reference) => this.party(reference, 'name')),
             ...[...parties].map((reference) => this.party(reference, 'party')),
@@ -158,11 +182,22 @@ function linesOf(object, names) {
     return names.filter((name) => Object.hasOwn(object, name)).map((name) => ({ role: name, label: labelOf(object[name]) }));
 }
 
-// How many votes a voter has, or else how votes are counted.
+function titleOf(contest) {
+    return labelOf(contest[TITLES.find((name) => Object.hasOwn(contest, name))]);
+}
+
+function languagesOf(label) {
+    return label.map(({ lang }) => lang).filter((lang) => lang !== '');
+}
+
+// How many votes a voter has, and how votes are counted. Where choices are ranked, nobody votes for so many of them.
 function howToVote({ VotesAllowed, VoteVariation, OtherVoteVariation }) {
-    const lines = VotesAllowed === undefined ? [] : [ownLine('votes', say('ballot.votes', { count: Number(VotesAllowed) }))];
+    const votes = (key) => (VotesAllowed === undefined ? [] : [ownLine('votes', say(key, { count: Number(VotesAllowed) }))]);
+    if (NO_COUNT.has(VoteVariation)) {
+        return [ownLine('variation', say(`ballot.way.${VoteVariation}`)), ...votes('ballot.votesInFile')];
+    }
     const way = OtherVoteVariation ?? VoteVariation;
-    return way === undefined ? lines : [...lines, ownLine('variation', say('ballot.way', { way: sayIfKnown(`variation.${way}`) ?? way }))];
+    return [...votes('ballot.votes'), ...(way === undefined ? [] : [ownLine('variation', say('ballot.way', { way: sayIfKnown(`variation.${way}`) ?? way }))])];
 }
 
 /** @returns {Label} */

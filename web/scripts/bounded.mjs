@@ -2,7 +2,7 @@
 // every place, are larger than any memory.
 import { pointerOf } from '../../bindings/js/lib/words.mjs';
 import { WrittenNumber } from '../../bindings/js/lib/prepare/tree.mjs';
-import { beginningOf } from './visible.mjs';
+import { beginningOf, shortened } from './visible.mjs';
 
 /** The most characters of a pointer that are made. */
 export const LONGEST_POINTER = 2000;
@@ -28,7 +28,7 @@ export function boundedPointer(place, most = LONGEST_POINTER) {
  */
 export function boundedText(value, most) {
     const text = written(value, most);
-    return text.length > most ? `${beginningOf(text, most)}…` : text;
+    return shortened(text, most);
 }
 
 // At least the first characters of the text, and hardly more.

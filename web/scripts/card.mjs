@@ -2,6 +2,8 @@
 import { attempted } from './attempts.mjs';
 import { element, saidWith, theirs } from './dom.mjs';
 import { GrowingList } from './growing.mjs';
+import { folded } from './on_request.mjs';
+import { leftOutSentence } from './seen_box.mjs';
 import { languageText, orderForReader, say, sayIfKnown } from './texts.mjs';
 
 const AT_ONCE = 100;
@@ -25,13 +27,16 @@ export async function cardOf(known) {
 }
 
 async function fill(holder, { client, tell, sums }) {
-    const { counts, precincts, unlisted } = await client.ask('overview', {}, tell);
+    const { counts, precincts, unlisted, hidden } = await client.ask('overview', {}, tell);
     const languages = await client.ask('languages', {}, tell);
     holder.append(element('dl', {}, ...sums.elections.flatMap(electionRows), ...row('card.kind', say(sums.isTest ? 'card.test' : 'card.real')),
         ...partRows(sums.envelope), ...row('card.counts', countsText(counts, precincts.all)),
         ...row('card.languages', languages.length === 0 ? say('record.none') : theirs(languages.map(languageText).sort(orderForReader).join(', ')))),
         ...troubles(client, precincts, unlisted),
-        precincts.all === 0 ? '' : folded(say('card.precincts', { count: precincts.all }), () => table(client, 'all', precincts.all)));
+        precincts.all === 0 ? '' : folded({ class: 'folded' }, say('card.precincts', { count: precincts.all }), () => table(client, 'all', precincts.all)),
+        ...['maybe', 'unseen'].filter((name) => hidden[name].count > 0)
+            .map((name) => folded({ class: `folded hidden-${name}` }, say(`card.hidden.${name}`, { count: hidden[name].count }),
+                () => hiddenList(hidden[name]))));
 }
 
 function row(key, value) {
@@ -46,7 +51,8 @@ function electionRows({ name, start, end, type }) {
 
 // Whether the report is the whole or one of several parts.
 function partRows({ SequenceStart: part, SequenceEnd: all }) {
-    return part === undefined || all === undefined ? [] : row('card.part', all === '1' ? say('card.whole') : saidWith('card.partOf', { part: theirs(part), all: theirs(all) }));
+    return part === undefined || all === undefined ? []
+        : row('card.part', all === '1' ? say('card.whole') : saidWith('card.partOf', { part: theirs(part), all: theirs(all) }));
 }
 
 function countsText(counts, precincts) {
@@ -56,17 +62,10 @@ function countsText(counts, precincts) {
 
 // What a reader has to look at: precincts on no ballot style or on several, and contests that no ballot has.
 function troubles(client, { none, several }, unlisted) {
-    const list = (key, group, count) => (count === 0 ? null : folded(say(key, { count }), () => table(client, group, count), 'warned'));
-    const contests = unlisted.count === 0 ? null : folded(say('card.unlisted', { count: unlisted.count }), () => contestList(unlisted), 'warned');
+    const list = (key, group, count) => (count === 0 ? null : folded({ class: 'warned' }, say(key, { count }), () => table(client, group, count)));
+    const contests = unlisted.count === 0 ? null : folded({ class: 'warned' }, say('card.unlisted', { count: unlisted.count }), () => contestList(unlisted));
     const shown = [list('card.none', 'none', none), list('card.several', 'several', several), contests].filter((one) => one !== null);
     return shown.length > 0 ? shown : [element('p', {}, say('card.fine'))];
-}
-
-function folded(heading, make, className = 'folded') {
-    const holder = element('div', {});
-    const details = element('details', { class: className }, element('summary', {}, heading), holder);
-    details.addEventListener('toggle', () => attempted(holder, async () => holder.append(...await make())), { once: true });
-    return details;
 }
 
 async function contestList({ names, count }) {
@@ -74,8 +73,14 @@ async function contestList({ names, count }) {
         count === names.length ? null : element('li', {}, say('record.more', { count: count - names.length })))];
 }
 
+async function hiddenList({ kinds, count }) {
+    return [element('ul', {}, ...kinds.map((kind) => element('li', {}, leftOutSentence(kind))),
+        count === kinds.length ? null : element('li', {}, say('record.more', { count: count - kinds.length })))];
+}
+
 async function table(client, group, count) {
-    const head = element('thead', {}, element('tr', {}, ...['card.precinct', 'card.code', 'card.styles'].map((key) => element('th', { scope: 'col' }, say(key)))));
+    const heads = ['card.precinct', 'card.code', 'card.styles'].map((key) => element('th', { scope: 'col' }, say(key)));
+    const head = element('thead', {}, element('tr', {}, ...heads));
     const list = new GrowingList(element('table', { class: 'precincts' }, head), {
         count,
         atOnce: AT_ONCE,

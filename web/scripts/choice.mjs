@@ -194,9 +194,9 @@ export class Choice {
     }
 }
 
-// The files of a folder. Those that are not named as JSON are left out, and named.
+// The files of a folder. Those that are not named as JSON or XML are left out, and named.
 function ofFolder(files) {
-    return files.map((one) => ({ ...one, isLeftOut: !/\.json$/i.test(one.name) }));
+    return files.map((one) => ({ ...one, isLeftOut: !/\.(json|xml)$/i.test(one.name) }));
 }
 
 // A folder that was dropped; null if the item is none. Chromium reads no entries of it for a page that was opened from the disk, but
@@ -204,7 +204,8 @@ function ofFolder(files) {
 function folderOf(item) {
     const entry = item.webkitGetAsEntry?.() ?? null;
     return !entry?.isDirectory ? null
-        : { name: entry.name, files: item.getAsFileSystemHandle === undefined ? filesInEntry(entry) : item.getAsFileSystemHandle().then((handle) => filesInHandle(handle, '')) };
+        : { name: entry.name, files: item.getAsFileSystemHandle === undefined ? filesInEntry(entry)
+            : item.getAsFileSystemHandle().then((handle) => filesInHandle(handle, '')) };
 }
 
 /** All files in a folder, and in those below it. */

@@ -146,7 +146,8 @@ export function movedWords({ from, to }) {
 // Why two texts look alike, with the explanation of docs/FIXES.md to open.
 function whyShown(way) {
     const why = say(`alike.${way}`);
-    return Object.hasOwn(explanations.alike, way) ? element('details', {}, element('summary', {}, why), ...paragraphs(explanations.alike[way])) : element('p', {}, why);
+    return Object.hasOwn(explanations.alike, way) ? element('details', {}, element('summary', {}, why), ...paragraphs(explanations.alike[way]))
+        : element('p', {}, why);
 }
 
 function gap(key, count) {

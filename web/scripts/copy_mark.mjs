@@ -3,12 +3,14 @@
 import { foundPlaces } from './places.mjs';
 import { textOf } from '../../bindings/js/lib/scanner.mjs';
 
-const MARK = /^Prepared by erd from (".*") \(SHA-256 ([0-9a-f]{64})\): ((?:[a-z-]+ \d+(?:, )?)+)\.$/m;
+const FROM_XML = ', converted from XML';
+const MARK = /^Prepared by erd from (".*")(, converted from XML)? \(SHA-256 ([0-9a-f]{64})\): ((?:[a-z-]+ \d+(?:, )?)+)\.$/m;
 const OPENING = /^\ufeff?\s*\{(\s*)/;
 
 /**
- * What is known of a copy: the name and the sum of its file, and the steps with how often each changed something.
- * @typedef {{name: string, original: string, steps: {name: string, count: number}[]}} Origin
+ * What is known of a copy: the name and the sum of its file, what is known of its conversion if the file was in XML, and the steps with how
+ * often each changed something. Of a copy that was opened again only whether it was converted is known.
+ * @typedef {{name: string, original: string, converted: object | boolean | null, steps: {name: string, count: number}[]}} Origin
  */
 
 /**
@@ -34,8 +36,8 @@ export function withMark(bytes, origin) {
     return found !== null ? bytes : joined(bytes.subarray(0, at), encoded(member), bytes.subarray(at));
 }
 
-function lineOf({ name, original, steps }) {
-    return `Prepared by erd from ${JSON.stringify(name)} (SHA-256 ${original}): ${steps.map((step) => `${step.name} ${step.count}`).join(', ')}.`;
+function lineOf({ name, original, converted, steps }) {
+    return `Prepared by erd from ${JSON.stringify(name)}${converted ? FROM_XML : ''} (SHA-256 ${original}): ${steps.map((step) => `${step.name} ${step.count}`).join(', ')}.`;
 }
 
 function encoded(text) {
@@ -58,8 +60,8 @@ export function markIn(notes) {
     if (found === null) {
         return null;
     }
-    const steps = found[3].split(', ').map((step) => step.split(' ')).map(([name, count]) => ({ name, count: Number(count) }));
-    return { name: nameIn(found[1]), original: found[2], steps };
+    const steps = found[4].split(', ').map((step) => step.split(' ')).map(([name, count]) => ({ name, count: Number(count) }));
+    return { name: nameIn(found[1]), original: found[3], converted: found[2] !== undefined, steps };
 }
 
 function nameIn(quoted) {

@@ -31,15 +31,10 @@ export function whyNotJson(bytes) {
         return { why: 'empty', at: null };
     }
     if (/^\s*</.test(beginningOf(bytes))) {
-        return { why: markupOf(beginningOf(bytes)), at: null };
+        return { why: /^\s*<(!doctype html|html)\b/i.test(beginningOf(bytes)) ? 'webPage' : 'markup', at: null };
     }
     const wrong = firstNotUtf8(bytes);
     return wrong === null ? whereItStops(bytes) : { why: 'notUtf8', at: wrong };
-}
-
-// The XML form of the standard, a web page, or other markup.
-function markupOf(beginning) {
-    return /<(\w+:)?ElectionReport\b/.test(beginning) ? 'xmlForm' : /^\s*<(!doctype html|html)\b/i.test(beginning) ? 'webPage' : 'markup';
 }
 
 function beginningOf(bytes) {

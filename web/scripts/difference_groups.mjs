@@ -2,7 +2,7 @@
 import { renamed, talliesOf } from './causes.mjs';
 import { compactText } from '../../bindings/js/lib/exact.mjs';
 import { rowsOfDifference } from './rows.mjs';
-import { countsOf, leftOutOf, wordOf, WORDS } from './seen.mjs';
+import { countsOf, leftOutOf, showsOf, wordOf, WORDS } from './seen.mjs';
 import { insideOf } from './selection_names.mjs';
 import { shownRows } from './shown_rows.mjs';
 
@@ -25,7 +25,8 @@ export class Differences {
         const { pairs, isCaused } = meanings === null || entries.length > MOST_PAIRED ? { pairs: [], isCaused: [] } : renamed(meanings, entries);
         this.pairs = pairs;
         this.entries = entries.map((entry, number) => ({ ...entry, number,
-            ...(meanings === null ? {} : { word: this.wordOf(seen, entry, isCaused[number] === true), isCaused: isCaused[number] === true }) }));
+            ...(meanings === null ? {} : { word: this.wordOf(seen, entry, isCaused[number] === true), isCaused: isCaused[number] === true,
+                isHidden: this.isHidden(entry) }) }));
         this.groups = {
             all: this.entries,
             own: this.entries.filter((_, index) => !isCaused[index]),
@@ -49,6 +50,11 @@ export class Differences {
         return carried[0].join('\n') !== carried[1].join('\n');
     }
 
+    // Whether no ballot of either file shows a member of this object.
+    isHidden({ part, key, how, member }) {
+        return how === 'member' && this.meanings.every((meaning) => !showsOf(meaning, meaning.thing(part, key), member));
+    }
+
     classOf({ part, key }) {
         const [thing] = this.meanings.map((meaning) => meaning.thing(part, key)).filter((one) => one !== undefined);
         return thing.className;
@@ -67,13 +73,15 @@ export class Differences {
                 leftOut: leftOutOf(this.entries, ballots.differing > 0) },
             tallies: talliesOf(this.entries),
             pairs: this.pairs,
+            kinds: kindsOf(this.groups.own).map(({ entries, ...kind }) => ({ ...kind, count: entries.length })),
             counts: { own: this.groups.own.length, caused: this.groups.caused.length },
         };
     }
 
-    /** Some differences of a group. */
-    some({ group, from, count }) {
-        return this.groups[group].slice(from, from + count).map((entry) => this.shown(entry));
+    /** Some differences of a group, or of one kind in it. */
+    some({ group, kind, from, count }) {
+        const entries = kind === undefined ? this.groups[group] : kindsOf(this.groups[group])[kind].entries;
+        return entries.slice(from, from + count).map((entry) => this.shown(entry));
     }
 
     shown(difference) {
@@ -110,4 +118,16 @@ export class Differences {
         const lacking = (keys, others) => [...keys].filter((key) => !others.has(key)).length;
         return [...left].reduce((sum, [part, keys]) => sum + lacking(keys, right.get(part)) + lacking(right.get(part), keys), 0);
     }
+}
+
+// The differences by their kinds, in the order of the list: of which objects they are, and what differs.
+function kindsOf(entries) {
+    const kinds = new Map();
+    for (const entry of entries) {
+        const { part, how, member = null } = entry;
+        const name = JSON.stringify([part, how, member]);
+        kinds.set(name, kinds.get(name) ?? { part, how, member, entries: [] });
+        kinds.get(name).entries.push(entry);
+    }
+    return [...kinds.values()];
 }

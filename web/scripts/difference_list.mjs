@@ -1,12 +1,13 @@
 // The list of all differences: how many objects of each kind differ, what is the same under another identifier, and the rest.
-import { attempted } from './attempts.mjs';
-import { differenceEntry, object } from './comparison.mjs';
+import { differenceEntry, memberWords, object } from './comparison.mjs';
 import { button, element, saidWith, theirs } from './dom.mjs';
 import { GrowingList } from './growing.mjs';
+import { folded } from './on_request.mjs';
 import { numberText, say } from './texts.mjs';
 import { textOfTriple } from './values.mjs';
 
 const AT_ONCE = 50;
+const MOST_KINDS = 200;
 const MOST_PAIRS = 50;
 
 /**
@@ -16,12 +17,14 @@ const MOST_PAIRS = 50;
  * @param {string[]} names
  */
 export async function differenceList(client, listed, names) {
-    const { count, tallies, pairs, counts, seen } = listed;
+    const { count, tallies, pairs, counts, seen, kinds } = listed;
     if (count === 1) {
         return element('p', {}, say('difference.noOthers'));
     }
     const counted = new Counted(listed);
-    const own = counts.own === 0 ? [] : await growing(client, 'own', counts.own, names, counted);
+    const isLong = counts.own > AT_ONCE && kinds.length > 1 && kinds.length <= MOST_KINDS;
+    const own = counts.own === 0 ? [] : isLong ? kinds.map((kind, at) => kindShown(client, kind, at, names, counted))
+        : await growing(client, { group: 'own' }, counts.own, names, counted);
     return element('section', { 'aria-labelledby': 'all-differences', class: 'others' },
         element('h3', { id: 'all-differences' }, say('difference.all', { count })),
         element('p', { class: 'note' }, say(listed.listed < count ? 'difference.provedPart' : 'difference.proved')),
@@ -58,13 +61,20 @@ class Counted {
     }
 }
 
-async function growing(client, group, count, names, counted) {
+// Of a long list the differences of one kind, and how many these are. They are made when they are opened.
+function kindShown(client, { part, how, member, count }, at, names, counted) {
+    const nodes = { member: memberWords(member ?? ''), left: theirs(names[0]), right: theirs(names[1]) };
+    const summary = [saidWith(`kind.${how}`, nodes, { parts: say(`parts.${part}`) }), ' ', element('span', { class: 'badge' }, numberText(count))];
+    return folded({ class: 'kind' }, summary, () => growing(client, { group: 'own', kind: at }, count, names, counted));
+}
+
+async function growing(client, which, count, names, counted) {
     const own = {};
     const list = new GrowingList(element('ol', { class: 'differences' }), {
         count,
         atOnce: AT_ONCE,
         entries: async (from, some) => {
-            const entries = await client.ask('more', { group, from, count: some });
+            const entries = await client.ask('more', { ...which, from, count: some });
             counted.add(entries, own, count);
             return entries.map((entry) => differenceEntry(entry, names));
         },
@@ -96,11 +106,9 @@ async function pairsShown(client, pairs, caused, names, counted) {
         left: theirs(textOfTriple(keys[0])), right: theirs(textOfTriple(keys[1])),
     })));
     const more = pairs.length > MOST_PAIRS ? element('p', {}, say('pair.more', { count: pairs.length - MOST_PAIRS })) : null;
-    const folded = element('details', {}, element('summary', {}, say('pair.caused', { count: caused })));
-    const open = async () => folded.append(...await growing(client, 'caused', caused, names, counted));
-    folded.addEventListener('toggle', () => attempted(folded, open), { once: true });
+    const followed = folded({}, say('pair.caused', { count: caused }), () => growing(client, { group: 'caused' }, caused, names, counted));
     return [element('section', { class: 'pairs', 'aria-labelledby': 'pairs' }, element('h4', { id: 'pairs' }, say('pair.heading', { count: pairs.length })),
-        element('p', {}, say('pair.note')), element('ul', {}, ...items), ...(more === null ? [] : [more]), folded)];
+        element('p', {}, say('pair.note')), element('ul', {}, ...items), ...(more === null ? [] : [more]), followed)];
 }
 
 /**

@@ -1,6 +1,6 @@
 // Makes elements. A text from a file is only ever text: no call here takes markup.
 import { say } from './texts.mjs';
-import { beginningOf, piecesOf } from './visible.mjs';
+import { piecesOf, shortened } from './visible.mjs';
 
 /** The most characters that a text may have to be shown whole in the page. */
 const MOST_SHOWN = 100_000;
@@ -44,7 +44,7 @@ export function theirs(text, kept = '') {
 
 /** A text from a file. If it is long, its beginning, with a button for the whole. */
 export function long(text, most, kept = '') {
-    return text.length <= most ? theirs(text, kept) : withWhole(text, [theirs(beginningOf(text, most) + '…', kept)], kept);
+    return text.length <= most ? theirs(text, kept) : withWhole(text, [theirs(shortened(text, most), kept)], kept);
 }
 
 /** What is shown of a text from a file, with a button for the whole. */

@@ -1,9 +1,10 @@
-// What the build has put into the page, compressed: the proved code, the tables of texts, the examples, and what can be read at the foot.
+// What the build has put into the page, compressed: the proved code, the worker, the tables of texts, the examples, and what can be read at
+// the foot.
 
 /** All of it but what stands at the foot, unpacked. */
 export async function embedded() {
-    const [wasm, tables, examples] = await Promise.all(['wasm', 'tables', 'examples-data'].map(unpacked));
-    return { ...JSON.parse(textOf(tables)), wasm, examples: JSON.parse(textOf(examples)) };
+    const [wasm, worker, tables, examples] = await Promise.all(['wasm', 'worker', 'tables', 'examples-data'].map(unpacked));
+    return { ...JSON.parse(textOf(tables)), wasm, worker, examples: JSON.parse(textOf(examples)) };
 }
 
 /** Unpacks the licences when somebody opens them. */

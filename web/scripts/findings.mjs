@@ -3,7 +3,7 @@ import { insideSentence, movedWords, sentence } from './comparison.mjs';
 import { element, saidWith, theirs } from './dom.mjs';
 import { headsOf } from './shown_rows.mjs';
 import { say } from './texts.mjs';
-import { beginningOf, passageOf } from './visible.mjs';
+import { passageOf, shortened } from './visible.mjs';
 
 /** How many of them a record has. */
 export const MOST_FILED = 100;
@@ -65,7 +65,7 @@ function valueOf(line, pieces) {
     if (line === null) {
         return element('em', {}, say('difference.notThere'));
     }
-    return theirs(line.text.length <= LONGEST_VALUE ? line.text : pieces === undefined ? `${beginningOf(line.text, LONGEST_VALUE)}…` : passageOf(pieces));
+    return theirs(line.text.length <= LONGEST_VALUE || pieces === undefined ? shortened(line.text, LONGEST_VALUE) : passageOf(pieces));
 }
 
 /**
@@ -73,7 +73,7 @@ function valueOf(line, pieces) {
  * @param {string[]} lines the first of them, as the program writes them
  */
 export function faultsFiled(lines, count, name) {
-    const items = lines.map((line) => element('li', {}, element('code', {}, theirs(line.length > 400 ? `${beginningOf(line, 400)}…` : line))));
+    const items = lines.map((line) => element('li', {}, element('code', {}, theirs(shortened(line, 400)))));
     return element('div', { 'data-filed': 'faults' }, element('h4', {}, saidWith('faults.heading', { name: theirs(name) }, { count })),
         element('ol', {}, ...items), leftOut(count - items.length));
 }

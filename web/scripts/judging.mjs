@@ -12,7 +12,7 @@ import { ownTypes, typesTold, withoutTypes } from './own_view.mjs';
 import { preparingOf } from './preparing.mjs';
 import { isNoMemory, Side } from './side.mjs';
 import { trailOf } from './trail.mjs';
-import { beginningOf } from './visible.mjs';
+import { shortened } from './visible.mjs';
 
 /** The most bytes of two canonical forms of which values are shown beside each other. */
 const MOST_WITH_VALUES = 80_000_000;
@@ -24,8 +24,8 @@ const LONGEST_TOLD = 100_000;
 const MOST_LISTED = 20_000;
 
 // A step of a trail, whose name and title may be longer than anybody reads.
-function shortened({ name, number, title }) {
-    const short = (text) => (text !== null && text.length > LONGEST_POINTER ? `${beginningOf(text, LONGEST_POINTER)}…` : text);
+function shortStep({ name, number, title }) {
+    const short = (text) => (text === null ? null : shortened(text, LONGEST_POINTER));
     return { name: short(name), number, title: short(title) };
 }
 
@@ -36,12 +36,13 @@ export class Judgement {
      * @param {Blob[]} files
      * @param {string | null} prefer
      * @param {Record<string, Record<string, string>>} seen what a voter sees: the table of docs/PROFILE.md
+     * @param {(object | null)[]} [converted] of each file what is known of its conversion from XML
      */
-    constructor(erd, files, prefer, seen) {
+    constructor(erd, files, prefer, seen, converted = []) {
         this.erd = erd;
         this.prefer = prefer;
         this.seen = seen;
-        this.sides = files.map((file, index) => new Side(file, index));
+        this.sides = files.map((file, index) => new Side(file, index, converted[index] ?? null));
     }
 
     /** Reads and judges each file, and compares two that are accepted. `tell` is told what is done now. */
@@ -49,12 +50,23 @@ export class Judgement {
         for (const side of this.sides) {
             await side.open(tell);
         }
+        let compared = this.judged(tell);
+        const haveForms = await Promise.all(this.sides.map((side) => side.takeForm(tell)));
+        if (haveForms.includes(true)) {
+            this.sides.filter(({ isJson }) => isJson).forEach((side) => Object.assign(side, { outcome: null, checked: null }));
+            compared = this.judged(tell);
+        }
+        return { files: this.sides.map((side) => side.told()), comparison: this.comparison(compared) };
+    }
+
+    // Judges each file that can be read, and returns the comparison of two.
+    judged(tell) {
         const readable = this.sides.filter((side) => side.outcome === null);
         const compared = readable.length === 2 ? this.compared(tell) : null;
         for (const side of this.sides.filter(({ outcome }) => outcome === null)) {
             side.judge(this.erd, this.prefer, tell);
         }
-        return { files: this.sides.map((side) => side.told()), comparison: this.comparison(compared) };
+        return compared;
     }
 
     // Compares both files. A refused file gets its outcome from the comparison, and both do if they are accepted.
@@ -105,11 +117,24 @@ export class Judgement {
         return differences === null ? null : differences.told(differences.meanings === null ? null : this.ballots(tell).seen());
     }
 
+    /** How many differences there are, as soon as the proved code has them; null where there is no memory for the list. */
+    count(_question, tell) {
+        return this.proved(tell)?.allDifferences ?? null;
+    }
+
+    // The proved list, or its beginning.
+    proved(tell) {
+        if (this.keptProved === undefined) {
+            tell({ stage: 'listing' });
+            this.keptProved = this.differencesUnder(this.prefer, MOST_LISTED);
+        }
+        return this.keptProved;
+    }
+
     // The differences, which a worker that has begun anew lists again.
     differencesKept(tell) {
         if (this.differences === undefined) {
-            tell({ stage: 'listing' });
-            const found = this.differencesUnder(this.prefer, MOST_LISTED);
+            const found = this.proved(tell);
             this.differences = found === null ? null : this.differencesOf(found, tell);
         }
         return this.differences;
@@ -193,7 +218,7 @@ export class Judgement {
     }
 
     keptOverview(tell) {
-        this.overviewOfFile ??= new Overview(this.meanings(tell)[0]);
+        this.overviewOfFile ??= new Overview(this.meanings(tell)[0], this.seen);
         return this.overviewOfFile;
     }
 
@@ -243,7 +268,7 @@ export class Judgement {
     }
 
     place(side, fault, found) {
-        const trail = trailOf(found, fault.place).map(shortened);
+        const trail = trailOf(found, fault.place).map(shortStep);
         const { start, end } = found === null ? { start: 0, end: 0 } : found.range;
         const { reason, name } = fault;
         return { reason, ...(name === undefined ? {} : { name }), pointer: boundedPointer(fault.place, LONGEST_TOLD), trail, start, end,
@@ -258,7 +283,8 @@ export class Judgement {
 
     /** The copy on which these steps were done. */
     preparedCopy({ index, steps }, tell) {
-        return this.preparing(index).copied(steps, this.sides[index].file.name, tell);
+        const { file, converted } = this.sides[index];
+        return this.preparing(index).copied(steps, { name: file.name, converted: converted?.form === undefined ? null : converted }, tell);
     }
 
     /** Each change of these steps, as JSON. */

@@ -2,6 +2,7 @@
 import { MOST_BYTES } from '../../bindings/js/lib/calls.mjs';
 import { csvOf } from './csv.mjs';
 import { button, element, long, save, saidWith, theirs } from './dom.mjs';
+import { convertedLines, isConverted } from './from_xml/shown.mjs';
 import { sizeText } from './record.mjs';
 import { codeOf } from './sums.mjs';
 import { say } from './texts.mjs';
@@ -19,7 +20,8 @@ export class ManyFiles {
     /**
      * @param {HTMLElement} holder
      * @param {{file: File, name: string}[]} files
-     * @param {{client: import('./client.mjs').Client, compare: (files: File[]) => void, say: (text: string) => void}} known
+     * @param {{client: import('./client.mjs').Client, judgedFile: (file: File, tell: (progress: object) => void) => Promise<object>,
+     *     compare: (files: File[]) => void, say: (text: string) => void}} known `judgedFile` gives the file that is judged in place of one
      */
     constructor(holder, files, known) {
         Object.assign(this, known);
@@ -41,7 +43,8 @@ export class ManyFiles {
             await Promise.all(clients.map(async (client) => {
                 for (const row of rows) {
                     tell({ stage: 'survey', name: row.name, done, total: judged.length });
-                    Object.assign(row, await client.ask('survey', { file: row.file, prefer }));
+                    const form = await this.judgedFile(row.file, (progress) => tell({ ...progress, name: row.name }));
+                    Object.assign(row, await client.ask('survey', { ...form, prefer }));
                     done++;
                     if (!isCurrent()) {
                         return;
@@ -133,7 +136,7 @@ export class ManyFiles {
     noticesOn(row) {
         const others = this.rows.filter((one) => row.group !== undefined && one.group === row.group);
         const differ = others.some(({ notes }) => notes !== row.notes);
-        const lines = [row.repeated > 0 ? say('many.repeated') : null, row.isTest ? say('many.test') : null,
+        const lines = [row.repeated > 0 ? say('many.repeated') : null, row.isTest ? say('many.test') : null, ...convertedLines(row.converted),
             differ ? saidWith(row.notes === null ? 'many.noNotes' : 'many.notes', { notes: long(row.notes ?? '', LONGEST_NOTES) }) : null];
         return element('div', {}, ...lines.filter((line) => line !== null).map((line) => element('div', {}, line)));
     }
@@ -153,9 +156,11 @@ export class ManyFiles {
     }
 
     records() {
-        const heads = ['file', 'bytes', 'verdict', 'faults', 'group', 'sha256', 'canonical_sha256', 'names_written_twice', 'test', 'notes'];
-        const rows = this.rows.map(({ name, size, outcome, faults, group, sha256, canonical, repeated, isTest, notes }) => [name, size, outcome,
-            faults ?? '', group ?? '', sha256 ?? '', canonical?.sha256 ?? '', repeated ?? '', isTest ? 'yes' : '', notes ?? '']);
+        const heads = ['file', 'bytes', 'verdict', 'faults', 'group', 'sha256', 'canonical_sha256', 'names_written_twice', 'test', 'notes',
+            'converted_from_xml_without_proof', 'converted_sha256', 'not_understood'];
+        const rows = this.rows.map(({ name, size, outcome, faults, group, sha256, canonical, repeated, isTest, notes, converted }) => [name, size, outcome,
+            faults ?? '', group ?? '', sha256 ?? '', canonical?.sha256 ?? '', repeated ?? '', isTest ? 'yes' : '', notes ?? '',
+            ...(isConverted(converted) ? ['yes', converted.form.sha256, converted.allTold] : ['', '', ''])]);
         return [heads, ...rows];
     }
 

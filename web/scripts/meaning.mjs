@@ -88,7 +88,8 @@ export class Meaning {
 
     /** Of each part the keys of its objects under a preferred type, as texts. */
     keysUnder(prefer) {
-        return new Map([...this.things].map(([part, things]) => [part, new Set([...things.values()].map(({ object }) => textOfKey(this.keyOf(object, prefer))))]));
+        const keysOf = (things) => new Set([...things.values()].map(({ object }) => textOfKey(this.keyOf(object, prefer))));
+        return new Map([...this.things].map(([part, things]) => [part, keysOf(things)]));
     }
 
     /** The key of an object: the least of its triples, or of those of the preferred type. Null without an identifier. */
@@ -98,11 +99,21 @@ export class Meaning {
         return (preferred.length > 0 ? preferred : triples).sort(orderOfKeys)[0] ?? null;
     }
 
+    /** The names of the members that the record of a thing has of its object. */
+    members(thing) {
+        const outside = OUTSIDE_RECORD[thing.part] ?? OUTSIDE_ANY_RECORD;
+        return Object.keys(thing.object).filter((name) => !outside.has(name));
+    }
+
+    /** Whether a person is a candidate. */
+    isCandidate(person) {
+        this.candidates ??= new Set([...this.things.get('candidate').values()].map(({ object }) => this.named.get(object.PersonId)));
+        return this.candidates.has(person);
+    }
+
     /** The record of a thing: its members by name, each with a text that is equal for equal values. */
     record(thing) {
-        const outside = OUTSIDE_RECORD[thing.part] ?? OUTSIDE_ANY_RECORD;
-        const members = Object.entries(thing.object).filter(([name]) => !outside.has(name));
-        const record = new Map(members.map(([name, value]) => [name, this.comparable(name, value)]));
+        const record = new Map(this.members(thing).map((name) => [name, this.comparable(name, thing.object[name])]));
         if (thing.election !== null) {
             record.set('ElectionId', this.aliasOf(textOfKey(['election', thing.election])));
         }

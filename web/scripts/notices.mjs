@@ -71,6 +71,7 @@ export function sameBytesNotice(sums) {
         ? notice('same-bytes', say('notice.sameBytes')) : null;
 }
 
-function notice(id, heading, ...content) {
+/** A notice with this heading. */
+export function notice(id, heading, ...content) {
     return element('section', { class: 'notice', 'aria-labelledby': id }, element('h3', { id }, heading), ...content);
 }

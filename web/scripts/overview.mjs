@@ -1,6 +1,7 @@
 // What a file has: how many objects of each kind, which ballot styles each precinct has, and contests that no ballot has. It is the page's
 // own reading of the canonical form.
 import { orderForReader } from './texts.mjs';
+import { showsOf } from './seen.mjs';
 import { textOfTriple } from './values.mjs';
 
 const PRECINCTS = new Set(['precinct', 'split-precinct', 'combined-precinct']);
@@ -11,19 +12,24 @@ const MOST_AROUND = 200;
 const MOST_STYLES = 20;
 
 export class Overview {
-    /** @param {import('./meaning.mjs').Meaning} meaning */
-    constructor(meaning) {
+    /**
+     * @param {import('./meaning.mjs').Meaning} meaning
+     * @param {Record<string, Record<string, string>>} seen what a voter sees: the table of docs/PROFILE.md
+     */
+    constructor(meaning, seen) {
         this.meaning = meaning;
+        this.seen = seen;
         this.rows = precinctsOf(meaning);
         this.groups = { all: this.rows, none: this.rows.filter(({ count }) => count === 0), several: this.rows.filter(({ several }) => several) };
     }
 
-    /** The counts of objects and of precincts, and the contests that no ballot has. */
+    /** The counts of objects and of precincts, the contests that no ballot has, and the members that no ballot shows. */
     told() {
         const counts = Object.fromEntries([...this.meaning.things].map(([part, things]) => [part, things.size]));
         const groups = Object.fromEntries(Object.entries(this.groups).map(([name, rows]) => [name, rows.length]));
         const unlisted = unlistedContests(this.meaning);
-        return { counts, precincts: groups, unlisted: { count: unlisted.length, names: unlisted.slice(0, MOST_NAMED) } };
+        return { counts, precincts: groups, unlisted: { count: unlisted.length, names: unlisted.slice(0, MOST_NAMED) },
+            hidden: membersNotShown(this.meaning, this.seen) };
     }
 
     /** Some precincts of a group, each with the codes of its ballot styles. */
@@ -109,4 +115,20 @@ function unlistedContests(meaning) {
     }
     return [...meaning.things.get('contest').values()].filter(({ object }) => !listed.has(object['@id']))
         .map((contest) => ({ name: contest.title ?? '', code: textOfTriple(contest.key) })).sort((one, other) => orderForReader(one.name, other.name));
+}
+
+// The members that no ballot of the page shows, with how many objects have them: those that a voter may see by the table, and the others.
+// That a flag is off is no more than that it is not there.
+function membersNotShown(meaning, seen) {
+    const found = { maybe: new Map(), unseen: new Map() };
+    for (const thing of [...meaning.things.values()].flatMap((things) => [...things.values()])) {
+        for (const member of meaning.members(thing).filter((name) => thing.object[name] !== false && !showsOf(meaning, thing, name))) {
+            const words = seen[thing.className] ?? {};
+            const kinds = found[Object.hasOwn(words, member) && words[member] === 'unseen' ? 'unseen' : 'maybe'];
+            const name = JSON.stringify([thing.part, member]);
+            kinds.set(name, { part: thing.part, how: 'member', member, count: (kinds.get(name)?.count ?? 0) + 1 });
+        }
+    }
+    return Object.fromEntries(Object.entries(found).map(([name, kinds]) => [name, {
+        count: kinds.size, kinds: [...kinds.values()].sort((one, other) => other.count - one.count).slice(0, MOST_NAMED) }]));
 }

@@ -5,6 +5,7 @@ import { Cancelled, Client } from './client.mjs';
 import { offerDocuments } from './documents.mjs';
 import { button, element, saidWith, theirs } from './dom.mjs';
 import { embedded, offerLicences } from './embedded.mjs';
+import { judgedFile } from './from_xml/files.mjs';
 import { firstLanguage, offerLanguages, useLanguage } from './languages.mjs';
 import { ManyFiles } from './many.mjs';
 import { sumOfPage } from './page_sum.mjs';
@@ -17,7 +18,7 @@ const $ = (id) => document.getElementById(id);
 class Page {
     constructor(data) {
         this.data = data;
-        this.client = new Client(workerOf, this.start());
+        this.client = new Client(() => workerOf(data.worker), this.start());
         this.choice = new Choice(data.examples, { changed: (how) => this.chosen(how), many: (files) => this.survey(files) });
         this.prefer = null;
         // The table of many files, if one is shown or being made.
@@ -81,6 +82,7 @@ class Page {
     }
 
     cancel() {
+        this.isStopped = true;
         this.client.cancel();
         this.choice.focus();
     }
@@ -95,7 +97,8 @@ class Page {
         document.documentElement.dataset.shown = 'many';
         this.setBusy(true);
         const many = this.table = new ManyFiles($('many-files'), files, {
-            client: this.client, compare: (pair) => this.choice.pair(pair), say: (text) => this.say(text),
+            client: this.client, judgedFile: (file, tell) => this.judgedFile(file, tell, isCurrent),
+            compare: (pair) => this.choice.pair(pair), say: (text) => this.say(text),
         });
         try {
             await many.judge(null, (progress) => this.progress(progress, []), isCurrent);
@@ -112,6 +115,7 @@ class Page {
     // Gives up what was asked before. Tells whether nothing else was asked since.
     beginRun() {
         const run = ++this.run;
+        this.isStopped = false;
         $('trouble').replaceChildren();
         $('result-top').replaceChildren();
         $('result-rest').replaceChildren();
@@ -137,7 +141,12 @@ class Page {
         document.documentElement.dataset.shown = 'result';
         this.say(say('progress.start'));
         const { files } = this.choice;
-        this.client.open({ files, prefer: this.prefer });
+        const judged = await this.judgedFiles(files, isCurrent);
+        if (judged === null) {
+            return;
+        }
+        const [forms, converted] = ['file', 'converted'].map((part) => judged.map((one) => one[part]));
+        this.client.open({ files: forms, converted, prefer: this.prefer });
         const result = new Result({
             client: this.client, data: { ...this.data, fixes: this.data.fixes[document.documentElement.lang] }, top: $('result-top'), holder: $('result-rest'),
             names: files.map((file) => file.name), files, prefer: this.prefer,
@@ -151,6 +160,33 @@ class Page {
         }
     }
 
+    // The file that is judged in place of one, and of one in XML what is known of its conversion. It stops where another run begins.
+    judgedFile(file, tell, isCurrent) {
+        return judgedFile(file, (done) => {
+            if (this.isStopped || !isCurrent()) {
+                throw new Cancelled();
+            }
+            tell({ stage: 'converting', done, total: file.size });
+        });
+    }
+
+    // The same of all files that are chosen; null if it was stopped.
+    async judgedFiles(files, isCurrent) {
+        const judged = [];
+        try {
+            for (const [index, file] of files.entries()) {
+                judged.push(await this.judgedFile(file, (progress) => this.progress({ ...progress, index }, files), isCurrent));
+            }
+        } catch (error) {
+            if (isCurrent()) {
+                this.failed(error, { hasVerdict: false });
+                this.setBusy(false);
+            }
+            return null;
+        }
+        return isCurrent() ? judged : null;
+    }
+
     async shown(result, isCurrent) {
         const started = performance.now();
         try {
@@ -158,7 +194,8 @@ class Page {
             if (isCurrent()) {
                 document.documentElement.dataset.milliseconds = String(Math.round(performance.now() - started));
                 this.say(verdict);
-                $('files-heading').scrollIntoView({ block: 'start' });
+                // What is above the verdict is short, but for a table of many files.
+                $(this.table === null ? 'files-heading' : 'verdict').scrollIntoView({ block: 'start' });
                 await result.rest();
             }
         } catch (error) {
@@ -221,8 +258,8 @@ class Page {
     }
 }
 
-function workerOf() {
-    const address = URL.createObjectURL(new Blob([$('worker').textContent], { type: 'text/javascript' }));
+function workerOf(script) {
+    const address = URL.createObjectURL(new Blob([script], { type: 'text/javascript' }));
     const worker = new Worker(address);
     URL.revokeObjectURL(address);
     return worker;

@@ -1,4 +1,5 @@
 // The SHA-256 of the page itself, from what the browser has read of it: the same as that of the file `erd.html`.
+import { sha256 } from './digest.mjs';
 
 const ESCAPES = { '&': '&amp;', '<': '&lt;', '>': '&gt;', '"': '&quot;', "'": '&#x27;' };
 
@@ -13,8 +14,7 @@ export async function sumOfPage({ template, texts, version, language }) {
         parts[name] = document.getElementById(id).textContent;
     }
     const text = template.replace(/\{\{(text:)?([\w.]+)\}\}/g, (_whole, isText, name) => (isText === undefined ? parts[name] : escaped(texts[language][name])));
-    const digest = new Uint8Array(await crypto.subtle.digest('SHA-256', new TextEncoder().encode(text)));
-    return Array.from(digest, (byte) => byte.toString(16).padStart(2, '0')).join('');
+    return sha256(new TextEncoder().encode(text));
 }
 
 function escaped(text) {

@@ -3,10 +3,11 @@ import { Cancelled } from './client.mjs';
 import { documentButton } from './documents.mjs';
 import { button, element, saidWith, save, theirs } from './dom.mjs';
 import { where } from './faults.mjs';
+import { plainName } from './from_xml/shown.mjs';
 import { sumShown } from './sums.mjs';
 import { numberText, say, sayIfKnown } from './texts.mjs';
 
-const GROUPS = ['taken', 'chosen', 'seen'];
+const GROUPS = ['removed', 'filled-in', 'visible'];
 
 /** How many milliseconds an answer may take before its progress is shown. */
 const BEFORE_PROGRESS = 300;
@@ -54,7 +55,7 @@ export class CopyMaker {
             return;
         }
         const groups = GROUPS.map((group) => this.group(group, steps.filter((step) => step.group === group)));
-        this.body.replaceChildren(...groups.filter((group) => group !== null), this.buttons(steps.some(({ chosen, count }) => chosen && count > 0)));
+        this.body.replaceChildren(...groups.filter((group) => group !== null), this.buttons(steps.some(({ done, count }) => done && count > 0)));
         (document.getElementById(focus) ?? this.body.querySelector('input'))?.focus();
     }
 
@@ -71,7 +72,8 @@ export class CopyMaker {
     async asked(kind, question) {
         const stage = element('span', { id: `prepare-stage-${this.index}` }, say('progress.start'));
         const meter = element('progress', { max: '1', 'aria-labelledby': stage.id });
-        const shown = element('p', { class: 'prepare-progress' }, stage, ' ', meter, ' ', button(say('progress.cancel'), () => this.client.cancel(), { class: 'small' }));
+        const cancel = button(say('progress.cancel'), () => this.client.cancel(), { class: 'small' });
+        const shown = element('p', { class: 'prepare-progress' }, stage, ' ', meter, ' ', cancel);
         const waiting = setTimeout(() => this.body.prepend(shown), BEFORE_PROGRESS);
         this.body.setAttribute('aria-busy', 'true');
         try {
@@ -93,7 +95,7 @@ export class CopyMaker {
 
     step(step) {
         const id = `step-${this.index}-${step.name}`;
-        const box = element('input', { type: 'checkbox', id, 'data-step': step.name, checked: step.chosen, change: () => this.show(this.names(), id) });
+        const box = element('input', { type: 'checkbox', id, 'data-step': step.name, checked: step.done, change: () => this.show(this.names(), id) });
         return element('li', {},
             element('p', {}, element('label', { for: id }, box, ' ', element('strong', {}, say(`step.${step.name}`))),
                 step.count === 0 ? null : element('span', { class: 'count' }, ` ${say('prepare.count', { count: step.count })}`)),
@@ -118,7 +120,7 @@ export class CopyMaker {
     }
 
     get copyName() {
-        return `${this.name.replace(/(\.raw)?\.json$/i, '')}.prepared.json`;
+        return `${plainName(this.name).replace(/\.raw$/i, '')}.prepared.json`;
     }
 
     async copy() {
@@ -154,7 +156,8 @@ function leftOf({ left, leftCount }) {
 /** What stands below the verdict on a file whose notes say that it is a copy. */
 export function claimNotice(known) {
     return element('section', { class: 'prepared-copy', 'aria-label': say('prepare.isCopy') },
-        element('p', {}, saidWith('prepare.claims', { name: theirs(known.name) })), stepsShown(known));
+        element('p', {}, saidWith('prepare.claims', { name: theirs(known.name) })), known.converted ? element('p', {}, say('prepare.claimsConverted')) : null,
+        stepsShown(known));
 }
 
 /** What stands below the verdict on a copy: where it comes from, and a button that saves it. */
@@ -174,6 +177,7 @@ export function copyRecorded(known) {
     return [
         ['record.preparedOf', theirs(known.name)],
         ['record.preparedSum', sumShown(known.original, 'original', false)],
+        ...(known.converted === true ? [['record.converted', say('record.claimedWords')]] : []),
         ['record.preparedSteps', stepsShown(known)],
     ];
 }

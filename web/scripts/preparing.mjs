@@ -4,8 +4,8 @@ import { Changes } from '../../bindings/js/lib/prepare/changes.mjs';
 import { Preparation, STEPS, stepsOf } from '../../bindings/js/lib/prepare/prepared.mjs';
 import { compactText } from '../../bindings/js/lib/prepare/tree.mjs';
 import { withMark } from './copy_mark.mjs';
+import { sha256 } from './digest.mjs';
 import { NotJson } from '../../bindings/js/lib/scanner.mjs';
-import { sha256 } from './side.mjs';
 import { trailOf } from './trail.mjs';
 
 /** How many changes of a step are shown, and how many characters of a value. */
@@ -80,17 +80,21 @@ export class Preparing {
             kept.set(changes.made, changes.trails);
             return changes;
         };
-        const { bytes, steps } = this.preparation.prepare(names ?? stepsOf('taken', 'chosen'), { tellsOthers: true, changesOf });
+        const { bytes, steps } = this.preparation.prepare(names ?? stepsOf('removed', 'filled-in'), { tellsOthers: true, changesOf });
         this.copy = bytes;
-        this.done = steps.filter(({ chosen, made }) => chosen && made.length > 0);
+        this.done = steps.filter(({ done, made }) => done && made.length > 0);
         this.names = names?.join();
         return steps.map((step) => toldOfStep(step, kept.get(step.made) ?? { made: [[]], left: [] }));
     }
 
-    /** The copy of a file of this name on which these steps were done, with the mark that says so, and the sum of the file. */
-    async copied(names, name, tell) {
+    /**
+     * The copy of a file of this name on which these steps were done, with the mark that says so, and the sum of the file. `converted` is
+     * what is known of a file that was converted from XML, whose form is prepared.
+     */
+    async copied(names, { name, converted }, tell) {
         this.#do(names, tell);
-        const origin = { name, original: await sha256(this.bytes), steps: this.done.map((step) => ({ name: step.name, count: step.made.length })) };
+        const original = converted === null ? await sha256(this.bytes) : converted.sha256;
+        const origin = { name, original, converted, steps: this.done.map((step) => ({ name: step.name, count: step.made.length })) };
         return { ...origin, bytes: withMark(this.copy, origin) };
     }
 
@@ -119,10 +123,10 @@ function savedText(value) {
     return value === undefined ? null : boundedText(value, LONGEST_SAVED);
 }
 
-function toldOfStep({ name, chosen, made, left }, trails) {
+function toldOfStep({ name, done, made, left }, trails) {
     const { group } = STEPS.find((step) => step.name === name);
     return {
-        name, group, chosen, count: made.length, leftCount: left.length,
+        name, group, done, count: made.length, leftCount: left.length,
         made: made.slice(0, MOST_SHOWN).map(({ place, before, after }, at) => ({
             pointer: boundedPointer(place), trail: trails.made[at], before: valueText(before), after: valueText(after),
         })),

@@ -2,6 +2,7 @@
 import { button, element, long, save, theirs } from './dom.mjs';
 import { ENVELOPE } from './envelope.mjs';
 import { ownSentence } from './difference_list.mjs';
+import { convertedRecorded, plainName } from './from_xml/shown.mjs';
 import { copyRecorded } from './prepare_copy.mjs';
 import { leftOutShown, seenSentence } from './seen_box.mjs';
 import { sumShown } from './sums.mjs';
@@ -47,6 +48,7 @@ function fileRows(file, name, index, count) {
         ...(file.isTest ? entry('record.test', say('record.isTest')) : []),
         ...(count === 1 ? [] : entry('record.outcome', say(`verdict.${file.outcome}`, { count: file.faults ?? 0 }))),
         ...(file.sha256 === undefined ? [] : entry('record.fileSum', sumShown(file.sha256, 'file', false))),
+        ...convertedRecorded(file.conversion).flatMap(([key, value]) => entry(key, value)),
         ...(file.canonical === undefined ? [] : entry('record.formSum', sumShown(file.canonical.sha256, 'form', true))),
         ...(file.copied === undefined ? [] : copyRecorded(file.copied).flatMap(([key, value]) => entry(key, value))),
         ...(file.envelope === undefined ? [] : entry('record.envelope', envelopeText(file.envelope))),
@@ -76,7 +78,7 @@ function signatures() {
 function buttons(files, names, client) {
     const forms = files.map((file, index) => (file.canonical === undefined ? null : button(
         files.length === 1 ? say('record.save') : say(`record.save${index + 1}`), async () => {
-            const name = `${names[index].replace(/\.json$/i, '')}.canonical.json`;
+            const name = `${plainName(names[index])}.canonical.json`;
             save(new Blob([await client.ask('canonical', { index })]), name);
         })));
     return element('p', { class: 'buttons screen' }, button(say('record.print'), () => print(), { class: 'main' }), ...forms);

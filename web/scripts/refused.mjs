@@ -3,6 +3,7 @@ import { element, saidWith, theirs } from './dom.mjs';
 import { excerptShown } from './excerpts.mjs';
 import { FaultCards, paragraphs } from './faults.mjs';
 import { CopyMaker } from './prepare_copy.mjs';
+import { whyNotConverted } from './from_xml/shown.mjs';
 import { say } from './texts.mjs';
 
 /** The sections of all files that have any. */
@@ -14,17 +15,18 @@ export async function troublesOf(files, names, client, { fixes, takesCopy }) {
 async function sectionsOf(file, { index, name, client, fixes, takesCopy }) {
     const preparing = () => new CopyMaker(client, { index, name, takesCopy }).section();
     if (file.outcome === 'notJson') {
-        return [...(file.trouble.why === 'byteOrderMark' ? [preparing()] : []), notJson(file.trouble, name, index, fixes['not JSON'])];
+        const why = whyNotConverted(file);
+        return [...(file.trouble.why === 'byteOrderMark' && why === null ? [preparing()] : []), notJson(file.trouble, why, { name, index, fix: fixes['not JSON'] })];
     }
     return file.outcome === 'refused' ? [preparing(), await new FaultCards(client, fixes, { index, name, count: file.faults }).section()] : [];
 }
 
-function notJson({ why, line, column, excerpt }, name, index, fix) {
+function notJson({ why, line, column, excerpt }, whyNot, { name, index, fix }) {
     const heading = `not-json-${index}`;
     const where = line === undefined ? null : element('p', {}, say('notJson.where', { line: String(line), column: String(column) }));
     return element('section', { class: 'card', 'aria-labelledby': heading },
         element('h3', { id: heading }, saidWith('notJson.heading', { name: theirs(name) })),
-        element('p', {}, say(`notJson.${why}`)), where,
+        element('p', {}, whyNot ?? say(`notJson.${why}`)), where,
         excerpt === undefined ? null : excerptShown(excerpt, () => Promise.resolve(new Uint8Array(0))),
         element('details', {}, element('summary', {}, say('faults.fix')), ...paragraphs(fix.fixing),
             element('p', { class: 'label' }, say('faults.origin')), ...paragraphs(fix.origin)));

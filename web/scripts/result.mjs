@@ -6,6 +6,7 @@ import { cardOf } from './card.mjs';
 import { firstDifference, useExplanations } from './comparison.mjs';
 import { differenceList, ownOffer, ownSentence, typeOffer } from './difference_list.mjs';
 import { button, element, saidWith, theirs } from './dom.mjs';
+import { convertedNotices } from './from_xml/shown.mjs';
 import { differencesFiled, faultsFiled, MOST_FILED } from './findings.mjs';
 import { envelopeTable, fileNotices, notesNotice, sameBytesNotice } from './notices.mjs';
 import { claimNotice, copyKnown, copyNotice } from './prepare_copy.mjs';
@@ -45,7 +46,8 @@ export class Result {
         }
         this.parts = Object.fromEntries(PARTS.map((name) => [name, element('div', { 'data-part': name })]));
         this.verdictShown = verdictOf(this.answer);
-        this.put('verdict', banner(this.verdictShown, ...sentencesOn(this.answer, this.names)));
+        const conversions = this.files.map((_, index) => this.conversionOf(index));
+        this.put('verdict', banner(this.verdictShown, ...sentencesOn(this.answer, this.names, conversions)));
         this.put('copies', ...this.files.filter(copyKnown).map((file) => copyNotice(file, copyKnown(file))));
         if (this.answer.comparison?.first) {
             this.put('differences', firstDifference(this.answer.comparison.first, this.names));
@@ -57,29 +59,43 @@ export class Result {
         return this.verdictShown.title;
     }
 
-    /** Shows what follows from the verdict. */
+    // How many differences there are, before anything is known of them.
+    async showCount() {
+        const count = await this.client.ask('count', {}, this.tell);
+        if (this.isCurrent() && count > 1) {
+            const told = element('p', { id: 'count' }, say('difference.count', { count }));
+            this.put('differences', firstDifference(this.answer.comparison.first, this.names), told);
+        }
+    }
+
+    /** Shows what follows from the verdict: what differs, or what is wrong, and then all else. */
     async rest() {
+        if (this.answer.comparison?.first) {
+            await this.showCount();
+            await this.list();
+        }
         this.put('troubles', ...await troublesOf(this.answer.files, this.names, this.client, { fixes: this.data.fixes, takesCopy: this.takesCopy }));
         this.sums = await this.client.ask('sums', {}, this.tell);
         if (!this.isCurrent()) {
             return;
         }
         this.types = [...new Set(this.sums.flatMap(({ types }) => types ?? []))].sort();
-        this.offerTypes(this.types, this.types.length > 1 && (this.answer.comparison?.same === false || this.answer.files.some(({ outcome }) => outcome === 'refused')));
+        const mayHelp = this.answer.comparison?.same === false || this.answer.files.some(({ outcome }) => outcome === 'refused');
+        this.offerTypes(this.types, this.types.length > 1 && mayHelp);
         this.showNotices();
         this.showCopies();
         await this.showRecord();
         this.showBallots();
         await this.showCard();
-        if (this.answer.comparison?.first) {
-            await this.list();
+        if (this.listed !== null) {
+            await this.showOffers();
         }
     }
 
     // The ballots of all files, if all are accepted.
     showBallots() {
         if (this.sums.every(({ canonical }) => canonical !== undefined)) {
-            this.put('ballots', new BallotList(this.client, { files: this.names.length, tell: this.tell }).section());
+            this.put('ballots', new BallotList(this.client, { names: this.names, sums: this.sums, version: this.data.version, tell: this.tell }).section());
         }
     }
 
@@ -118,7 +134,10 @@ export class Result {
         this.put('seen', this.listed.seen === null ? null : seenBox(this.listed));
         await this.showSentences();
         this.put('differences', firstDifference(this.listed.first, this.names), await differenceList(this.client, this.listed, this.names));
-        await this.showRecord();
+    }
+
+    // What else the files could be compared by.
+    async showOffers() {
         const better = await this.client.ask('betterType', { types: this.types }, this.tell);
         if (this.isCurrent()) {
             this.put('offer', better === null ? null : typeOffer(better, this.prefers));
@@ -151,7 +170,7 @@ export class Result {
     showNotices() {
         const envelopes = this.sums.map(({ envelope }) => envelope);
         const isCompared = this.answer.comparison !== null && !envelopes.includes(undefined);
-        this.put('notices', sameBytesNotice(this.sums), isCompared ? notesNotice(envelopes, this.names) : null,
+        this.put('notices', sameBytesNotice(this.sums), isCompared ? notesNotice(envelopes, this.names) : null, ...this.conversionNotices(),
             ...this.sums.flatMap((sums, index) => fileNotices(sums, this.names[index], index, this.prefer)));
         if (isCompared) {
             this.parts.verdict.querySelector('.envelope')?.append(envelopeTable(envelopes, this.names));
@@ -164,7 +183,9 @@ export class Result {
             return;
         }
         this.put('record', recordOf({
-            files: this.answer.files.map((file, index) => ({ ...file, ...this.sums[index], copied: this.originOf(index) })),
+            files: this.answer.files.map((file, index) => ({
+                ...file, ...this.sums[index], copied: this.originOf(index), conversion: this.conversionOf(index),
+            })),
             names: this.names, prefer: this.prefer,
             version: this.data.version, pageSum: this.data.pageSum, verdict: this.verdictShown.title, date: this.date, findings, listed: this.listed,
             ownView: this.ownView,
@@ -181,6 +202,18 @@ export class Result {
     // What is known of a file that is a copy of this page, or says so.
     originOf(index) {
         return copyKnown(this.files[index]) ?? this.sums[index].prepared ?? undefined;
+    }
+
+    // What is known of the conversion of a file, or of the one that it is a copy of; null if it was not in XML.
+    conversionOf(index) {
+        return this.answer.files[index].converted ?? copyKnown(this.files[index])?.converted ?? null;
+    }
+
+    conversionNotices() {
+        return this.files.flatMap((file, index) => convertedNotices(this.conversionOf(index), {
+            name: copyKnown(file)?.name ?? this.names[index], index, client: copyKnown(file) === undefined ? this.client : null,
+            isRefused: this.answer.files[index].outcome === 'refused',
+        }));
     }
 
     // What the record has of the differences or the faults.

@@ -34,22 +34,39 @@ export function countsOf(words) {
 
 // What the page shows of ballots: the members of each part.
 const SHOWN = {
-    election: ['Name', 'StartDate'], unit: ['Name'], party: ['Name'], header: ['Name'], candidate: ['BallotName', 'PartyId', 'IsTopTicket'],
+    election: ['Name', 'StartDate'], unit: ['Name'], party: ['Name'], header: ['Name'], candidate: ['BallotName', 'PartyId', 'IsTopTicket', 'IsIncumbent'],
     contest: ['Name', 'BallotTitle', 'BallotSubTitle', 'VotesAllowed', 'VoteVariation', 'OtherVoteVariation', 'ContestSelection', 'CandidateId',
-        'SummaryText', 'FullText', 'ProStatement', 'ConStatement', 'EffectOfAbstain', 'PassageThreshold'],
+        'HasRotation', 'SummaryText', 'FullText', 'ProStatement', 'ConStatement', 'EffectOfAbstain', 'PassageThreshold'],
+    person: ['Profession'],
     style: ['GpUnitIds', 'PartyIds', 'OrderedContent'],
 };
 
 /**
+ * Whether the ballots of the page show a member of a thing: of some members they do so only where a flag is set, or of a candidate.
+ * @param {import('./meaning.mjs').Meaning} meaning
+ */
+export function showsOf(meaning, thing, member) {
+    if (member === 'HasRotation' || member === 'IsIncumbent') {
+        return thing.object[member] === true;
+    }
+    return isShownOf(thing.part, member) && (member !== 'Profession' || meaning.isCandidate(thing));
+}
+
+function isShownOf(part, member) {
+    return Object.hasOwn(SHOWN, part) && SHOWN[part].includes(member);
+}
+
+/**
  * What a voter may see and the ballots of the page don't show, in groups with their counts.
- * @param {{part: string, how: string, member?: string, word: string, isCaused: boolean}[]} entries
+ * @param {{part: string, how: string, member?: string, word: string, isCaused: boolean, isHidden: boolean}[]} entries one that `isHidden` is of
+ *     an object whose member no ballot shows
  * @param {boolean} isShown whether the ballots that are shown differ. If they don't, they show none of the differences, but for those
  *     that follow from another identifier alone
  */
 export function leftOutOf(entries, isShown) {
     const groups = new Map();
-    for (const { part, how, member = null, word, isCaused } of entries) {
-        const shows = (isShown || isCaused) && Object.hasOwn(SHOWN, part) && (how !== 'member' || SHOWN[part].includes(member));
+    for (const { part, how, member = null, word, isCaused, isHidden } of entries) {
+        const shows = (isShown || isCaused) && !isHidden && (how === 'member' ? isShownOf(part, member) : Object.hasOwn(SHOWN, part));
         if (word !== 'unseen' && !shows) {
             const key = JSON.stringify([part, how, member]);
             groups.set(key, { part, how, member, count: (groups.get(key)?.count ?? 0) + 1 });

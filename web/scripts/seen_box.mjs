@@ -36,7 +36,8 @@ export function leftOutShown(leftOut) {
         more === 0 ? null : element('li', {}, say('record.more', { count: more })))];
 }
 
-function leftOutSentence({ part, how, member, count }) {
+/** What the ballots leave out of objects, and how often. */
+export function leftOutSentence({ part, how, member, count }) {
     const values = { parts: say(`parts.${part}`), count };
     return how === 'member' ? saidWith('seen.leftOut.member', { member: memberWords(member) }, values) : say('seen.leftOut.object', values);
 }

@@ -4,10 +4,13 @@ import { boundedPointer } from './bounded.mjs';
 import { markIn } from './copy_mark.mjs';
 import { repeatedNames } from '../../bindings/js/lib/repeated.mjs';
 import { whyNotJson } from './diagnosis.mjs';
-import { electionsIn, envelopeIn } from './envelope.mjs';
+import { headIn } from './envelope.mjs';
 import { readExactly } from '../../bindings/js/lib/exact.mjs';
+import { sha256 } from './digest.mjs';
 import { excerptOf, Lines } from './excerpt.mjs';
 import { kindsOf } from './fault_kinds.mjs';
+import { readBorn } from './from_xml/born.mjs';
+import { formOf, whyNot } from './from_xml/form.mjs';
 import { foundPlaces } from './places.mjs';
 import { textOf } from '../../bindings/js/lib/scanner.mjs';
 import { typesIn } from './types.mjs';
@@ -17,10 +20,14 @@ const NOT_PRE_ELECTION = 8;
 const MOST_REPEATED = 100;
 
 export class Side {
-    /** @param {Blob} file */
-    constructor(file, index) {
+    /**
+     * @param {Blob} file
+     * @param {object | null} [converted] what is known of the conversion, if the file is the form of one in XML, or why there is none
+     */
+    constructor(file, index, converted = null) {
         this.file = file;
         this.index = index;
+        this.converted = converted;
         this.bytes = null;
         this.outcome = null;
         this.checked = null;
@@ -73,12 +80,33 @@ export class Side {
         this.outcome = answer.outcome === 'not JSON' ? 'notJson' : answer.outcome;
     }
 
+    /** Takes the form of JSON that was made from XML in place of the file. Tells whether it is such JSON. */
+    async takeForm(tell) {
+        if (this.outcome !== 'refused' || this.converted !== null || !this.checked.faults.some(isWithoutClass)) {
+            return false;
+        }
+        tell({ stage: 'converting', index: this.index });
+        try {
+            const converter = readBorn(this.bytes);
+            if (converter === null) {
+                return false;
+            }
+            const { form, conversion } = await formOf(this.bytes, converter);
+            Object.assign(this, { bytes: form, converted: { ...conversion, isBorn: true }, outcome: null, checked: null });
+            return true;
+        } catch (error) {
+            this.converted = whyNot(error);
+            return false;
+        }
+    }
+
     /** What the page shows of the outcome. */
     told() {
-        const { outcome } = this;
+        const { outcome, converted } = this;
         return {
-            size: this.bytes === null ? this.file.size : this.bytes.length,
+            size: converted?.size ?? (this.bytes === null ? this.file.size : this.bytes.length),
             outcome,
+            ...(converted === null ? {} : { converted }),
             ...(outcome === 'refused' ? { faults: this.checked.allFaults } : {}),
             ...(outcome === 'refused' && this.checked.faults.some(({ reason }) => reason === NOT_PRE_ELECTION) ? { status: this.status() } : {}),
             ...(outcome === 'notJson' ? { trouble: this.trouble() } : {}),
@@ -147,7 +175,7 @@ export class Side {
         }
         const form = this.canonical(erd, prefer, tell);
         return {
-            sha256: await sha256(this.bytes),
+            sha256: this.converted?.sha256 ?? await sha256(this.bytes),
             ...(form === null ? {} : { canonical: { size: form.length, sha256: await sha256(form) } }),
         };
     }
@@ -157,7 +185,7 @@ export class Side {
         return repeatedNames(this.bytes, { most: MOST_REPEATED }).map(({ place, times }) => ({ pointer: boundedPointer(place), times }));
     }
 
-    // Its notes, where they are a text.
+    // The notes of a refused file, where they are a text.
     notes() {
         const [found] = foundPlaces(this.bytes, [['Notes']]);
         const { start, end } = found?.way.at(-1) ?? {};
@@ -166,10 +194,12 @@ export class Side {
 
     /** Whether its notes say that it is a prepared copy, the types of its identifiers, the names that are written twice, its envelope and its elections. */
     facts() {
-        return {
-            ...(this.isJson ? { prepared: markIn(this.notes()), types: typesIn(this.bytes), repeated: this.repeated() } : {}),
-            ...(this.outcome === 'accepted' ? { envelope: envelopeIn(this.bytes), ...electionsIn(this.bytes) } : {}),
-        };
+        if (!this.isJson) {
+            return {};
+        }
+        const head = this.outcome === 'accepted' ? headIn(this.bytes) : {};
+        const notes = head.envelope === undefined ? this.notes() : head.envelope.Notes;
+        return { prepared: markIn(notes), types: typesIn(this.bytes), repeated: this.repeated(), ...head };
     }
 }
 
@@ -178,8 +208,7 @@ export function isNoMemory(error) {
     return error instanceof NoMemoryError || error instanceof RangeError;
 }
 
-/** The SHA-256 of bytes, in hexadecimal digits. */
-export async function sha256(bytes) {
-    const digest = new Uint8Array(await crypto.subtle.digest('SHA-256', bytes));
-    return Array.from(digest, (byte) => byte.toString(16).padStart(2, '0')).join('');
+// A fault of the report itself: it names no class.
+function isWithoutClass({ place, name }) {
+    return place.length === 0 && name === '@type';
 }

@@ -1,5 +1,6 @@
 // The verdict on one file or two, in a heading and a sentence.
 import { element, long, saidWith, theirs } from './dom.mjs';
+import { convertedSentence } from './from_xml/shown.mjs';
 import { envelopeDetails } from './notices.mjs';
 import { say } from './texts.mjs';
 
@@ -32,8 +33,12 @@ export function banner({ tone, title }, ...sentences) {
         element('div', {}, element('h2', { id: 'verdict', tabindex: '-1' }, title), ...sentences));
 }
 
-/** The sentences below the heading. */
-export function sentencesOn({ files, comparison }, names) {
+/** The sentences below the heading. `conversions` has what is known of each file that was converted from XML. */
+export function sentencesOn(answer, names, conversions) {
+    return [...judgedSentences(answer, names), ...conversions.map((converted, index) => convertedSentence(converted, names[index]))];
+}
+
+function judgedSentences({ files, comparison }, names) {
     if (comparison === null) {
         return files.map((file, index) => sentenceOn(file, names[index]));
     }

@@ -36,6 +36,11 @@ export function beginningOf(text, length) {
     return text.slice(0, end);
 }
 
+/** A text, or its beginning if it is longer than so many characters. */
+export function shortened(text, most) {
+    return text.length <= most ? text : `${beginningOf(text, most)}…`;
+}
+
 /** The last characters of a text, without a half of a surrogate pair at the beginning. */
 export function endOf(text, length) {
     const start = text.length - length;
@@ -52,7 +57,7 @@ const LONGEST_CHANGED = 200;
 export function passageOf(pieces) {
     return pieces.map(({ text, changed }, at) => {
         if (changed) {
-            return text.length <= LONGEST_CHANGED ? text : `${beginningOf(text, LONGEST_CHANGED)}…`;
+            return shortened(text, LONGEST_CHANGED);
         }
         const [behind, before] = [at > 0, at < pieces.length - 1];
         return text.length <= 2 * AROUND ? text : `${behind ? beginningOf(text, AROUND) : ''}…${before ? endOf(text, AROUND) : ''}`;

@@ -8,7 +8,7 @@ let started = null;
 let judgement = null;
 
 // What a judgement is asked. Each question waits until its files are judged, since a worker may begin anew after it was ended.
-const QUESTIONS = ['sums', 'list', 'more', 'betterType', 'ownTypes', 'ownView', 'overview', 'precincts', 'onBallots', 'someOnBallots', 'languages', 'styles', 'ballot', 'kinds', 'places', 'canonical', 'lines', 'firstLines', 'part', 'preparation',
+const QUESTIONS = ['count', 'sums', 'list', 'more', 'betterType', 'ownTypes', 'ownView', 'overview', 'precincts', 'onBallots', 'someOnBallots', 'languages', 'styles', 'ballot', 'kinds', 'places', 'canonical', 'lines', 'firstLines', 'part', 'preparation',
     'preparedCopy', 'preparedChanges'];
 
 const ANSWERS = {
@@ -17,11 +17,11 @@ const ANSWERS = {
         const module = await WebAssembly.compile(wasm);
         started = { module, seen, erd: new Erd(module) };
     },
-    open({ files, prefer }) {
-        judgement = new Judgement(new Erd(started.module), files, prefer, started.seen);
+    open({ files, prefer, converted }) {
+        judgement = new Judgement(new Erd(started.module), files, prefer, started.seen, converted);
     },
     verdict: (_question, tell) => judged(tell),
-    survey: ({ file, prefer }) => surveyed(started.erd, file, prefer),
+    survey: ({ file, prefer, converted }) => surveyed(started.erd, file, prefer, converted),
 };
 
 function judged(tell) {
