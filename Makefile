@@ -22,7 +22,11 @@ fish_completions = $(datarootdir)/fish/vendor_completions.d
 INSTALL_PROGRAM = install -m 755
 INSTALL_DATA = install -m 644
 DOCUMENTS = CHANGELOG.md LICENSE-MIT LICENSE-APACHE THIRD-PARTY-NOTICES
-PAGES = docs/USING.md docs/FIXES.md docs/WALKTHROUGH.md docs/VENDORS.md docs/PROFILE.md
+PAGES = docs/GUIDE.md docs/FIXES.md docs/VENDORS.md docs/PROFILE.md docs/LIMITS.md
+# The page for a browser, where it was made. The packages have it, and it is made for them from the library.
+PAGE = $(wildcard out/portable/erd.html)
+needs_page = $(if $(wildcard out/portable/erd.html out/portable/erd.wasm),,library)
+PICTURES = docs/page-same.png docs/page-difference.png docs/page-ballots.png docs/page-faults.png
 EXAMPLES = $(wildcard examples/*.json) examples/README.md
 SCRIPTS = $(wildcard contrib/*)
 
@@ -90,12 +94,14 @@ fuzz: library
 
 # PROGRAM=.. is the file that is installed, in place of ./erd. Everything in quotes, since a prefix may have a blank.
 install: erd
+	$(call needs,python3)
 	install -d "$(DESTDIR)$(bindir)" "$(DESTDIR)$(mandir)/man1" "$(DESTDIR)$(bash_completions)" "$(DESTDIR)$(zsh_completions)" \
 	    "$(DESTDIR)$(fish_completions)" "$(DESTDIR)$(docdir)/docs" "$(DESTDIR)$(docdir)/examples" "$(DESTDIR)$(docdir)/contrib"
 	$(INSTALL_PROGRAM) "$(or $(PROGRAM),erd)" "$(DESTDIR)$(bindir)/erd"
 	$(INSTALL_DATA) docs/erd.1 "$(DESTDIR)$(mandir)/man1/erd.1"
 	$(INSTALL_DATA) $(DOCUMENTS) "$(DESTDIR)$(docdir)"
-	$(INSTALL_DATA) $(PAGES) "$(DESTDIR)$(docdir)/docs"
+	umask 022 && python3 packaging/pages_apart.py --beside examples --beside contrib "$(DESTDIR)$(docdir)/docs" $(PAGES)
+	$(if $(PAGE),$(INSTALL_DATA) $(PAGE) "$(DESTDIR)$(docdir)")
 	$(INSTALL_DATA) $(EXAMPLES) "$(DESTDIR)$(docdir)/examples"
 	$(INSTALL_DATA) $(SCRIPTS) "$(DESTDIR)$(docdir)/contrib"
 	$(INSTALL_DATA) packaging/completions/erd.bash "$(DESTDIR)$(bash_completions)/erd"
@@ -105,16 +111,16 @@ install: erd
 # Takes away the files of `make install`, and of its folders those of erd alone.
 uninstall:
 	rm -f "$(DESTDIR)$(bindir)/erd" "$(DESTDIR)$(mandir)/man1/erd.1"
-	cd "$(DESTDIR)$(docdir)" 2> /dev/null && rm -f $(DOCUMENTS) $(PAGES) $(EXAMPLES) $(SCRIPTS) || true
+	cd "$(DESTDIR)$(docdir)" 2> /dev/null && rm -f erd.html $(DOCUMENTS) $(PAGES) $(PICTURES) $(EXAMPLES) $(SCRIPTS) || true
 	rm -f "$(DESTDIR)$(bash_completions)/erd" "$(DESTDIR)$(zsh_completions)/_erd" "$(DESTDIR)$(fish_completions)/erd.fish"
 	rmdir "$(DESTDIR)$(docdir)/docs" "$(DESTDIR)$(docdir)/examples" "$(DESTDIR)$(docdir)/contrib" "$(DESTDIR)$(docdir)" \
 	    2> /dev/null || true
 
-deb: erd
+deb: erd $(needs_page)
 	$(call needs,dpkg-deb dpkg-shlibdeps gzip)
 	@packaging/deb.sh
 
-tarball: erd
+tarball: erd $(needs_page)
 	$(call needs,tar gzip)
 	@packaging/tarball.sh
 
@@ -137,8 +143,8 @@ page: library
 	@packaging/portable/wasm.sh
 	@python3 web/build.py out/portable/erd.wasm
 
-# All pages as HTML with the page, the conformance suite and, where there is a release, its sums, in out/site.
-site: page
+# All pages as HTML with the conformance suite and, where they have been made, the page and the sums of a release, in out/site.
+site:
 	$(call needs,pandoc python3)
 	@packaging/conformance.sh
 	@python3 packaging/site.py

@@ -49,9 +49,11 @@ def version_of_debian(name):
     return subprocess.run(words, capture_output=True, text=True, check=True).stdout
 
 
+# The files that have erd.wasm in them, as the page has it, which stands in the packages of the program.
+HAVE_WASM = [r'/erd\.wasm$', r'/erd\.html$', r'/erd-.*\.tgz$', r'/erd_.*\.deb$', r'/erd-[^/]*-linux-', 'windows']
 # What Debian's tools put into the forms: the package, its licence and the files that have its code.
 FROM_DEBIAN = [
-    ('libclang-rt-22-dev-wasm64', 'Apache-2.0 WITH LLVM-exception', ['erd.wasm']),
+    ('libclang-rt-22-dev-wasm64', 'Apache-2.0 WITH LLVM-exception', HAVE_WASM),
     ('gcc-mingw-w64-x86-64-posix', 'GPL-3.0-or-later WITH GCC-exception-3.1', ['windows']),
     ('mingw-w64-x86-64-dev', 'MIT AND LicenseRef-mingw-w64-public-domain', ['windows']),
     ('gcc-aarch64-linux-gnu', 'GPL-3.0-or-later WITH GCC-exception-3.1', ['aarch64', 'arm64']),
@@ -85,13 +87,13 @@ def main():
     relations += [relation(parts[0]['SPDXID'], 'BUILD_TOOL_OF', erd['SPDXID'])]
     relations += [relation(erd['SPDXID'], 'STATIC_LINK', part['SPDXID']) for part in parts[1:]]
     parts.append(dlmalloc)
-    linked = [(dlmalloc, ['erd.wasm'])]
+    linked = [(dlmalloc, HAVE_WASM)]
     for name, licence, words in FROM_DEBIAN:
         parts.append(package(name, version_of_debian(name), licence, comment='Of Debian.'))
         linked.append((parts[-1], words))
     for part, words in linked:
         relations += [relation(file['SPDXID'], 'STATIC_LINK', part['SPDXID']) for file in files
-                      if any(word in file['fileName'] for word in words)]
+                      if any(re.search(word, file['fileName']) for word in words)]
     sums = ''.join(file['checksums'][1]['checksumValue'] for file in files)
     document = {
         'spdxVersion': 'SPDX-2.3', 'dataLicense': 'CC0-1.0', 'SPDXID': 'SPDXRef-DOCUMENT', 'name': f'erd-{version}',

@@ -45,7 +45,7 @@ reason() {
 
 # cost CRATE: the processor seconds of its proof from nothing
 cost() {
-    sed -n "s/^| \`$1\` | \([0-9]*\) .*/\1/p" docs/GATE.md
+    sed -n "s/^| \`$1\` | \([0-9]*\) .*/\1/p" CONTRIBUTING.md
 }
 
 # Says how long this takes, by the processors that there are and the work that is kept. A second processor saves a third of the

@@ -11,6 +11,7 @@ root=$work/root
 documents=$root/usr/share/doc/erd
 
 program=$(packaging/profiled.sh erd)
+packaging/page.sh > /dev/null
 make --no-print-directory -s install PREFIX=/usr DESTDIR="$root" PROGRAM="$program"
 
 # Debian has the licenses in `copyright`, and the changelogs and manual pages compressed.

@@ -7,16 +7,17 @@ cd "$(dirname "$0")/.."
 release=out/release
 rm -rf "$release" "$release.new"
 
-packaging/deb.sh
-packaging/tarball.sh
+packaging/source.sh
 packaging/conformance.sh
 packaging/portable/make.sh
+python3 web/build.py out/portable/erd.wasm out/portable/erd.html
+packaging/deb.sh
+packaging/tarball.sh
 packaging/tarball.sh aarch64
 packaging/library_deb.sh amd64
 packaging/library_deb.sh arm64
 packaging/library_archives.sh
 packaging/portable/javascript.sh
-python3 web/build.py out/portable/erd.wasm out/portable/erd.html
 packaging/python.sh
 
 mkdir -p "$release.new"

@@ -15,6 +15,7 @@ case $processor in
 aarch64) program=out/portable/program-aarch64/erd ;;
 *) echo "$0: $processor is no processor of ours" >&2; exit 1 ;;
 esac
+packaging/page.sh > /dev/null
 make --no-print-directory -s install PREFIX=/ DESTDIR="$work/$name" PROGRAM="$program"
 mkdir -p out
 tarball "$work/$name" "out/$name.tar.gz"

@@ -1018,7 +1018,7 @@ def run_compare(left_handle, right_handle, preference):
 
 
 def run_differences(left_handle, right_handle, preference):
-    """The same with all of the list. The packages have this command, and `erd` has not."""
+    """'`differences LEFT RIGHT` writes `same`; or a line for each difference; or the lines of the refused report.'"""
     return run_two(left_handle, right_handle, preference, lambda left, right: list(differences(left, right)))
 
 
@@ -1044,9 +1044,32 @@ def entries_answer(left_data, right_data, preference):
     return (1 if found else 0), found
 
 
+def run_as_data(command, handles, preference):
+    """'`check --json FILE`: the JSON that `check_data_with` answers, and one line feed', and so with two files."""
+    status, text = data_of(command, [read_input(handle) for handle in handles], preference)
+    write_lines(STANDARD_OUTPUT, [text])
+    return status
+
+
+def data_of(command, inputs, preference):
+    """The status and the JSON for these inputs."""
+    if command == 'check':
+        status, faults, _ = verdict_on(inputs[0], preference)
+        value = 'not JSON' if status == 2 else [fault_data(fault) for fault in faults]
+    else:
+        status, value = entries_answer(*inputs, preference)
+    if command == 'compare' and isinstance(value, list):
+        # DATA.md: 'null, or an object for the first difference', which tells nothing of what is inside selections.
+        value = {name: part for name, part in value[0].items() if name != 'selections'} if value else None
+    return status, compact_text(value)
+
+
 FILES_OF = {'check': 1, 'canon': 1, 'compare': 2, 'differences': 2, 'entries': 2}
 
-USAGE = 'usage: erd < report | erd check|canon [--prefer TYPE] FILE | erd compare [--prefer TYPE] LEFT RIGHT'
+WITH_JSON = ('check', 'compare', 'differences')
+
+USAGE = ('usage: erd < report | erd check|canon [--json] [--prefer TYPE] FILE | '
+         'erd compare|differences [--json] [--prefer TYPE] LEFT RIGHT')
 
 
 class Help(Exception):
@@ -1072,16 +1095,18 @@ def preference_after(words, preference):
 
 
 def words_of_command(command, words):
-    """'After `check`, `canon` and `compare`, before the first file, may stand `--prefer TYPE`.' erd.1: 'Write a name
-    that begins with - after --, or with ./ before it.'"""
-    # 'And `--prefer TYPE` after a file.'
-    preference, files = None, []
+    """'`--prefer TYPE` may follow `check`, `canon`, `compare` and `differences`, before the first file, and behind `--json`
+    if that is there.' erd.1: 'Write a name that begins with - after --, or with ./ before it.'"""
+    # '`clap` takes both options after a file or in the other order.'
+    preference, is_json, files = None, False, []
     while words:
         word, words = words[0], words[1:]
         if word == '--':
             files, words = files + words, []
         elif word in ('-h', '--help'):
             raise Help()
+        elif word == '--json' and command in WITH_JSON and not is_json:
+            is_json = True
         elif word == '--prefer':
             preference, words = preference_after(words, preference), words[1:]
         elif word.startswith('--prefer=') and word != '--prefer=' and preference is None:
@@ -1092,14 +1117,14 @@ def words_of_command(command, words):
             files.append(word)
     if len(files) != FILES_OF[command]:
         raise Stop(USAGE)
-    return preference, files
+    return preference, is_json, files
 
 
 def run(words):
     """The table of the words after `erd`. '`compare` opens both files first, so `cannot open` comes before
     everything.'"""
     # The page does not say: what an empty file name is. Here it cannot be opened; the status is that of a usage fault.
-    # 'Any option but `--prefer` and help' is a usage fault.
+    # 'Any option other than `--prefer`, `--json` and help' is a usage fault; `--json` twice, with a value, or after `canon`.
     # The page does not say: what `--` alone is. Here it is the filter: no words are left after the end of options.
     if not words or words == ['--']:
         return run_canon(STANDARD_INPUT, None)
@@ -1110,8 +1135,10 @@ def run(words):
         raise Help()
     if command not in FILES_OF:
         raise Stop(USAGE)
-    preference, files = words_of_command(command, rest)
+    preference, is_json, files = words_of_command(command, rest)
     handles = [open_input(name) for name in files]
+    if is_json:
+        return run_as_data(command, handles, preference)
     runners = {'check': run_check, 'canon': run_canon, 'compare': run_compare, 'differences': run_differences,
                'entries': run_entries}
     return runners[command](*handles, preference)

@@ -1,6 +1,6 @@
 #!/usr/bin/env bash
 # Every check of the repository. At the end stand what failed and what was skipped, and what each part cost; the last line
-# is 'N passed, M failed' for all of them together. docs/GATE.md says what each part is for.
+# is 'N passed, M failed' for all of them together. CONTRIBUTING.md says how they run.
 set -u
 cd "$(dirname "$0")/.." || exit 1
 . tests/shared/counting.sh
@@ -107,6 +107,6 @@ lane 'program:' 'tests/program/command.sh' 'tests/pages/manual.sh' 'python3 test
     'tests/program/refusals.sh'
 
 await
-# With the proofs that an earlier run has kept, the first part takes some seconds, and docs/GATE.md says what it takes from nothing.
+# With the proofs that an earlier run has kept, the first part takes some seconds, and CONTRIBUTING.md says what it takes from nothing.
 ! grep -aqE '^rt: [a-z_]+ is kept: ' "$proof/said" || : > "$proof/is_cheaper"
 sum_up

@@ -3,8 +3,15 @@
 #
 # Each part has a folder below $results, numbered in the order of the table at the end. It has the file `command`; once the part
 # has begun, `said` and `process`; at its end `processor`, `clock` and `status`, or `lost` where what ran it has died. With the file
-# `is_cheaper` its cost is shown, but not kept for tests/pages/gate_times.py. What each part said stays in out/gate.
+# `is_cheaper` its cost is shown, but not kept for tests/pages/gate_times.py. What each part said stays in out/gate, and the counts of all
+# in out/gate-counts for packaging/record_gate.sh.
 results=$(mktemp -d) || exit 1
+
+# committed: the tree of the commit on which the gate runs, or nothing where something is not committed
+committed() {
+    [ -n "$(git status --porcelain 2>&1)" ] || git rev-parse 'HEAD^{tree}'
+}
+tree=$(committed)
 began=$SECONDS
 count=0
 told=''
@@ -183,6 +190,8 @@ sum_up() {
     keep
     cp "$results/costs" out/gate-costs
     cost "$(cat "$results"/[0-9]*/processor 2> /dev/null | spent -)" $((SECONDS - began)) 'all parts'
+    rm -f out/gate-counts
+    [ -z "$tree" ] || [ "$tree" != "$(committed)" ] || echo "$tree $passed passed, $failed failed" > out/gate-counts
     counts
 }
 

@@ -1,17 +1,38 @@
-// Searches the sections of all pages for the words of the box, with no server. `sections` comes from sections.js: the page, the
-// anchor, the headings above and the text of each.
+// Searches the sections of all pages for the words of the box, with no server. `sections` comes from sections.js: of each the page with its
+// title, the anchor, the heading, the text, and the weight of the page: those for users count more than those for contributors.
 const box = document.querySelector('input[name=words]');
 const list = document.querySelector('#found');
 const count = document.querySelector('#count');
 const MOST = 50;
 const AROUND = 80;
 
-/** How well a section has the words: 0 where one is missing, and more where headings have them. */
+// What people ask, and the words of these pages for it.
+const ALSO = {
+    invalid: ['refused', 'accepted'], valid: ['accepted'], rejected: ['refused'], reject: ['refused'], error: ['fault'], errors: ['fault'], wrong: ['fault'],
+    fails: ['refused'], diff: ['differences'], identical: ['same'], equal: ['same'], ram: ['memory'], slow: ['time'], speed: ['time'], fast: ['time'],
+    macos: ['mac'], osx: ['mac'], apple: ['mac'], download: ['release'], hack: ['untrusted'], malicious: ['untrusted'], virus: ['untrusted'],
+    proof: ['proved'], prove: ['proved'], verified: ['proved'], repair: ['fix'], mend: ['fix'], bom: ['byte order mark'], rest: ['json'],
+};
+
+/** How well a text has a word: 0 where it lacks it, and the most where it stands alone. */
+function measure(text, word) {
+    const at = text.indexOf(word);
+    if (at < 0) return 0;
+    const whole = new RegExp(`(^|[^\\p{L}\\p{N}])${word.replace(/[.*+?^${}()|[\]\\]/g, '\\$&')}($|[^\\p{L}\\p{N}])`, 'u');
+    const front = new RegExp(`(^|[^\\p{L}\\p{N}])${word.replace(/[.*+?^${}()|[\]\\]/g, '\\$&')}`, 'u');
+    return whole.test(text) ? 6 : front.test(text) ? 3 : 1;
+}
+
+/** How well a section has one of the words that people ask: in its heading, in the title of its page, or in its text. */
+function worthOf(section, word) {
+    const best = (text, most) => Math.max(measure(text, word), ...(ALSO[word] ?? []).map((other) => measure(text, other) * 0.8)) * most;
+    return Math.max(best(section.heading.toLowerCase(), 8), best(section.title.toLowerCase(), 5), best(section.text.toLowerCase(), 1));
+}
+
+/** How well a section has all of the words: 0 where one is missing. */
 function worth(section, words) {
-    const heading = section.heading.toLowerCase();
-    const text = section.text.toLowerCase();
-    if (!words.every((word) => heading.includes(word) || text.includes(word))) return 0;
-    return 1 + words.filter((word) => heading.includes(word)).length * 10;
+    const each = words.map((word) => worthOf(section, word));
+    return each.some((one) => one === 0) ? 0 : section.weight * each.reduce((sum, one) => sum + one, 0);
 }
 
 /** A part of the text around the first of the words, with each of them marked. */
@@ -36,16 +57,17 @@ function excerpt(text, words) {
 }
 
 function search() {
-    const words = box.value.toLowerCase().split(/\s+/).filter(Boolean);
+    const words = box.value.toLowerCase().split(/[\s?]+/).filter(Boolean);
     const found = words.length === 0 ? [] : sections.map((section) => [worth(section, words), section]).filter(([value]) => value > 0)
         .sort((one, other) => other[0] - one[0]).map(([, section]) => section);
+    const marked = words.flatMap((word) => [word, ...(ALSO[word] ?? [])]);
     list.replaceChildren(...found.slice(0, MOST).map((section) => {
         const item = document.createElement('li');
         const link = document.createElement('a');
         item.className = 'found';
         link.href = section.page + (section.anchor ? '#' + section.anchor : '');
-        link.textContent = section.heading;
-        item.append(link, excerpt(section.text, words));
+        link.textContent = section.heading ? `${section.title}: ${section.heading}` : section.title;
+        item.append(link, excerpt(section.text, marked));
         return item;
     }));
     count.textContent = words.length === 0 ? '' : found.length === 0 ? 'Nothing has all of these words.'

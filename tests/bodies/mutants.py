@@ -48,6 +48,7 @@ AREAS = {
     'bindings/js/lib/prepare/*.mjs': [MODULE, *STEPS],
     'bindings/js/lib/prepare/steps/*.mjs': STEPS,
     'bindings/js/lib/*.mjs': [MODULE, COMMAND, *PARTS, 'tests/forms/javascript_package.sh'],
+    'web/scripts/from_xml/*.mjs': ['tests/page/page.sh xml_form xml_agree'],
     'web/scripts/*.mjs': [*PARTS, 'tests/page/page.sh flows results ballots', 'tests/page/page.sh notices lines growing voter record filed prepared '
                           'many named spanish keyboard hostile bounds accessibility'],
 }

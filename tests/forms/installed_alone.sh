@@ -72,11 +72,12 @@ has() {
 }
 
 install_program=$(line docs/INSTALL.md 'sudo apt install .\/erd_')
-install_library=$(line docs/CALLING.md 'sudo apt install .\/liberd0')
+install_library=$(line docs/API.md 'sudo apt install .\/liberd0')
 said 'the pages have the commands' "$(for word in "$install_program" "$install_library"; do [ -n "$word" ] || echo 'one is missing'; done)"
 
 has 'erd_*_amd64.deb' && {
     alone 'the program, as INSTALL.md says' accepted "$install_program" 'erd check ballots.json'
+    alone 'the page that the package has' accepted "$install_program" 'test -s /usr/share/doc/erd/erd.html && erd check ballots.json'
     alone 'the examples that the package has' same "$install_program" 'cd /usr/share/doc/erd' \
         'erd compare examples/county.vendor-a.json examples/county.vendor-b.json'
     alone 'the scripts that the package has' accepted "$install_program" 'sh /usr/share/doc/erd/contrib/check-folder.sh ballots.json' \
@@ -85,32 +86,33 @@ has 'erd_*_amd64.deb' && {
 has 'erd-*-linux-x86_64.tar.gz' && alone 'the tarball' accepted 'tar xzf erd-*-linux-x86_64.tar.gz' 'rm *.deb' \
     'erd-*-linux-x86_64/bin/erd check ballots.json'
 has 'liberd0_*_amd64.deb' 'liberd-dev_*_amd64.deb' && {
-    alone 'C, as CALLING.md says' accepted "$install_library" 'cp examples/* .' "$(line docs/CALLING.md 'cc erd_call.c')" \
-        "$(line docs/CALLING.md '.\/erd_call ballots')"
+    alone 'C, as API.md says' accepted "$install_library" 'cp examples/* .' "$(line docs/API.md 'cc erd_call.c')" \
+        "$(line docs/API.md '.\/erd_call ballots')"
     command -v mcs > /dev/null && alone 'C#, with liberd0 alone' accepted 'sudo apt install ./liberd0_*_amd64.deb' 'cp examples/* .' \
-        "$(line docs/CALLING.md 'mcs ErdCall')" "$(line docs/CALLING.md 'mono ErdCall')"
+        "$(line docs/API.md 'mcs ErdCall')" "$(line docs/API.md 'mono ErdCall')"
     command -v javac > /dev/null && alone 'Java, with liberd0 and the link of liberd-dev' accepted "$install_library" 'cp examples/* .' \
-        "$(line docs/CALLING.md 'javac ')" "$(line docs/CALLING.md 'java -cp')"
+        "$(line docs/API.md 'javac ')" "$(line docs/API.md 'java -cp')"
     [ -x /usr/bin/rustc ] && alone 'Rust' accepted "$install_library" 'cp examples/* .' \
-        "$(line docs/CALLING.md 'rustc ')" "$(line docs/CALLING.md '.\/erd_call ballots')"
+        "$(line docs/API.md 'rustc ')" "$(line docs/API.md '.\/erd_call ballots')"
 }
 has 'liberd-*-linux-x86_64.tar.gz' && alone 'the library of the tarball' accepted 'tar xzf liberd-*-linux-x86_64.tar.gz' 'cp examples/* .' \
     'folder=$(echo $PWD/liberd-*-linux-x86_64)' 'export PKG_CONFIG_PATH=$folder/pkgconfig LD_LIBRARY_PATH=$folder' \
-    "$(line docs/CALLING.md 'cc erd_call.c')" './erd_call ballots.json'
+    "$(line docs/API.md 'cc erd_call.c')" './erd_call ballots.json'
 has 'erd-*-windows-x86_64.zip' && command -v x86_64-w64-mingw32-gcc > /dev/null && alone 'Windows, by mingw' made \
     'python3 -m zipfile -e erd-*-windows-x86_64.zip .' 'cd erd-*-windows-x86_64' 'cp examples/* .' \
-    "$(line docs/CALLING.md 'x86_64-w64-mingw32-gcc ')" 'test -s erd_call.exe && echo made'
+    "$(line docs/API.md 'x86_64-w64-mingw32-gcc ')" 'test -s erd_call.exe && echo made'
 has 'erd-*-windows-x86_64.zip' && command -v x86_64-w64-mingw32-gcc > /dev/null && command -v wine > /dev/null &&
     alone 'Windows, by wine' accepted 'python3 -m zipfile -e erd-*-windows-x86_64.zip .' 'cd erd-*-windows-x86_64' 'cp examples/* .' \
-        "$(line docs/CALLING.md 'x86_64-w64-mingw32-gcc ')" \
+        "$(line docs/API.md 'x86_64-w64-mingw32-gcc ')" \
         "WINEDEBUG=-all wine erd_call.exe ../ballots.json 2> /dev/null | tr -d '\r'"
 has 'erd-*-linux-aarch64.tar.gz' && [ -x /usr/bin/qemu-aarch64 ] && alone 'the tarball for aarch64' accepted \
     'tar xzf erd-*-linux-aarch64.tar.gz' 'qemu-aarch64 -L /usr/aarch64-linux-gnu erd-*-linux-aarch64/bin/erd check ballots.json'
 has 'erd-*-windows-x86_64.zip' && command -v wine > /dev/null && alone 'erd.exe, by wine' accepted \
-    'python3 -m zipfile -e erd-*-windows-x86_64.zip .' 'cd erd-*-windows-x86_64' 'WINEDEBUG=-all wine erd.exe check ../ballots.json 2> /dev/null'
+    'python3 -m zipfile -e erd-*-windows-x86_64.zip .' 'cd erd-*-windows-x86_64' \
+    'WINEDEBUG=-all wine erd.exe check "examples\small-ballot.json" 2> /dev/null'
 if has 'erd-*-manylinux*x86_64.whl' && /usr/bin/python3 -c 'import venv' 2> /dev/null; then
-    room=("$(line docs/CALLING.md 'python3 -m venv')" "$(line docs/CALLING.md 'python3 -m pip')")
-    alone 'Python, as CALLING.md says' accepted "${room[@]}" 'cp examples/* .' "$(line docs/CALLING.md 'python3 erd_call.py')"
+    room=("$(line docs/API.md 'python3 -m venv')" "$(line docs/API.md 'python3 -m pip')")
+    alone 'Python, as API.md says' accepted "${room[@]}" 'cp examples/* .' "$(line docs/API.md 'python3 erd_call.py')"
     alone 'the command of the wheel' accepted "${room[@]}" 'erd check ballots.json'
     alone 'its version' "$(cat VERSION)" "${room[@]}" "python3 -c 'import erd; print(erd.__version__)'"
     alone 'many files' 0 "${room[@]}" 'erd-many ballots.json > many.txt; echo $?'
@@ -118,11 +120,11 @@ if has 'erd-*-manylinux*x86_64.whl' && /usr/bin/python3 -c 'import venv' 2> /dev
         "${room[@]}" 'erd-many --scheduler tcp://127.0.0.1:1 ballots.json 2>&1 > many.txt || true'
 fi
 has 'erd-*.tgz' && command -v npm > /dev/null && {
-    alone 'JavaScript, as CALLING.md says' accepted "$(line docs/CALLING.md 'npm install')" 'cp examples/* .' \
-        "$(line docs/CALLING.md 'node erd_call.mjs')"
+    alone 'JavaScript, as API.md says' accepted "$(line docs/API.md 'npm install')" 'cp examples/* .' \
+        "$(line docs/API.md 'node erd_call.mjs')"
     alone 'the command of the package for JavaScript' accepted "$(line docs/INSTALL.md 'npm install --global')" \
         "$(line docs/INSTALL.md 'erd check')"
-    alone 'the same, with npx' accepted "$(line docs/CALLING.md 'npm install')" "$(line bindings/js/README.md 'npx --no-install erd check')"
+    alone 'the same, with npx' accepted "$(line docs/API.md 'npm install')" "$(line bindings/js/README.md 'npx --no-install erd check')"
 }
 has 'erd-*-conformance.tar.gz' && has 'erd_*_amd64.deb' && alone 'the conformance suite' 'all' "$install_program" \
     'tar xzf erd-*-conformance.tar.gz' 'erd-*-conformance/run erd | grep -q " 0 failed$" && echo all'

@@ -17,7 +17,9 @@ FOLDERS = sorted(path.name for path in ROOT.iterdir() if path.is_dir() and not p
 
 
 def named(text):
-    """What looks like a path in the repository: the target of a link, a page by its name, or words with a folder in front."""
+    """What looks like a path in the repository: the target of a link, a page by its name, or words with a folder in front. What a page
+    says to be of the source is not looked for."""
+    text = re.sub(r'\(`[^`]*` of the source\)', '', text)
     yield from re.findall(r'\]\(([^)#:]+)(?:#[^)]*)?\)', text)
     yield from re.findall(r'(?<![\w./-])([A-Z]{4,}\.md)\b', text)
     yield from re.findall(rf'(?<![\w./-])((?:{"|".join(FOLDERS)})/[\w./-]*\w)', text)

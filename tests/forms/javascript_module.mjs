@@ -156,8 +156,8 @@ equal('names that are too long together', erd.differences(...wide).differences.m
 
 // The words of a command line.
 const WORDS = ['compare', '--prefer', 'Wähler 🗳', '', 'b'];
-equal('a request', JSON.stringify(erd.commandLine(WORDS)), '{"request":{"command":"compare","files":["","b"],"prefer":"Wähler 🗳"}}');
-equal('no words', JSON.stringify(erd.commandLine([])), '{"request":{"command":"filter","files":[],"prefer":null}}');
+equal('a request', JSON.stringify(erd.commandLine(WORDS)), '{"request":{"command":"compare","files":["","b"],"json":false,"prefer":"Wähler 🗳"}}');
+equal('no words', JSON.stringify(erd.commandLine([])), '{"request":{"command":"filter","files":[],"json":false,"prefer":null}}');
 equal('help', erd.commandLine(['--help']).status, 0);
 equal('wrong words', erd.commandLine(['nosuch']).status, 3);
 throws('a word with a zero character', TypeError, () => erd.commandLine(['check', 'a\0b']));

@@ -55,7 +55,7 @@ run in_fresh node first.mjs "$PWD/examples/county.vendor-a.json" "$PWD/examples/
 expect_text 'a first program: two that mean the same' 0 'accepted true '
 run in_fresh node first.mjs "$PWD/examples/county.vendor-a.json" "$work/typo.json"
 expect_text 'a first program: two that differ' 0 'accepted false candidate ["local-level","","K-12"]: member "BallotName"'
-run in_fresh "$(dirname "$erd")/${prepare:-erd-prepare}" --steps taken,chosen,seen "$PWD/examples/municipal.raw.json"
+run in_fresh "$(dirname "$erd")/${prepare:-erd-prepare}" --steps removed,filled-in,visible "$PWD/examples/municipal.raw.json"
 expect 'the command erd-prepare' 0
 cp "$work/out" "$work/prepared.json"
 run in_fresh node first.mjs "$work/prepared.json" "$work/prepared.json"
@@ -63,12 +63,12 @@ expect_text 'what it has prepared' 0 'accepted true '
 cat > "$work/fresh/second.mjs" <<'END'
 import { readFile } from 'node:fs/promises';
 import { Preparation, stepsOf } from 'erd/prepare';
-const { steps } = new Preparation(await readFile(process.argv[2])).prepare(stepsOf('seen'));
+const { steps } = new Preparation(await readFile(process.argv[2])).prepare(stepsOf('visible'));
 console.log(steps.map(({ name, made }) => `${name} ${made.length}`).join());
 END
 run in_fresh node second.mjs "$PWD/examples/municipal.raw.json"
 expect_text 'the module erd/prepare' 0 'gone-candidates 2'
-# The programs of its page, and that of docs/CALLING.md: they write what stands beside them.
+# The programs of its page, and that of docs/API.md: they write what stands beside them.
 block bindings/js/README.md js 1 > "$work/fresh/page.mjs"
 cp examples/county.vendor-a.json "$work/fresh/vendor-a.json"
 cp "$work/typo.json" "$work/fresh/vendor-b.json"
@@ -85,12 +85,12 @@ equal 'a step of it' "$(grep '^write-in-lines ' "$work/out" | sed 's/[1-9][0-9]*
 {
     echo "import { readFileSync } from 'node:fs';"
     echo "const [bytesOfTheModule, report] = ['erd.wasm', 'one-unit.json'].map((name) => readFileSync(name));"
-    block docs/CALLING.md js 1
+    block docs/API.md js 1
 } > "$work/fresh/wasm.mjs"
 cp "$wasm" "$work/fresh/erd.wasm"
 cp examples/one-unit.json "$work/fresh"
 run in_fresh node wasm.mjs
-expect_text 'the program of docs/CALLING.md' 0 '0 accepted'
+expect_text 'the program of docs/API.md' 0 '0 accepted'
 
 if command -v tsc > /dev/null; then
     cp tests/forms/javascript_types.ts "$work/fresh/types.mts"

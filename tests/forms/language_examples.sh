@@ -1,5 +1,5 @@
 #!/usr/bin/env bash
-# Compiles the example of each language in examples/calling, and runs it as docs/CALLING.md says, with nothing of the kit on the
+# Compiles the example of each language in examples/calling, and runs it as docs/API.md says, with nothing of the kit on the
 # path: on a report that is accepted, on one that is refused, on bytes that are not JSON, and on two that mean the same or differ.
 set -u
 . "$(dirname "$0")/../shared/start.sh" || exit 1
@@ -61,17 +61,6 @@ has() {
 [ -e "$library/liberd.so" ] || (cd "$here" && packaging/portable/linux.sh x86_64) || exit 1
 
 made C cc -I"$library" "$examples/erd_call.c" -L"$library" -lerd -o "$work/in_c" && answers C "$work/in_c"
-# The lines of docs/INSTALL.md, in a program that reads a file.
-{
-    printf '#include "erd.h"\n#include <stdio.h>\nint main(void) {\nstatic char bytes[1000000];\n'
-    echo 'size_t size = fread(bytes, 1, sizeof bytes, stdin);'
-    block "$here/docs/INSTALL.md" c 1
-    printf 'return 0;\n}\n'
-} > "$work/lines.c"
-if made 'C of docs/INSTALL.md' cc -I"$library" "$work/lines.c" -L"$library" -lerd -o "$work/lines"; then
-    plain "$work/lines" < "$work/refused.json" 2> "$work/err"
-    equal 'C of docs/INSTALL.md: the faults' "$(cat "$work/err")" "$("$here/erd" check "$work/refused.json")"
-fi
 has 'C#' mcs "$library" && made 'C#' mcs -out:"$work/ErdCall.exe" "$examples/ErdCall.cs" && answers 'C#' mono "$work/ErdCall.exe"
 jna=/usr/share/java/jna.jar
 has Java javac "$jna" && made Java javac -cp "$jna" -d "$work" "$examples/ErdCall.java" &&

@@ -27,12 +27,13 @@ there 'the manual page' 644 "$root/share/man/man1/erd.1"
 there 'the completions for bash' 644 "$root/share/bash-completion/completions/erd"
 there 'the completions for zsh' 644 "$root/share/zsh/site-functions/_erd"
 there 'the completions for fish' 644 "$root/share/fish/vendor_completions.d/erd.fish"
-for file in LICENSE-MIT LICENSE-APACHE THIRD-PARTY-NOTICES CHANGELOG.md docs/{USING,FIXES,WALKTHROUGH,VENDORS,PROFILE}.md; do
+for file in LICENSE-MIT LICENSE-APACHE THIRD-PARTY-NOTICES CHANGELOG.md docs/{GUIDE,FIXES,VENDORS,PROFILE,LIMITS}.md docs/page-{same,difference,ballots,faults}.png; do
     there "$file" 644 "$root/share/doc/erd/$file"
 done
 for file in examples/*.json examples/README.md contrib/*; do
     same_bytes "$file" "$file" "$root/share/doc/erd/$file"
 done
+[ ! -e out/portable/erd.html ] || same_bytes 'the page for a browser' out/portable/erd.html "$root/share/doc/erd/erd.html"
 run python3 tests/forms/installed_pages.py "$root/share/doc/erd"
 expect 'installed pages name installed files' 0
 [ "$status" -eq 0 ] || cat "$work/out"
@@ -70,7 +71,7 @@ bind '"\t": insert-completions'
 END
 types=(fips local-level national-level ocd-id other state-level)
 completed 'the subcommands' 'erd c\t' canon check compare
-completed 'all first words' 'erd \t' --help canon check compare help
+completed 'all first words' 'erd \t' --help canon check compare differences help
 completed 'the subcommands of help' 'erd help co\t' help compare
 completed 'nothing after help of a subcommand' 'erd help check \t' help check
 completed 'a file of check' 'erd check r\t' check right.json
@@ -78,10 +79,11 @@ completed 'a file with a blank in its name' 'erd canon left\\ \t' canon 'left tw
 completed 'no second file of canon' 'erd canon left.json r\t' canon left.json r
 completed 'the first file of compare' 'erd compare r\t' compare right.json
 completed 'the second file of compare' 'erd compare left.json r\t' compare left.json right.json
+completed 'the second file of differences' 'erd differences left.json r\t' differences left.json right.json
 completed 'no third file of compare' 'erd compare left.json right.json r\t' compare left.json right.json r
 completed 'the option' 'erd check --p\t' check --prefer
 # Of each subcommand the options that its help lists.
-for subcommand in check canon compare; do
+for subcommand in check canon compare differences; do
     mapfile -t options < <(./erd help "$subcommand" | sed -n 's/^ .*\(--[a-z-]*\)\( <[A-Z]*>\)\{0,1\}$/\1/p' | LC_ALL=C sort)
     completed "the options of $subcommand" "erd $subcommand --\t" "$subcommand" "${options[@]}"
 done

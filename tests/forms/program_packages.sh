@@ -3,6 +3,7 @@
 set -u
 . "$(dirname "$0")/../shared/start.sh" || exit 1
 . tests/shared/commands.sh
+. tests/shared/erd_wasm.sh
 PATH=$PATH:/usr/sbin:/sbin
 version=$(cat VERSION)
 if ! command -v dpkg-deb > /dev/null || ! command -v dpkg-shlibdeps > /dev/null; then
@@ -12,6 +13,8 @@ if ! command -v dpkg-deb > /dev/null || ! command -v dpkg-shlibdeps > /dev/null;
 fi
 package=erd_$version-1_$(dpkg --print-architecture).deb
 tarball=erd-$version-linux-$(uname -m)
+
+has_wasm 'the package' || { counts; exit; }
 
 # field NAME: a field of the package
 field() {

@@ -1,5 +1,5 @@
 #!/usr/bin/env bash
-# Signs and verifies sums with the commands of docs/RELEASING.md, with keys that are made here and thrown away. One line a case.
+# Signs and verifies sums with the commands of CONTRIBUTING.md, with keys that are made here and thrown away. One line a case.
 set -u
 . "$(dirname "$0")/../shared/start.sh" || exit 1
 . tests/shared/commands.sh
@@ -11,7 +11,7 @@ mkdir -m 700 "$GNUPGHOME"
 
 # commands WORD: the commands of the page that begin with the word
 commands() {
-    sed -n "s/^\($1 .*\)/\1/p" docs/RELEASING.md | sed 's/ *# .*//'
+    sed -n "s/^ *\($1 .*\)/\1/p" CONTRIBUTING.md | sed 's/ *# .*//'
 }
 
 # each NAME WORD STATUS: the commands of the page that begin with the word end with this status, all but the first with it alone

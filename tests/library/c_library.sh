@@ -88,7 +88,7 @@ fi
 status=$?
 expect 'unusual arguments' 0 "$work/empty" ''
 call line erd compare --prefer 'two "words"' a -- -b
-expect_text 'the words of a request' 1 '{"command":"compare","files":["a","-b"],"prefer":"two \"words\""}' ''
+expect_text 'the words of a request' 1 '{"command":"compare","files":["a","-b"],"json":false,"prefer":"two \"words\""}' ''
 call line erd nosuch
 expect_text 'wrong words' 3 '' $'error: unrecognized subcommand \'nosuch\'\n\nUsage: erd [COMMAND]\n\nFor more information, try \'--help\'.\n'
 call line erd check $'\xff'

@@ -12,7 +12,8 @@ static const uint8_t *last_prefer;
 static int last_call;
 static const char *why;
 
-enum { SIZE = 1000, CALLS = 13, LINE = CALLS, FIRST_OF_PIECES = 5, MEBIBYTE = 1048576 };
+enum { SIZE = 1000, CALLS = 13, LINE = CALLS, FIRST_OF_PIECES = 5, MEBIBYTE = 1048576,
+       ROOM_OF_MEBIBYTE = MEBIBYTE + MEBIBYTE / 16 + 4096 };
 static const char *const names[CALLS + 1] = {"check",      "canonical",        "compare",            "check_data",
                                              "compare_data", "check_data_piece", "compare_data_piece", "canonical_data_piece",
                                              "differences_data", "check_piece", "compare_piece", "canonical_piece",
@@ -164,7 +165,7 @@ static void said(int call, const char *what, size_t number) {
 /* A text of this length comes whole, with a zero byte behind it, after one call if it fits and after two if it does not. */
 static void text_of_length(int call, size_t wanted) {
     char *text = NULL;
-    size_t length = 7, room = call >= FIRST_OF_PIECES ? MEBIBYTE + 4096 : call == 1 ? 2 * SIZE + 4096 : 4096;
+    size_t length = 7, room = call >= FIRST_OF_PIECES ? ROOM_OF_MEBIBYTE : call == 1 ? 2 * SIZE + 4096 : 4096;
     next = (struct told){ERD_BAD, wanted};
     calls = 0;
     if (asked(call, report, SIZE, NULL, &text, &length) != ERD_BAD || text == NULL || length != wanted)
@@ -243,7 +244,8 @@ static enum erd_outcome piece_alone(int call, size_t size, struct erd_piece *pie
     return asked_for_piece(call, (struct bytes){(const uint8_t *)report, size}, NULL, piece, NULL, NULL);
 }
 
-/* There is room for the text of a piece at once if it has hardly more bytes than are enough. */
+/* There is room for the text of a piece at once if it has hardly more bytes than are enough: a sixteenth more, for commas, and an
+ * entry. */
 static void room_of_piece(int call, size_t enough, size_t room) {
     for (size_t size = room - 1; size <= room + 1; size++) {
         struct erd_piece piece = {0, 5, enough, 0, 0};
@@ -320,8 +322,8 @@ static void line(enum erd_line wanted, size_t wanted_length) {
 
 int main(void) {
     static char long_preference[60002];
-    static const size_t lengths[] = {0, 1, 15, 4095, 4096, 4097, 6095, 6096, 6097, 6098, 60001, 1052671,
-                                     1052672, 1052673, 3000000};
+    static const size_t lengths[] = {0, 1, 15, 4095, 4096, 4097, 6095, 6096, 6097, 6098, 60001, 1118207,
+                                     1118208, 1118209, 3000000};
     memset(long_preference, 'p', sizeof long_preference - 1);
     for (int call = 0; call < CALLS; call++) {
         for (size_t at = 0; at < sizeof lengths / sizeof *lengths; at++)
@@ -345,8 +347,8 @@ int main(void) {
     }
     for (int call = FIRST_OF_PIECES; call < CALLS; call++) {
         piece(call);
-        room_of_piece(call, 10000, 14096);
-        room_of_piece(call, 2 * MEBIBYTE, MEBIBYTE + 4096);
+        room_of_piece(call, 10000, 14721);
+        room_of_piece(call, 2 * MEBIBYTE, 1118208);
     }
     for (size_t at = 0; at < sizeof lengths / sizeof *lengths; at++) {
         line(ERD_LINE_HELP, lengths[at]);

@@ -156,9 +156,9 @@ static int odd_data(struct file file) {
 
 /* The number of the first command line that is answered wrongly, or 0. */
 static int odd_lines(void) {
-    static const char filter[] = "{\"command\":\"filter\",\"files\":[],\"prefer\":null}";
-    static const char check[] = "{\"command\":\"check\",\"files\":[\"a\"],\"prefer\":null}";
-    static const char empty[] = "{\"command\":\"check\",\"files\":[\"\"],\"prefer\":null}";
+    static const char filter[] = "{\"command\":\"filter\",\"files\":[],\"json\":false,\"prefer\":null}";
+    static const char check[] = "{\"command\":\"check\",\"files\":[\"a\"],\"json\":false,\"prefer\":null}";
+    static const char empty[] = "{\"command\":\"check\",\"files\":[\"\"],\"json\":false,\"prefer\":null}";
     static const struct {
         const char *words;
         size_t size;

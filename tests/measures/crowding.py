@@ -153,7 +153,7 @@ def is_known_salt():
     with open(SMALL_BALLOT, encoding="utf-8") as file:
         small = json.load(file)
     with open(SALTED, encoding="utf-8") as file:
-        number = int(re.search(r"number\(&20u64\), (\d+)", file.read()).group(1))
+        number = int(re.search(r"number\(&20u64\) == (\d+)", file.read()).group(1))
     wanted = colliding.salted(colliding.salt_of(small), [20])
     return tell(number == wanted, "the salt of the small ballot: 20 has the number %d, and here %d" % (number, wanted))
 

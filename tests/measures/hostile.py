@@ -84,16 +84,16 @@ def write(line, made):
 def main():
     size, runs = int(os.environ.get("SIZE", "1000")), int(os.environ.get("RUNS", "5"))
     words, is_written = set(sys.argv[1:]) - {"--write"}, "--write" in sys.argv
-    chosen = words or set(re.findall(ROW % r"\w+", PAGE.read_text(encoding="utf-8"), re.M))
+    shapes = [shape for shape in hostile_shapes.SINGLE + hostile_shapes.PAIRS if not words or shape.__name__ in words]
+    listed = set(re.findall(ROW % r"\w+", PAGE.read_text(encoding="utf-8"), re.M))
     print("| Shape | `check` | `canon` | `compare` | `check`, s | `canon`, s | `compare`, s |")
     print("|---|---:|---:|---:|---:|---:|---:|")
     with tempfile.TemporaryDirectory() as folder:
-        for shape in hostile_shapes.SINGLE + hostile_shapes.PAIRS:
-            if shape.__name__ in chosen:
-                made = row(shape, size, runs, folder)
-                print(made, flush=True)
-                if is_written:
-                    write(ROW % shape.__name__, made)
+        for shape in shapes:
+            made = row(shape, size, runs, folder)
+            print(made, flush=True)
+            if is_written and shape.__name__ in listed:
+                write(ROW % shape.__name__, made)
     if is_written and not words:
         write(DAY, "The table was measured on %s. The seconds are the least of %d runs." % (datetime.date.today(), runs))
 

@@ -29,9 +29,9 @@ PROMISES = [
     ('How bytes are refused (`check_bytes`)', ['erd_canon/Refused.RefusedAs', 'erd_canon/Refused.IsSomeReport']),
     ('What a comparison answers (`compare_bytes`)', [
         'erd_canon/EngineTexts.IsComparison', 'erd_canon/ByteLaws.TellsWhatIsSaid', 'erd_canon/ByteLaws.AgreesUnderEach', 'erd_canon/Refused.RefusedSide']),
-    ('What the whole program does (`run_program`)', ['erd_program/Program.IsProgramRun']),
     ('Answers as data (`check_data`, `compare_data`, `differences_data`)', [
         'erd_canon/DataAnswers.IsCheckedData', 'erd_canon/DataAnswers.IsComparedData', 'erd_canon/DataAnswers.IsListedData']),
+    ('What the whole program does (`run_program`)', ['erd_program/Program.IsProgramRun']),
     ('Pieces of lists (`check_data_piece`, `check_text_piece` and their neighbours)', [
         'erd_canon/Pieces.IsPieceText', 'erd_canon/Pieces.IsCheckPiece', 'erd_canon/Pieces.IsFormPiece', 'erd_canon/Pieces.IsComparePiece',
         'erd_canon/Pieces.IsListPiece', 'erd_canon/Pieces.IsCheckLines', 'erd_canon/Pieces.IsFormLines', 'erd_canon/Pieces.IsCompareLines',

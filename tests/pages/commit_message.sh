@@ -1,5 +1,5 @@
 #!/usr/bin/env bash
-# Tries the hook that asks for a commit message with a body (.githooks/commit-msg), and the commands of docs/RELEASING.md that find a
+# Tries the hook that asks for a commit message with a body (.githooks/commit-msg), and the commands of CONTRIBUTING.md that find a
 # commit, in a real repository. One line a case.
 set -u
 . "$(dirname "$0")/../shared/start.sh" || exit 1
@@ -31,9 +31,9 @@ refused $'sort each family once\n\nWhy.' 'the subject begins with a small letter
 refused $'Sort each family once.\n\nWhy.' 'the subject ends with a full stop'
 refused "$(printf 'S%.0s' {1..73})"$'\n\nWhy.' 'the subject is longer than 72 characters'
 
-# of_page NUMBER: the git commands of the page, which stand in the block with this number
+# of_page WORD: the commands of git on the page that begin with the word
 of_page() {
-    block docs/RELEASING.md sh "$1" | grep '^git '
+    grep "^git $1 " CONTRIBUTING.md
 }
 
 # answers ANSWER: a commit whose program gives this answer on the report of the page
@@ -46,8 +46,31 @@ answers() {
 
 passes $'Pass the gate\n\nWhy.\n\nGate: 8511 passed, 0 failed'
 passes $'Fail the gate\n\nWhy.\n\nGate: 8510 passed, 1 failed'
-run env -C "$work/clone" sh -c "$(of_page 4)"
+run env -C "$work/clone" sh -c "$(of_page log)"
 equal 'the commits that passed the gate' "$(cut -d ' ' -f 3- "$work/out")" 'Pass the gate'
+
+# recorded NAME STATUS COUNTS: packaging/record_gate.sh after a gate with these counts
+mkdir -p "$work/clone/packaging" "$work/clone/out"
+cp packaging/record_gate.sh "$work/clone/packaging"
+echo /out > "$work/clone/.git/info/exclude"
+git -C "$work/clone" add packaging
+passes $'Bring the script\n\nWhy.'
+recorded() {
+    echo "$3" > "$work/clone/out/gate-counts"
+    run "$work/clone/packaging/record_gate.sh"
+    expect "recorded: $1" "$2"
+}
+tree=$(git -C "$work/clone" rev-parse 'HEAD^{tree}')
+recorded 'a gate that failed' 1 "$tree 8510 passed, 1 failed"
+recorded 'a gate of something else' 1 "${tree//[a-f]/0} 8511 passed, 0 failed"
+recorded 'a gate that passed' 0 "$tree 8511 passed, 0 failed"
+equal 'its tree' "$(git -C "$work/clone" rev-parse 'HEAD^{tree}')" "$tree"
+run env -C "$work/clone" sh -c "$(of_page log)"
+equal 'the commit that was recorded' "$(head -n 1 "$work/out" | cut -d ' ' -f 3-)" 'Record a gate that passed'
+equal 'its trailer' "$(git -C "$work/clone" log -1 --format='%(trailers:key=Gate,valueonly)' | head -n 1)" '8511 passed, 0 failed'
+rm "$work/clone/out/gate-counts"
+run "$work/clone/packaging/record_gate.sh"
+expect 'recorded: no gate' 1
 
 mkdir "$work/words"
 printf '#!/bin/sh\n[ "$*" = "-s try FILE=%s COMMAND=check" ] && cat answer\n' "$HOME/report.json" > "$work/words/make"
@@ -56,6 +79,6 @@ good=$(answers accepted)
 answers accepted > "$work/before"
 bad=$(answers '/Status: not pre-election')
 for answer in '/Status: missing member' 'not accepted'; do answers "$answer" > "$work/last"; done
-run env -C "$work/clone" PATH="$work/words:$PATH" sh -c "$(of_page 5 | sed "s/BAD/$(cat "$work/last")/; s/GOOD/$good/")"
+run env -C "$work/clone" PATH="$work/words:$PATH" sh -c "$(of_page bisect | sed "s/BAD/$(cat "$work/last")/; s/GOOD/$good/")"
 equal 'the commit that brought another answer' "$(sed -n 's/ is the first bad commit$//p' "$work/out")" "$bad"
 counts

@@ -3,15 +3,15 @@ have one name, and lines of comments have at most 130 characters.
 
 The lines of the page are made from the comments that stand before the definitions, and the order of the files is that of
 each `Lib.antt`. A line has the first sentence of a comment. What a comment ends with in brackets is its source: the source
-that most definitions of a file have stands once, after the name of the file. The page has the name alone of a definition that only
-its own file uses, and of one on which no promise of `closures.py` rests. With `--write` these lines are written anew;
-what else stands on the page is written by hand.
+that most definitions of a file have stands once, after the name of the file. The page leaves out a definition that only its own file
+uses, and one on which no promise of `closures.py` rests. With `--write` these lines are written anew; what else stands on the page is
+written by hand.
 
 A reader may skip `specs/code/`: no clause of a public function or trait cites a definition from there, and no other
 definition in `specs/` does. What a source imports from `specs/Words.antt` is passed on from other files of `specs/`, so that
 file may not name `specs/code/` either: a source then imports from there by lines of its own, which are read here.
 
-The names that the table of words in docs/ARCHITECTURE.md quotes stand in the sources, and a word of it that is used for one
+The names that the table of words in docs/TRUST.md quotes stand in the sources, and a word of it that is used for one
 thing alone stands in the names of the crates that know this thing, and of no other (`KNOWING`).
 """
 
@@ -26,7 +26,7 @@ from closures import under_promises, used_elsewhere  # noqa: E402
 
 PAGE = ROOT / 'docs' / 'DEFINITIONS.md'
 CRATES = ['erd_tables', 'erd_index', 'erd_check', 'erd_prepare', 'erd_text', 'erd_meaning', 'erd_normal', 'erd_shown', 'erd_compare', 'erd_canon', 'erd_program', 'erd_c']
-# Words of the table in docs/ARCHITECTURE.md, with the crates whose files, functions, types and definitions may be named by them.
+# Words of the table in docs/TRUST.md, with the crates whose files, functions, types and definitions may be named by them.
 KNOWING = {
     'position': ['erd_index', 'erd_meaning', 'erd_normal', 'erd_compare'],
     'rank': ['erd_meaning', 'erd_normal', 'erd_compare'],
@@ -41,7 +41,7 @@ KNOWING = {
 SECOND = {('position', 'erd_check'), ('part', 'erd_index'), ('part', 'erd_prepare'), ('part', 'erd_canon'), ('part', 'erd_program')}
 
 # The words of a sentence that stands on the page as it is.
-MOST_WORDS = 22
+MOST_WORDS = 13
 
 # Where the definitions of a file come from, if their comments do not say: the file, or one of its definitions.
 PROFILE = 'profile'
@@ -54,7 +54,9 @@ SOURCES = {
     'erd_canon/Devices': 'this project',
     'erd_canon/Engines': 'this project',
     'erd_canon/LineAnswers': 'docs/DATA.md',
-    'erd_canon/Options.options_in': 'the grammar of `clap`',
+    'erd_canon/Answering': 'this project',
+    'erd_canon/Options.asks_json': 'the grammar of `clap`',
+    'erd_canon/Options.preference_in': 'the grammar of `clap`',
     'erd_canon/ReadLines': 'the grammar of `clap`',
     'erd_canon/ReadLines.IsReadExactly': 'this project',
     'erd_canon/Subcommands': 'this project',
@@ -164,9 +166,10 @@ def words_and_source(crate, name, definition, comment):
 
 
 def first_sentence(words):
-    """The first sentence of a comment without its stop. Of a long one, what stands before its colon, unless that is a condition."""
+    """The first sentence of a comment without its stop. Of a long one, what stands before its colon, or before a part that only says more,
+    unless that is a condition."""
     sentence = re.split(r'(?<=\.) (?=[A-Z`])', words)[0].removesuffix('.')
-    front = re.match(r'(?!If ).{25,}?(?=[:;] )', sentence)
+    front = re.match(r'(?!If ).{20,}?(?=[:;] |, (?:which|such as|as|where|with) )', sentence)
     return front[0] if front and len(sentence.split()) > MOST_WORDS else sentence
 
 
@@ -185,8 +188,8 @@ def modules(path):
 
 
 def lines_of_crate(crate, trusted, used):
-    """The lines of a crate: the first words of each file with its source, and its definitions. Those that promises rest on and that
-    other files use come first, then the others of a promise, and then those of no promise."""
+    """The lines of a crate: the first words of each file with its source, and its definitions on which promises rest and that other files
+    use. A file that has none, or whose definitions are for the code, is named alone."""
     specs = ROOT / 'crates' / crate / 'specs'
     lines = []
     for name in modules(specs / 'Lib.antt'):
@@ -198,18 +201,10 @@ def lines_of_crate(crate, trusted, used):
         of_promises = [one for one in found if one[0] in trusted.get(f'{crate}/{name}', ())]
         read = [one for one in of_promises if (f'{crate}/{name}', one[0]) in used]
         lines += [f'- `{definition}`: {words}' + (f' ({source})' if source != usual else '') for definition, words, source in read]
-        lines += named('within', [one for one in of_promises if one not in read])
-        lines += named('besides', [one for one in found if one not in of_promises])
-        lines += [''] if found else []
+        lines += [''] if read else []
     if (specs / 'code.antt').exists():
         lines += [f'**code/**: {", ".join(modules(specs / "code.antt"))}', '']
     return lines
-
-
-def named(word, found):
-    """The line with the names of these definitions, if there are some."""
-    names = ', '.join(f'`{name}`' for name, _, _ in found)
-    return [f'- {word}: {names}'] if found else []
 
 
 def first_words(path):
@@ -246,10 +241,10 @@ def code_cited():
     return found
 
 
-def named_twice(page):
-    """The names that stand in more than one place of the lines: one name would have two meanings."""
-    lines = re.findall(r'^- (.*)$', page[page.index(f'\n## {CRATES[0]}\n'):], re.M)
-    names = [name for line in lines for name in re.findall(r'`([^`]+)`', re.match(r'`[^`]+`(?=: )|.*', line)[0])]
+def named_twice():
+    """The names that several files of `specs/` define: one name would have two meanings."""
+    names = [definition for crate in CRATES for name in modules(ROOT / 'crates' / crate / 'specs' / 'Lib.antt')
+             for definition, _ in definitions(ROOT / 'crates' / crate / 'specs' / f'{name}.antt')]
     return sorted({name for name in names if names.count(name) > 1})
 
 
@@ -265,15 +260,15 @@ def names_of(crate):
 
 def misused_words():
     """What stands in no source though the table of words quotes it, and the names that have a word of another crate."""
-    table = (ROOT / 'docs' / 'ARCHITECTURE.md').read_text(encoding='utf-8').split('\n## Words\n')[1].split('\n## ')[0]
+    table = (ROOT / 'docs' / 'TRUST.md').read_text(encoding='utf-8').split('\n### Words\n')[1].split('\n## ')[0]
     names = {crate: set(names_of(crate)) for crate in CRATES}
     known = set(CRATES).union(*names.values())
     for quoted in re.findall(r'`([^`]+)`', table):
         if quoted.split('::')[-1] not in known:
-            yield f'docs/ARCHITECTURE.md has the word {quoted}, which no source declares'
+            yield f'docs/TRUST.md has the word {quoted}, which no source declares'
     for word, crates in KNOWING.items():
         if f'| {word}' not in table and f', {word}' not in table:
-            yield f'docs/ARCHITECTURE.md has no row for the word {word}'
+            yield f'docs/TRUST.md has no row for the word {word}'
         for crate in CRATES:
             if crate not in crates and (word, crate) not in SECOND:
                 for name in sorted(names[crate]):
@@ -298,9 +293,9 @@ def main():
     return tell_cases([
         ('the definitions of docs/DEFINITIONS.md: python3 tests/pages/definitions.py --write', new, page),
         ('public contracts can be read without specs/code', '', '\n'.join(code_cited())),
-        ('one name is one definition; defined twice', '', '\n'.join(named_twice(new))),
+        ('one name is one definition; defined twice', '', '\n'.join(named_twice())),
         ('lines of comments have at most 130 characters', '', '\n'.join(long_comments())),
-        ('a word of docs/ARCHITECTURE.md is used for one thing', '', '\n'.join(misused_words())),
+        ('a word of docs/TRUST.md is used for one thing', '', '\n'.join(misused_words())),
     ], differing_lines)
 
 

@@ -26,7 +26,7 @@ import texts_of_data  # noqa: E402
 from cases import tell_cases  # noqa: E402
 from exports import rearranged  # noqa: E402
 
-SESSIONS = ('README.md', 'docs/USING.md', 'docs/FIXES.md', 'docs/WALKTHROUGH.md')
+SESSIONS = ('README.md', 'docs/GUIDE.md', 'docs/FIXES.md')
 BASE = 'examples/county.vendor-a.json'
 DATA_PAGES = ('docs/DATA.md', 'bindings/c/erd.h')
 
@@ -42,7 +42,8 @@ def run(command, folder):
 
 
 def workshop(folder):
-    """Makes a folder with the examples, and the programs `erd` and `erd-prepare` on the path."""
+    """Makes a folder with the examples, and the programs `erd` and `erd-prepare` on the path. As the packages have it, this `erd` lists all
+    differences too: those of the reference program, which tests/library/lists_agree.py holds against the library."""
     for name in ('examples', 'contrib'):
         shutil.copytree(ROOT / name, folder / name)
     (folder / 'reference').mkdir()
@@ -51,7 +52,9 @@ def workshop(folder):
     program = [str(ROOT / word) if (ROOT / word).exists() else word for word in program]
     (folder / 'bin').mkdir()
     package = shlex.quote(str(ROOT / 'bindings' / 'python' / 'src'))
-    for name, words in (('erd', f'exec {shlex.join(program)}'), ('erd-prepare', f'PYTHONPATH={package} exec python3 -B -m erd.prepare')):
+    reference = shlex.quote(str(ROOT / 'reference' / 'erd_reference.py'))
+    listing = f'[ "$1" != differences ] || exec python3 {reference} "$@"\n'
+    for name, words in (('erd', f'{listing}exec {shlex.join(program)}'), ('erd-prepare', f'PYTHONPATH={package} exec python3 -B -m erd.prepare')):
         (folder / 'bin' / name).write_text(f'#!/bin/sh\n{words} "$@"\n', encoding='utf-8')
         (folder / 'bin' / name).chmod(0o755)
     os.environ['PATH'] = f'{folder / "bin"}:{os.environ["PATH"]}'

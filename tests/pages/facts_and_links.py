@@ -150,12 +150,12 @@ def compare_statuses():
     numbers = dict(re.findall(r'^(?:outcome|fault)_status (\w+) = (\d)$', specs, re.M))
     words = {text: int(numbers[name]) for name, text in re.findall(r'^fault_words (\w+) = codes "(.*)"$', specs, re.M)}
     statuses = sorted({int(number) for number in numbers.values()})
-    using = read('docs/USING.md')
-    yield 'the statuses of docs/USING.md', statuses, sorted(set(numbers_of(r'^\| (\d) \|', using)))
+    using = read('docs/GUIDE.md')
+    yield 'the statuses of docs/GUIDE.md', statuses, sorted(set(numbers_of(r'^\| (\d) \|', using)))
     told = {text: int(number) for number, text in re.findall(r'^\| (\d) \| .* \| `([a-z ]+)` \|$', using, re.M)}
-    yield 'the texts of faults in docs/USING.md', words, {text: told.get(text) for text in words}
+    yield 'the texts of faults in docs/GUIDE.md', words, {text: told.get(text) for text in words}
     help_texts = read('crates/erd_canon/src/commands/help.rt').split('Exit status:\n')[1:]
-    yield 'the lists of statuses in the help', 4, len(help_texts)
+    yield 'the lists of statuses in the help', 5, len(help_texts)
     for text in help_texts:
         yield 'the statuses of the help', statuses, numbers_of(r'^  (\d)  ', text.split('\n\n')[0])
     manual = read('docs/erd.1').split('.SH EXIT STATUS')[1].split('.SH ')[0]
@@ -228,13 +228,40 @@ def compare_pictures():
 
 
 def compare_lists():
-    """web/README.md lists each script of the page, and tests/README.md no script that its folder lacks."""
-    rows = [row for row in re.findall(r'^\| (`[^|]*) \|', read('web/README.md'), re.M) if not re.search(r'\.(html|json|py|css)`', row)]
-    found = {name for row in rows for name in re.findall(r'`(\w+)`', row)}
-    yield 'the scripts of web/README.md', sorted(path.stem for path in ROOT.glob('web/scripts/*.mjs')), sorted(found)
-    for folder, row in re.findall(r'^\| `(\w+)/` \|(.*)$', read('tests/README.md'), re.M):
-        names = re.findall(r'`([\w.]+\.\w+)`', row)
-        yield f'what tests/{folder} lacks', [], [name for name in names if not (ROOT / 'tests' / folder / name).exists()]
+    """Each script of the page and of the tests says at its top what it has, as CONTRIBUTING.md promises, and each folder of the tests is there."""
+    scripts = [*ROOT.glob('web/scripts/*.mjs'), *(path for path in ROOT.glob('tests/*/*.*') if path.suffix in ('.sh', '.py', '.mjs'))]
+    silent = [str(path.relative_to(ROOT)) for path in sorted(scripts) if not re.match(r'(#!.*\n)?(//|# |/\*|"""|r""")', path.read_text(encoding='utf-8'))]
+    yield 'the scripts that do not say what they have', [], silent
+    folders = {name for row in re.findall(r'^\| (`\w+/`.*?) \|', read('CONTRIBUTING.md'), re.M) for name in re.findall(r'`(\w+)/`', row)}
+    yield 'the folders of the tests', sorted(path.name for path in (ROOT / 'tests').iterdir() if path.is_dir() and path.name != '__pycache__'), sorted(folders)
+
+
+# ---- lengths
+
+MOST_IN_SENTENCE, MOST_IN_PARAGRAPH = 40, 120
+
+
+def paragraphs_of(page):
+    """The paragraphs, items and cells of a page, without code."""
+    text = re.sub(r'^ *```.*?^ *```$', '', read(page), flags=re.M | re.S)
+    for part in re.split(r'\n\s*\n', text):
+        if part.lstrip().startswith('|'):
+            yield from (cell for row in part.split('\n') for cell in row.split('|'))
+        else:
+            yield from re.split(r'\n(?=\s*(?:[-*]|\d+\.) )', part)
+
+
+def words_in(text):
+    return sum(bool(re.search(r'\w', word)) for word in text.split())
+
+
+def compare_lengths():
+    """No paragraph and no sentence of a page is longer than a reader can take in."""
+    for page in sorted(pages()):
+        paragraphs = list(paragraphs_of(page))
+        long = [text[:60] for text in paragraphs if words_in(text) > MOST_IN_PARAGRAPH and not text.lstrip().startswith('<!--')]
+        long += [sentence[:60] for text in paragraphs for sentence in re.split(r'(?<=[.!?])\s+(?=[A-Z`*\["(])', text) if words_in(sentence) > MOST_IN_SENTENCE]
+        yield f'the long sentences and paragraphs of {page}', [], long
 
 
 # ---- the kit
@@ -257,4 +284,4 @@ def compare_kit():
 
 if __name__ == '__main__':
     sys.exit(tell_cases([*compare_tables(), *compare_seen(), *compare_limits(), *compare_reasons(), *compare_statuses(), *compare_preferring(),
-                         *compare_links(), *compare_pictures(), *compare_lists(), *compare_kit()]))
+                         *compare_links(), *compare_pictures(), *compare_lengths(), *compare_lists(), *compare_kit()]))

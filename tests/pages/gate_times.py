@@ -1,6 +1,5 @@
-"""Holds the first table of docs/GATE.md and the table of tests/README.md against tests/gate.sh, the seconds of the first against those
-of the last run of the gate here, which leaves them in out/gate-costs, and the minutes that the README tells against those of the
-page. One line a case that fails, and at the end the counts. With --write the seconds of that run are written into the table."""
+"""Holds the table of parts in CONTRIBUTING.md against tests/gate.sh, its seconds against those of the last run of the gate here, which
+leaves them in out/gate-costs, and the minutes that the README tells against those of the page. One line a case that fails, and at the end the counts. With --write the seconds of that run are written into the table."""
 import pathlib
 import re
 import sys
@@ -10,7 +9,8 @@ sys.dont_write_bytecode = True
 sys.path.append(str(ROOT / 'tests' / 'shared'))
 from cases import tell_cases  # noqa: E402
 
-PAGE = ROOT / 'docs' / 'GATE.md'
+PAGE = ROOT / 'CONTRIBUTING.md'
+HEAD = '| Part | Processor seconds |'
 ROW = re.compile(r'^\| (`.*?) \| ([\d,]+) \|', re.M)
 COSTS = ROOT / 'out' / 'gate-costs'
 # One machine takes two fifths more than another, and a part of some seconds varies by more than that.
@@ -26,8 +26,14 @@ def plain(command):
 
 def rows():
     """The commands of each row of the page, and its seconds."""
-    for names, seconds in ROW.findall(PAGE.read_text(encoding='utf-8').split('\n\n')[2]):
+    for names, seconds in ROW.findall(table()):
         yield names_of(names), int(seconds.replace(',', ''))
+
+
+def table():
+    """The table of the page."""
+    page = PAGE.read_text(encoding='utf-8')
+    return page[page.index(HEAD):].split('\n\n')[0]
 
 
 def names_of(cell):
@@ -46,20 +52,19 @@ def spent():
 
 def write():
     """Writes the seconds of the last run into the rows whose commands it has."""
-    costs, parts_of_page = spent(), PAGE.read_text(encoding='utf-8').split('\n\n')
+    costs, page = spent(), PAGE.read_text(encoding='utf-8')
 
     def with_costs(row):
         names = names_of(row[1])
         return f'| {row[1]} | {sum(costs[name] for name in names):,} |' if all(name in costs for name in names) else row[0]
 
-    parts_of_page[2] = ROW.sub(with_costs, parts_of_page[2])
-    PAGE.write_text('\n\n'.join(parts_of_page), encoding='utf-8')
+    PAGE.write_text(page.replace(table(), ROW.sub(with_costs, table())), encoding='utf-8')
 
 
 def minutes():
-    """How many minutes `make test` takes on four processors, as docs/GATE.md says, and as the README says."""
-    page, readme = ((ROOT / name).read_text(encoding='utf-8') for name in ('docs/GATE.md', 'README.md'))
-    return (re.findall(r'`make test` takes about (\d+) minutes on four processors', page),
+    """How many minutes `make test` takes on four processors, as the page says, and as the README says."""
+    page, readme = ((ROOT / name).read_text(encoding='utf-8') for name in ('CONTRIBUTING.md', 'README.md'))
+    return (re.findall(r'`make test` proves everything from nothing and runs all tests\. It takes about (\d+) minutes on four processors', page),
             re.findall(r'^make test .*: about (\d+) minutes on 4 idle cores$', readme, re.M))
 
 
@@ -71,17 +76,9 @@ def parts():
     return found | {EDITS}
 
 
-def named_nowhere():
-    """The scripts among the parts that tests/README.md does not name."""
-    page = (ROOT / 'tests' / 'README.md').read_text(encoding='utf-8')
-    scripts = {pathlib.Path(part.split()[0]) for part in parts()}
-    return [str(path) for path in scripts if path.parts[0] == 'tests' and f'`{path.name}`' not in page]
-
-
 def cases():
     listed = [name for names, _ in rows() for name in names]
     yield 'the parts that the page has', sorted(listed), sorted(parts())
-    yield 'the parts that tests/README.md does not name', [], sorted(named_nowhere())
     found, told = minutes()
     yield 'the minutes of the gate, told once', 1, len(found)
     yield 'the minutes that the README tells', found, told

@@ -1,5 +1,5 @@
 #!/usr/bin/env bash
-# Holds the manual page, and the commands and statuses of docs/USING.md, against the built program: its subcommands with what they
+# Holds the manual page, and the commands and statuses of docs/GUIDE.md, against the built program: its subcommands with what they
 # take, their options, its exit statuses, and by its words each sentence of its help. One line a case.
 set -u
 . "$(dirname "$0")/../shared/start.sh" || exit 1
@@ -50,7 +50,7 @@ for name in $names; do
     equal "the statuses of $name" "$(cut -d ' ' -f 1 <<< "$paged")" \
         "$("$erd" help "$name" | under 'Exit status' | cut -d ' ' -f 1)"
 done
-equal 'the statuses of docs/USING.md' "$(sed -n 's/^| \([0-9]\) |.*/\1/p' docs/USING.md | sort -u)" "$numbers"
+equal 'the statuses of docs/GUIDE.md' "$(sed -n 's/^| \([0-9]\) |.*/\1/p' docs/GUIDE.md | sort -u)" "$numbers"
 
 # words: the words of the text on standard input in one line, without signs and without the marks of the page
 words() {
@@ -100,11 +100,11 @@ in_order() {
     said "$1" "$(words <<< "$2" | grep -qi "\b$pattern\b" || echo "not in this order: $3")"
 }
 
-for name in check canon compare; do
-    in_order "docs/USING.md on $name" "$("$erd" help "$name")" "$(sed -n "s/^| \`erd $name [A-Z ]*\` |[^|]*| \(.*\) |$/\1/p" docs/USING.md)"
+for name in check canon compare differences; do
+    in_order "docs/GUIDE.md on $name" "$("$erd" help "$name")" "$(sed -n "s/^| \`erd $name [A-Z ]*\` |[^|]*| \(.*\) |$/\1/p" docs/GUIDE.md)"
 done
 for number in 0 1 2; do
-    in_order "docs/USING.md on status $number" "$(sed -n "s/^| $number | \([^|]*\) |.*/\1/p" docs/USING.md)" \
+    in_order "docs/GUIDE.md on status $number" "$(sed -n "s/^| $number | \([^|]*\) |.*/\1/p" docs/GUIDE.md)" \
         "$(sed -n "s/^$number //p" <<< "$statuses" | sed 's/,* or / /g')"
 done
 

@@ -31,6 +31,7 @@ def commands():
     options = {name: Option(body, texts) for name, body in bodies.items() if '.long(' in body}
     for name, body in bodies.items():
         if name.endswith('_command'):
+            body += ''.join(bodies[one] for one in re.findall(r'\b(with_\w+)\(alloc, command\)', body))
             yield name.removesuffix('_command'), [options[one] for one in re.findall(r'\.arg\((\w+)\(alloc\)\)', body) if one in options], \
                 re.findall(r'file_argument\(alloc, "(\w+)"', body)
 

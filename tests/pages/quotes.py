@@ -16,15 +16,14 @@ from cases import tell_cases  # noqa: E402
 
 # The pages with a quoted block, the beginning of the block, and the files of which one has it. White space may differ.
 QUOTES = (
-    ('docs/ARCHITECTURE.md', 'pub fn canonical(', 'crates/erd_canon/src/bytes/*.rt'),
-    ('docs/ARCHITECTURE.md', 'pub record Headline', 'crates/erd_canon/specs/*.antt'),
-    ('docs/ARCHITECTURE.md', 'TellsMeanings ', 'crates/erd_canon/specs/*.antt'),
+    ('docs/TRUST.md', 'pub fn canonical(', 'crates/erd_canon/src/bytes/*.rt'),
+    ('docs/TRUST.md', 'pub record Headline', 'crates/erd_canon/specs/*.antt'),
+    ('docs/TRUST.md', 'TellsMeanings ', 'crates/erd_canon/specs/*.antt'),
     ('conformance/README.md', 'case identity-', 'conformance/cases/*.txt'),
     ('CONTRIBUTING.md', 'name: position_', 'tests/bodies/lists/*.txt'),
-    ('CONTRIBUTING.md', 'name: green_', 'tests/bodies/lists/*.txt'),
 )
 # The pages that cite names of the code, and where these stand.
-CITING = ('docs/ARCHITECTURE.md', 'docs/DECISIONS.md', 'docs/TRUST.md', 'docs/DATA.md', 'CONTRIBUTING.md')
+CITING = ('docs/DECISIONS.md', 'docs/TRUST.md', 'docs/DATA.md', 'CONTRIBUTING.md')
 SOURCES = ('crates', 'bindings', 'packaging', 'tests', 'web', 'conformance', 'contrib', 'reference')
 # The pages whose sessions and JSON examples are run by tests/pages/examples.py.
 RUN = {'console': set(examples.SESSIONS), 'json': {'docs/FIXES.md', 'docs/DATA.md'}}

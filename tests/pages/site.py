@@ -1,5 +1,5 @@
-"""Makes the site and looks at it: where its links lead, and in Chromium how wide each page is at 375 points, and what the search finds
-with no server. One line a case that fails, and at the end the counts."""
+"""Makes the site and looks at it: where its links lead, what each page has, and in Chromium how wide each page is at 375 points, and what the
+search finds first with no server. One line a case that fails, and at the end the counts."""
 import html.parser
 import os
 import pathlib
@@ -13,6 +13,12 @@ import urllib.parse
 ROOT = pathlib.Path(__file__).resolve().parents[2]
 SITE = ROOT / 'out' / 'site'
 WIDTH = 375
+# What people ask, and the page that the search has to lead to first.
+ASKED = {
+    'mac': 'docs/INSTALL.html', 'invalid': 'docs/GUIDE.html', 'memory': 'docs/LIMITS.html', 'compare two files': 'docs/GUIDE.html',
+    'why is a file rejected': 'docs/GUIDE.html', 'release': 'docs/INSTALL.html', 'what is proved': 'index.html', 'untrusted': 'docs/GUIDE.html',
+    'byte order mark': 'docs/FIXES.html',
+}
 sys.path.insert(0, str(ROOT / 'tests' / 'page'))
 sys.dont_write_bytecode = True
 
@@ -46,6 +52,15 @@ def links_that_fail(pages):
         yield f'the links of {path.relative_to(SITE)}', '' if not broken else f'these lead nowhere: {broken}'
 
 
+def parts_that_lack(pages):
+    """Each page leads to all others, names the version, and has its contents if it is long."""
+    version = (ROOT / 'VERSION').read_text(encoding='utf-8').strip()
+    for path in pages:
+        text = path.read_text(encoding='utf-8')
+        lacking = [words for words in ('<nav id="pages"', 'aria-label="On this page"' if text.count('<h2 id=') > 2 else '', f'erd {version} of ') if words not in text]
+        yield f'what {path.relative_to(SITE)} lacks', ', '.join(lacking)
+
+
 def in_browser(pages):
     """What Chromium says of the pages at the width of a phone, and what the search finds."""
     import browsers
@@ -67,6 +82,11 @@ def in_browser(pages):
             found = browser.script('return [...document.querySelectorAll("#found a")].map((link) => link.getAttribute("href"))')
             yield 'the search finds something', '' if found else 'nothing'
             yield 'the search leads to pages', '' if all((SITE / link.split('#')[0]).exists() for link in found) else str(found)
+            for words, wanted in ASKED.items():
+                browser.open((SITE / 'search.html').as_uri() + '?words=' + urllib.parse.quote(words))
+                browser.until(said)
+                first = browser.script('return document.querySelector("#found a")?.getAttribute("href")')
+                yield f'the search for {words}', '' if first and first.split('#')[0] == wanted else str(first)
             browser.open((SITE / 'search.html').as_uri() + '?words=zzzyyyxxx')
             count = browser.until(said)
             yield 'the search for what is nowhere', '' if count == 'Nothing has all of these words.' else count
@@ -83,7 +103,7 @@ def main():
     cases = [('the site is made', '' if ran.returncode == 0 else ran.stderr)]
     if ran.returncode == 0:
         pages = sorted(path for path in SITE.rglob('*.html') if path.name != 'erd.html')
-        cases += [*links_that_fail(pages), *in_browser(pages)]
+        cases += [*links_that_fail(pages), *parts_that_lack(pages), *in_browser(pages)]
     for name, why in cases:
         passed += not why
         failed += bool(why)

@@ -84,8 +84,12 @@ def xml_rows(begin, joint, end):
         yield from [begin % name, *lines[:-1], lines[-1] + end]
 
 
+def rows_of_version_1(name, line):
+    return (line % (old, new) for old, new in section_of_xml(f'version 1: {name}'))
+
+
 # The file, the lines that begin and end its table, and the lines of the table.
-FROM_XML = {'python': 'bindings/python/src/erd/from_xml/table.py'}
+FROM_XML = {'python': 'bindings/python/src/erd/from_xml/table.py', 'javascript': 'web/scripts/from_xml/table.mjs'}
 PREPARE = {'python': 'bindings/python/src/erd/prepare/member_table.py', 'javascript': 'bindings/js/lib/prepare/member_table.mjs'}
 TABLES = (
     (PREPARE['python'], 'ROWS = {', '}', rows("    '%s': (", '', '),')),
@@ -95,8 +99,11 @@ TABLES = (
     ('bindings/python/src/erd/results.py', 'WORDS = {', '}', (f"    {number}: '{words}'," for number, words in text_of_reasons().items())),
     ('bindings/js/lib/words.mjs', 'const WORDS_OF_REASONS = [', '];', (f"    '{words}'," for words in text_of_reasons().values())),
     (FROM_XML['python'], 'ROWS = {', '}', xml_rows("    '%s': (", '', '),')),
-    (FROM_XML['python'], 'COLLECTIONS = {', '}', (f"    '{name}': '{held}'," for name, held in section_of_xml('version 1: collections'))),
-    (FROM_XML['python'], 'OLD_NAMES = {', '}', (f"    '{name}': '{new}'," for name, new in section_of_xml('version 1: names'))),
+    (FROM_XML['python'], 'COLLECTIONS = {', '}', rows_of_version_1('collections', "    '%s': '%s',")),
+    (FROM_XML['python'], 'OLD_NAMES = {', '}', rows_of_version_1('names', "    '%s': '%s',")),
+    (FROM_XML['javascript'], 'const ROWS = {', '};', xml_rows('    %s:', '+ ', ',')),
+    (FROM_XML['javascript'], 'const COLLECTED = {', '};', rows_of_version_1('collections', "    %s: '%s',")),
+    (FROM_XML['javascript'], 'const RENAMED = {', '};', rows_of_version_1('names', "    %s: '%s',")),
     *options.TABLES,
 )
 

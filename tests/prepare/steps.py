@@ -83,7 +83,7 @@ def tables():
 def words():
     """docs/FIXES.md lists the steps, with the words of the packages."""
     page = (ROOT / 'docs' / 'FIXES.md').read_text(encoding='utf-8')
-    rows = re.findall(r'^\| `([a-z-]+)` \| (taken|chosen|seen) \| (.*) \| [^|]* \|$', page, re.M)
+    rows = re.findall(r'^\| `([a-z-]+)` \| (removed|filled-in|visible) \| (.*) \| [^|]* \|$', page, re.M)
     yield 'the steps of docs/FIXES.md', [(step.name, step.group, step.does) for step in STEPS], rows
 
 
@@ -280,7 +280,7 @@ def prepared_here(data, names):
 def agreement(count, dice):
     """Both write the same bytes and tell the same, on the raw examples and on damaged reports."""
     reports = [json.dumps(json.loads((EXAMPLES / name).read_text(encoding='utf-8-sig'))) for name in DAMAGED]
-    cases = [(name, data, names) for name, data in EXPORTS.items() for names in (ALL, steps_of('taken'), [])]
+    cases = [(name, data, names) for name, data in EXPORTS.items() for names in (ALL, steps_of('removed'), [])]
     cases += [(why, data, ALL) for _, why, data in LEFT]
     cases += [(name, damaged_so(damage, file), ALL) for name, (file, damage) in {**damages.DAMAGES, **damages.OTHERS}.items()]
     for name, (file, damage) in damages.DAMAGES.items():
@@ -419,15 +419,15 @@ def ran(command, *words):
 
 def command_cases(name, command):
     path = EXAMPLES / 'municipal.raw.json'
-    prepared, done = Preparation(path.read_bytes()).prepare(steps_of('taken'))
+    prepared, done = Preparation(path.read_bytes()).prepare(steps_of('removed'))
     status, out, told = ran(command, path)
     yield f'{name}: the steps of a plain call', (0, prepared), (status, out)
     yield f'{name}: each step is told', [it.name for it in done], [line.split(':')[0] for line in told.splitlines()]
-    wanted = Preparation(path.read_bytes()).prepare([step for step in steps_of('taken', 'chosen') if step not in ('names', 'codes')])[0]
-    yield f'{name}: chosen steps', wanted, ran(command, '--steps', 'taken,chosen', '--without=names,codes', path)[1]
+    wanted = Preparation(path.read_bytes()).prepare([step for step in steps_of('removed', 'filled-in') if step not in ('names', 'codes')])[0]
+    yield f'{name}: chosen steps', wanted, ran(command, '--steps', 'removed,filled-in', '--without=names,codes', path)[1]
     listed = ran(command, '--list')[1].decode().splitlines()
     yield f'{name}: the list of steps', [f'{step.name} ({step.group}): {step.title}. {step.does} {step.loses}' for step in STEPS], listed
-    _, found = Preparation(path.read_bytes()).prepare(steps_of('taken', 'chosen'), tells_others=True)
+    _, found = Preparation(path.read_bytes()).prepare(steps_of('removed', 'filled-in'), tells_others=True)
     rows = [line.split(None, 3)[:3] for line in ran(command, '--list', path)[1].decode().splitlines()]
     groups = {step.name: step.group for step in STEPS}
     yield f'{name}: the list for a file', [[str(len(it.made)), it.name, groups[it.name]] for it in found if it.made], rows

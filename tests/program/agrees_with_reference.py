@@ -1,5 +1,5 @@
 """Compares `erd` with the reference program (reference/erd_reference.py) on random reports and pairs: every byte and status of
-`check`, `canon`, `compare` and the filter, with and without a preferred type of identifier.
+`check`, `canon`, `compare`, `differences` and the filter, with `--json` and without, with and without a preferred type of identifier.
 
 usage: agrees_with_reference.py COUNT [SEED]
 
@@ -245,6 +245,9 @@ def damaged(data, dice):
 
 # ---- both programs
 
+COMMANDS = ['check', 'canon', 'compare', 'compare', 'filter', 'differences', 'check --json', 'compare --json', 'differences --json']
+
+
 
 def by_erd(command, inputs, prefer, folder):
     words = [PROGRAM]
@@ -252,7 +255,7 @@ def by_erd(command, inputs, prefer, folder):
     if command == 'filter':
         given = inputs[0]
     else:
-        words += [command] + (['--prefer', prefer] if prefer else [])
+        words += command.split() + (['--prefer', prefer] if prefer else [])
         for number, data in enumerate(inputs):
             path = pathlib.Path(folder) / str(number)
             path.write_bytes(data)
@@ -272,13 +275,19 @@ def by_reference(command, inputs, prefer):
         if answers[-1][0] != 0:
             break
     status, texts, resolved = answers[-1]
+    if '--json' in command:
+        status, text = erd_reference.data_of(command.split()[0], inputs, prefer)
+        return status, lines([text]), b''
     if command == 'check':
         return status, lines(texts), b''
-    if command != 'compare':
+    if command not in ('compare', 'differences'):
         return (status, b'', lines(texts)) if status else (0, erd_reference.canonical_bytes(resolved), b'')
     if status:
         side = 'left: ' if len(answers) == 1 else 'right: '
         return status, lines(side + text for text in texts), b''
+    if command == 'differences':
+        found = list(erd_reference.differences(answers[0][2], resolved))
+        return int(bool(found)), lines(found or ['same']), b''
     difference = erd_reference.first_difference(answers[0][2], resolved)
     return int(difference is not None), lines(['same' if difference is None else difference]), b''
 
@@ -341,9 +350,9 @@ def types_in(report):
 
 def cases(bases, count, dice):
     for _ in range(count):
-        command = dice.choice(['check', 'canon', 'compare', 'compare', 'filter'])
+        command = dice.choice(COMMANDS)
         left = edited(with_elections(dice.choice(bases), dice), dice, 3)
-        reports = [left, edited(left, dice, 2)] if command == 'compare' else [left]
+        reports = [left, edited(left, dice, 2)] if command.startswith(('compare', 'differences')) else [left]
         prefer = None if command == 'filter' else dice.choice([None, dice.choice(TYPES), dice.choice(types_in(left) or TYPES)])
         yield Case(command, reports, prefer, dice.random())
 

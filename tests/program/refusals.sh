@@ -80,6 +80,14 @@ for name in many_units many_units_turned_round many_selections many_references m
 done
 program 'a comparison of many units, made small' "$work/empty" 0 "$work/same" '' \
     compare "$work/many/many_units.json" "$work/many/many_units_turned_round.json"
+sed 's/"Name":"Blue"/"Name":"Green"/; s/"Bo"/"Bob"/' examples/small-ballot.json > "$work/changed"
+printf 'party ["local-level","","P1"]: member "Name"\ncandidate ["local-level","","K2"]: member "BallotName"\n' > "$work/found"
+program 'all differences' "$work/empty" 1 "$work/found" '' differences examples/small-ballot.json "$work/changed"
+printf '[]\n' > "$work/none"
+program 'a check as JSON' "$work/empty" 0 "$work/none" '' check --json examples/small-ballot.json
+printf 'null\n' > "$work/null"
+program 'a comparison as JSON' "$work/empty" 0 "$work/null" '' compare --json examples/one-unit.json examples/one-unit.canonical.json
+program 'no differences as JSON' "$work/empty" 0 "$work/none" '' differences --json examples/one-unit.json examples/one-unit.canonical.json
 for name in \
     worked::refused_two_vendors \
     worked::refused_shape \
