@@ -41,6 +41,7 @@ static struct file read_file(const char *name) {
 
 typedef enum erd_outcome of_one(const void *, size_t, const char *, char **, size_t *);
 typedef enum erd_outcome of_two(const void *, size_t, const void *, size_t, const char *, char **, size_t *);
+typedef enum erd_outcome of_pieces(const void *, size_t, const void *, size_t, const char *, struct erd_piece *, char **, size_t *);
 
 static const struct {
     const char *name;
@@ -52,6 +53,12 @@ static const struct {
     of_two *call;
 } of_two_reports[] = {{"compare", erd_compare}, {"compare_data", erd_compare_data}};
 
+/* The calls that have a whole list where they get no piece. */
+static const struct {
+    const char *name;
+    of_pieces *call;
+} of_lists[] = {{"differences", erd_differences}, {"differences_data", erd_differences_data}};
+
 #define COUNT(table) (sizeof(table) / sizeof(table)[0])
 
 static enum erd_outcome ask(char **words, const char *prefer, struct file left, struct file right, char **text, size_t *length) {
@@ -61,6 +68,9 @@ static enum erd_outcome ask(char **words, const char *prefer, struct file left, 
     for (size_t i = 0; i < COUNT(of_two_reports); i++)
         if (strcmp(words[0], of_two_reports[i].name) == 0)
             return of_two_reports[i].call(left.bytes, left.size, right.bytes, right.size, prefer, text, length);
+    for (size_t i = 0; i < COUNT(of_lists); i++)
+        if (strcmp(words[0], of_lists[i].name) == 0)
+            return of_lists[i].call(left.bytes, left.size, right.bytes, right.size, prefer, NULL, text, length);
     stop("no such call", words[0]);
     return ERD_WRONG;
 }

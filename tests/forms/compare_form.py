@@ -3,7 +3,7 @@
 usage: compare_form.py PROGRAM NATIVE PAIRS SEED FOLDER NAME COMMAND ..
 
 COMMAND is a program that answers many calls, as tests/forms/caller.c does. It gets every case of `conformance/`, whose answers stand
-there, and PAIRS random reports and pairs, which PROGRAM answers too. The program has no answers as data: those are compared with
+there, and PAIRS random reports and pairs, which PROGRAM answers too. The answers as data to all of these are compared with those of
 NATIVE, the same caller with the library of this machine in it. All is compared byte for byte. FOLDER is for files.
 """
 import copy
@@ -37,6 +37,10 @@ class Question:
     def __init__(self, name, words, expected):
         self.name, self.expected = name, expected
         self.command, *rest = words
+        if rest[0] == '--json':
+            # An answer as data has no line feed; that of the program has one.
+            output, errors, status = expected
+            self.command, rest, self.expected = self.command + '_data', rest[1:], (output.removesuffix(b'\n'), errors, status)
         self.prefer = rest[1] if rest[0] == '--prefer' else None
         self.files = rest[2:] if rest[0] == '--prefer' else rest
 
@@ -74,7 +78,7 @@ def of_random_reports(program, count, seed, folder):
     questions = []
     bases = [json.loads((ROOT / 'examples' / f'{name}.json').read_text(encoding='utf-8')) for name in EXAMPLES]
     for number, case in enumerate(cases(bases, count, random.Random(seed))):
-        words = ['canon' if case.command == 'filter' else case.command]
+        words = ['canon'] if case.command == 'filter' else case.command.split()
         words += [] if case.prefer is None else ['--prefer', case.prefer]
         for side, data in enumerate(case.inputs()):
             path = folder / f'{number}-{side}.json'
@@ -86,10 +90,10 @@ def of_random_reports(program, count, seed, folder):
 
 
 def as_data(native, questions):
-    """The same checks and comparisons once more, answered as data, with what the native library answers."""
+    """The same checks and lists of what differs once more, answered as data, with what the native library answers."""
     asked = []
     for question in questions:
-        if question.command != 'canon':
+        if question.command != 'canon' and not question.command.endswith('_data'):
             asked.append(copy.copy(question))
             asked[-1].command += '_data'
     for question, (outcome, text) in zip(asked, answers_of([native], asked)):

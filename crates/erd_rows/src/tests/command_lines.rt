@@ -314,6 +314,7 @@ const TEXTS: &[Parts] = &[
     ("erd|check|--help", OF_CHECK),
     ("erd|help|canon", OF_CANON),
     ("erd|help|compare", OF_COMPARE),
+    ("erd|help|differences", OF_DIFFERENCES),
     (
         "erd|nosuch",
         &["error: ", "'nosuch'", "Usage: erd [COMMAND]\n"],
@@ -335,9 +336,10 @@ const TEXTS: &[Parts] = &[
 const OF_THE_PROGRAM: &[&str] = &[
     "pre-election ballot definition",
     "Usage: erd [COMMAND]\n",
-    "check    Reports",
-    "canon    Writes",
-    "compare  Reports",
+    "check        Reports",
+    "canon        Writes",
+    "compare      Reports",
+    "differences  Lists",
     "Exit status:\n  0  ",
     "Example:\n  erd < report.json > canonical.json\n",
 ];
@@ -364,6 +366,15 @@ const OF_COMPARE: &[&str] = &[
     "standard output `same`",
     "Exit status:\n  0  same\n",
     "Example:\n  erd compare vendor-a.json vendor-b.json\n",
+];
+
+const OF_DIFFERENCES: &[&str] = &[
+    "Usage: erd differences [OPTIONS] <LEFT> <RIGHT>\n",
+    "--json",
+    "--prefer <TYPE>",
+    "standard output `same`",
+    "Exit status:\n  0  same\n",
+    "Example:\n  erd differences vendor-a.json vendor-b.json\n",
 ];
 
 // Whether the text has all parts, and ends with one line feed.
