@@ -4,16 +4,14 @@
 pub const PROGRAM: &str =
     "Puts a pre-election ballot definition (NIST SP 1500-100, version 2, JSON) into one canonical form";
 
-/// What the program does, with and without a subcommand.
+/// What the program answers, and which subcommand to take.
 pub const PROGRAM_AT_LENGTH: &str =
-    "Puts a pre-election ballot definition (NIST SP 1500-100, version 2, JSON) into one canonical form:
-two files have the same canonical form if and only if they mean the same. All that they say of units,
-parties, persons, offices, contests and ballots counts, but not `@id` names, the order of members and
-of sets, or the envelope (who made the file, when and how, and its notes).
-
-Without a command it reads a report from standard input and writes its canonical form to standard
-output, with no line end. If the report is refused, it writes nothing there, and the faults to
-standard error, as `erd canon` does.";
+    "Puts a pre-election ballot definition (NIST SP 1500-100, version 2, JSON) into one canonical form: two
+files have the same canonical form if and only if they mean the same. Take `check` to learn whether a
+file is accepted and what is wrong with it, `compare` to learn whether two files mean the same,
+`differences` for all that differs, and `canon` for the canonical form. The names of `@id`, the order
+of members and sets, and the envelope (who made the file, when and how, and its notes) do not count.
+Without a command it reads a report from standard input and writes its canonical form.";
 
 /// The exit statuses of the program, and an example.
 pub const PROGRAM_ENDS: &str = "Exit status:
