@@ -96,8 +96,11 @@ for crate in $(grep -l '^gate: ' $(grep -lx 'noticed by: a contract' tests/bodie
 done
 
 lane 'proved: erd_canon' 'tests/library/c_library.sh' 'python3 tests/library/lists_agree.py 300' 'tests/fuzz/fuzz.sh' 'program:' 'tests/forms/other_machines.sh' 'tests/forms/other_programs.sh' \
-    'tests/forms/language_examples.sh' 'tests/forms/javascript_package.sh' 'tests/forms/python_package.sh' 'tests/page/page.sh' \
-    'tests/bodies/try_wrong.py --gate lines' 'tests/forms/program_packages.sh' 'tests/forms/release_files.sh' 'tests/forms/installed_alone.sh'
+    'tests/forms/language_examples.sh' 'tests/forms/javascript_package.sh' 'tests/forms/python_package.sh' \
+    'tests/forms/program_packages.sh' 'tests/forms/release_files.sh' 'tests/forms/installed_alone.sh'
+
+# The page needs erd.wasm alone, and the wrong lines need what the other forms have made, so they run beside the packages.
+lane 'ended: tests/forms/other_machines.sh' 'tests/page/page.sh' 'ended: tests/forms/other_programs.sh' 'tests/bodies/try_wrong.py --gate lines'
 
 lane 'program:' 'tests/program/command.sh' 'tests/pages/manual.sh' 'python3 tests/pages/examples.py' 'tests/program/contrib.sh' \
     'python3 tests/program/agrees_with_reference.py 500' 'python3 tests/program/same_meaning.py' \

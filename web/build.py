@@ -9,9 +9,11 @@ import gzip
 import hashlib
 import html
 import json
+import os
 import pathlib
 import re
 import sys
+import tempfile
 
 # The build leaves no files beside its sources.
 sys.dont_write_bytecode = True
@@ -167,7 +169,11 @@ def main(words):
     if len(made) > MOST_BYTES:
         raise BuildError('the page has %d bytes, more than %d' % (len(made), MOST_BYTES))
     output.parent.mkdir(parents=True, exist_ok=True)
-    output.write_bytes(made)
+    # Whoever reads the page while it is made again gets the whole of it.
+    with tempfile.NamedTemporaryFile(dir=output.parent, delete=False) as new:
+        new.write(made)
+    os.chmod(new.name, 0o644)
+    os.replace(new.name, output)
 
 
 if __name__ == '__main__':
