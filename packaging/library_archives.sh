@@ -14,7 +14,7 @@ gathered() {
     mkdir "$work/$2/examples"
     cp examples/calling/* "$work/$2/examples"
     cp LICENSE-MIT LICENSE-APACHE THIRD-PARTY-NOTICES "$work/$2"
-    python3 packaging/pages_apart.py "$work/$2" docs/API.md docs/DATA.md
+    python3 packaging/pages_apart.py "$work/$2" docs/API.md
 }
 
 for processor in x86_64 aarch64; do

@@ -14,7 +14,7 @@ How to run it (Python 3, standard library only):
     python3 erd_reference.py canon [--prefer TYPE] FILE
     python3 erd_reference.py compare [--prefer TYPE] LEFT RIGHT
 
-Two more commands write all differences of two reports: `differences` as lines, and `entries` as data, which docs/DATA.md
+Two more commands write all differences of two reports: `differences` as lines, and `entries` as data, which docs/API.md
 describes.
 
 One thing Python does before this program begins: it ends with status 1 if its standard input is a folder, where the
@@ -848,8 +848,8 @@ def differences_of(left, right):
 
 
 def differences_inside(left, right):
-    """DATA.md: 'The array rises by the names of the selections, and then by the names of members. A selection that only one
-    of the two contests has is one entry. Otherwise there is an entry for each member that differs.'"""
+    """API.md: 'The array rises by the names of the selections, and then by the names of members. A selection that only one
+    contest has is one entry. Otherwise there is an entry for each member that differs.'"""
     one, other = (record.members.get('ContestSelection', {}) for record in (left, right))
     return [SelectionDifference(name, how, member) for name in sorted(one.keys() | other.keys())
             for how, member in differences_of(one.get(name), other.get(name))]
@@ -869,9 +869,9 @@ def difference_line(difference):
 
 
 def difference_data(difference):
-    """DATA.md: 'an object for each difference' with `how`, `key`, `member` and `part`. '`key` is `null` for the report itself,
-    and for a sole election without external identifiers.' 'For the member `ContestSelection` of a contest' the object has
-    'a member `selections`, which is the array of what differs inside.'"""
+    """API.md: 'one object for each difference' with `how`, `key`, `member` and `part`. `key` 'is `null` for the report itself,
+    and for a sole election without external identifiers'. 'An entry for the member `ContestSelection` of a contest has a
+    further member, `selections`. It is the array of what differs inside'."""
     data = {'part': difference.part, 'key': difference.key, **way_data(difference)}
     if difference.selections is not None:
         data['selections'] = [{'name': name_data(inside.name), **way_data(inside)} for inside in difference.selections]
@@ -879,20 +879,20 @@ def difference_data(difference):
 
 
 def way_data(difference):
-    """DATA.md: '`member`: the name of the member that differs. Only `"member"` has it.'"""
+    """API.md on `member`: 'the name of the member that differs. Only `"member"` has it'."""
     return {'how': difference.how} if difference.member is None else {'how': difference.how, 'member': difference.member}
 
 
 def name_data(name):
-    """DATA.md: 'The name of a selection is the array of its six parts: the `@type` of its class; the array of the keys of its
-    candidates or parties; whether it is for a write-in; its `SequenceOrder`; the compact text of its label; and the triple
+    """API.md: 'The name of a selection is the array of its six parts': 'the `@type` of its class', 'the array of the keys of its
+    candidates or parties', 'whether it is for a write-in', 'its `SequenceOrder`, the compact text of its label, and the triple
     chosen from its identifiers. A part that the name has not is null.'"""
     class_name, keys, write_in, *parts = name
     return [CLASS_PREFIX + class_name, keys, write_in, *(part[0] if part else None for part in parts)]
 
 
 def fault_data(fault):
-    """DATA.md: '`name`: the name of the missing member. Only reason 2 has it.'"""
+    """API.md on `name`: 'the name of the missing member, as a string. Only reason 2 (`missing member`) has it'."""
     data = {'place': fault.place, 'reason': fault.reason}
     return {**data, 'name': fault.name} if fault.reason == 2 else data
 
@@ -1032,8 +1032,8 @@ def run_entries(left_handle, right_handle, preference):
 
 
 def entries_answer(left_data, right_data, preference):
-    """DATA.md: '[]' if the reports mean the same; 'an array with one object for each difference'; 'if the left report is
-    refused, or else if the right one is, the object names the side' and has its faults, or 'the string `"not JSON"`'."""
+    """API.md: '[]' if the reports mean the same; 'an array with one object for each difference'; 'If the left report is
+    refused, or else the right one, the object names the side', and has its faults, or 'the string `"not JSON"`'."""
     resolved = []
     for side, data in (('left', left_data), ('right', right_data)):
         status, faults, accepted = verdict_on(data, preference)
@@ -1059,7 +1059,7 @@ def data_of(command, inputs, preference):
     else:
         status, value = entries_answer(*inputs, preference)
     if command == 'compare' and isinstance(value, list):
-        # DATA.md: 'null, or an object for the first difference', which tells nothing of what is inside selections.
+        # API.md: `null`, or 'an object for the first difference', which tells nothing of what is inside selections.
         value = {name: part for name, part in value[0].items() if name != 'selections'} if value else None
     return status, compact_text(value)
 

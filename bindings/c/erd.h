@@ -65,7 +65,7 @@ enum erd_outcome erd_compare(const void *left, size_t left_size, const void *rig
  *
  * `place` has the names of members as strings and positions in arrays, counted from 0, as numbers. `reason` is the number of
  * the reason in docs/PROFILE.md. `name` is the name of the missing member; only reason 2 has it.
- * docs/DATA.md describes this text and those of the other calls that answer with data. */
+ * docs/API.md describes this text and those of the other calls that answer with data. */
 enum erd_outcome erd_check_data(const void *bytes, size_t size, const char *prefer, char **text, size_t *length);
 
 /* Compares two reports, as erd_compare does, and answers with data. The text is compact JSON in UTF-8, with no line end:

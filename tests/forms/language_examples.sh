@@ -61,6 +61,14 @@ has() {
 [ -e "$library/liberd.so" ] || (cd "$here" && packaging/portable/linux.sh x86_64) || exit 1
 
 made C cc -I"$library" "$examples/erd_call.c" -L"$library" -lerd -o "$work/in_c" && answers C "$work/in_c"
+# The program of docs/API.md, which reads standard input.
+block "$here/docs/API.md" c 1 > "$work/check.c"
+if made 'C of docs/API.md' cc -I"$library" "$work/check.c" -L"$library" -lerd -o "$work/check"; then
+    caller=(bash -c '"$0" < "$1"' "$work/check")
+    for file in "$one" "$work/refused.json" "$work/broken.json"; do
+        asked 'C of docs/API.md' check "$file"
+    done
+fi
 has 'C#' mcs "$library" && made 'C#' mcs -out:"$work/ErdCall.exe" "$examples/ErdCall.cs" && answers 'C#' mono "$work/ErdCall.exe"
 jna=/usr/share/java/jna.jar
 has Java javac "$jna" && made Java javac -cp "$jna" -d "$work" "$examples/ErdCall.java" &&

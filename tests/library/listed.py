@@ -1,5 +1,5 @@
 """The list of all differences of two reports as the calls of the C library have to answer with it, made by the reference program
-(reference/erd_reference.py), and pieces of it by the rules of docs/DATA.md."""
+(reference/erd_reference.py), and pieces of it by the rules of docs/API.md."""
 import itertools
 import pathlib
 import sys

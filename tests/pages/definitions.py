@@ -4,8 +4,8 @@ have one name, and lines of comments have at most 130 characters.
 The lines of the page are made from the comments that stand before the definitions, and the order of the files is that of
 each `Lib.antt`. A line has the first sentence of a comment. What a comment ends with in brackets is its source: the source
 that most definitions of a file have stands once, after the name of the file. The page leaves out a definition that only its own file
-uses, and one on which no promise of `closures.py` rests. With `--write` these lines are written anew; what else stands on the page is
-written by hand.
+uses, and one on which no promise of `closures.py` rests; a file that then has none is named alone. With `--write` these lines are
+written anew; what else stands on the page is written by hand.
 
 A reader may skip `specs/code/`: no clause of a public function or trait cites a definition from there, and no other
 definition in `specs/` does. What a source imports from `specs/Words.antt` is passed on from other files of `specs/`, so that
@@ -49,11 +49,11 @@ SOURCES = {
     'erd_c/Lines': 'this project',
     'erd_c/Told': 'this project',
     'erd_canon/Bytes.IsNotJson': 'RFC 8259, as `serde_json` reads it',
-    'erd_canon/DataAnswers': 'docs/DATA.md',
-    'erd_canon/DataValues': 'docs/DATA.md',
+    'erd_canon/DataAnswers': 'docs/API.md',
+    'erd_canon/DataValues': 'docs/API.md',
     'erd_canon/Devices': 'this project',
     'erd_canon/Engines': 'this project',
-    'erd_canon/LineAnswers': 'docs/DATA.md',
+    'erd_canon/LineAnswers': 'docs/API.md',
     'erd_canon/Answering': 'this project',
     'erd_canon/Options.asks_json': 'the grammar of `clap`',
     'erd_canon/Options.preference_in': 'the grammar of `clap`',
@@ -74,7 +74,7 @@ SOURCES = {
     'erd_check/Trees.IsNoDeeper': 'the reading of `serde_json`',
     'erd_check/Values': 'RFC 8259, section 5',
     'erd_check/Visits': 'this project',
-    'erd_compare/DifferenceData': 'docs/DATA.md',
+    'erd_compare/DifferenceData': 'docs/API.md',
     'erd_compare/DifferenceLine.key_as_json': 'RFC 8259',
     'erd_index/Salts': 'this project',
     'erd_meaning/Hashes': 'this project',
@@ -189,21 +189,22 @@ def modules(path):
 
 def lines_of_crate(crate, trusted, used):
     """The lines of a crate: the first words of each file with its source, and its definitions on which promises rest and that other files
-    use. A file that has none, or whose definitions are for the code, is named alone."""
+    use. Files that have none are named alone."""
     specs = ROOT / 'crates' / crate / 'specs'
-    lines = []
+    lines, alone = [], []
     for name in modules(specs / 'Lib.antt'):
         found = [(definition, *words_and_source(crate, name, definition, comment))
                  for definition, comment in definitions(specs / f'{name}.antt')]
         sources = [source for _, _, source in found]
         usual = max(sources, key=sources.count, default=PROFILE)
-        lines += [f'**{name}** ({usual}): {first_words(specs / (name + ".antt"))}', '']
         of_promises = [one for one in found if one[0] in trusted.get(f'{crate}/{name}', ())]
         read = [one for one in of_promises if (f'{crate}/{name}', one[0]) in used]
-        lines += [f'- `{definition}`: {words}' + (f' ({source})' if source != usual else '') for definition, words, source in read]
-        lines += [''] if read else []
-    if (specs / 'code.antt').exists():
-        lines += [f'**code/**: {", ".join(modules(specs / "code.antt"))}', '']
+        if not read:
+            alone.append(name)
+            continue
+        lines += [f'**{name}** ({usual}): {first_words(specs / (name + ".antt"))}', '']
+        lines += [*(f'- `{definition}`: {words}' + (f' ({source})' if source != usual else '') for definition, words, source in read), '']
+    lines += [f'**Named alone**: {", ".join(alone)}', ''] if alone else []
     return lines
 
 

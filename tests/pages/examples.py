@@ -1,4 +1,4 @@
-"""Runs every session of README.md and the pages for users, and every example of docs/FIXES.md, docs/DATA.md, docs/PROFILE.md and
+"""Runs every session of README.md and the pages for users, and every example of docs/FIXES.md, docs/API.md, docs/PROFILE.md and
 erd.h, and compares what they give with what the pages show. `ERD=..` names another program than ./erd, such as
 `ERD='python3 reference/erd_reference.py'`. One line a case that fails, and at the end the counts.
 
@@ -28,7 +28,7 @@ from exports import rearranged  # noqa: E402
 
 SESSIONS = ('README.md', 'docs/GUIDE.md', 'docs/FIXES.md')
 BASE = 'examples/county.vendor-a.json'
-DATA_PAGES = ('docs/DATA.md', 'bindings/c/erd.h')
+DATA_PAGES = ('docs/API.md', 'bindings/c/erd.h')
 
 
 def read(path):
@@ -42,8 +42,7 @@ def run(command, folder):
 
 
 def workshop(folder):
-    """Makes a folder with the examples, and the programs `erd` and `erd-prepare` on the path. As the packages have it, this `erd` lists all
-    differences too: those of the reference program, which tests/library/lists_agree.py holds against the library."""
+    """Makes a folder with the examples, and the programs `erd` and `erd-prepare` on the path."""
     for name in ('examples', 'contrib'):
         shutil.copytree(ROOT / name, folder / name)
     (folder / 'reference').mkdir()
@@ -52,9 +51,7 @@ def workshop(folder):
     program = [str(ROOT / word) if (ROOT / word).exists() else word for word in program]
     (folder / 'bin').mkdir()
     package = shlex.quote(str(ROOT / 'bindings' / 'python' / 'src'))
-    reference = shlex.quote(str(ROOT / 'reference' / 'erd_reference.py'))
-    listing = f'[ "$1" != differences ] || exec python3 {reference} "$@"\n'
-    for name, words in (('erd', f'{listing}exec {shlex.join(program)}'), ('erd-prepare', f'PYTHONPATH={package} exec python3 -B -m erd.prepare')):
+    for name, words in (('erd', f'exec {shlex.join(program)}'), ('erd-prepare', f'PYTHONPATH={package} exec python3 -B -m erd.prepare')):
         (folder / 'bin' / name).write_text(f'#!/bin/sh\n{words} "$@"\n', encoding='utf-8')
         (folder / 'bin' / name).chmod(0o755)
     os.environ['PATH'] = f'{folder / "bin"}:{os.environ["PATH"]}'

@@ -218,6 +218,9 @@ def compare_links():
         named = re.findall(r'`((?:docs/|conformance/|\.\./)?[A-Z]+\.md|docs/[\w.]+)`', read(page))
         broken += [name for name in named if not any((ROOT / way).exists() for way in (name, page.parent / name))]
         yield f'the links of {page} that lead nowhere', [], broken
+    sources = (path for kind in ('rt', 'antt') for path in ROOT.glob(f'crates/*/s*/**/*.{kind}'))
+    named = {name for path in sources for name in re.findall(r'docs/[A-Z]+\.md', path.read_text(encoding='utf-8'))}
+    yield 'the pages that comments of the crates name and that are not there', [], sorted(name for name in named if not (ROOT / name).exists())
 
 
 def compare_pictures():

@@ -23,10 +23,10 @@ QUOTES = (
     ('CONTRIBUTING.md', 'name: position_', 'tests/bodies/lists/*.txt'),
 )
 # The pages that cite names of the code, and where these stand.
-CITING = ('docs/DECISIONS.md', 'docs/TRUST.md', 'docs/DATA.md', 'CONTRIBUTING.md')
+CITING = ('docs/DECISIONS.md', 'docs/TRUST.md', 'docs/API.md', 'CONTRIBUTING.md')
 SOURCES = ('crates', 'bindings', 'packaging', 'tests', 'web', 'conformance', 'contrib', 'reference')
 # The pages whose sessions and JSON examples are run by tests/pages/examples.py.
-RUN = {'console': set(examples.SESSIONS), 'json': {'docs/FIXES.md', 'docs/DATA.md'}}
+RUN = {'console': set(examples.SESSIONS), 'json': {'docs/FIXES.md', 'docs/API.md'}}
 
 
 def read(path):
@@ -116,8 +116,8 @@ def run_elsewhere():
     headings, differences = page.split('\n## Differences that')
     count = 2 * len(re.findall(r'^## \d+\. ', headings, re.M)) + 2 * len(re.findall(r'^### ', differences, re.M))
     yield 'the JSON blocks of docs/FIXES.md', count, sum(word == 'json' for word, _ in blocks('docs/FIXES.md'))
-    for word, text in blocks('docs/DATA.md'):
-        yield 'a JSON block of docs/DATA.md is one line', (1, True), (text.count('\n'), text[0] in '[{')
+    for text in (text for word, text in blocks('docs/API.md') if word == 'json'):
+        yield 'a JSON block of docs/API.md is one line', (1, True), (text.count('\n'), text[0] in '[{')
 
 
 if __name__ == '__main__':

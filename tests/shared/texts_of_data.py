@@ -1,4 +1,4 @@
-"""The texts of the program, made from the answers of the calls for data (docs/DATA.md).
+"""The texts of the program, made from the answers of the calls for data (docs/API.md).
 
 `check_text` makes what `erd check` writes from what `erd_check_data` answers, and `compare_text` what `erd compare` writes
 from what `erd_compare_data` answers. Both take the JSON value that `json.loads` reads from the answer.

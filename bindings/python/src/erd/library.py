@@ -104,7 +104,7 @@ class Request:
     command: str = ''
     files: Sequence[str] = ()
     options: Dict[str, Any] = field(default_factory=dict)
-    """Each option of the command by its name, as docs/DATA.md has it."""
+    """Each option of the command by its name, as docs/API.md has it."""
 
     text: bytes = b''
 
