@@ -318,10 +318,10 @@ def examples_of_differences(folder):
 
 
 def rows_of_letter(folder):
-    """Each rule of docs/VENDORS.md: what it calls refused is refused at its place, and what it calls accepted is accepted."""
+    """Each rule of docs/VENDORS.md: what stands behind `not` is refused at its place, and what stands behind `but` is accepted."""
     base = json.loads(read(BASE))
     page = read('docs/VENDORS.md')
-    rules = re.findall(r'^- (.*?) At `(\.[^`]*)`, `(.*)` is refused, and `(.*)` is accepted\.$', page, re.M)
+    rules = re.findall(r'^- (.*?) At `(\.[^`]*)`: not `(.*)`, but `(.*)`\.$', page, re.M)
     yield 'docs/VENDORS.md: rules with an example', 11, len(rules)
     for rule, place, bad, good in rules:
         for name, fragment in (('before.json', bad), ('after.json', good)):
