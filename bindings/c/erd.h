@@ -83,8 +83,8 @@ enum erd_outcome erd_check_data(const void *bytes, size_t size, const char *pref
 enum erd_outcome erd_compare_data(const void *left, size_t left_size, const void *right, size_t right_size,
                                   const char *prefer, char **text, size_t *length);
 
-/* Which entries of a list an answer is to have, and what it tells of the list. The list of the faults of a report can be as long
- * as the square of the report. So a caller that does not trust a report asks for a piece of the list: of the entries behind
+/* Which entries of a list an answer is to have, and what it tells of the list. The list of the faults of a report can grow
+ * with the square of its size. So a caller that does not trust a report asks for a piece of the list: of the entries behind
  * `first`, those that come first, until they are `most` or have `enough_bytes` bytes. The next piece begins at `first` + `told`.
  *
  * A call leaves `first`, `most` and `enough_bytes` as they are, and sets the others, which are 0 if the answer has no list. */

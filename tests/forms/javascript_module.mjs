@@ -210,7 +210,7 @@ const repeated = `[${Array(1001).fill('{"a":1,"a":2}')}]`;
 equal('the first 1,000 repeated names', repeatedNames(repeated).length, 1000);
 equal('all repeated names', repeatedNames(repeated, { most: null }).length, 1001);
 equal('two repeated names', JSON.stringify(repeatedNames(repeated, { most: 2 }).map(({ place }) => place)), '[[0,"a"],[1,"a"]]');
-// Names below a long one: together, their places are as long as the square of the report.
+// Names below a long one: together, their places grow with the square of the report's size.
 const below = `{"${'n'.repeat(5_000_000)}":[${Array(3000).fill('{"a":1,"a":2}').join()}]}`;
 const few = repeatedNames(below);
 equal('repeated names with long places are fewer', JSON.stringify([few.length, few.allNames, few.more]), '[1,3000,true]');

@@ -219,7 +219,7 @@ def test_the_first_repeated_names():
 
 
 def test_repeated_names_with_long_places_are_fewer():
-    # Together, their places are as long as the square of the report.
+    # Together, their places grow with the square of the report's size.
     report = '{"' + 'n' * 400_000 + '":[' + ','.join(['{"a":1,"a":2}'] * 3000) + ']}'
     found = erd.repeated_names(report)
     assert (len(found), found.all_names, found.more) == (3, 3000, True)
