@@ -27,10 +27,10 @@ GROUPS = (
         'README.md': 'erd', 'docs/GUIDE.md': 'Guide', 'docs/FIXES.md': 'Fix a refused file', 'docs/INSTALL.md': 'Get it',
         'docs/VENDORS.md': 'Letter to the vendor', 'docs/PROFILE.md': 'The rules', 'docs/LIMITS.md': 'Time, memory, untrusted files',
         'SECURITY.md': 'Security', 'examples/README.md': 'Examples', 'web/fixes.es.md': 'Español'}),
+    ('Readers of the proof', 2, {'docs/TRUST.md': 'What is proved', 'docs/DEFINITIONS.md': 'Definitions', 'docs/DECISIONS.md': 'Decisions'}),
     ('Authors of programs', 2, {
         'docs/API.md': 'Call erd', 'bindings/js/README.md': 'JavaScript', 'bindings/python/README.md': 'Python',
         'conformance/README.md': 'Conformance'}),
-    ('Readers of the proof', 2, {'docs/TRUST.md': 'What is proved', 'docs/DEFINITIONS.md': 'Definitions', 'docs/DECISIONS.md': 'Decisions'}),
     ('Contributors', 1, {'CONTRIBUTING.md': 'Contribute', 'docs/MEASUREMENTS.md': 'Measurements', 'CHANGELOG.md': 'Changes'}),
 )
 LEFT_OUT = ('third_party/', 'crates/', 'bindings/python/src')

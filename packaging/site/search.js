@@ -10,9 +10,25 @@ const AROUND = 80;
 const ALSO = {
     invalid: ['refused', 'accepted'], valid: ['accepted'], rejected: ['refused'], reject: ['refused'], error: ['fault'], errors: ['fault'], wrong: ['fault'],
     fails: ['refused'], diff: ['differences'], identical: ['same'], equal: ['same'], ram: ['memory'], slow: ['time'], speed: ['time'], fast: ['time'],
-    macos: ['mac'], osx: ['mac'], apple: ['mac'], download: ['release'], hack: ['untrusted'], malicious: ['untrusted'], virus: ['untrusted'],
+    macos: ['mac'], osx: ['mac'], apple: ['mac'], broken: ['refused'], download: ['release'], hack: ['untrusted'], malicious: ['untrusted'], virus: ['untrusted'],
     proof: ['proved'], prove: ['proved'], verified: ['proved'], repair: ['fix'], mend: ['fix'], bom: ['byte order mark'], rest: ['json'],
 };
+
+// Words of a question that say nothing of what is asked.
+const FILLERS = new Set(('a an and are be been can did do does for from get has have how i in is it its me my of on or our that the there this to was we '
+    + 'were what when where which who why with you your').split(' '));
+
+/** The words that are asked for: those of the box without fillers, or all if it has nothing else. */
+function asked() {
+    const words = box.value.toLowerCase().split(/[\s?!.,]+/).filter(Boolean);
+    const told = words.filter((word) => !FILLERS.has(word));
+    return told.length > 0 ? told : words;
+}
+
+/** What a section may have in place of a word: other words for it, and the word without the ending of several. */
+function others(word) {
+    return [...(ALSO[word] ?? []), ...(word.length > 3 && word.endsWith('s') ? [word.slice(0, -1)] : [])];
+}
 
 /** How well a text has a word: 0 where it lacks it, and the most where it stands alone. */
 function measure(text, word) {
@@ -25,7 +41,7 @@ function measure(text, word) {
 
 /** How well a section has one of the words that people ask: in its heading, in the title of its page, or in its text. */
 function worthOf(section, word) {
-    const best = (text, most) => Math.max(measure(text, word), ...(ALSO[word] ?? []).map((other) => measure(text, other) * 0.8)) * most;
+    const best = (text, most) => Math.max(measure(text, word), ...others(word).map((other) => measure(text, other) * 0.8)) * most;
     return Math.max(best(section.heading.toLowerCase(), 8), best(section.title.toLowerCase(), 5), best(section.text.toLowerCase(), 1));
 }
 
@@ -57,10 +73,10 @@ function excerpt(text, words) {
 }
 
 function search() {
-    const words = box.value.toLowerCase().split(/[\s?]+/).filter(Boolean);
+    const words = asked();
     const found = words.length === 0 ? [] : sections.map((section) => [worth(section, words), section]).filter(([value]) => value > 0)
         .sort((one, other) => other[0] - one[0]).map(([, section]) => section);
-    const marked = words.flatMap((word) => [word, ...(ALSO[word] ?? [])]);
+    const marked = words.flatMap((word) => [word, ...others(word)]);
     list.replaceChildren(...found.slice(0, MOST).map((section) => {
         const item = document.createElement('li');
         const link = document.createElement('a');
