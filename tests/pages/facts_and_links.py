@@ -267,6 +267,22 @@ def compare_lengths():
         yield f'the long sentences and paragraphs of {page}', [], long
 
 
+# The most words of each page for readers, and of all pages in English.
+MOST_WORDS = {
+    'README.md': 800, 'docs/GUIDE.md': 3500, 'docs/FIXES.md': 4500, 'docs/VENDORS.md': 700, 'docs/LIMITS.md': 2000, 'docs/INSTALL.md': 1200,
+    'docs/PROFILE.md': 6000, 'docs/API.md': 4000, 'docs/TRUST.md': 4500, 'docs/DEFINITIONS.md': 8000, 'CONTRIBUTING.md': 5000,
+    'docs/DECISIONS.md': 3500, 'docs/MEASUREMENTS.md': 1200,
+}
+MOST_IN_ALL = 45000
+
+
+def compare_words():
+    """No page has more words than are meant for it, nor have all of them together. A page in Spanish says what one in English says."""
+    words = {str(page): len(read(page).split()) for page in pages() if not page.name.endswith('.es.md')}
+    yield 'the pages with too many words', {}, {page: words[page] for page, most in MOST_WORDS.items() if words[page] > most}
+    yield f'at most {MOST_IN_ALL} words in all pages: {sum(words.values())}', True, sum(words.values()) <= MOST_IN_ALL
+
+
 # ---- the kit
 
 
@@ -287,4 +303,4 @@ def compare_kit():
 
 if __name__ == '__main__':
     sys.exit(tell_cases([*compare_tables(), *compare_seen(), *compare_limits(), *compare_reasons(), *compare_statuses(), *compare_preferring(),
-                         *compare_links(), *compare_pictures(), *compare_lengths(), *compare_lists(), *compare_kit()]))
+                         *compare_links(), *compare_pictures(), *compare_lengths(), *compare_words(), *compare_lists(), *compare_kit()]))
