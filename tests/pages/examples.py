@@ -86,11 +86,9 @@ def sessions(folder):
 
 def rearranged_recipe(page, command, folder):
     """What a recipe prepares is the same if the export lists its objects in another order and has other system names. A recipe
-    is a command that makes an accepted file of a refused one, or prepares an accepted one."""
-    recipe = re.fullmatch(r'((?:erd-prepare|jq) (?:.* )?)(\S+\.json) > (\S+)(?: 2> \S+)?\n', command)
+    is a command that prepares a copy which is accepted."""
+    recipe = re.fullmatch(r'(erd-prepare (?:.* )?)(\S+\.json) > (\S+)(?: 2> \S+)?\n', command)
     if recipe is None or run(f'erd check {recipe[3]}', folder) != 'accepted\n':
-        return
-    if command.startswith('jq ') and run(f'erd check {recipe[2]}', folder) == 'accepted\n':
         return
     report = json.loads((folder / recipe[2]).read_text(encoding='utf-8-sig'))
     for number in range(3):
@@ -353,11 +351,7 @@ def main():
         folder = pathlib.Path(name)
         workshop(folder)
         cases = [headings(), rows_of_letter(folder), examples_of_differences(folder), examples_of_data(folder), demonstration(folder),
-                 lines_of_profile(folder)]
-        if shutil.which('jq'):
-            cases += [examples_of_reasons(folder), sessions(folder)]
-        else:
-            print('skipped the sessions and the reasons: there is no jq')
+                 lines_of_profile(folder), examples_of_reasons(folder), sessions(folder)]
         return tell_cases(itertools.chain(*cases), lambda wanted, found: f'the page has\n{wanted}\nand not\n{found}')
 
 
