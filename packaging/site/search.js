@@ -15,8 +15,8 @@ const ALSO = {
 };
 
 // Words of a question that say nothing of what is asked.
-const FILLERS = new Set(('a an and are be been can did do does for from get has have how i in is it its me my of on or our that the there this to was we '
-    + 'were what when where which who why with you your').split(' '));
+const FILLERS = new Set(('a an and are be been can contain contains did do does for from get has have hold holds how i in is it its me my of on or our '
+    + 'should tell that the there this to was we were what when where which who why will with would you your').split(' '));
 
 /** The words that are asked for: those of the box without fillers, or all if it has nothing else. */
 function asked() {

@@ -17,7 +17,7 @@ WIDTH = 375
 ASKED = {
     'mac': 'docs/INSTALL.html', 'invalid': 'docs/GUIDE.html', 'memory': 'docs/LIMITS.html', 'compare two files': 'docs/GUIDE.html',
     'why is a file rejected': 'docs/GUIDE.html', 'Why was my file rejected?': 'docs/GUIDE.html', 'how do I compare two ballots': 'docs/GUIDE.html',
-    'what is in a release': 'docs/INSTALL.html', 'spanish': 'docs/GUIDE.html', 'release': 'docs/INSTALL.html', 'what is proved': 'index.html', 'untrusted': 'docs/GUIDE.html',
+    'what is in a release': 'docs/INSTALL.html', 'what does a release hold': 'docs/INSTALL.html', 'spanish': 'docs/GUIDE.html', 'release': 'docs/INSTALL.html', 'what is proved': 'index.html', 'untrusted': 'docs/GUIDE.html',
     'byte order mark': 'docs/FIXES.html',
 }
 sys.path.insert(0, str(ROOT / 'tests' / 'page'))
