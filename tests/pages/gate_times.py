@@ -64,7 +64,7 @@ def write():
 def minutes():
     """How many minutes `make test` takes on four processors, as the page says, and as the README says."""
     page, readme = ((ROOT / name).read_text(encoding='utf-8') for name in ('CONTRIBUTING.md', 'README.md'))
-    return (re.findall(r'`make test` proves everything from nothing and runs all tests\. It takes about (\d+) minutes on four processors', page),
+    return (re.findall(r'`make test` proves everything and runs all tests\. It takes about (\d+) minutes on four processors', page),
             re.findall(r'^make test .*: about (\d+) minutes on 4 idle cores$', readme, re.M))
 
 
