@@ -1,9 +1,12 @@
 """The converter of the page and that of the Python package make the same JSON of the same XML, and tell the same of it: of a thousand
-reports with changes at random, of JSON that was made from some, and in whatever parts the page reads them. Python's tests hold that a
-dropped or doubled element is seen, of the same changes."""
+reports in which an element is dropped or doubled, of a thousand with other changes too, of JSON that was made from some, and in whatever
+parts the page reads them. And each element that is dropped or doubled is seen, in what the page tells or in the JSON that it makes."""
 import base64
+import collections
 import json
+import os
 import random
+import subprocess
 import sys
 from xml.etree import ElementTree
 
@@ -15,7 +18,8 @@ sys.path.append(str(ROOT / 'web'))
 import build  # noqa: E402
 import xml_reports  # noqa: E402
 from erd import from_xml  # noqa: E402
-from xml_writer import born_of, mutant_of, xml_of  # noqa: E402
+from xml_reports import in_version  # noqa: E402
+from xml_writer import born_of, mutant_of, seen, xml_of  # noqa: E402
 
 COUNT = 1000
 COUNT_BORN = 250
@@ -30,6 +34,8 @@ def run(session, count=COUNT):
     path = session.file('convert.html', page())
     session.others['convert'] = path.resolve().as_uri()
     session.browser.open(session.others['convert'])
+    damaged = list(random_damage(count))
+    all_seen(session, damaged, agree(session, 'XML with an element dropped or doubled', [data for _, data in damaged]))
     changed = list(random_xml(count))
     agree(session, 'XML with changes at random', changed)
     agree(session, 'XML in the smallest parts', sorted(changed, key=len)[:COUNT_SMALLEST], SMALLEST)
@@ -72,13 +78,35 @@ def of_page(found):
 
 
 def agree(session, name, files, sizes=None):
-    """One case: all of these files become the same."""
-    wrong = []
+    """One case: all of these files become the same. Returns what the page made of them."""
+    wrong, made = [], []
     for at in range(0, len(files), BATCH):
         batch = files[at:at + BATCH]
         found = session.browser.script('return convertedAll(arguments[0], arguments[1] ?? {})', [base64.b64encode(data).decode() for data in batch], sizes)
         wrong += [(data, of_page(one), of_python(data)) for data, one in zip(batch, found) if of_page(one) != of_python(data)]
+        made += found
     session.said(f'{name}: {len(files)} become the same', f'{len(wrong)} differ: {wrong[0]!r}'[:3000] if wrong else '')
+    return made
+
+
+def all_seen(session, damaged, made):
+    """One case: what was done to each of these files is seen, by the verdict of the package on the JSON that the page made, beside that of
+    the whole report. Some are told by the page, some are refused, some differ, and some differ around the ballots alone."""
+    os.environ['ERD_LIBRARY'] = library()
+    forms = {whole: from_xml.convert(whole).form for whole in {whole for whole, _ in damaged}}
+    ways = collections.Counter('not converted' if 'why' in one else seen(forms[whole], one['text'].encode('utf-8'), one['told'])
+                               for (whole, _), one in zip(damaged, made))
+    print(f'        {session.browser.name}: dropped or doubled elements are seen: {dict(ways)}', flush=True)
+    session.equal(f'XML with an element dropped or doubled: of {len(made)} are seen', len(made) - ways[None], len(damaged))
+
+
+def library():
+    """The path of the C library of this machine, as the package has it; it is made where it is not there."""
+    processor = os.uname().machine
+    path = ROOT / 'out' / 'portable' / f'linux-{processor}' / 'liberd.so.0'
+    if not path.exists():
+        subprocess.run(['packaging/portable/linux.sh', processor], cwd=ROOT, check=True)
+    return str(path)
 
 
 # ---- changes at random
@@ -131,11 +159,25 @@ def written_otherwise(text, dice):
     return text
 
 
+def all_whole():
+    """The reports that are changed, as XML of both versions."""
+    reports = [*(make() for make in xml_reports.REPORTS.values()), json.loads((EXAMPLES / 'small-ballot.json').read_bytes())]
+    return [xml_of(in_version(report, version), version) for report in reports for version in (1, 2)]
+
+
+def random_damage(count):
+    """Each a whole report, and the same with an element at random dropped or doubled, and nothing else."""
+    dice = random.Random(1500)
+    whole = all_whole()
+    for _ in range(count):
+        xml = dice.choice(whole)
+        yield xml, mutant_of(xml, dice)
+
+
 def random_xml(count):
     """Reports with changes at random: an element that is dropped or doubled, and a few others."""
     dice = random.Random(87)
-    whole = [xml_of(make(), version) for make, versions in xml_reports.REPORTS.values() for version in versions]
-    whole.append(xml_of(json.loads((EXAMPLES / 'small-ballot.json').read_bytes())))
+    whole = all_whole()
     for _ in range(count):
         xml = mutant_of(dice.choice(whole), dice)
         if dice.random() < 0.7:

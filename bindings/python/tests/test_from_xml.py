@@ -9,24 +9,23 @@ import subprocess
 import sys
 
 import pytest
-from xml_reports import REPORTS
-from xml_writer import born_of, mutant_of, xml_of
+from xml_reports import REPORTS, in_version, without_headers
+from xml_writer import born_of, mutant_of, seen, xml_of
 
 import erd
 from erd import from_xml
 
 EXAMPLES = ['county-general.json', 'county.vendor-a.json', 'county.vendor-b.json', 'one-unit.json', 'small-ballot.json',
             'two-elections.vendor-a.json', 'two-elections.vendor-b.json']
-CASES = [(name, version) for name, (_, versions) in REPORTS.items() for version in versions] + [(name, 2) for name in EXAMPLES] + [('one-unit.json', 1)]
+# Each in both versions, as far as the version can say it.
+CASES = [(name, version) for name in (*REPORTS, *EXAMPLES) for version in (1, 2)]
 # What two of the examples carry beside the schema.
 CARRIED = {'county.vendor-a.json': ['BallotText'], 'county.vendor-b.json': ['BallotText']}
-ENVELOPE = ['Format', 'GeneratedDate', 'Issuer', 'IssuerAbbreviation', 'VendorApplicationId', 'Notes', 'SequenceStart', 'SequenceEnd',
-            'ExternalIdentifier']
 SPACE = 'xmlns="http://itl.nist.gov/ns/voting/1500-100/v2" xmlns:xsi="http://www.w3.org/2001/XMLSchema-instance"'
 
 
-def report_of(top, name):
-    return REPORTS[name][0]() if name in REPORTS else json.loads((top / 'examples' / name).read_bytes())
+def report_of(top, name, version=2):
+    return in_version(REPORTS[name]() if name in REPORTS else json.loads((top / 'examples' / name).read_bytes()), version)
 
 
 def bytes_of(report):
@@ -45,7 +44,7 @@ def told_of(found):
 
 @pytest.mark.parametrize('name, version', CASES)
 def test_same(top, name, version):
-    report = report_of(top, name)
+    report = report_of(top, name, version)
     assert erd.check(bytes_of(report)).accepted
     for encoding in ('UTF-8', 'UTF-16'):
         found = from_xml.convert(xml_of(report, version, encoding))
@@ -53,41 +52,49 @@ def test_same(top, name, version):
         assert erd.compare(found.form, bytes_of(report)).same
 
 
+@pytest.mark.parametrize('version', [1, 2])
 @pytest.mark.parametrize('name', REPORTS)
-def test_every_member_is_converted(name):
+def test_every_member_is_converted(top, name, version):
     """Also those that have no meaning for erd."""
-    report = REPORTS[name][0]()
-    assert json.loads(from_xml.convert(xml_of(report)).form) == report
+    report = report_of(top, name, version)
+    assert json.loads(from_xml.convert(xml_of(report, version)).form) == report
+
+
+@pytest.mark.parametrize('name', [*REPORTS, *EXAMPLES])
+def test_only_headers_are_left_out_for_version_1(top, name):
+    """By hand: the contests of the one style with headers, in the order in which a reader meets them. Nothing else is changed."""
+    report = report_of(top, name)
+    reduced = without_headers(report)
+    styles = [style for election in reduced['Election'] for style in election.get('BallotStyle', [])]
+    assert all(set(entry) <= {'@type', 'ContestId', 'OrderedContestSelectionIds'} for style in styles for entry in style.get('OrderedContent', []))
+    if name == 'headers':
+        assert [entry['ContestId'] for entry in styles[0]['OrderedContent']] == ['mayor', 'ward1', 'ward2', 'clerk']
+    elif 'Header' not in report:
+        assert reduced == report
+    for each in (report, reduced):
+        each.pop('Header', None)
+        for style in (style for election in each['Election'] for style in election.get('BallotStyle', [])):
+            style.pop('OrderedContent', None)
+    assert reduced == report
 
 
 @pytest.mark.parametrize('form', ['at', 'attributes'])
 @pytest.mark.parametrize('name, version', CASES)
 def test_json_that_was_made_from_xml(top, name, version, form):
-    xml = xml_of(report_of(top, name), version)
+    xml = xml_of(report_of(top, name, version), version)
     found = from_xml.convert(born_of(xml, form))
     assert told_of(found) == CARRIED.get(name, [])
     assert erd.compare(found.form, from_xml.convert(xml).form).same
 
 
-def seen(base, found):
-    """How it is seen that an element is missing, or there twice."""
-    if found.told:
-        return 'told'
-    compared = erd.compare(base.form, found.form)
-    if not compared.same:
-        return 'fault' if compared.refused else 'difference'
-    left, right = json.loads(base.form), json.loads(found.form)
-    # What is around the ballots has no meaning for erd: only the JSON shows it.
-    return 'around' if any(left.get(name) != right.get(name) for name in ENVELOPE) else None
-
-
 @pytest.mark.parametrize('name, version', [(name, version) for name, version in CASES if name in REPORTS])
-def test_dropped_and_doubled_elements_are_seen(name, version):
-    xml = xml_of(REPORTS[name][0](), version)
+def test_dropped_and_doubled_elements_are_seen(top, name, version):
+    xml = xml_of(report_of(top, name, version), version)
     base, dice = from_xml.convert(xml), random.Random(f'{name} {version}')
     for _ in range(100):
         mutant = mutant_of(xml, dice)
-        assert seen(base, from_xml.convert(mutant)), mutant
+        found = from_xml.convert(mutant)
+        assert seen(base.form, found.form, found.told), mutant
 
 
 TOLD = {
@@ -257,7 +264,7 @@ def test_what_is_told_is_bounded():
 
 
 def test_erd_reads_no_xml():
-    assert erd.check(xml_of(REPORTS['primary'][0]())).lines == ('not JSON',)
+    assert erd.check(xml_of(REPORTS['primary']())).lines == ('not JSON',)
 
 
 def test_examples_in_the_comments():

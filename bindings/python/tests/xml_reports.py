@@ -1,4 +1,5 @@
 """Six reports as counties have them, for the tests of the converter from XML. All names are invented."""
+import copy
 
 
 def of(class_name, **members):
@@ -133,6 +134,30 @@ def offices_open():
                   GpUnit=places, Person=[named('Person', 'clerk', ContactInformation=[contact, contact], Prefix='Dr', DateOfBirth='1970-02-03')])
 
 
-# Each report, and the versions whose schema has its classes.
-REPORTS = {'primary': (primary, (1, 2)), 'measures': (measures, (1, 2)), 'parties': (parties, (1, 2)), 'headers': (headers, (2,)),
-           'elections': (elections, (1, 2)), 'offices_open': (offices_open, (1, 2))}
+# Each report. Those with headers stand in version 1 as `in_version` reduces them.
+REPORTS = {make.__name__: make for make in (primary, measures, parties, headers, elections, offices_open)}
+
+
+def in_version(report_of_2, version):
+    """A report as far as a version of the standard can say it. Version 2 says all of it. Version 1, from memory of its schema, has no class
+    Header, and a ballot style lists nothing but ordered contests: so its report is the same without headers. Whatever else the reports have
+    stands in both versions, some of it under another name or in a collection."""
+    return report_of_2 if version == 2 else without_headers(report_of_2)
+
+
+def without_headers(report_of_2):
+    """A copy of a report without headers. The contests below a header stand in its place, in the same order, so that no ballot loses one;
+    a list that had nothing but headers without contests is left out, since XML has no empty list."""
+    reduced = copy.deepcopy(report_of_2)
+    reduced.pop('Header', None)
+    for one in reduced['Election']:
+        for style in one.get('BallotStyle', []):
+            contests = contests_in(style.pop('OrderedContent', []))
+            style.update({'OrderedContent': contests} if contests else {})
+    return reduced
+
+
+def contests_in(content):
+    """The ordered contests of a list, with those below its headers, in their order."""
+    below = [contests_in(entry.get('OrderedContent', [])) if 'HeaderId' in entry else [entry] for entry in content]
+    return [entry for entries in below for entry in entries]

@@ -6,6 +6,8 @@ import json
 from xml.etree import ElementTree
 from xml.sax.saxutils import escape, quoteattr
 
+import erd
+
 INSTANCE = 'http://www.w3.org/2001/XMLSchema-instance'
 # The schema has classes that are abstract there, or have a class below them, so that elements name theirs.
 NAMES_CLASS = ('GpUnit', 'Contest', 'ContestSelection', 'OrderedContent', 'OrderedContest', 'BallotSelection')
@@ -13,6 +15,9 @@ IS_ATTRIBUTE = ('@id', 'Language', 'Annotation', 'Label')
 COLLECTED = ('BallotStyle', 'Candidate', 'Contest', 'GpUnit', 'Office', 'Party', 'Person')
 OLD = {'ContestSelection': 'BallotSelection', 'ElectionDistrictId': 'ElectoralDistrictId',
        'OrderedContestSelectionIds': 'OrderedBallotSelectionIds', 'OrderedContent': 'OrderedContest'}
+# What is around the ballots.
+ENVELOPE = ['Format', 'GeneratedDate', 'Issuer', 'IssuerAbbreviation', 'VendorApplicationId', 'Notes', 'SequenceStart', 'SequenceEnd',
+            'ExternalIdentifier']
 
 
 def xml_of(report, version=2, encoding='UTF-8'):
@@ -105,3 +110,15 @@ def mutant_of(xml, dice):
     else:
         parent.insert(at, copy.deepcopy(parent[at]))
     return ElementTree.tostring(root)
+
+
+def seen(whole, form, told):
+    """How it is seen that an element is missing, or there twice: in what is told of the XML, or in its JSON form beside that of the whole."""
+    if told:
+        return 'told'
+    compared = erd.compare(whole, form)
+    if not compared.same:
+        return 'fault' if compared.refused else 'difference'
+    left, right = json.loads(whole), json.loads(form)
+    # What is around the ballots has no meaning for erd: only the JSON shows it.
+    return 'around' if any(left.get(name) != right.get(name) for name in ENVELOPE) else None
