@@ -2,7 +2,7 @@
 import { button, element, long, save, theirs } from './dom.mjs';
 import { ENVELOPE } from './envelope.mjs';
 import { ownSentence } from './difference_list.mjs';
-import { convertedRecorded, plainName } from './from_xml/shown.mjs';
+import { convertedRecorded, savedName } from './from_xml/shown.mjs';
 import { copyRecorded } from './prepare_copy.mjs';
 import { leftOutShown, seenSentence } from './seen_box.mjs';
 import { sumShown } from './sums.mjs';
@@ -78,7 +78,7 @@ function signatures() {
 function buttons(files, names, client) {
     const forms = files.map((file, index) => (file.canonical === undefined ? null : button(
         files.length === 1 ? say('record.save') : say(`record.save${index + 1}`), async () => {
-            const name = `${plainName(names[index])}.canonical.json`;
+            const name = `${savedName(names[index], file.conversion)}.canonical.json`;
             save(new Blob([await client.ask('canonical', { index })]), name);
         })));
     return element('p', { class: 'buttons screen' }, button(say('record.print'), () => print(), { class: 'main' }), ...forms);

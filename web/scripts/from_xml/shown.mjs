@@ -41,9 +41,10 @@ export function convertedNotices(converted, { name, index, client, isRefused }) 
 }
 
 function formNotice(converted, name, index, client) {
-    const saved = async () => save(new Blob([await client.ask('part', { index, start: 0, end: converted.form.size })]), `${plainName(name)}.converted.json`);
+    const saved = async () => save(new Blob([await client.ask('part', { index, start: 0, end: converted.form.size })]), `${savedName(name, converted)}.json`);
     return notice(`converted-${index}`, saidWith(`xml.${kindOf(converted)}`, { name: theirs(name) }), element('dl', {}, ...sumsOf(converted)),
         converted.allTold === 0 ? element('p', {}, say('xml.whole')) : null,
+        client === null ? null : element('p', { class: 'screen' }, say('xml.saveNote')),
         element('p', { class: 'buttons screen' }, client === null ? null : button(say('xml.save'), saved)));
 }
 
@@ -100,4 +101,9 @@ export function convertedLines(converted) {
 /** The name of a file without its ending. */
 export function plainName(name) {
     return name.replace(/\.(json|xml)$/i, '');
+}
+
+/** The same for what is saved of a file: it says that the file was converted, since the bytes of no form do. */
+export function savedName(name, converted) {
+    return `${plainName(name)}${isConverted(converted) ? '.converted' : ''}`;
 }
