@@ -76,7 +76,8 @@ part prove 'echo "rt: low proved"; until [ -e go ]; do sleep 0.1; done; echo "2 
 part good 'echo "ok      one"; echo "skipped two: there is no tool"; echo "1 passed, 0 failed"'
 part bad 'echo "FAILED  three: why"; echo "0 passed, 1 failed"; exit 1'
 part mute 'echo words'
-part last 'touch go; echo "notice: a word"; echo "1 passed, 0 failed"'
+# The proof ends when the failed part has been told, or after a minute.
+part last 'for _ in {1..600}; do grep -q "bad: 0 passed" said && break; sleep 0.1; done; touch go; echo "notice: a word"; echo "1 passed, 0 failed"'
 part never 'echo "1 passed, 0 failed"'
 cat > "$work/gate/gate.sh" << 'END'
 set -u
@@ -95,7 +96,7 @@ status=$?
 tell=$work/gate/said
 equal 'a gate of small parts: the counts' "$status $(tail -n 1 "$tell")" '1 4 passed, 3 failed'
 equal 'a failure is told before the proof ends' "$(grep -n -m 1 'FAILED  three' "$tell" | cut -d : -f 2-) $(grep -c '^2 passed' "$tell")" './bad: FAILED  three: why 1'
-said 'and so is its part' "$(awk '/^0:0[0-9]  \.\/bad: 0 passed, 1 failed$/ { told = 1 } /^2 passed, 0 failed$/ && told { exit found = 1 } END { if (!found) print "not before" }' "$tell")"
+said 'and so is its part' "$(awk '/^[0-9]+:[0-9][0-9]  \.\/bad: 0 passed, 1 failed$/ { told = 1 } /^2 passed, 0 failed$/ && told { exit found = 1 } END { if (!found) print "not before" }' "$tell")"
 equal 'the end tells it again, and what was skipped' "$(sed -n '/^What failed/,/^What each/p' "$tell" | grep -c 'FAILED  three\|skipped two\|notice: a word')" 3
 equal 'a part without counts' "$(grep -c '^\./mute: gave no counts$' "$tell")" 1
 equal 'a part that was not run' "$(grep -c '^\./never: was not run$' "$tell")" 1
