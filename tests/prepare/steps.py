@@ -405,7 +405,8 @@ def commands_of_both():
 
 
 def commands():
-    """The commands of both packages."""
+    """The commands of both packages, without the proved code, as they stand here: what they have written nothing judges, so they end with 3.
+    tests/forms/statuses.txt has what the whole packages say of it."""
     for name, command in commands_of_both():
         yield from command_cases(name, command)
 
@@ -413,7 +414,7 @@ def commands():
 def ran(command, *words):
     done = subprocess.run([*command, *map(str, words)], capture_output=True, stdin=subprocess.DEVNULL, check=False, timeout=60,
                           env={'PYTHONPATH': str(ROOT / 'bindings' / 'python' / 'src'), 'PATH': '/usr/local/bin:/usr/bin:/bin',
-                               'PYTHONDONTWRITEBYTECODE': '1', 'PYTHONUTF8': '1'})
+                               'PYTHONDONTWRITEBYTECODE': '1', 'PYTHONUTF8': '1', 'ERD_LIBRARY': '/no/such'})
     return done.returncode, done.stdout, done.stderr.decode()
 
 
@@ -421,8 +422,10 @@ def command_cases(name, command):
     path = EXAMPLES / 'municipal.raw.json'
     prepared, done = Preparation(path.read_bytes()).prepare(steps_of('removed'))
     status, out, told = ran(command, path)
-    yield f'{name}: the steps of a plain call', (0, prepared), (status, out)
-    yield f'{name}: each step is told', [it.name for it in done], [line.split(':')[0] for line in told.splitlines()]
+    yield f'{name}: the steps of a plain call', prepared, out
+    yield f'{name}: each step is told', [it.name for it in done], [line.split(':')[0] for line in told.splitlines()[:len(done)]]
+    if name == 'Python' or not (ROOT / 'bindings' / 'js' / 'erd.wasm').exists():
+        yield f'{name}: a copy that nothing judges', (3, ['erd failed']), (status, [line.split(':')[0] for line in told.splitlines()[len(done):]])
     wanted = Preparation(path.read_bytes()).prepare([step for step in steps_of('removed', 'filled-in') if step not in ('names', 'codes')])[0]
     yield f'{name}: chosen steps', wanted, ran(command, '--steps', 'removed,filled-in', '--without=names,codes', path)[1]
     listed = ran(command, '--list')[1].decode().splitlines()

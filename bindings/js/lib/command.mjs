@@ -62,9 +62,11 @@ function writer(name) {
     };
 }
 
-// Node reads an argument that is not UTF-8 as another text. Linux has the bytes of all arguments in a file. On Windows an argument
-// can have half a surrogate pair.
-function checkText() {
+/**
+ * Stops if a word is no text. Node reads an argument that is not UTF-8 as another text. Linux has the bytes of all arguments in a file. On
+ * Windows an argument can have half a surrogate pair.
+ */
+export function checkText() {
     if (process.argv.some((word) => /\p{Surrogate}/u.test(word))) {
         throw new Stop('the arguments are not text');
     }

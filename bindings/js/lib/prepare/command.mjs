@@ -1,4 +1,6 @@
 // What the command `erd-prepare` reads and writes.
+import { load } from '../../index.mjs';
+import { checkText } from '../command.mjs';
 import { bytesOfFile, checkThere, opened, STANDARD_ERROR, STANDARD_OUTPUT, Stop, versionOfPackage, write, writeFile } from '../files.mjs';
 import { repeatedNames } from '../repeated.mjs';
 import { NotJson } from '../scanner.mjs';
@@ -12,23 +14,27 @@ const MOST_LEFT = 10;
 
 export const USAGE = `Writes a copy of a report on which steps were done that make an export ready for erd
 
-Usage: erd-prepare [--steps NAMES] [--without NAMES] [--report REPORT] FILE > PREPARED
+Usage: erd-prepare [--steps NAMES] [--without NAMES] [--prefer TYPE] [--report REPORT] FILE > PREPARED
        erd-prepare --list [FILE]
 
   --steps NAMES    which steps are done: names of steps or of groups, with commas between them (default: removed)
   --without NAMES  which of these are not done
+  --prefer TYPE    the type of identifier that keys follow where the copy is judged
   --report REPORT  also write each change to this file, as JSON
   --list           list all steps, or those that would do something to FILE
   -h, --help       print this help
   --version        print the version
 
 The groups are removed (${GROUP_WORDS.removed.toLowerCase()}), filled-in (${GROUP_WORDS['filled-in'].toLowerCase()})
-and visible (${GROUP_WORDS.visible.toLowerCase()}). FILE stays as it is. What was done is told on standard error.
+and visible (${GROUP_WORDS.visible.toLowerCase()}). FILE stays as it is. What was done is told on standard error, and
+which faults are left in the copy.
 
 Exit status:
-  0  written
+  0  written, and accepted
+  1  written, and faults are left
   2  not JSON
-  3  wrong arguments, a file that cannot be opened, more than 67,108,864 bytes, a failed read or write
+  3  wrong arguments, a file that cannot be opened, more than 67,108,864 bytes, a failed read or write, a copy that cannot be judged
+  4  out of memory
 `;
 
 /** The arguments are wrong. */
@@ -38,12 +44,13 @@ export class PrepareUsage extends Stop {
     }
 }
 
-const VALUED = ['--steps', '--without', '--report'];
+const VALUED = ['--steps', '--without', '--prefer', '--report'];
+const OF_NAMES = ['--steps', '--without'];
 const PLAIN = { '--list': 'lists', '--help': 'helps', '-h': 'helps', '--version': 'versions' };
 
 /** What the arguments ask for. */
 export function argumentsOf(words) {
-    const asked = { steps: ['removed'], without: [], report: null, lists: false, helps: false, versions: false, files: [] };
+    const asked = { steps: ['removed'], without: [], prefer: null, report: null, lists: false, helps: false, versions: false, files: [] };
     const left = [...words];
     while (left.length > 0) {
         const [name, ...rest] = left.shift().split('=');
@@ -52,7 +59,7 @@ export function argumentsOf(words) {
             if (value === undefined || value === '') {
                 throw new PrepareUsage(`${name} needs a value`);
             }
-            asked[name.slice(2)] = name === '--report' ? value : value.split(',');
+            asked[name.slice(2)] = OF_NAMES.includes(name) ? value.split(',') : value;
         } else if (Object.hasOwn(PLAIN, name)) {
             asked[PLAIN[name]] = true;
         } else if (name === '--') {
@@ -83,8 +90,9 @@ export function namesOf(words) {
 }
 
 /** Does what the arguments ask for, and returns the status. */
-export function run(words) {
-    const { steps, without, report, lists, helps, versions, files: [file] } = argumentsOf(words);
+export async function run(words) {
+    checkText();
+    const { steps, without, prefer, report, lists, helps, versions, files: [file] } = argumentsOf(words);
     if (helps || versions) {
         write(STANDARD_OUTPUT, helps ? USAGE : `erd-prepare ${versionOfPackage()}\n`);
         return 0;
@@ -109,7 +117,18 @@ export function run(words) {
     }
     checkThere(STANDARD_OUTPUT);
     write(STANDARD_OUTPUT, prepared);
-    return 0;
+    return tellFaults(await load(), prepared, prefer);
+}
+
+/** Judges the copy, which is written by now, says which faults are left, and returns the status. */
+function tellFaults(erd, prepared, prefer) {
+    const found = erd.check(prepared, { ...prefer === null ? {} : { prefer }, mostFaults: MOST_LEFT });
+    if (!found.accepted) {
+        const first = found.outcome === 'not JSON' ? 'the copy is' : `faults left: ${found.allFaults}`;
+        const more = found.more ? `and ${found.allFaults - found.faults.length} more: \`erd check\` lists them\n` : '';
+        write(STANDARD_ERROR, `${first}\n${found.text}${more}`);
+    }
+    return found.status;
 }
 
 function preparationOf(bytes) {

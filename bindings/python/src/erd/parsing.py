@@ -6,6 +6,7 @@ import argparse
 from typing import NoReturn, Optional
 
 from .library import version
+from .listing import utf_8
 from .streams import STANDARD_OUTPUT, Stop, write_text
 
 
@@ -41,6 +42,15 @@ def not_empty(text: str) -> str:
     """Returns the text, or refuses it if it is empty."""
     if not text:
         raise argparse.ArgumentTypeError('a value is required')
+    return text
+
+
+def type_of_identifier(text: str) -> str:
+    """Returns the text, or refuses it if it is empty or has no form in UTF-8."""
+    try:
+        utf_8(not_empty(text), 'it')
+    except ValueError as error:
+        raise argparse.ArgumentTypeError(str(error)) from None
     return text
 
 

@@ -1,7 +1,11 @@
-"""The command `erd-prepare`: writes a copy of a report on which the chosen steps were done, and says what each did.
+"""The command `erd-prepare`: writes a copy of a report on which the chosen steps were done, and says what each did and which faults
+are left.
 
-python -m erd.prepare [--steps NAMES] [--without NAMES] [--report REPORT] FILE > PREPARED
+python -m erd.prepare [--steps NAMES] [--without NAMES] [--prefer TYPE] [--report REPORT] FILE > PREPARED
 python -m erd.prepare --list [FILE]
+
+The exit status is 0 if the copy is accepted, 1 while faults are left, 2 if FILE is not JSON, 3 if a file cannot be read or written, the
+words are wrong or the copy cannot be judged, and 4 if memory runs out.
 """
 
 from __future__ import annotations
@@ -12,9 +16,10 @@ import os
 import sys
 from typing import List, Optional
 
-from ..parsing import Done as Written, Parser, Version
+from .. import check
+from ..parsing import Done as Written, Parser, Version, type_of_identifier
 from ..repeats import repeated_names, visible
-from ..streams import STANDARD_ERROR, STANDARD_OUTPUT, Input, Stop, read, status_of, write
+from ..streams import STANDARD_ERROR, STANDARD_OUTPUT, Input, Stop, read, status_of, write, write_text
 from .prepared import STEPS, Done, Preparation, pointer_of, steps_of
 from .step_words import GROUP_WORDS, LEFT_WORDS, STEP_WORDS
 from .tree import NotJson, without_mark
@@ -28,10 +33,12 @@ def parser() -> argparse.ArgumentParser:
     groups = ', '.join(f'{name} ({words.lower()})' for name, words in GROUP_WORDS.items())
     words = Parser(prog='erd-prepare', allow_abbrev=False, description=(
         'Writes a copy of a report on which steps were done that make an export ready for erd. FILE stays as it is. What was done is '
-        f'told on standard error. The groups of steps are {groups}.'))
+        'told on standard error, and which faults are left in the copy: while there are some, the exit status is 1. The groups of steps '
+        f'are {groups}.'))
     words.add_argument('--steps', metavar='NAMES', type=names_of, default=steps_of('removed'),
                        help='which steps are done: names of steps or of groups, with commas between them (default: removed)')
     words.add_argument('--without', metavar='NAMES', type=names_of, default=[], help='which of these are not done')
+    words.add_argument('--prefer', metavar='TYPE', type=type_of_identifier, help='the type of identifier that keys follow where the copy is judged')
     words.add_argument('--report', metavar='REPORT', help='also write each change to this file, as JSON')
     words.add_argument('--list', action='store_true', dest='lists', help='list all steps, or those that would do something to FILE')
     words.add_argument('--version', action=Version)
@@ -94,7 +101,17 @@ def answer(words: argparse.Namespace) -> int:
     if words.report is not None:
         write_report(words.report, steps)
     write(STANDARD_OUTPUT, prepared)
-    return 0
+    return tell_faults(prepared, words.prefer)
+
+
+def tell_faults(prepared: bytes, prefer: Optional[str]) -> int:
+    """Judges the copy, which is written by now, says which faults are left, and returns the exit status."""
+    found = check(prepared, prefer=prefer, most_faults=MOST_LEFT)
+    if not found.accepted:
+        first = f'faults left: {found.all_faults}' if found.is_json else 'the copy is'
+        more = [f'and {found.all_faults - len(found.faults)} more: `erd check` lists them'] if found.more else []
+        write_text(STANDARD_ERROR, ''.join(f'{line}\n' for line in (first, *found.lines, *more)))
+    return found.status
 
 
 def write_report(name: str, steps: List[Done]) -> None:
