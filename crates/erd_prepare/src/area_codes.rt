@@ -6,9 +6,9 @@ ghost use Rattle.erd_prepare.specs.Steps.{IsStepDone};
 
 use crate::areas::{AreaSort, Areas, Around, with};
 use crate::engine::Done;
-use crate::left::{LeftReason, Planned};
+use crate::left::{LeftReason, Planned, carry_out_planned};
 use crate::objects::{Objects, PlacedObject};
-use crate::plan::{Edit, carry_out};
+use crate::plan::Edit;
 use crate::triple::{Triple, triple_of};
 use erd_tables::class::Family;
 use serde_json::Value;
@@ -41,7 +41,7 @@ struct Numbered<'a> {
 pub fn put_counties_in_front(alloc: Global, report: &Value) -> Result<Done, AllocError>
     ensures done { IfOk result (IsStepDone (view report.now)) }
 {
-    carry_out(alloc, &plan_counties(alloc, report)?.plan, report)
+    carry_out_planned(alloc, plan_counties(alloc, report)?, report)
 }
 
 /// Puts the code of the town in front of each number of a type of units, where two units of one county and two towns have the
@@ -54,7 +54,7 @@ pub fn put_counties_in_front(alloc: Global, report: &Value) -> Result<Done, Allo
 pub fn put_towns_in_front(alloc: Global, report: &Value) -> Result<Done, AllocError>
     ensures done { IfOk result (IsStepDone (view report.now)) }
 {
-    carry_out(alloc, &plan_towns(alloc, report)?.plan, report)
+    carry_out_planned(alloc, plan_towns(alloc, report)?, report)
 }
 
 /// Returns what is to be done about the counties, and which numbers are left.
@@ -62,7 +62,7 @@ pub fn put_towns_in_front(alloc: Global, report: &Value) -> Result<Done, AllocEr
 /// # Errors
 ///
 /// `AllocError` if out of memory.
-pub(crate) fn plan_counties(alloc: Global, report: &Value) -> Result<Planned, AllocError> {
+fn plan_counties(alloc: Global, report: &Value) -> Result<Planned, AllocError> {
     let objects = Objects::of(alloc, report)?;
     let counties = Areas::of(alloc, AreaSort::County, &objects)?;
     let numbers = numbers_of(alloc, &objects, &counties, None)?;
@@ -74,7 +74,7 @@ pub(crate) fn plan_counties(alloc: Global, report: &Value) -> Result<Planned, Al
 /// # Errors
 ///
 /// `AllocError` if out of memory.
-pub(crate) fn plan_towns(alloc: Global, report: &Value) -> Result<Planned, AllocError> {
+fn plan_towns(alloc: Global, report: &Value) -> Result<Planned, AllocError> {
     let objects = Objects::of(alloc, report)?;
     let counties = Areas::of(alloc, AreaSort::County, &objects)?;
     let towns = Areas::of(alloc, AreaSort::Town, &objects)?;

@@ -4,10 +4,10 @@ ghost use Rattle.serde_json.specs.View.{view};
 ghost use Rattle.erd_prepare.specs.Steps.{IsStepDone};
 
 use crate::engine::Done;
-use crate::left::{LeftReason, Planned};
+use crate::left::{LeftReason, Planned, carry_out_planned};
 use crate::objects::MOST_BYTES_IN_FRONT;
 use crate::pieces::Fronts;
-use crate::plan::{Edit, carry_out};
+use crate::plan::Edit;
 use crate::triple::{Triple, triple_of};
 use crate::ways::{CODED, Piece, ways_of};
 use erd_tables::class::Role;
@@ -49,7 +49,7 @@ struct Front<'a> {
 pub fn tell_codes_apart(alloc: Global, report: &Value) -> Result<Done, AllocError>
     ensures done { IfOk result (IsStepDone (view report.now)) }
 {
-    carry_out(alloc, &plan_codes(alloc, report)?.plan, report)
+    carry_out_planned(alloc, plan_codes(alloc, report)?, report)
 }
 
 /// Returns what is to be done about these codes, and which objects are left.
@@ -57,7 +57,7 @@ pub fn tell_codes_apart(alloc: Global, report: &Value) -> Result<Done, AllocErro
 /// # Errors
 ///
 /// `AllocError` if out of memory.
-pub(crate) fn plan_codes(alloc: Global, report: &Value) -> Result<Planned, AllocError> {
+fn plan_codes(alloc: Global, report: &Value) -> Result<Planned, AllocError> {
     let mut fronts = Fronts::of(alloc, report)?;
     let mut planned = Planned::new(alloc);
     for role in CODED {

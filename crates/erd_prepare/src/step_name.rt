@@ -3,7 +3,9 @@ ghost use Rattle.std.specs.Prelude.{◌≡◌, [], Some, IfOk};
 ghost use Rattle.serde_json.specs.View.{view};
 ghost use Rattle.erd_prepare.specs.Steps.{IsStepDone};
 
+use crate::area_codes::{put_counties_in_front, put_towns_in_front};
 use crate::class_names::write_class_names;
+use crate::codes::tell_codes_apart;
 use crate::devices::take_out_devices;
 use crate::engine::Done;
 use crate::gone_candidates::take_out_gone_candidates;
@@ -16,6 +18,7 @@ use crate::repeated::take_out_repeated;
 use crate::shared_codes::take_out_shared_codes;
 use crate::styles::take_out_unused_styles;
 use crate::twin_ids::tell_ids_apart;
+use crate::unused_ids::take_out_unused_ids;
 use crate::vendor_identifiers::take_vendor_identifiers;
 use crate::whole_numbers::write_whole_numbers;
 use serde_json::Value;
@@ -30,6 +33,8 @@ pub enum StepName {
     Nulls,
     /// Gives values of the wrong kind the right one, where there is but one right form.
     Kinds,
+    /// Takes out each `@id` that several objects have and to which nothing refers.
+    UnusedIds,
     /// Puts the family in front of each `@id` that objects of several families have.
     TwinIds,
     /// Takes out what is on no ballot: groups of offices, administration and registration.
@@ -60,15 +65,22 @@ pub enum StepName {
     EmptyTexts,
     /// Gives objects without an identifier their name as one.
     Names,
+    /// Puts the code of the town in front of numbers that begin again in each town of a county.
+    TownCodes,
+    /// Puts the code of the county in front of numbers that begin again in each county.
+    CountyCodes,
     /// Takes out identifiers that several objects share.
     SharedCodes,
+    /// Puts what tells objects apart in front of codes that several of them have.
+    Codes,
 }
 
 /// The steps, in the order in which they are done.
-pub const STEPS: [StepName; 19] = [
+pub const STEPS: [StepName; 23] = [
     StepName::ClassNames,
     StepName::Nulls,
     StepName::Kinds,
+    StepName::UnusedIds,
     StepName::TwinIds,
     StepName::Outside,
     StepName::Counts,
@@ -84,7 +96,10 @@ pub const STEPS: [StepName; 19] = [
     StepName::EmptyLists,
     StepName::EmptyTexts,
     StepName::Names,
+    StepName::TownCodes,
+    StepName::CountyCodes,
     StepName::SharedCodes,
+    StepName::Codes,
 ];
 
 impl StepName {
@@ -94,6 +109,7 @@ impl StepName {
             StepName::ClassNames => "class-names",
             StepName::Nulls => "nulls",
             StepName::Kinds => "kinds",
+            StepName::UnusedIds => "unused-ids",
             StepName::TwinIds => "twin-ids",
             StepName::Outside => "outside",
             StepName::Counts => "counts",
@@ -109,7 +125,10 @@ impl StepName {
             StepName::EmptyLists => "empty-lists",
             StepName::EmptyTexts => "empty-texts",
             StepName::Names => "names",
+            StepName::TownCodes => "town-codes",
+            StepName::CountyCodes => "county-codes",
             StepName::SharedCodes => "shared-codes",
+            StepName::Codes => "codes",
         }
     }
 }
@@ -126,6 +145,7 @@ pub fn do_step(alloc: Global, step: StepName, report: &Value) -> Result<Done, Al
         StepName::ClassNames => write_class_names(alloc, report),
         StepName::Nulls => take_out_nulls(alloc, report),
         StepName::Kinds => write_kinds(alloc, report),
+        StepName::UnusedIds => take_out_unused_ids(alloc, report),
         StepName::TwinIds => tell_ids_apart(alloc, report),
         StepName::Outside => take_out(alloc, Local::Outside, report),
         StepName::Counts => take_out_counts(alloc, report),
@@ -141,6 +161,9 @@ pub fn do_step(alloc: Global, step: StepName, report: &Value) -> Result<Done, Al
         StepName::EmptyLists => take_out(alloc, Local::EmptyLists, report),
         StepName::EmptyTexts => take_out_empty_texts(alloc, report),
         StepName::Names => name_all(alloc, report),
+        StepName::TownCodes => put_towns_in_front(alloc, report),
+        StepName::CountyCodes => put_counties_in_front(alloc, report),
         StepName::SharedCodes => take_out_shared_codes(alloc, report),
+        StepName::Codes => tell_codes_apart(alloc, report),
     }
 }
