@@ -1,8 +1,13 @@
 """Large files: the page stays alive, tells what it does, and can be stopped; and how fast the answers are."""
 import json
+import re
 import shutil
 import subprocess
+import time
 
+import answers
+from bounds import MOST_MEGABYTES, MOST_SECONDS, Cost
+from made import identified, report, style, typed, written
 from session import EXAMPLES, ROOT, report_of_units
 
 COUNTY = EXAMPLES / 'county.vendor-a.json'
@@ -27,6 +32,7 @@ def run(session):
     verdict_first(session)
     same_pair(session)
     many_differences(session)
+    needs(session)
     speed(session)
     no_memory(session)
 
@@ -126,6 +132,44 @@ def many_differences(session):
     session.equal('10,000 differences: the heading', session.text('#all-differences'), 'All 10,000 differences')
     session.equal('10,000 differences: how many are listed', len(session.texts('.others > .differences > li')), 50)
     session.said('10,000 differences: the page stays alive (%d ms)' % pauses[-1], '' if pauses[-1] < LONGEST_PAUSE else 'pauses of %s ms' % pauses)
+
+
+NEEDS = "return document.getElementById('needs').hidden ? '' : document.getElementById('needs').textContent"
+HEAVY_UNITS = 100_000
+
+
+def needs(session):
+    """Two files of 20 MB with 400,000 differences: what they need is told at once, with a way that takes less and how to stop. Until the list is
+    there the page takes no more than that and 300 MB. Files of the usual size need nothing that is told."""
+    session.judged(COUNTY, COUNTY)
+    session.equal('needs: nothing of small files', session.browser.script(NEEDS), '')
+    paths = [heavy(session, value) for value in (1, 2)]
+    session.fresh()
+    cost, begin = Cost(session), time.monotonic()
+    session.choose(0, *paths)
+    said = session.browser.until(NEEDS)
+    seconds = min(time.monotonic() - begin, cost.seconds())
+    megabytes = 40 * max(path.stat().st_size for path in paths) / 1e6
+    size = int(re.search(r'([\d,]+) MB', said)[1].replace(',', ''))
+    session.equal('needs: what is told', said, answers.say('progress.needs', size=f'{size:,}', command='erd compare'))
+    session.said('needs: how much', '' if megabytes <= size <= megabytes + 10 else f'{size} MB in place of {megabytes}')
+    session.said('needs: it is told at once', '' if seconds <= MOST_SECONDS else f'after {seconds} s')
+    session.browser.until("return document.querySelector('.others') !== null", seconds=200)
+    session.equal('needs: the list', session.text('#all-differences'), answers.say('difference.all', count=4 * HEAVY_UNITS))
+    session.said('needs: the memory (%d MB told, %d MB taken)' % (size, cost.growth()), '' if cost.growth() <= size + MOST_MEGABYTES else repr(cost.growth()))
+    session.click('#cancel')
+    session.becomes('needs: it is stopped', lambda: session.text('#stopped'), answers.say('sentence.restCancelled'))
+    for path in paths:
+        path.unlink()
+
+
+def heavy(session, value):
+    """A report with many units, each with four members of this value."""
+    made = report([], [style('BS-1', [])])
+    del made['Election'][0]['BallotStyle'][0]['OrderedContent']
+    made['GpUnit'] += [typed('ReportingUnit', id=f'a{number}', ExternalIdentifier=identified(f'a{number}'), Type='precinct', a=value, b=value, c=value, d=value)
+                       for number in range(HEAVY_UNITS)]
+    return written(session, f'heavy-{value}.json', made)
 
 
 def speed(session):

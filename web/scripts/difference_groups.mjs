@@ -120,6 +120,13 @@ export class Differences {
     }
 }
 
+/** The first differences, up to one that can't be told without the objects: their classes are not in the proved list. */
+export function beginningOf(differences, most) {
+    const first = differences.slice(0, most);
+    const end = first.findIndex(({ how }) => how === 'other class');
+    return (end < 0 ? first : first.slice(0, end)).map(({ selections: _selections, ...entry }) => entry);
+}
+
 // The differences by their kinds, in the order of the list: of which objects they are, and what differs.
 function kindsOf(entries) {
     const kinds = new Map();

@@ -32,6 +32,13 @@ export async function differenceList(client, listed, names) {
         talliesShown(tallies, names), counted.holder, ...own, ...await pairsShown(client, pairs, counts.caused, names, counted));
 }
 
+/** The beginning of the list while the values of the differences are looked up. */
+export function listBegun(entries, count, names) {
+    return element('section', { 'aria-labelledby': 'all-differences' }, element('h3', { id: 'all-differences' }, say('difference.all', { count })),
+        element('p', { class: 'note' }, say('difference.begun')),
+        element('ol', { class: 'differences' }, ...entries.map((entry) => differenceEntry(entry, names))));
+}
+
 // Counts the differences that are shown, each by its number in the proved list, and holds the count against that list.
 class Counted {
     constructor({ count, listed, counts }) {

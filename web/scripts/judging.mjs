@@ -3,7 +3,7 @@
 import { BallotAnswers } from './ballot_answers.mjs';
 import { BallotFindings } from './ballot_findings.mjs';
 import { boundedPointer, LONGEST_POINTER } from './bounded.mjs';
-import { Differences } from './difference_groups.mjs';
+import { beginningOf, Differences } from './difference_groups.mjs';
 import { excerptOf } from './excerpt.mjs';
 import { Meaning } from './meaning.mjs';
 import { foundPlaces } from './places.mjs';
@@ -108,6 +108,7 @@ export class Judgement {
         for (const side of this.sides) {
             sums.push({ ...await side.formSums(this.erd, this.prefer, tell), ...side.facts() });
         }
+        this.erd.rest();
         return sums;
     }
 
@@ -117,9 +118,11 @@ export class Judgement {
         return differences === null ? null : differences.told(differences.meanings === null ? null : this.ballots(tell).seen());
     }
 
-    /** How many differences there are, as soon as the proved code has them; null where there is no memory for the list. */
-    count(_question, tell) {
-        return this.proved(tell)?.allDifferences ?? null;
+    /** How many differences there are, and the first of them without their values, as soon as the proved code has them; null where there
+     * is no memory for the list. */
+    begun({ most }, tell) {
+        const proved = this.proved(tell);
+        return proved === null ? null : { count: proved.allDifferences, entries: beginningOf(proved.differences, most) };
     }
 
     // The proved list, or its beginning.

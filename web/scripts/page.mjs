@@ -8,6 +8,7 @@ import { embedded, offerLicences } from './embedded.mjs';
 import { judgedFile } from './from_xml/files.mjs';
 import { firstLanguage, offerLanguages, useLanguage } from './languages.mjs';
 import { ManyFiles } from './many.mjs';
+import { showNeeds } from './needs.mjs';
 import { sumOfPage } from './page_sum.mjs';
 import { Result } from './result.mjs';
 import { say } from './texts.mjs';
@@ -129,6 +130,7 @@ class Page {
     async judge() {
         const isCurrent = this.beginRun();
         this.choice.show();
+        $('needs').hidden = true;
         this.setBusy(this.choice.files.length > 0);
         if (!this.busy) {
             if (this.table === null) {
@@ -146,6 +148,7 @@ class Page {
             return;
         }
         const [forms, converted] = ['file', 'converted'].map((part) => judged.map((one) => one[part]));
+        showNeeds($('needs'), forms);
         this.client.open({ files: forms, converted, prefer: this.prefer });
         const result = new Result({
             client: this.client, data: { ...this.data, fixes: this.data.fixes[document.documentElement.lang] }, top: $('result-top'), holder: $('result-rest'),

@@ -4,7 +4,7 @@ import { BallotList } from './ballot_list.mjs';
 import { BallotSentences } from './ballot_sentences.mjs';
 import { cardOf } from './card.mjs';
 import { firstDifference, useExplanations } from './comparison.mjs';
-import { differenceList, ownOffer, ownSentence, typeOffer } from './difference_list.mjs';
+import { differenceList, listBegun, ownOffer, ownSentence, typeOffer } from './difference_list.mjs';
 import { button, element, saidWith, theirs } from './dom.mjs';
 import { convertedNotices } from './from_xml/shown.mjs';
 import { differencesFiled, faultsFiled, MOST_FILED } from './findings.mjs';
@@ -21,6 +21,10 @@ const PARTS = ['verdict', 'notices', 'copies', 'seen', 'sentences', 'offer', 'di
 
 /** The bytes of a canonical form from which on the card is made only when it is opened. */
 const LARGE = 10_000_000;
+
+/** How many differences are shown before their values are known, where there are at least so many that this takes time. */
+const FIRST_SHOWN = 50;
+const MANY = 1000;
 
 export class Result {
     /**
@@ -59,11 +63,12 @@ export class Result {
         return this.verdictShown.title;
     }
 
-    // How many differences there are, before anything is known of them.
-    async showCount() {
-        const count = await this.client.ask('count', {}, this.tell);
-        if (this.isCurrent() && count > 1) {
-            const told = element('p', { id: 'count' }, say('difference.count', { count }));
+    // How many differences there are, and of very many the first ones, before anything is known of their values.
+    async showBeginning() {
+        const begun = await this.client.ask('begun', { most: FIRST_SHOWN }, this.tell);
+        if (this.isCurrent() && begun?.count > 1) {
+            const { count, entries } = begun;
+            const told = count < MANY ? element('p', { id: 'count' }, say('difference.count', { count })) : listBegun(entries, count, this.names);
             this.put('differences', firstDifference(this.answer.comparison.first, this.names), told);
         }
     }
@@ -71,7 +76,7 @@ export class Result {
     /** Shows what follows from the verdict: what differs, or what is wrong, and then all else. */
     async rest() {
         if (this.answer.comparison?.first) {
-            await this.showCount();
+            await this.showBeginning();
             await this.list();
         }
         this.put('troubles', ...await troublesOf(this.answer.files, this.names, this.client, { fixes: this.data.fixes, takesCopy: this.takesCopy }));

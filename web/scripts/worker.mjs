@@ -4,11 +4,15 @@ import { Judgement } from './judging.mjs';
 import { surveyed } from './survey.mjs';
 import { useTexts } from './texts.mjs';
 
+// A module of 32 bits has no more memory than this. The calls of one judgement follow each other and take as much each, so they share it:
+// memory that is given up is there until the browser collects it.
+const MEMORY = 2 ** 32;
+
 let started = null;
 let judgement = null;
 
 // What a judgement is asked. Each question waits until its files are judged, since a worker may begin anew after it was ended.
-const QUESTIONS = ['count', 'sums', 'list', 'more', 'betterType', 'ownTypes', 'ownView', 'overview', 'precincts', 'onBallots', 'someOnBallots', 'languages', 'styles', 'ballot', 'kinds', 'places', 'canonical', 'lines', 'firstLines', 'part', 'preparation',
+const QUESTIONS = ['begun', 'sums', 'list', 'more', 'betterType', 'ownTypes', 'ownView', 'overview', 'precincts', 'onBallots', 'someOnBallots', 'languages', 'styles', 'ballot', 'kinds', 'places', 'canonical', 'lines', 'firstLines', 'part', 'preparation',
     'preparedCopy', 'preparedChanges'];
 
 const ANSWERS = {
@@ -18,7 +22,7 @@ const ANSWERS = {
         started = { module, seen, erd: new Erd(module) };
     },
     open({ files, prefer, converted }) {
-        judgement = new Judgement(new Erd(started.module), files, prefer, started.seen, converted);
+        judgement = new Judgement(new Erd(started.module, MEMORY), files, prefer, started.seen, converted);
     },
     verdict: (_question, tell) => judged(tell),
     survey: ({ file, prefer, converted }) => surveyed(started.erd, file, prefer, converted),

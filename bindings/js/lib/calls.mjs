@@ -38,9 +38,17 @@ export class NoMemoryError extends Error {
 export class Erd {
     #engine;
 
-    /** @param {WebAssembly.Module} module what `erd.wasm` is compiled to */
-    constructor(module) {
-        this.#engine = new Engine(module);
+    /**
+     * @param {WebAssembly.Module} module what `erd.wasm` is compiled to
+     * @param {number} [bytesKept] how much memory is kept from one call to the next, until `rest` gives it back
+     */
+    constructor(module, bytesKept) {
+        this.#engine = new Engine(module, bytesKept);
+    }
+
+    /** Gives back the memory that is kept for the next call. */
+    rest() {
+        this.#engine.rest();
     }
 
     /** Checks a report, as `erd check` does. */

@@ -18,7 +18,7 @@ const LEAST_KEPT = 2 ** 22;
 const KEPT_FOR_A_BYTE = 16;
 const MOST_KEPT = 2 ** 28;
 
-// Memory of WebAssembly can't shrink. So an instance whose memory has grown beyond this is not kept for the next call.
+// Memory of WebAssembly can't shrink. So an instance whose memory has grown beyond this is not kept, if the caller names no other number.
 const BYTES_KEPT = 64 * 1024 * 1024;
 
 /** The module trapped, which the proved code never does: the engine, or the module, is broken. */
@@ -33,11 +33,21 @@ export class TrapError extends Error {
 /** A module, and an instance of it. The instance is made again after a call that took much memory, or that failed. */
 export class Engine {
     #module;
+    #bytesKept;
     #instance = null;
 
-    /** @param {WebAssembly.Module} module */
-    constructor(module) {
+    /**
+     * @param {WebAssembly.Module} module
+     * @param {number} [bytesKept] an instance whose memory has grown beyond this is not kept for the next call
+     */
+    constructor(module, bytesKept = BYTES_KEPT) {
         this.#module = module;
+        this.#bytesKept = bytesKept;
+    }
+
+    /** Gives up the instance that is kept, with its memory. */
+    rest() {
+        this.#instance = null;
     }
 
     /**
@@ -58,7 +68,7 @@ export class Engine {
         if (answer === null) {
             return NO_MEMORY;
         }
-        if (answer.outcome !== OUTCOME.noMemory && instance.exports.memory.buffer.byteLength <= BYTES_KEPT) {
+        if (answer.outcome !== OUTCOME.noMemory && instance.exports.memory.buffer.byteLength <= this.#bytesKept) {
             this.#instance = instance;
         }
         return answer;
@@ -80,7 +90,7 @@ export class Engine {
                 isLast = first >= answer.all || answer.told === 0;
             }
         } finally {
-            if (list !== null && orNull(() => list.close()) !== null && instance.exports.memory.buffer.byteLength <= BYTES_KEPT) {
+            if (list !== null && orNull(() => list.close()) !== null && instance.exports.memory.buffer.byteLength <= this.#bytesKept) {
                 this.#instance = instance;
             }
         }
