@@ -7,18 +7,19 @@ BUTTON = "[...document.querySelectorAll('.others > p > button')].at(-1)"
 SENTENCES = "return [...document.querySelectorAll('.others > .differences > li')].map((one) => (one.querySelector('summary') ?? one).textContent)"
 
 
-def units(name):
+def units(name, count=COUNT):
     """A report with many units of this name."""
     made = report([], [style('BS-1', [])], ['East'])
     del made['Election'][0]['BallotStyle'][0]['OrderedContent']
     made['GpUnit'] += [typed('ReportingUnit', id=f'u-{number}', Type='precinct', Name=f'{name} {number}', ExternalIdentifier=identified(f'N{number:04}'))
-                      for number in range(COUNT)]
+                      for number in range(count)]
     return made
 
 
 def run(session):
     clicked_twice(session)
     kinds(session)
+    begun(session)
     cancelled(session)
     told(session)
 
@@ -56,6 +57,31 @@ def kinds(session):
     session.becomes('growing: those that are opened', counted, [0, 50, 3])
     session.equal('growing: of one kind alone', [text for text in session.texts('.kind:nth-of-type(2) summary')[1:] if '(Number)' not in text], [])
     session.equal('growing: these are counted', session.text('.shown-count'), answers.say('difference.shown', shown=53, all=2 * COUNT + 3))
+
+
+# Keeps how a list stood when it was first there with its note: the heading, how many entries it had, and the first of them.
+WATCH = """
+    const [note] = arguments;
+    new MutationObserver(() => {
+        const holder = [...document.querySelectorAll('#result-rest .note')].find((one) => one.textContent === note)?.parentElement;
+        if (window.begun === undefined && holder !== undefined) {
+            const entries = holder.querySelectorAll('.differences > li');
+            window.begun = [holder.querySelector('h3').textContent, entries.length, entries[0].textContent];
+        }
+    }).observe(document.getElementById('result-rest'), {childList: true, subtree: true});"""
+
+
+def begun(session):
+    """The first of very many differences are there before their values and names are."""
+    count = 3 * COUNT
+    paths = [written(session, f'{name}.json', units(name, count)) for name in ('Ward', 'Precinct')]
+    session.fresh()
+    session.browser.script(WATCH, answers.say('difference.begun'))
+    session.choose(0, *paths)
+    session.verdict()
+    session.equal('growing: the first ones before their values', session.browser.script('return window.begun'),
+                  [answers.say('difference.all', count=count), 50, 'Unit (local-level N0000) differs in its name (Name).'])
+    session.equal('growing: with their names after that', session.browser.script(SENTENCES)[0], 'Unit “Ward 0” (local-level N0000) differs in its name (Name).')
 
 
 def cancelled(session):

@@ -3,7 +3,6 @@ import json
 import re
 import shutil
 import subprocess
-import time
 
 import answers
 from bounds import MOST_MEGABYTES, MOST_SECONDS, Cost
@@ -145,18 +144,19 @@ def needs(session):
     session.equal('needs: nothing of small files', session.browser.script(NEEDS), '')
     paths = [heavy(session, value) for value in (1, 2)]
     session.fresh()
-    cost, begin = Cost(session), time.monotonic()
+    cost = Cost(session)
     session.choose(0, *paths)
     said = session.browser.until(NEEDS)
-    seconds = min(time.monotonic() - begin, cost.seconds())
+    told = cost.taken()
     megabytes = 40 * max(path.stat().st_size for path in paths) / 1e6
     size = int(re.search(r'([\d,]+) MB', said)[1].replace(',', ''))
     session.equal('needs: what is told', said, answers.say('progress.needs', size=f'{size:,}', command='erd compare'))
     session.said('needs: how much', '' if megabytes <= size <= megabytes + 10 else f'{size} MB in place of {megabytes}')
-    session.said('needs: it is told at once', '' if seconds <= MOST_SECONDS else f'after {seconds} s')
+    session.said('needs: it is told at once', '' if told.is_within(MOST_SECONDS, size + MOST_MEGABYTES) else repr(told))
     session.browser.until("return document.querySelector('.others') !== null", seconds=200)
     session.equal('needs: the list', session.text('#all-differences'), answers.say('difference.all', count=4 * HEAVY_UNITS))
-    session.said('needs: the memory (%d MB told, %d MB taken)' % (size, cost.growth()), '' if cost.growth() <= size + MOST_MEGABYTES else repr(cost.growth()))
+    taken = cost.taken().megabytes
+    session.said('needs: the memory (%d MB told, %d MB taken)' % (size, taken), '' if taken <= size + MOST_MEGABYTES else f'{taken} MB')
     session.click('#cancel')
     session.becomes('needs: it is stopped', lambda: session.text('#stopped'), answers.say('sentence.restCancelled'))
     for path in paths:

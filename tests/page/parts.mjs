@@ -17,6 +17,7 @@ import { compactText, readExactly } from '../../bindings/js/lib/exact.mjs';
 import { kindsOf } from '../../web/scripts/fault_kinds.mjs';
 import { firstLanguage } from '../../web/scripts/languages.mjs';
 import { Meaning } from '../../web/scripts/meaning.mjs';
+import { needsOf } from '../../web/scripts/needs.mjs';
 import { foundPlaces } from '../../web/scripts/places.mjs';
 import { countsOf } from '../../web/scripts/seen.mjs';
 import { rowsOfContent, rowsOfDifference } from '../../web/scripts/rows.mjs';
@@ -274,6 +275,16 @@ equal('plain words', Object.keys(TEXTS).filter((key) => OLD_WORDS.test(JSON.stri
 const SPANISH = JSON.parse(readFileSync(new URL('web/texts.es.json', ROOT)));
 equal('one word for the standard in Spanish', Object.keys(SPANISH).filter((key) => /estándar/i.test(JSON.stringify(SPANISH[key]))), []);
 equal('articles in Spanish', Object.keys(SPANISH).filter((key) => /^(member|subject)\./.test(key) && !/^(el|la|los|las) /i.test(SPANISH[key])), []);
+
+// ---- what large files need: 40 bytes of memory for each byte of the larger of two, 25 for each byte of one, told from 300 MB on
+
+const NEEDS = {
+    'two files that need less': [[7_499_999, 1], null], 'two files': [[1, 7_500_000], 300, 'erd compare'], 'the larger of two': [[9_000_001, 8_000_000], 370, 'erd compare'],
+    'one file that needs less': [[11_999_999], null], 'one file': [[12_000_000], 300, 'erd check'],
+};
+for (const [name, [sizes, megabytes, command]] of Object.entries(NEEDS)) {
+    equal(`needs: ${name}`, needsOf(sizes.map((size) => ({ size }))), megabytes === null ? null : { megabytes, command });
+}
 
 // ---- the columns of printed ballots: where each begins, of pieces as [height, item, whether it keeps the next one]
 

@@ -25,6 +25,7 @@ import lines
 import many
 import named
 import network
+import newcomer
 import notices
 import overview
 import pictures
@@ -41,8 +42,8 @@ import xml_form
 from session import Session, report_of_units
 
 KINDS = {kind.name: kind for kind in (browsers.Chromium, browsers.Firefox)}
-PARTS = (flows, top, results, notices, lines, growing, voter, overview, ballots, printed, record, filed, prepared, many, named, spanish, keyboard, hostile,
-         bounds, large, xml_form, xml_agree, network, accessibility)
+PARTS = (flows, top, results, notices, lines, growing, voter, overview, ballots, printed, record, filed, prepared, many, newcomer, named, spanish, keyboard,
+         hostile, bounds, large, xml_form, xml_agree, network, accessibility)
 # The pictures for a person to look at are made where they are asked for by name.
 DEFAULT = [part.__name__ for part in PARTS]
 # A browser is west of Greenwich, and the other one is east of it.

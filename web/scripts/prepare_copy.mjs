@@ -111,7 +111,7 @@ export class CopyMaker {
         return element('p', { class: 'buttons' },
             button(say('prepare.check'), () => this.check(), { class: 'main', id: `prepare-check-${this.index}`, disabled: !isChanged }),
             button(say('prepare.save'), async () => save(await this.copy(), this.copyName), { disabled: !isChanged }),
-            button(say('prepare.saveChanges'), async () => save(new Blob([await this.asked('preparedChanges', this.question())]),
+            button(say('prepare.saveChanges'), async () => save(new Blob(await this.asked('preparedChanges', this.question())),
                 `${this.copyName.replace(/\.json$/, '')}.changes.json`), { disabled: !isChanged }));
     }
 

@@ -15,6 +15,7 @@ const LONGEST_VALUE = 200;
 /** How many characters of a list of changes are saved, and of each of its values. */
 const MOST_SAVED = 20_000_000;
 const LONGEST_SAVED = 2000;
+const LONGEST_PIECE = 1_000_000;
 
 // The steps in their order but for the first one, which acts on bytes.
 const TREE_STEPS = STEPS.slice(1).map(({ name }) => name);
@@ -98,24 +99,53 @@ export class Preparing {
         return { ...origin, bytes: withMark(this.copy, origin) };
     }
 
-    /** Each change of these steps, as JSON in pieces. Texts are cut that are longer than a reader needs, and so is a list that is. */
+    /** Each change of these steps, as JSON in pieces of bytes. Texts are cut that are longer than a reader needs, and so is a list that is. */
     changes(names, tell) {
         this.#do(names, tell);
-        const pieces = [];
-        let length = 0;
-        for (const { name, made } of this.done) {
-            const fits = [];
-            for (const { place, before, after } of length < MOST_SAVED ? made : []) {
-                fits.push(JSON.stringify({ pointer: boundedPointer(place), before: savedText(before), after: savedText(after) }));
-                length += fits.at(-1).length;
-                if (length >= MOST_SAVED) {
-                    break;
-                }
-            }
-            const more = made.length - fits.length;
-            pieces.push(`{"step":${JSON.stringify(name)},"count":${made.length},${more > 0 ? `"more":${more},` : ''}"changes":[\n${fits.join(',\n')}]}`);
+        const written = new Written();
+        this.done.forEach((step, at) => {
+            written.add(at === 0 ? '[' : ',\n');
+            writeChanges(step, written);
+        });
+        written.add(this.done.length === 0 ? '[]\n' : ']\n');
+        return written.pieces();
+    }
+}
+
+// The changes of a step. Those that have no more room are counted.
+function writeChanges({ name, made }, written) {
+    written.add(`{"step":${JSON.stringify(name)},"count":${made.length},"changes":[\n`);
+    let count = 0;
+    for (; count < made.length && written.length < MOST_SAVED; count++) {
+        const { place, before, after } = made[count];
+        written.add((count === 0 ? '' : ',\n') + JSON.stringify({ pointer: boundedPointer(place), before: savedText(before), after: savedText(after) }));
+    }
+    written.add(count < made.length ? `],"more":${made.length - count}}` : ']}');
+}
+
+// A text that is written from its beginning to its end, and kept as bytes: a long one would be in memory several times while it is made.
+class Written {
+    constructor() {
+        this.length = 0;
+        this.texts = [];
+        this.waiting = 0;
+        this.done = [];
+    }
+
+    add(text) {
+        this.length += text.length;
+        this.waiting += text.length;
+        this.texts.push(text);
+        if (this.waiting >= LONGEST_PIECE) {
+            this.pieces();
         }
-        return `[${pieces.join(',\n')}]\n`;
+    }
+
+    pieces() {
+        this.done.push(new TextEncoder().encode(this.texts.join('')));
+        this.texts = [];
+        this.waiting = 0;
+        return this.done;
     }
 }
 
