@@ -93,14 +93,22 @@ def pages_of(pid):
 
 
 def is_page(path):
-    words = (path / 'cmdline').read_bytes()
+    words = read(path / 'cmdline')
     return b'--type=renderer' in words or (b'-contentproc' in words and words.rstrip(b'\0').endswith(b'tab'))
 
 
 def tree_of(pid):
     """A process and all below it."""
-    below = [child for task in os.listdir(f'/proc/{pid}/task') for child in pathlib.Path(f'/proc/{pid}/task/{task}/children').read_text().split()]
+    below = [child for path in pathlib.Path(f'/proc/{pid}/task').glob('*') for child in read(path / 'children').decode().split()]
     return [f'/proc/{pid}', *(path for child in below for path in tree_of(child))]
+
+
+def read(path):
+    """The bytes of a file of a process or of a thread; none where it has ended meanwhile."""
+    try:
+        return path.read_bytes()
+    except (FileNotFoundError, ProcessLookupError):
+        return b''
 
 
 def bounded(session, name, act, most_seconds=MOST_SECONDS):

@@ -23,10 +23,18 @@ const LONGEST_TOLD = 100_000;
 /** The most differences that are listed. Each call lists a mebibyte of them, and compares the files anew. */
 const MOST_LISTED = 20_000;
 
+/** The most bytes of a file whose list of differences is made with the verdict: a list takes more memory than the first difference. */
+const MOST_AT_ONCE = 4_000_000;
+
 // A step of a trail, whose name and title may be longer than anybody reads.
 function shortStep({ name, number, title }) {
     const short = (text) => (text === null ? null : shortened(text, LONGEST_POINTER));
     return { name: short(name), number, title: short(title) };
+}
+
+// Whether a list that was asked for has all entries that are wanted. A piece of it may have fewer, where they are long.
+function isEnough({ side, differences, allDifferences }, most) {
+    return side !== null || differences.length === allDifferences || allDifferences > most;
 }
 
 /** A judgement of one file or two, under one preference. */
@@ -74,7 +82,7 @@ export class Judgement {
         tell({ stage: 'comparing' });
         const [left, right] = this.sides;
         try {
-            const compared = this.erd.compare(left.bytes, right.bytes, { prefer: this.prefer });
+            const compared = this.comparedAtOnce() ?? this.erd.compare(left.bytes, right.bytes, { prefer: this.prefer });
             if (compared.side === null) {
                 this.sides.forEach((side) => (side.outcome = 'accepted'));
             } else if (compared.side === 'left') {
@@ -90,6 +98,18 @@ export class Judgement {
             }
             throw error;
         }
+    }
+
+    // The list of the differences of two small files that are accepted says too whether there is one, so they are compared once. Null
+    // where it does not: for other files, and where there is no memory for the list.
+    comparedAtOnce() {
+        const isSmall = this.sides.every(({ bytes }) => bytes.length <= MOST_AT_ONCE);
+        const found = isSmall ? this.unlessNoMemory(() => this.differencesAsked(this.prefer, MOST_LISTED)) : null;
+        if (found === null || found.side !== null) {
+            return null;
+        }
+        this.keptProved = isEnough(found, MOST_LISTED) ? found : undefined;
+        return { side: null, same: found.same, difference: found.differences[0] };
     }
 
     comparison(compared) {
@@ -151,11 +171,21 @@ export class Judgement {
 
     // The proved list under a type of identifier, or its beginning if it is longer than `most`; null if there is no memory for it.
     differencesUnder(prefer, most) {
+        return this.unlessNoMemory(() => {
+            const found = this.differencesAsked(prefer, most);
+            return isEnough(found, most) ? found : this.differencesAsked(prefer, null);
+        });
+    }
+
+    differencesAsked(prefer, mostDifferences) {
         const [left, right] = this.sides;
-        const asked = (mostDifferences) => this.erd.differences(left.bytes, right.bytes, { prefer, mostDifferences });
+        return this.erd.differences(left.bytes, right.bytes, { prefer, mostDifferences });
+    }
+
+    // What a call answers; null if there is no memory for it.
+    unlessNoMemory(call) {
         try {
-            const found = asked(most);
-            return found.side === null && found.differences.length < found.allDifferences && found.allDifferences <= most ? asked(null) : found;
+            return call();
         } catch (error) {
             if (isNoMemory(error)) {
                 return null;
