@@ -102,6 +102,7 @@ SOURCES = {
     'erd_prepare/Persons': 'docs/FIXES.md',
     'erd_prepare/Places': 'this project',
     'erd_prepare/Plans': 'this project',
+    'erd_prepare/Preparations': 'this project',
     'erd_prepare/Rules': 'this project',
     'erd_prepare/Steps': 'this project',
     'erd_prepare/Styles': 'docs/FIXES.md',

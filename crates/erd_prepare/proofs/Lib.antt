@@ -1,4 +1,5 @@
 pub mod Rising
 pub mod Adding
 pub mod Untold
+pub mod Preparing
 mod Examples
