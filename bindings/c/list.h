@@ -11,10 +11,12 @@ struct erd_list {
 
 /* Whether each entry can be told from the next: in a line, a name may have a line feed. */
 static bool are_apart(const struct erd_list *list) {
+    if (list->is_data)
+        return true;
     size_t ends = 0;
-    for (size_t i = 0; i < list->length && !list->is_data; i++)
+    for (size_t i = 0; i < list->length; i++)
         ends += list->text[i] == '\n';
-    return list->is_data || ends == list->kept - list->next;
+    return ends == list->kept - list->next;
 }
 
 /* Finds the entries in the text that was judged. Where a side is refused, the array of its faults is a member of an object. */
@@ -31,29 +33,40 @@ static void find_entries(struct erd_list *list) {
 static size_t entry_length(const char *entry, bool is_data) {
     size_t i = 0, depth = 0;
     bool is_text = false;
+    if (!is_data) {
+        while (entry[i] != '\n')
+            i++;
+        return i + 1;
+    }
     do {
-        is_text ^= is_data && entry[i] == '"';
-        depth += is_data && !is_text && (entry[i] == '{' || entry[i] == '[');
-        depth -= is_data && !is_text && (entry[i] == '}' || entry[i] == ']');
+        is_text ^= entry[i] == '"';
+        depth += !is_text && (entry[i] == '{' || entry[i] == '[');
+        depth -= !is_text && (entry[i] == '}' || entry[i] == ']');
         i += is_text && entry[i] == '\\' ? 2 : 1;
-    } while (is_data ? depth > 0 : entry[i - 1] != '\n');
+    } while (depth > 0);
     return i;
 }
 
-/* Room for what is kept, so that most lists are judged once: as many bytes as the reports have. The call makes a mebibyte at least. */
+enum { MOST_AT_FIRST = 4 * ROOM_FOR_LIST, MOST_AT_ONCE = 16 * ROOM_FOR_LIST };
+
+/* How many bytes of entries a judging keeps: all that the list may, but the first no more than most lists have. */
+static size_t enough_at_once(const struct erd_list *list) {
+    return list->next == 0 && list->room > MOST_AT_FIRST ? MOST_AT_FIRST : list->room;
+}
+
+/* Room for what is kept, so that a judging need hardly ever be done again: with the commas between entries of 16 bytes or more, and with the
+ * last entry, which is seldom longer than the reports. */
 static size_t room_at_once(const struct erd_list *list) {
+    size_t of_reports = list->it.left.size + list->it.right.size;
+    size_t enough = enough_at_once(list) < MOST_AT_ONCE ? enough_at_once(list) : MOST_AT_ONCE;
+    size_t of_list = enough + enough / 16 + of_reports + ROOM_FOR_LINES, of_form = 2 * of_reports + ROOM_FOR_LINES;
     bool is_form = list->it.call == CANONICAL_PIECE || list->it.call == CANONICAL_DATA_PIECE;
-    size_t for_list = list->it.left.size + list->it.right.size;
-    size_t most = list->room < ROOM_FOR_LIST ? list->room : ROOM_FOR_LIST;
-    /* behind the first entries that are kept, the list is as long as that again, or nearly so */
-    if (list->next > 0)
-        return list->room + for_list + ROOM_FOR_LINES;
-    return (is_form ? 2 * list->it.left.size : for_list < most ? for_list : most) + ROOM_FOR_LINES;
+    return is_form && of_form > of_list ? of_form : of_list;
 }
 
 /* Judges, and keeps the entries that come next: those that have room, or only those of the piece if they can't be told apart. */
 static enum erd_outcome keep_entries(struct erd_list *list, const struct erd_piece *piece) {
-    struct erd_piece wanted = {list->next, SIZE_MAX, list->room, 0, 0};
+    struct erd_piece wanted = {list->next, SIZE_MAX, enough_at_once(list), 0, 0};
     for (bool is_bounded = false;; is_bounded = true) {
         free(list->text);
         list->outcome = call_for_piece(&list->it, room_at_once(list), &wanted, &list->text, &list->length);
@@ -87,12 +100,13 @@ static size_t told_in(const struct erd_list *list, const struct erd_piece *piece
 /* The text of a piece whose entries end here, with a zero byte behind it, or null if out of memory. */
 static char *text_up_to(const struct erd_list *list, size_t stop, size_t *length) {
     size_t entries = stop - list->at, behind = list->length - list->end;
-    char *text = calloc(list->front + entries + behind + 1, 1);
+    *length = list->front + entries + behind;
+    char *text = malloc(*length + 1);
     if (text == NULL)
         return NULL;
     memcpy(text, list->text, list->front);
     memcpy(text + list->front, list->text + list->at, entries);
     memcpy(text + list->front + entries, list->text + list->end, behind);
-    *length = list->front + entries + behind;
+    text[*length] = 0;
     return text;
 }
