@@ -173,8 +173,54 @@ for words in check canon compare differences; do
     ROOM=$work/room NODE_OPTIONS="--require $work/peak.cjs --v8-pool-size=1" "$erd" "$words" "${files[@]}" > "$work/out" 2> "$work/err"
     status=$?
     most=$(cat "$work/room")
-    said "a square list: $words" "$([ "$status" -eq 1 ] || echo "status $status; ")$([ "$most" -lt 130000 ] || echo "$most kB of memory")"
+    said "a square list: $words" "$([ "$status" -eq 1 ] || echo "status $status; ")$([ "$most" -lt 120000 ] || echo "$most kB of memory")"
 done
+# XML that is made to cost much: this package reads no more than its beginning, and says where it is converted. The seconds are those of
+# processors, so that they are the same on a busy machine.
+hostile=$work/hostile
+mkdir "$hostile"
+python3 - "$hostile" <<'END'
+import pathlib, sys
+OPEN = b'<ElectionReport xmlns="http://itl.nist.gov/ns/voting/1500-100/v2"'
+laughs = b''.join(b'<!ENTITY %c "%s">' % (98 + at, b'&%c;' % (97 + at) * 10) for at in range(20))
+for name, data in {
+    'a billion laughs': b'<!DOCTYPE a [<!ENTITY a "ha">' + laughs + b']><a>&u;</a>',
+    'an external entity': b'<!DOCTYPE a [<!ENTITY x SYSTEM "file:///etc/passwd">]><a>&x;</a>',
+    'a million attributes': OPEN + b''.join(b' a%d=""' % at for at in range(10 ** 6)) + b'/>',
+    'a million elements': OPEN + b'>' + b'<a b=""/>' * 10 ** 6 + b'</ElectionReport>',
+    'a depth of 100,000': OPEN + b'>' + b'<a>' * 10 ** 5,
+    'a long comment': OPEN + b'><!--' + b' ' * 10 ** 7 + b'--></ElectionReport>',
+    'UTF-16': '<!DOCTYPE a><a/>'.encode('utf-16'),
+    'Windows-1252': b'<?xml version="1.0" encoding="Windows-1252"?><a>\xe9</a>',
+    'UTF-8 that is not': OPEN + b'>\xff</ElectionReport>',
+}.items():
+    (pathlib.Path(sys.argv[1]) / name).write_bytes(data)
+END
+TIMEFORMAT='%U + %S'
+# costs PROGRAM FILE COMMAND: runs the program on the file, and says what it took of the processors if that is a second or more. Most of
+# that is what Node and the module take on any file, and a busy machine stretches it, so it may need several tries.
+costs() {
+    local used
+    for _ in 1 2 3; do
+        used=$({ time ROOM=$work/room NODE_OPTIONS="--require $work/peak.cjs" "$1" ${3:+"$3"} "$2" > "$work/out" 2> "$work/err"; echo $? > "$work/status"; } 2>&1)
+        awk "BEGIN { exit !($used < 1) }" && return
+    done
+    echo "$used s; "
+}
+for file in "$hostile"/*; do
+    for command in check ''; do
+        program=$erd
+        [ -n "$command" ] || program=$(dirname "$erd")/${prepare:-erd-prepare}
+        costs "$program" "$file" "$command" > "$work/slow"
+        most=$(cat "$work/room")
+        said "$(basename "$program") of XML, $(basename "$file"): $((most / 1000)) MB" "$(cat "$work/slow")$(
+            [ "$(cat "$work/status")" -eq 2 ] || echo "status $(cat "$work/status"); ")$(
+            [ "$(grep -c 'this is XML: ' "$work/err")/$(wc -l < "$work/err")" = 1/1 ] || cat "$work/err")$(
+            [ "$most" -lt 200000 ] || echo "$most kB of memory")"
+    done
+done
+rm -r "$hostile"
+
 rm "$work/out" "$work/err"
 
 "$erd" canon examples/one-unit.json > /dev/full 2> "$work/err"
