@@ -11,7 +11,6 @@ from made import candidate_contest, identified, report, style, typed, written
 MOST_SECONDS = 5
 MOST_MEGABYTES = 300
 TRIES = 3
-BUSY_TIMES = 2
 # What the browser and the system do beside the pages.
 MOST_BESIDE = 0.6
 TICKS = os.sysconf('SC_CLK_TCK')
@@ -29,8 +28,7 @@ def run(session):
 class Taken(NamedTuple):
     """What a try took. A bound of seconds is one of the clock: how long a person waits, on a machine that has nothing else to do. So where
     nothing but the page worked all the while, the clock alone counts. On a busy machine the clock tells of other work too. There the page may
-    be within the bound by what the processors worked for it in place of that, in all the threads of its processes together. They take up to
-    twice as long for the same work while others use the same memory, so twice the bound holds there."""
+    be within the bound by what the processors worked for it in place of that, in all the threads of its processes together."""
 
     worked: float
     clock: float
@@ -38,7 +36,7 @@ class Taken(NamedTuple):
     megabytes: int
 
     def is_within(self, most_seconds, most_megabytes):
-        seconds = self.clock if self.is_at_rest else min(self.clock, self.worked) / BUSY_TIMES
+        seconds = self.clock if self.is_at_rest else min(self.clock, self.worked)
         return seconds <= most_seconds and self.megabytes <= most_megabytes
 
 
