@@ -78,11 +78,11 @@ impl<'a> Triple<'a> {
     pub(crate) fn goes_before(&self, other: &Triple, prefer: Option<&str>) -> bool
         ensures { result ≡ is_lt (choice_cmp (option_copied prefer.entry) self.now other.now) }
     {
-        other
-            .is_of_type(prefer)
-            .cmp(&self.is_of_type(prefer))
-            .then(self.compare(other))
-            .is_lt()
+        match (self.is_of_type(prefer), other.is_of_type(prefer)) {
+            (true, false) => true,
+            (false, true) => false,
+            _ => self.compare(other).is_lt(),
+        }
     }
 
     /// Returns a key with copies of the texts.

@@ -159,8 +159,8 @@ impl SelectionName {
     {
         type_text(self.class)
             .cmp(type_text(other.class))
-            .then(self.keys.cmp(&other.keys))
-            .then(self.compare_after_keys(other))
+            .then_with(|| self.keys.cmp(&other.keys))
+            .then_with(|| self.compare_after_keys(other))
     }
 
     /// Compares the parts after the keys with those of another name.
