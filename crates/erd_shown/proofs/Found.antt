@@ -1,5 +1,5 @@
 -- What is found by an `@id`, and the names of the selections of a contest by their positions.
-use Rattle.erd_shown.proofs.Common.{◌≡◌, ℕ, ◌+◌, ◌<◌, ◌^◌, ◌==◌, Bool, true, false, cond, List, map, length, slice_get, Some, None, Option, codes, option_map, option_and_then, sym, refl, ap, ◌∙◌, subst, slice_get-map, slice_get_within, length-map, and_then-Some, option_map-Some, in_at, In-all, Data, [], arith, entries_at, Family, family, family_number, has_keys, Preference, key_of, key_in, key_named, name_named, name_of, owner, FindsId, Placed, objects, contests, selections_of_contest, numbered_selections, selection_in, IsBounded, values-placed_entries, IsAccepted, IsTree, HasFittingNumbers, NameParts}
+use Rattle.erd_shown.proofs.Common.{◌≡◌, ℕ, ◌+◌, ◌<◌, ◌^◌, ◌==◌, Bool, true, false, cond, List, length, slice_get, Some, None, Option, codes, option_map, option_and_then, sym, refl, ap, ◌∙◌, slice_get-map, slice_get_within, length-map, and_then-Some, option_map-Some, in_at, In-all, Data, [], arith, entries_at, Family, family, family_number, has_keys, Preference, key_of, key_in, key_named, name_named, name_of, FindsId, Placed, objects, contests, selections_of_contest, numbered_selections, IsBounded, values-placed_entries, IsAccepted, IsTree, HasFittingNumbers, NameParts}
 use Rattle.erd_meaning.specs.Lookups.{selections_before}
 use Rattle.erd_meaning.specs.code.SelectionWalk.{if_of_contest}
 use Rattle.erd_meaning.proofs.finding.OneObject.{owner_elsewhere, owner_here, owner_nowhere}

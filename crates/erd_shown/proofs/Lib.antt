@@ -11,3 +11,5 @@ mod LineNodes
 mod PartnerLists
 mod Things
 mod RowLists
+mod NameLists
+mod MembersWritten

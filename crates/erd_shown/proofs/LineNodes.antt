@@ -1,9 +1,8 @@
 -- What stands inside a header.
-use Rattle.erd_text.proofs.Common.{◌≡◌, ℕ, zero, suc, ◌+◌, ◌<◌, ◌≤◌, Bool, true, false, List, [], ◌∷◌, ◌++◌, length, get_or, Some, None, Option, codes, is_eq, Ordering, Equal, sym, refl, ap, ◌∙◌, arith, Data, null, boolean, string, array, object, no_items, item, Members, no_members, member, get_member, get, view, items_view, Value}
+use Rattle.erd_text.proofs.Common.{◌≡◌, ℕ, ◌+◌, true, false, List, [], ◌∷◌, Some, None, Option, codes, is_eq, Ordering, Equal, sym, refl, ap, ◌∙◌, Data, null, boolean, string, array, object, Members, no_members, member, get_member, get}
 use Rattle.std.proofs.lemmas.Map.Text.{is_eq-slice_cmp}
-use Rattle.serde_json.specs.Data.{number, depth, items_depth, members_depth}
+use Rattle.serde_json.specs.Data.{number}
 use Rattle.erd_tables.specs.Texts.{text_cmp}
-use Rattle.erd_check.proofs.Shapes.{get_member-depth}
 use Rattle.erd_meaning.specs.Records.{class_of_node, is_header_class}
 use Rattle.erd_shown.specs.ContentData.{members_in}
 use Rattle.erd_shown.specs.Lines.{content_lines, inside_lines, node_lines}

@@ -1,5 +1,5 @@
 -- Occurrences that are counted, and places that are put into a map.
-use Rattle.erd_text.proofs.Common.{◌≡◌, ℕ, zero, suc, ◌+◌, ◌≤◌, Bool, true, false, cond, ◌&&◌, List, [], ◌∷◌, ◌++◌, map, length, drop, ◌==◌, Some, None, Option, nat_cmp, is_eq, Ordering, Less, Equal, Greater, unwrap_or, sym, refl, ap, ◌∙◌, subst, arith, append_assoc}
+use Rattle.erd_text.proofs.Common.{◌≡◌, ℕ, suc, ◌+◌, ◌≤◌, Bool, true, false, cond, ◌&&◌, List, [], ◌∷◌, ◌++◌, map, length, drop, ◌==◌, Some, None, Option, nat_cmp, is_eq, Ordering, Less, Equal, Greater, unwrap_or, sym, refl, ap, ◌∙◌, arith, append_assoc}
 use Rattle.std.specs.Cmp.{IsEquivalence, unsigned_tied}
 use Rattle.std.specs.Map.{lookup}
 use Rattle.std.specs.Option.{option_or}

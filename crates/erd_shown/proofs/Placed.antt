@@ -1,6 +1,6 @@
 -- The objects of a report by role and position: where they stand, that their numbers are whole, and that their selections are
 -- named.
-use Rattle.erd_shown.proofs.Common.{◌≡◌, ℕ, zero, suc, Bool, true, false, List, [], ◌∷◌, slice_get, Some, None, Option, codes, option_map, sym, refl, ap, ◌∙◌, subst, true≢false, in_at, contains_from_In, In, Data, null, object, Members, no_members, member, get_member, get_member-first, get_member-later, get, has_float, Class, Family, family, Role, role, MemberKind, kind, kind_of_member, role_of_class, entries_of, entries_at, class_of_object, class_role, is_selections, selections_name, selections_family, IsTree, AreMembers, IsBounded, Preference, Placed, objects, contests, report_of, objects_with_role, IsAccepted}
+use Rattle.erd_shown.proofs.Common.{◌≡◌, ℕ, zero, suc, true, false, List, [], slice_get, Some, None, codes, sym, refl, ap, ◌∙◌, subst, true≢false, in_at, contains_from_In, Data, null, object, Members, no_members, member, get_member, get_member-first, get_member-later, has_float, Class, Family, family, Role, role, kind, kind_of_member, role_of_class, entries_of, entries_at, class_of_object, class_role, is_selections, selections_name, selections_family, AreMembers, IsBounded, Preference, Placed, objects, report_of, objects_with_role}
 use Rattle.std.specs.Option.{option_map_or}
 use Rattle.erd_meaning.specs.Lookups.{selections_before}
 use Rattle.erd_shown.specs.ContentData.{members_in}
@@ -8,9 +8,9 @@ use Rattle.erd_shown.specs.Shown.{holder_key, object_data, object_data_in, objec
 use Rattle.erd_shown.specs.Laws.{IsTaken, StandsAs}
 use Rattle.erd_shown.specs.code.Selections.{AreNamedFrom, HoldNamed}
 use Rattle.erd_shown.proofs.Found.{named_from_start}
-use Rattle.erd_shown.proofs.fit.FitMembers.{fitting_whole, is_family_role, no_selections}
+use Rattle.erd_shown.proofs.fit.FitMembers.{fitting_whole, no_selections}
 use Rattle.erd_shown.proofs.fit.ExactTexts.{within-fitting}
-use Rattle.erd_shown.proofs.told.Laws.{Taken, taken}
+use Rattle.erd_shown.proofs.told.Laws.{taken}
 
 pub placed_stands : (t : Data) (r : Role) (i : ℕ) (o : Placed) → placed_in t r i ≡ Some o → StandsAs t r o
 placed_stands t role.Report zero o e = let same : report_of t ≡ o = cc in sym same

@@ -28,7 +28,7 @@ rights_append (MovedAway i j ∷ xs) ys = rights_append xs ys
 rights_append (Added j ∷ xs) ys = ap (λ ks. j ∷ ks) (rights_append xs ys)
 rights_append (MovedHere i j ∷ xs) ys = ap (λ ks. j ∷ ks) (rights_append xs ys)
 
-all_more : {A : Type 0} (P : A → Type 0) (xs : List A) (x : A) → AllByRecursion P xs → P x → AllByRecursion P (xs ++ x ∷ [])
+pub all_more : {A : Type 0} (P : A → Type 0) (xs : List A) (x : A) → AllByRecursion P xs → P x → AllByRecursion P (xs ++ x ∷ [])
 all_more P [] x h p = (p, tt)
 all_more P (y ∷ ys) x h p = (h.0, all_more P ys x h.1 p)
 

@@ -1,5 +1,5 @@
 -- The selections of a contest, each with its name, in the order of their names.
-use Rattle.erd_shown.proofs.Common.{◌≡◌, Bool, true, false, cond, List, map, None, Some, Option, sym, refl, ap, ◌∙◌, map-id, Ordering, option_cmp, Data, view, Value, items_of, items_have_float, Preference, NameParts, name_of, name_cmp, rising_list, rising_list_map, by_first, MemberKind, kind, family}
+use Rattle.erd_shown.proofs.Common.{◌≡◌, Bool, true, false, cond, List, map, None, Option, sym, refl, ap, ◌∙◌, map-id, Ordering, option_cmp, Data, view, Value, items_of, items_have_float, Preference, NameParts, name_of, name_cmp, rising_list, rising_list_map, by_first, MemberKind, kind, family}
 use Rattle.erd_meaning.proofs.Common.{map-map}
 use denote.Ref.{Bor}
 use Rattle.erd_text.proofs.WholeValues.{whole_rising}

@@ -1,6 +1,6 @@
 -- What lines are, by borrowed keys and by keys.
-use Rattle.erd_text.proofs.Common.{◌≡◌, Bool, Some, None, Option, Ordering, refl, ap}
-use Rattle.std.specs.Ordering.{bool_cmp, eq_by_cmp, is_eq, ordering_then}
+use Rattle.erd_text.proofs.Common.{◌≡◌, Bool, Some, None, Option, Ordering, refl}
+use Rattle.std.specs.Ordering.{bool_cmp, eq_by_cmp, ordering_then}
 use Rattle.std.specs.Option.{option_cmp}
 use denote.Ref.{Bor}
 use Rattle.erd_meaning.specs.Keys.{key_cmp}

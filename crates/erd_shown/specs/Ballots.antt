@@ -1,7 +1,7 @@
 -- The ballot of a style as JSON, with keys and names in place of references. All of this is the profile's own.
-use Rattle.std.specs.Prelude.{ℕ, pos, List, [], ◌∷◌, Bool, true, false, if◌then◌else◌, slice_get, Option, map, codes}
+use Rattle.std.specs.Prelude.{ℕ, pos, List, [], ◌∷◌, Bool, true, false, if◌then◌else◌, slice_get, Option, Some, map, codes}
 use Rattle.std.specs.Option.{option_map_or}
-use Rattle.serde_json.specs.Data.{Data, null, string, object, Members, no_members, member}
+use Rattle.serde_json.specs.Data.{Data, null, boolean, string, object, Members, no_members, member}
 use Rattle.serde_json.specs.Find.{get}
 use Rattle.erd_tables.specs.declared.class.Family.TheVariants as family
 use Rattle.erd_check.specs.Values.{entries_at, text_at}
@@ -10,8 +10,8 @@ use Rattle.erd_meaning.specs.Objects.{objects}
 use Rattle.erd_meaning.specs.Records.{class_of_node, is_header_class}
 use Rattle.erd_meaning.specs.SelectionNames.{key_named}
 use Rattle.erd_meaning.specs.declared.keys.key.Key.{Key}
-use Rattle.erd_shown.specs.KeyData.{array_of, shown_key_or_null, shown_whole}
-use Rattle.erd_shown.specs.ContentData.{shown_name_named}
+use Rattle.erd_shown.specs.KeyData.{array_of, shown_key_or_null, shown_name, shown_whole}
+use Rattle.erd_shown.specs.ListedNames.{lists_selections, names_on}
 use Rattle.erd_shown.specs.Lines.{content_lines}
 use Rattle.erd_shown.specs.Shown.{keys_data}
 
@@ -30,13 +30,14 @@ thing_data (is_header, key) = array_of (string (if is_header then codes "header"
 abbrev pub what_members : Bool × Option Key → Members
 what_members thing = member (codes "what") (thing_data thing) no_members
 
--- A line: how many headers stand around it, the names of the selections that the ballot lists for it, in their order, and what it
--- is. A contest for which the ballot lists no selections has all of them, in no order.
+-- The names of the selections of a line and what it is, as the last members of its object.
+abbrev pub listed_members : Preference → Data → Data → Members
+listed_members π t d = member (codes "selections") (array_of (map (λ n. shown_name (Some n)) (names_on π t d))) (what_members (thing_at π t d))
+
+-- A line: how many headers stand around it, whether the ballot lists its selections, their names, and what it is.
 abbrev pub line_data : Preference → Data → ℕ × Data → Data
 line_data π t (depth, d) =
-    object (member (codes "depth") (shown_whole (pos depth))
-    (member (codes "selections") (array_of (map (shown_name_named π t) (entries_at (codes "OrderedContestSelectionIds") d)))
-    (what_members (thing_at π t d))))
+    object (member (codes "depth") (shown_whole (pos depth)) (member (codes "listed") (boolean (lists_selections d)) (listed_members π t d)))
 
 -- The lines of the ballot of a style, in their order.
 abbrev pub lines_of : Data → List (ℕ × Data)

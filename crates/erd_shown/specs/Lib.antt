@@ -3,8 +3,11 @@ pub mod ContentData  -- the order of a ballot as JSON
 pub mod Shown  -- what members and objects mean as JSON
 pub mod Laws  -- the laws: written alike if and only if they mean the same
 pub mod Lines  -- the lines of a ballot
+pub mod ListedNames  -- the names of the selections of a contest on a ballot
 pub mod Ballots  -- the ballot of a style as JSON
+pub mod Heads  -- the heads of the ballots of a report
 pub mod Partners  -- which line of one ballot is which line of another
 pub mod Rows  -- the lines of two ballots beside each other
+pub mod SelectionRows  -- the selections of a contest on two ballots beside each other
 pub mod RowData  -- two ballots beside each other as JSON
 pub mod code  -- what private functions answer, step by step, which a reader may skip

@@ -1,6 +1,6 @@
 -- Which line of one ballot is which line of another. A ballot may list a thing several times, so lines are told apart by the
 -- thing and by the number of the occurrence. All of this is the profile's own.
-use Rattle.std.specs.Prelude.{ℕ, zero, suc, ◌+◌, ◌==◌, List, [], ◌∷◌, Bool, ◌&&◌, if◌then◌else◌, Option, Some, None, map}
+use Rattle.std.specs.Prelude.{ℕ, suc, ◌+◌, ◌==◌, List, [], ◌∷◌, Bool, ◌&&◌, if◌then◌else◌, Option, Some, None, map}
 use Rattle.std.specs.Option.{option_or}
 
 -- How often a thing stands in a list, where `same` tells which things are one.

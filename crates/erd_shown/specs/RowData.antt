@@ -2,6 +2,7 @@
 use Rattle.std.specs.Prelude.{ℕ, pos, ◌≡◌, ◌++◌, List, Bool, Option, Some, None, map, codes}
 use Rattle.std.specs.declared.cmp.Ordering.{Ordering}
 use Rattle.std.specs.Ordering.{bool_cmp, eq_by_cmp, ordering_then}
+use Rattle.std.specs.List.{AllByRecursion}
 use Rattle.std.specs.Option.{option_cmp}
 use Rattle.json.specs.Token.{Token}
 use Rattle.serde_json.specs.Data.{Data, null, string, object, Members, no_members, member}
@@ -12,6 +13,7 @@ use Rattle.erd_shown.specs.Ballots.{lines_data, lines_of, thing_at}
 use Rattle.erd_shown.specs.KeyData.{array_of, shown_whole}
 use Rattle.erd_shown.specs.Partners.{partners}
 use Rattle.erd_shown.specs.Rows.{AreRows}
+use Rattle.erd_shown.specs.SelectionRows.{AreSelectionsAt, Beside, IsInside, rows_of_selections}
 use Rattle.erd_shown.specs.declared.rows.Row.{Row}
 use Rattle.erd_shown.specs.declared.rows.Row.TheVariants.{Both, Removed, Added, MovedAway, MovedHere}
 
@@ -20,21 +22,25 @@ abbrev pub number_or_null : Option ℕ → Data
 number_or_null None = null
 number_or_null (Some i) = shown_whole (pos i)
 
--- The positions of a row, as the last members of its object.
-abbrev pub places_members : Option ℕ → Option ℕ → Members
-places_members left right = member (codes "left") (number_or_null left) (member (codes "right") (number_or_null right) no_members)
+-- The rows inside a row, as the last member of its object.
+abbrev pub inside_members : Beside → Members
+inside_members b = member (codes "selections") (rows_of_selections b) no_members
+
+-- The positions of a row and the rows inside it, as the last members of its object.
+abbrev pub places_members : Option ℕ → Option ℕ → Beside → Members
+places_members left right b = member (codes "left") (number_or_null left) (member (codes "right") (number_or_null right) (inside_members b))
 
 -- A row of this kind.
-abbrev pub row_of : List ℕ → Option ℕ → Option ℕ → Data
-row_of how left right = object (member (codes "how") (string how) (places_members left right))
+abbrev pub row_of : List ℕ → Option ℕ → Option ℕ → Beside → Data
+row_of how left right b = object (member (codes "how") (string how) (places_members left right b))
 
--- A row: what it says, and the positions of the line in the left ballot and in the right one.
-abbrev pub row_data : Row → Data
-row_data (Both i j) = row_of (codes "both") (Some i) (Some j)
-row_data (Removed i) = row_of (codes "removed") (Some i) None
-row_data (Added j) = row_of (codes "added") None (Some j)
-row_data (MovedAway i j) = row_of (codes "moved away") (Some i) (Some j)
-row_data (MovedHere i j) = row_of (codes "moved here") (Some i) (Some j)
+-- A row: what it says, the positions of the line in the left ballot and in the right one, and the rows of its selections.
+abbrev pub row_data : Row × Beside → Data
+row_data (Both i j, b) = row_of (codes "both") (Some i) (Some j) b
+row_data (Removed i, b) = row_of (codes "removed") (Some i) None b
+row_data (Added j, b) = row_of (codes "added") None (Some j) b
+row_data (MovedAway i j, b) = row_of (codes "moved away") (Some i) (Some j) b
+row_data (MovedHere i j, b) = row_of (codes "moved here") (Some i) (Some j) b
 
 -- The order of things: headers are greater, and then by the key.
 abbrev pub thing_cmp : Bool × Option Key → Bool × Option Key → Ordering
@@ -45,16 +51,17 @@ abbrev pub things_of : Preference → Data → Data → List (Bool × Option Key
 things_of π t d = map (λ l. thing_at π t l.1) (lines_of d)
 
 -- The rows, as the last member of an object.
-abbrev pub rows_members : List Row → Members
+abbrev pub rows_members : List (Row × Beside) → Members
 rows_members rows = member (codes "rows") (array_of (map row_data rows)) no_members
 
 -- Two ballots with these rows: the lines of both, and the rows.
-abbrev pub beside_data : Data → Data → List Row → Data
+abbrev pub beside_data : Data → Data → List (Row × Beside) → Data
 beside_data left right rows = object (member (codes "left") left (member (codes "right") right (rows_members rows)))
 
 -- The ballots of two styles, in two reports, are written beside each other. Each line of either stands in one row, in its
--- order; a header or contest that a ballot lists several times is told apart by the number of the occurrence.
+-- order, and so do the selections inside it; what a ballot lists several times is told apart by the number of the occurrence.
 pub record AreBeside (π : Preference) (t d : Data) (ρ : Preference) (u e : Data) (before after : List Token) : Type 0 where
-  pub rows : List Row
-  pub are_rows : AreRows (partners (eq_by_cmp thing_cmp) (things_of π t d) (things_of ρ u e)) (partners (eq_by_cmp thing_cmp) (things_of ρ u e) (things_of π t d)) rows
+  pub rows : List (Row × Beside)
+  pub are_rows : AreRows (partners (eq_by_cmp thing_cmp) (things_of π t d) (things_of ρ u e)) (partners (eq_by_cmp thing_cmp) (things_of ρ u e) (things_of π t d)) (map (λ r. r.0) rows)
+  pub inside : AllByRecursion (IsInside (AreSelectionsAt π t (lines_of d) ρ u (lines_of e))) rows
   pub wrote : after ≡ before ++ value_tokens (beside_data (lines_data π t d) (lines_data ρ u e) rows)

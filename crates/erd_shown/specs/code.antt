@@ -5,3 +5,5 @@ pub mod Selections
 pub mod LineLists
 pub mod PlacesFound
 pub mod LineTexts
+pub mod LentNames
+pub mod SelectionsFound

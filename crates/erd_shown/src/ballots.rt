@@ -1,31 +1,34 @@
-ghost use Rattle.std.specs.Prelude.{◌≡◌, ◌++◌, map, string_bytes, IfOk, OnOk, option_copied, true};
+ghost use Rattle.std.specs.Prelude.{◌≡◌, ◌++◌, map, string_bytes, IfOk, OnOk, Some, option_copied, true};
 ghost use Rattle.serde_json.specs.View.{view};
 ghost use Rattle.serde_json.specs.Written.{compact_text};
 ghost use Rattle.erd_text.specs.Tokens.{members_tokens, value_tokens};
 ghost use Rattle.erd_check.specs.Values.{entries_at};
 ghost use Rattle.erd_meaning.specs.Keys.{has_keys};
-ghost use Rattle.erd_shown.specs.Ballots.{ballot_in, keyed_ballot, line_data, lines_data, lines_of, thing_at, voters_members, what_members};
+ghost use Rattle.erd_shown.specs.Ballots.{ballot_in, listed_members, keyed_ballot, line_data, lines_data, lines_of, thing_at, voters_members, what_members};
+ghost use Rattle.erd_shown.specs.KeyData.{array_of, shown_name};
 ghost use Rattle.erd_shown.specs.Shown.{keys_data};
+ghost use Rattle.erd_shown.specs.code.LentNames.{lent};
 ghost use Rattle.erd_shown.specs.code.LineLists.{of_line};
 ghost use Rattle.erd_shown.specs.code.LineTexts.{written_lines};
 
-use crate::contents::{is_header, write_selections};
+use crate::contents::is_header;
 use crate::keys::write_key_or_null;
 use crate::lines::{Line, push_content};
+use crate::listed::{lists_selections, names_on};
 use crate::lookups::key_named;
-use crate::names::write_count;
+use crate::names::{write_count, write_name};
 use crate::references::write_reference_set;
 use crate::texts::text_of;
 use erd_check::values::{entries_at, text_at};
-use erd_meaning::{Key, Report};
+use erd_meaning::{Key, Report, SelectionName};
 use erd_tables::Family;
 use erd_text::Output;
 use serde_json::Value;
 use std::alloc::{AllocError, Global};
 
 /// Returns the ballot of the style at a position of a report, as compact JSON: its key, its lines in their order, and the
-/// parties and units whose voters get it. A line has how many headers stand around it, what it is, and the names of the
-/// selections that the ballot lists for it. Returns `null` if there is no such style.
+/// parties and units whose voters get it. A line has how many headers stand around it, what it is, whether the ballot lists
+/// selections for it, and their names: all in rising order if it lists none. Returns `null` if there is no such style.
 ///
 /// # Errors
 ///
@@ -78,7 +81,7 @@ fn write_style(
 }
 
 /// Writes which voters get the ballot of a style, and the end of the object.
-fn write_voters(
+pub(crate) fn write_voters(
     alloc: Global,
     report: &Report,
     style: &Value,
@@ -118,7 +121,7 @@ fn write_lines_of(
     ensures { OnOk result (out.new ≡ out.old ++ value_tokens (lines_data report.now.prefer (view report.now.tree) (view style.now))) }
 {
     let lines = lines_of(alloc, style)?;
-    write_lines(report, &lines, out)
+    write_lines(alloc, report, &lines, out)
 }
 
 /// Returns the lines of the ballot of a style.
@@ -134,6 +137,7 @@ pub(crate) fn lines_of<'a>(alloc: Global, style: &'a Value) -> Result<Vec<Line<'
 
 /// Writes lines as an array.
 pub(crate) fn write_lines(
+    alloc: Global,
     report: &Report,
     lines: &[Line],
     out: &mut Output,
@@ -142,21 +146,51 @@ pub(crate) fn write_lines(
 {
     out.begin_array()?;
     for line in lines {
-        write_line(report, line, out)?;
+        write_line(alloc, report, line, out)?;
     }
     out.end_array()
 }
 
 /// Writes a line.
-fn write_line(report: &Report, line: &Line, out: &mut Output) -> Result<(), AllocError>
+fn write_line(
+    alloc: Global,
+    report: &Report,
+    line: &Line,
+    out: &mut Output,
+) -> Result<(), AllocError>
     ensures { OnOk result (out.new ≡ out.old ++ value_tokens (line_data report.now.prefer (view report.now.tree) (of_line line.now))) }
 {
     out.begin_object()?;
     out.key("depth")?;
     write_count(line.depth, out)?;
+    out.key("listed")?;
+    out.boolean(lists_selections(line.node))?;
+    write_inside(alloc, report, line.node, out)
+}
+
+/// Writes the names of the selections of a line and what it is, and the end of the object.
+fn write_inside(
+    alloc: Global,
+    report: &Report,
+    node: &Value,
+    out: &mut Output,
+) -> Result<(), AllocError>
+    ensures { OnOk result (out.new ≡ out.old ++ members_tokens (listed_members report.now.prefer (view report.now.tree) (view node.now))) }
+{
     out.key("selections")?;
-    write_selections(report, line.node, out)?;
-    write_what(report, line.node, out)
+    write_names(&names_on(alloc, report, node)?, out)?;
+    write_what(report, node, out)
+}
+
+/// Writes names as an array.
+fn write_names(names: &[&SelectionName], out: &mut Output) -> Result<(), AllocError>
+    ensures { OnOk result (out.new ≡ out.old ++ value_tokens (array_of (map (λ n. shown_name (Some (lent n))) names.now))) }
+{
+    out.begin_array()?;
+    for name in names {
+        write_name(name, out)?;
+    }
+    out.end_array()
 }
 
 /// Writes what a line is, and the end of the object.

@@ -108,11 +108,7 @@ fn write_contest(report: &Report, value: &Value, out: &mut Output) -> Result<(),
 }
 
 /// Writes the names of the selections that a contest on a ballot lists.
-pub(crate) fn write_selections(
-    report: &Report,
-    value: &Value,
-    out: &mut Output,
-) -> Result<(), AllocError>
+fn write_selections(report: &Report, value: &Value, out: &mut Output) -> Result<(), AllocError>
     ensures { OnOk result (out.new ≡ out.old ++ value_tokens (array_of (map (shown_name_named report.now.prefer (view report.now.tree)) (entries_at (codes "OrderedContestSelectionIds") (view value.now))))) }
 {
     write_names(report, entries_at(value, "OrderedContestSelectionIds"), out)

@@ -1,7 +1,8 @@
-ghost use Rattle.std.specs.Prelude.{◌≡◌, ◌==◌, option_copied, true};
+ghost use Rattle.std.specs.Prelude.{◌≡◌, ◌==◌, option_and_then, option_copied, option_map, slice_get, true};
 ghost use Rattle.serde_json.specs.View.{view};
 ghost use Rattle.erd_tables.specs.Classes.{family_number};
 ghost use Rattle.erd_meaning.specs.Keys.{has_keys};
+ghost use Rattle.erd_meaning.specs.Objects.{objects, owner};
 ghost use Rattle.erd_meaning.specs.SelectionNames.{key_named, name_named};
 ghost use Rattle.erd_shown.specs.code.Writing.{name_in};
 
@@ -47,6 +48,22 @@ pub(crate) fn name_at<'a>(report: &'a Report, position: usize) -> Option<&'a Sel
 {
     match report.selection_at(position) {
         Some((_, name)) => Some(name),
+        None => None,
+    }
+}
+
+/// Returns the position of the object of the family that has the `@id`, if there is one.
+pub(crate) fn place_named(report: &Report, family: Family, id: &str) -> Option<usize>
+    ensures { option_map (λ o. o.value) (option_and_then (slice_get (objects family (view report.now.tree))) result) ≡ owner (view report.now.tree) family id.now }
+{
+    match report.target_of(family, id) {
+        Some((found, position)) => {
+            if is_same(found, family) {
+                Some(position)
+            } else {
+                None
+            }
+        }
         None => None,
     }
 }

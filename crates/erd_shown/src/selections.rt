@@ -22,8 +22,8 @@ use std::marker::Model;
 
 /// A borrowed name, by which selections are put in order. Contracts see the name.
 #[derive(Drop)]
-struct LentName<'a> {
-    name: &'a SelectionName,
+pub(crate) struct LentName<'a> {
+    pub(crate) name: &'a SelectionName,
 }
 
 impl<'a> Model for LentName<'a> {
@@ -36,7 +36,7 @@ impl<'a> Model for LentName<'a> {
 
 impl<'a> LentName<'a> {
     /// Returns the name.
-    fn lent(&self) -> &'a SelectionName
+    pub(crate) fn lent(&self) -> &'a SelectionName
         ensures { result.now ≡ self.now }
     {
         self.name
@@ -75,7 +75,7 @@ pub(crate) fn write_selections(
 }
 
 /// Returns the selections of a contest, each with its name.
-fn named_selections<'a>(
+pub(crate) fn named_selections<'a>(
     alloc: Global,
     report: &'a Report,
     start: usize,

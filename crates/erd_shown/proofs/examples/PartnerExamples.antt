@@ -1,5 +1,5 @@
 -- Which line of one ballot is which line of another, and the lines of a ballot.
-use Rattle.erd_shown.proofs.Common.{◌≡◌, ℕ, List, [], ◌∷◌, ◌==◌, map, Some, None, Option, codes, refl, Data, tree_of}
+use Rattle.erd_shown.proofs.Common.{◌≡◌, ℕ, [], ◌∷◌, ◌==◌, map, Some, None, codes, refl, Data, tree_of}
 unfoldable use Rattle.erd_shown.proofs.Common.{serde_json_on_literals}
 use Rattle.erd_shown.specs.Lines.{content_lines}
 use Rattle.erd_shown.specs.Partners.{occurrences, partners}

@@ -1,7 +1,6 @@
 -- Rows of two ballots beside each other, and lists that are no rows.
-use Rattle.erd_shown.proofs.Common.{◌≡◌, ℕ, List, [], ◌∷◌, Some, None, Option, refl, ap}
+use Rattle.erd_shown.proofs.Common.{◌≡◌, ℕ, List, [], ◌∷◌, Some, None, Option, refl}
 use Rattle.erd_shown.specs.Rows.{AreRows}
-use Rattle.erd_shown.specs.declared.rows.Row.{Row}
 use Rattle.erd_shown.specs.declared.rows.Row.TheVariants.{Added, Both, MovedAway, MovedHere, Removed}
 
 -- the first line on the left stands second on the right; the second one is on the left alone, and the right has another first

@@ -1,8 +1,8 @@
 -- What members mean as JSON.
-use Rattle.erd_shown.proofs.Common.{◌≡◌, Bool, true, false, List, [], ◌∷◌, Some, None, Option, codes, refl, sym, Data, null, boolean, number, string, array, object, no_items, item, no_members, member, unsigned, is_same_json, json_set, kind, family, class, tree_of, fun_ext}
+use Rattle.erd_shown.proofs.Common.{◌≡◌, Bool, true, false, [], ◌∷◌, Some, None, codes, refl, null, boolean, string, array, object, no_items, no_members, member, is_same_json, json_set, kind, family, tree_of, fun_ext}
 unfoldable use Rattle.erd_shown.proofs.Common.{serde_json_on_literals}
 use Rattle.std.specs.Prelude.{◌||◌}
-use Rattle.erd_shown.specs.KeyData.{array_of, shown_key, shown_key_or_null}
+use Rattle.erd_shown.specs.KeyData.{array_of}
 use Rattle.erd_shown.specs.ContentData.{content_data}
 use Rattle.erd_shown.specs.Shown.{set_data, shown_value}
 

@@ -1,5 +1,5 @@
 -- In accepted reports, two members and two objects are written alike if and only if they mean the same.
-use Rattle.erd_shown.proofs.Common.{◌≡◌, ◌↔◌, ℕ, Bool, true, false, cond, List, Some, None, Option, codes, option_map, option_and_then, bytes_eq, sym, refl, ap, ◌∙◌, subst, Data, null, string, object, Members, no_members, member, get_member, get, Class, class, Family, family, Role, role, MemberKind, kind, kind_of_member, text_of_class, Within, Within-root, asked, Object, object_in, ObjectIn, class_of_object, IsTree, In, In-from_contains, Preference, no_shape_fault, skeleton, election_stands, stands, objects, elections, report_of, Placed, Key, PlainValue, a_key, MemberValue, a_plain, ObjectRecord, Record, member_of_class, record_with, object_record, placed_record, record_in_election, text_exact, within-tree, fun_ext, [], plain_value, is_in_envelope, member_value, AreMembers, election_key_of}
+use Rattle.erd_shown.proofs.Common.{◌≡◌, ◌↔◌, ℕ, Bool, true, false, cond, List, Some, None, Option, codes, option_map, option_and_then, bytes_eq, sym, refl, ap, ◌∙◌, subst, Data, null, string, object, Members, no_members, member, get_member, Class, class, family, Role, role, MemberKind, kind_of_member, text_of_class, Within, Within-root, asked, Object, object_in, ObjectIn, class_of_object, IsTree, In-from_contains, Preference, no_shape_fault, skeleton, election_stands, stands, objects, elections, Placed, Key, a_key, MemberValue, a_plain, ObjectRecord, member_of_class, object_record, record_in_election, text_exact, within-tree, fun_ext, [], plain_value, is_in_envelope, member_value, AreMembers, election_key_of}
 use Rattle.std.specs.Option.{option_map_or}
 use Rattle.erd_meaning.specs.Records.{with_election_id}
 use Rattle.erd_shown.specs.KeyData.{shown_key_or_null}

@@ -11,3 +11,6 @@ of_line l = (l.depth, view l.node.now)
 
 abbrev pub of_thing : Bool × Option (Bor Key) → Bool × Option Key
 of_thing a = (a.0, option_copied a.1)
+
+abbrev pub of_place : Option (Bor Key) × ℕ → Option Key × ℕ
+of_place p = (option_copied p.0, p.1)

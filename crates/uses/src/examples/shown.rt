@@ -2,8 +2,8 @@
 use crate::callers::report_of;
 use erd_meaning::Report;
 use erd_shown::{
-    Row, ballot_text, occurrences, partners_of, rows_between, rows_of, write_ballots_beside,
-    write_object,
+    Row, ballot_text, ballots_text, occurrences, partners_of, rows_between, rows_of,
+    write_ballots_beside, write_object,
 };
 use erd_tables::{Family, Role};
 use erd_text::Output;
@@ -26,11 +26,15 @@ const STYLE: &str =
 
 // The ballot of the style: its contest, with the selection that it lists, and the unit whose voters get it.
 const BALLOT_LINES: &str =
-    r#"{"key":["local-level","","B1"],"lines":[{"depth":0,"selections":[["ElectionResults.CandidateSelection",[["local-level","","K1"]],false,null,null,null]],"what":["contest",["local-level","","C1"]]}],"parties":[],"units":[["fips","","20"]]}"#;
+    r#"{"key":["local-level","","B1"],"lines":[{"depth":0,"listed":true,"selections":[["ElectionResults.CandidateSelection",[["local-level","","K1"]],false,null,null,null]],"what":["contest",["local-level","","C1"]]}],"parties":[],"units":[["fips","","20"]]}"#;
+
+// The heads of the ballots: one style, with one line.
+const HEADS: &str =
+    r#"[{"at":0,"key":["local-level","","B1"],"lines":1,"parties":[],"units":[["fips","","20"]]}]"#;
 
 // The ballot beside itself.
 const BESIDE: &str =
-    r#"{"left":[{"depth":0,"selections":[["ElectionResults.CandidateSelection",[["local-level","","K1"]],false,null,null,null]],"what":["contest",["local-level","","C1"]]}],"right":[{"depth":0,"selections":[["ElectionResults.CandidateSelection",[["local-level","","K1"]],false,null,null,null]],"what":["contest",["local-level","","C1"]]}],"rows":[{"how":"both","left":0,"right":0}]}"#;
+    r#"{"left":[{"depth":0,"listed":true,"selections":[["ElectionResults.CandidateSelection",[["local-level","","K1"]],false,null,null,null]],"what":["contest",["local-level","","C1"]]}],"right":[{"depth":0,"listed":true,"selections":[["ElectionResults.CandidateSelection",[["local-level","","K1"]],false,null,null,null]],"what":["contest",["local-level","","C1"]]}],"rows":[{"how":"both","left":0,"right":0,"selections":[{"how":"both","name":["ElectionResults.CandidateSelection",[["local-level","","K1"]],false,null,null,null]}]}]}"#;
 
 fn no_header(rt: &impl Abort, alloc: Global, report: &Report) -> Result<(), Fail> {
     let mut out = Output::new(alloc);
@@ -82,6 +86,12 @@ fn ballots_are(rt: &impl Abort, alloc: Global, report: &Report) -> Result<(), Fa
     Ok(())
 }
 
+fn heads_are(rt: &impl Abort, alloc: Global, report: &Report) -> Result<(), Fail> {
+    let text = ballots_text(alloc, report)?;
+    assert!(rt; text.as_str() == HEADS);
+    Ok(())
+}
+
 fn ballots_stand_beside(
     rt: &impl Abort,
     alloc: Global,
@@ -102,6 +112,14 @@ fn ballots(rt: HostRuntime) -> Result<(), Fail> {
     let tree = Value::from_str(alloc, BALLOT)?;
     let report = report_of(alloc, &tree)?;
     ballots_are(&rt, alloc, &report)
+}
+
+#[test]
+fn heads(rt: HostRuntime) -> Result<(), Fail> {
+    let alloc = rt.alloc();
+    let tree = Value::from_str(alloc, BALLOT)?;
+    let report = report_of(alloc, &tree)?;
+    heads_are(&rt, alloc, &report)
 }
 
 #[test]

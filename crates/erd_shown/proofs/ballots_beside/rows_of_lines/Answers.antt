@@ -1,4 +1,4 @@
-use Rattle.erd_text.proofs.Common.{◌≡◌, ℕ, List, Option, map, ap, ap₂, ◌∙◌, subst, view}
+use Rattle.erd_text.proofs.Common.{ℕ, List, Option, map, ap, ap₂, ◌∙◌, subst, view}
 use Rattle.std.specs.Prelude.{IfOk}
 use Rattle.std.specs.Ordering.{eq_by_cmp}
 use Rattle.erd_shown.proofs.PartnerLists.{partners_for}

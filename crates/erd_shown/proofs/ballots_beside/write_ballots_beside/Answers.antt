@@ -1,9 +1,8 @@
-use Rattle.erd_text.proofs.Common.{◌≡◌, ◌++◌, ℕ, List, Bool, Option, map, sym, ap, ap₂, ◌∙◌, subst, view, Data, value_tokens}
+use Rattle.erd_text.proofs.Common.{◌≡◌, ◌++◌, ℕ, List, Option, map, sym, ap, ap₂, ◌∙◌, subst, view, Data, value_tokens, AllByRecursion}
 use Rattle.std.proofs.lemmas.Result.{on_ok_weaker}
 use Rattle.std.proofs.lemmas.Simd.{map-map}
 use Rattle.std.specs.Ordering.{eq_by_cmp}
 use Rattle.erd_meaning.specs.Keys.{Preference}
-use Rattle.erd_meaning.specs.declared.keys.key.Key.{Key}
 use Rattle.erd_shown.specs.Ballots.{line_data, lines_data, lines_of, thing_at}
 use Rattle.erd_shown.specs.KeyData.{array_of}
 use Rattle.erd_shown.specs.Partners.{partners}
@@ -12,7 +11,10 @@ use Rattle.erd_shown.specs.Rows.{AreRows}
 use Rattle.erd_shown.specs.code.LineLists.{of_line}
 use Rattle.erd_shown.specs.code.LineTexts.{things_in, written_lines}
 use Rattle.erd_shown.specs.declared.lines.Line.{Line}
+use Rattle.erd_shown.specs.SelectionRows.{AreSelectionsAt, Beside, IsInside}
+use Rattle.erd_shown.specs.code.SelectionsFound.{of_row}
 use Rattle.erd_shown.specs.declared.rows.Row.{Row}
+use Rattle.erd_shown.specs.declared.selection_rows.SelectionRows.{SelectionRows}
 use Rattle.erd_shown.proofs.ballots_beside.write_ballots_beside.Goals as goal
 
 -- what the lines of the ballot of a style are, and their objects
@@ -33,18 +35,27 @@ returns c =
     let same = eq_by_cmp thing_cmp in
     let left = things_there π t d c.deref.result.now (ap (map of_line) c.deref.ensures.value ∙ c.in_ok-ones.ensures) in
     let right = things_there ρ u e c.deref-2.result.now (ap (map of_line) c.deref-2.ensures.value ∙ c.in_ok-others.ensures) in
+    let nested = c.deref-8.result.now in
+    let firsts : map (λ (r : Row × Beside). r.0) (map of_row nested) ≡ c.in_ok-rows.rows.items =
+    map-map (λ (r : Row × Beside). r.0) of_row nested ∙ ap (map (λ (r : Row × SelectionRows). r.0)) c.deref-8.ensures.value ∙ c.in_ok-nested.ensures.rows ∙ c.deref-5.ensures.value in
+    let inside = λ (ls rs : List (ℕ × Data)). IsInside (AreSelectionsAt π t ls ρ u rs) in
     on_ok_weaker c.write_beside.result
     (λ wrote. record {
-      rows = c.deref-5.result.now;
+      rows = map of_row nested;
       are_rows =
-          subst (λ (xs : List (Option ℕ)). AreRows (partners same (things_of π t d) (things_of ρ u e)) xs c.deref-5.result.now) (ap₂ (partners same) right left)
-          (subst (λ (xs : List (Option ℕ)). AreRows xs (partners same (things_in ρ u c.deref-2.result.now) (things_in π t c.deref.result.now)) c.deref-5.result.now) (ap₂ (partners same) left right)
+          subst (λ (xs : List (Option ℕ)). AreRows (partners same (things_of π t d) (things_of ρ u e)) xs (map (λ (r : Row × Beside). r.0) (map of_row nested))) (ap₂ (partners same) right left)
+          (subst (λ (xs : List (Option ℕ)). AreRows xs (partners same (things_in ρ u c.deref-2.result.now) (things_in π t c.deref.result.now)) (map (λ (r : Row × Beside). r.0) (map of_row nested))) (ap₂ (partners same) left right)
           (subst (λ (rows : List Row). AreRows (partners same (things_in π t c.deref.result.now) (things_in ρ u c.deref-2.result.now)) (partners same (things_in ρ u c.deref-2.result.now) (things_in π t c.deref.result.now)) rows)
-          (sym c.deref-5.ensures.value) c.in_ok-rows.ensures));
+          (sym firsts) c.in_ok-rows.ensures));
+      inside =
+          subst (λ (ns : List (Row × SelectionRows)). AllByRecursion (inside (lines_of d) (lines_of e)) (map of_row ns)) (sym c.deref-8.ensures.value)
+          (subst (λ (rs : List (ℕ × Data)). AllByRecursion (inside (lines_of d) rs) (map of_row c.in_ok-nested.nested.items)) (ap (map of_line) c.deref-4.ensures.value ∙ c.in_ok-others.ensures)
+          (subst (λ (ls : List (ℕ × Data)). AllByRecursion (inside ls (map of_line c.deref-4.result.now)) (map of_row c.in_ok-nested.nested.items)) (ap (map of_line) c.deref-3.ensures.value ∙ c.in_ok-ones.ensures)
+          c.in_ok-nested.ensures.inside));
       wrote =
           wrote
-          ∙ ap₂ (λ (a b : Data). c.args.out.now ++ value_tokens (beside_data a b c.deref-5.result.now))
-          (lines_there π t d c.deref-3.result.now (ap (map of_line) c.deref-3.ensures.value ∙ c.in_ok-ones.ensures))
-          (lines_there ρ u e c.deref-4.result.now (ap (map of_line) c.deref-4.ensures.value ∙ c.in_ok-others.ensures));
+          ∙ ap₂ (λ (a b : Data). c.args.out.now ++ value_tokens (beside_data a b (map of_row nested)))
+          (lines_there π t d c.deref-6.result.now (ap (map of_line) c.deref-6.ensures.value ∙ c.in_ok-ones.ensures))
+          (lines_there ρ u e c.deref-7.result.now (ap (map of_line) c.deref-7.ensures.value ∙ c.in_ok-others.ensures));
     })
     c.write_beside.ensures

@@ -1,4 +1,4 @@
-use Rattle.erd_shown.proofs.Common.{◌≡◌, ◌++◌, Bool, sym, ap, ◌∙◌, subst, on_ok_weaker, view, kind_of_member, is_in_envelope, value_tokens}
+use Rattle.erd_shown.proofs.Common.{◌++◌, sym, ap, ◌∙◌, on_ok_weaker, view, kind_of_member, is_in_envelope, value_tokens}
 use Rattle.erd_shown.specs.Shown.{shown_plain, shown_value}
 use Rattle.erd_shown.specs.code.Writing.{names_keys}
 use Rattle.erd_shown.proofs.KeyedKinds.{keyed_kind}

@@ -1,4 +1,4 @@
-use Rattle.erd_shown.proofs.Common.{◌≡◌, ℕ, false, sym, ap, ◌∙◌, subst, option_map-Some, Data, has_float, view, class_of_object, Value, HasFittingNumbers, IsTree, IsBounded, IsAccepted}
+use Rattle.erd_shown.proofs.Common.{◌≡◌, ℕ, false, sym, ap, ◌∙◌, subst, option_map-Some, Data, has_float, view, class_of_object, HasFittingNumbers, IsTree, IsBounded, IsAccepted}
 use Rattle.erd_meaning.specs.Lookups.{selections_before}
 use Rattle.erd_shown.specs.ContentData.{members_in}
 use Rattle.erd_shown.specs.Shown.{placed_in}

@@ -1,4 +1,4 @@
-use Rattle.erd_shown.proofs.Common.{◌≡◌, [], ◌∷◌, ◌++◌, Bool, cond, map, None, Some, sym, ap, ◌∙◌, subst, append_assoc, on_ok_weaker, view, entries_of, is_empty_array, value_tokens}
+use Rattle.erd_shown.proofs.Common.{[], ◌∷◌, ◌++◌, cond, None, Some, sym, ap, ◌∙◌, subst, append_assoc, on_ok_weaker, view, entries_of, value_tokens}
 use Rattle.json.specs.Token.{key}
 use Rattle.erd_text.proofs.WholeValues.{whole_list}
 use Rattle.erd_shown.specs.Shown.{shown_selections}

@@ -1,4 +1,4 @@
-use Rattle.erd_text.proofs.Common.{◌+◌, ◌∷◌, [], ◌++◌, drop, drop_more, map, sym, ap, ◌∙◌}
+use Rattle.erd_text.proofs.Common.{◌+◌, ◌∷◌, [], ◌++◌, drop, drop_more, sym, ap, ◌∙◌}
 use Rattle.std.specs.Map.{lookup}
 use Rattle.std.specs.Ordering.{eq_by_cmp}
 use Rattle.erd_shown.specs.code.PlacesFound.{occurrence_cmp}

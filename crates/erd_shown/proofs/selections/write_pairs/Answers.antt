@@ -1,4 +1,4 @@
-use Rattle.erd_shown.proofs.Common.{◌≡◌, ◌+◌, ◌∷◌, ◌++◌, length, slice_get, drop, map, Some, refl, sym, ap, ◌∙◌, or_parts, items_of, items_have_float, has_float, view, value_tokens, items_tokens}
+use Rattle.erd_shown.proofs.Common.{◌+◌, ◌++◌, length, drop, map, Some, refl, sym, ap, ◌∙◌, or_parts, items_of, items_have_float, has_float, view, value_tokens, items_tokens}
 use Rattle.std.proofs.lemmas.Option.{slice_get_read}
 use Rattle.erd_text.proofs.WrittenTokens.{then_rest}
 use Rattle.erd_shown.specs.Shown.{named_record}

@@ -1,7 +1,6 @@
-use Rattle.erd_shown.proofs.Common.{◌≡◌, ◌++◌, map, sym, ap, ◌∙◌, subst, on_ok_weaker, false, view, items_of, items_have_float, name_cmp, name_cmp_total, rising_list, by_first, value_tokens}
+use Rattle.erd_shown.proofs.Common.{◌≡◌, ◌++◌, map, ap, ◌∙◌, on_ok_weaker, view, name_cmp, name_cmp_total, rising_list, by_first, value_tokens}
 use Rattle.erd_text.proofs.StableRising.{rising_from_stable}
 use Rattle.erd_shown.specs.KeyData.{array_of}
-use Rattle.erd_shown.specs.code.Selections.{selection_of_pair}
 use Rattle.erd_shown.proofs.SelectionPairs.{records_sorted, values_whole}
 use Rattle.erd_shown.proofs.selections.write_selections.Goals as goal
 

@@ -1,4 +1,4 @@
-use Rattle.erd_text.proofs.Common.{sym, ap, ◌∙◌}
+use Rattle.erd_text.proofs.Common.{ap, ◌∙◌}
 use Rattle.json.specs.Print.{print}
 use Rattle.serde_json.proofs.Texts.{print-outline}
 use Rattle.erd_shown.proofs.texts.text_of.Goals as goal
