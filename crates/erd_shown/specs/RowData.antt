@@ -1,13 +1,14 @@
 -- Two ballots beside each other as JSON. All of this is the profile's own.
-use Rattle.std.specs.Prelude.{ℕ, pos, ◌≡◌, ◌++◌, List, Bool, Option, Some, None, map, codes}
+use Rattle.std.specs.Prelude.{ℕ, pos, ◌≡◌, List, Bool, Option, Some, None, map, option_map, slice_get, codes}
 use Rattle.std.specs.declared.cmp.Ordering.{Ordering}
 use Rattle.std.specs.Ordering.{bool_cmp, eq_by_cmp, ordering_then}
 use Rattle.std.specs.List.{AllByRecursion}
 use Rattle.std.specs.Option.{option_cmp}
-use Rattle.json.specs.Token.{Token}
 use Rattle.serde_json.specs.Data.{Data, null, string, object, Members, no_members, member}
-use Rattle.erd_text.specs.Tokens.{value_tokens}
+use Rattle.serde_json.specs.Written.{compact_text}
+use Rattle.erd_tables.specs.declared.class.Family.TheVariants as family
 use Rattle.erd_meaning.specs.Keys.{Preference, key_cmp}
+use Rattle.erd_meaning.specs.Objects.{objects}
 use Rattle.erd_meaning.specs.declared.keys.key.Key.{Key}
 use Rattle.erd_shown.specs.Ballots.{lines_data, lines_of, thing_at}
 use Rattle.erd_shown.specs.KeyData.{array_of, shown_whole}
@@ -58,10 +59,24 @@ rows_members rows = member (codes "rows") (array_of (map row_data rows)) no_memb
 abbrev pub beside_data : Data → Data → List (Row × Beside) → Data
 beside_data left right rows = object (member (codes "left") left (member (codes "right") right (rows_members rows)))
 
--- The ballots of two styles, in two reports, are written beside each other. Each line of either stands in one row, in its
--- order, and so do the selections inside it; what a ballot lists several times is told apart by the number of the occurrence.
-pub record AreBeside (π : Preference) (t d : Data) (ρ : Preference) (u e : Data) (before after : List Token) : Type 0 where
+-- The ballots of two styles, in two reports, are told beside each other. Each line of either stands in one row, in its order,
+-- and so do the selections inside it; what a ballot lists several times is told apart by the number of the occurrence.
+pub record AreBeside (π : Preference) (t d : Data) (ρ : Preference) (u e : Data) (told : Data) : Type 0 where
   pub rows : List (Row × Beside)
   pub are_rows : AreRows (partners (eq_by_cmp thing_cmp) (things_of π t d) (things_of ρ u e)) (partners (eq_by_cmp thing_cmp) (things_of ρ u e) (things_of π t d)) (map (λ r. r.0) rows)
   pub inside : AllByRecursion (IsInside (AreSelectionsAt π t (lines_of d) ρ u (lines_of e))) rows
-  pub wrote : after ≡ before ++ value_tokens (beside_data (lines_data π t d) (lines_data ρ u e) rows)
+  pub tells : told ≡ beside_data (lines_data π t d) (lines_data ρ u e) rows
+
+-- The same of two styles of which either may be missing: then null is told.
+abbrev pub AreBesideIf : Preference → Data → Option Data → Preference → Data → Option Data → Data → Type 0
+AreBesideIf π t (Some d) ρ u (Some e) told = AreBeside π t d ρ u e told
+AreBesideIf π t (Some d) ρ u None told = told ≡ null
+AreBesideIf π t None ρ u o told = told ≡ null
+
+-- The style at this position of the report, or none.
+abbrev pub style_in : Data → ℕ → Option Data
+style_in t i = option_map (λ o. o.value) (slice_get (objects family.Style t) i)
+
+-- The text tells the ballots of the styles at these positions beside each other, or null if there is no such style on a side.
+abbrev pub IsBesideText : Preference → Data → ℕ → Preference → Data → ℕ → List ℕ → Type 0
+IsBesideText π t i ρ u j text = (told : Data) × AreBesideIf π t (style_in t i) ρ u (style_in u j) told × (text ≡ compact_text told)

@@ -5,5 +5,6 @@ pub mod Selections
 pub mod LineLists
 pub mod PlacesFound
 pub mod LineTexts
+pub mod BesideWritten
 pub mod LentNames
 pub mod SelectionsFound

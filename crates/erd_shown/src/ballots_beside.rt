@@ -1,5 +1,6 @@
 ghost use Rattle.std.specs.Prelude.{◌≡◌, ◌++◌, map, slice_get, Some, IfOk, OnOk};
 ghost use Rattle.std.specs.List.{AllByRecursion};
+ghost use Rattle.serde_json.specs.Data.{Data};
 ghost use Rattle.serde_json.specs.View.{view};
 ghost use Rattle.erd_text.specs.Tokens.{members_tokens, value_tokens};
 ghost use Rattle.std.specs.Ordering.{eq_by_cmp};
@@ -44,7 +45,7 @@ pub fn write_ballots_beside(
     other: &Value,
     out: &mut Output,
 ) -> Result<(), AllocError>
-    ensures { OnOk result (AreBeside left.now.prefer (view left.now.tree) (view style.now) right.now.prefer (view right.now.tree) (view other.now) out.old out.new) }
+    ensures { OnOk result ((told : Data) × AreBeside left.now.prefer (view left.now.tree) (view style.now) right.now.prefer (view right.now.tree) (view other.now) told × (out.new ≡ out.old ++ value_tokens told)) }
 {
     let ones = lines_of(alloc, style)?;
     let others = lines_of(alloc, other)?;

@@ -5,6 +5,7 @@
 mod ballots;
 mod ballots_beside;
 mod beside;
+mod beside_texts;
 mod contents;
 mod counts;
 mod heads;
@@ -28,6 +29,7 @@ mod values;
 pub use ballots::ballot_text;
 pub use ballots_beside::write_ballots_beside;
 pub use beside::rows_between;
+pub use beside_texts::ballots_beside_text;
 pub use heads::ballots_text;
 pub use laws::{members_tell, objects_tell};
 pub use objects::write_object;

@@ -2,8 +2,8 @@
 use crate::callers::report_of;
 use erd_meaning::Report;
 use erd_shown::{
-    Row, ballot_text, ballots_text, occurrences, partners_of, rows_between, rows_of,
-    write_ballots_beside, write_object,
+    Row, ballot_text, ballots_beside_text, ballots_text, occurrences, partners_of, rows_between,
+    rows_of, write_ballots_beside, write_object,
 };
 use erd_tables::{Family, Role};
 use erd_text::Output;
@@ -106,6 +106,19 @@ fn ballots_stand_beside(
     Ok(())
 }
 
+fn texts_stand_beside(
+    rt: &impl Abort,
+    alloc: Global,
+    left: &Report,
+    right: &Report,
+) -> Result<(), Fail> {
+    let text = ballots_beside_text(alloc, left, 0, right, 0)?;
+    assert!(rt; text.as_str() == BESIDE);
+    let missing = ballots_beside_text(alloc, left, 0, right, 1)?;
+    assert!(rt; missing.as_str() == "null");
+    Ok(())
+}
+
 #[test]
 fn ballots(rt: HostRuntime) -> Result<(), Fail> {
     let alloc = rt.alloc();
@@ -129,7 +142,8 @@ fn ballots_beside(rt: HostRuntime) -> Result<(), Fail> {
     let right_tree = Value::from_str(alloc, BALLOT)?;
     let left = report_of(alloc, &left_tree)?;
     let right = report_of(alloc, &right_tree)?;
-    ballots_stand_beside(&rt, alloc, &left, &right)
+    ballots_stand_beside(&rt, alloc, &left, &right)?;
+    texts_stand_beside(&rt, alloc, &left, &right)
 }
 
 #[test]

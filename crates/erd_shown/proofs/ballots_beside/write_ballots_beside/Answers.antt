@@ -1,4 +1,4 @@
-use Rattle.erd_text.proofs.Common.{◌≡◌, ◌++◌, ℕ, List, Option, map, sym, ap, ap₂, ◌∙◌, subst, view, Data, value_tokens, AllByRecursion}
+use Rattle.erd_text.proofs.Common.{◌≡◌, ◌++◌, ℕ, List, Option, map, sym, refl, ap, ap₂, ◌∙◌, subst, view, Data, value_tokens, AllByRecursion}
 use Rattle.std.proofs.lemmas.Result.{on_ok_weaker}
 use Rattle.std.proofs.lemmas.Simd.{map-map}
 use Rattle.std.specs.Ordering.{eq_by_cmp}
@@ -40,22 +40,24 @@ returns c =
     map-map (λ (r : Row × Beside). r.0) of_row nested ∙ ap (map (λ (r : Row × SelectionRows). r.0)) c.deref-8.ensures.value ∙ c.in_ok-nested.ensures.rows ∙ c.deref-5.ensures.value in
     let inside = λ (ls rs : List (ℕ × Data)). IsInside (AreSelectionsAt π t ls ρ u rs) in
     on_ok_weaker c.write_beside.result
-    (λ wrote. record {
-      rows = map of_row nested;
-      are_rows =
-          subst (λ (xs : List (Option ℕ)). AreRows (partners same (things_of π t d) (things_of ρ u e)) xs (map (λ (r : Row × Beside). r.0) (map of_row nested))) (ap₂ (partners same) right left)
-          (subst (λ (xs : List (Option ℕ)). AreRows xs (partners same (things_in ρ u c.deref-2.result.now) (things_in π t c.deref.result.now)) (map (λ (r : Row × Beside). r.0) (map of_row nested))) (ap₂ (partners same) left right)
-          (subst (λ (rows : List Row). AreRows (partners same (things_in π t c.deref.result.now) (things_in ρ u c.deref-2.result.now)) (partners same (things_in ρ u c.deref-2.result.now) (things_in π t c.deref.result.now)) rows)
-          (sym firsts) c.in_ok-rows.ensures));
-      inside =
-          subst (λ (ns : List (Row × SelectionRows)). AllByRecursion (inside (lines_of d) (lines_of e)) (map of_row ns)) (sym c.deref-8.ensures.value)
-          (subst (λ (rs : List (ℕ × Data)). AllByRecursion (inside (lines_of d) rs) (map of_row c.in_ok-nested.nested.items)) (ap (map of_line) c.deref-4.ensures.value ∙ c.in_ok-others.ensures)
-          (subst (λ (ls : List (ℕ × Data)). AllByRecursion (inside ls (map of_line c.deref-4.result.now)) (map of_row c.in_ok-nested.nested.items)) (ap (map of_line) c.deref-3.ensures.value ∙ c.in_ok-ones.ensures)
-          c.in_ok-nested.ensures.inside));
-      wrote =
-          wrote
-          ∙ ap₂ (λ (a b : Data). c.args.out.now ++ value_tokens (beside_data a b (map of_row nested)))
-          (lines_there π t d c.deref-6.result.now (ap (map of_line) c.deref-6.ensures.value ∙ c.in_ok-ones.ensures))
-          (lines_there ρ u e c.deref-7.result.now (ap (map of_line) c.deref-7.ensures.value ∙ c.in_ok-others.ensures));
-    })
+    (λ wrote. (
+      beside_data (lines_data π t d) (lines_data ρ u e) (map of_row nested),
+      record {
+        rows = map of_row nested;
+        are_rows =
+            subst (λ (xs : List (Option ℕ)). AreRows (partners same (things_of π t d) (things_of ρ u e)) xs (map (λ (r : Row × Beside). r.0) (map of_row nested))) (ap₂ (partners same) right left)
+            (subst (λ (xs : List (Option ℕ)). AreRows xs (partners same (things_in ρ u c.deref-2.result.now) (things_in π t c.deref.result.now)) (map (λ (r : Row × Beside). r.0) (map of_row nested))) (ap₂ (partners same) left right)
+            (subst (λ (rows : List Row). AreRows (partners same (things_in π t c.deref.result.now) (things_in ρ u c.deref-2.result.now)) (partners same (things_in ρ u c.deref-2.result.now) (things_in π t c.deref.result.now)) rows)
+            (sym firsts) c.in_ok-rows.ensures));
+        inside =
+            subst (λ (ns : List (Row × SelectionRows)). AllByRecursion (inside (lines_of d) (lines_of e)) (map of_row ns)) (sym c.deref-8.ensures.value)
+            (subst (λ (rs : List (ℕ × Data)). AllByRecursion (inside (lines_of d) rs) (map of_row c.in_ok-nested.nested.items)) (ap (map of_line) c.deref-4.ensures.value ∙ c.in_ok-others.ensures)
+            (subst (λ (ls : List (ℕ × Data)). AllByRecursion (inside ls (map of_line c.deref-4.result.now)) (map of_row c.in_ok-nested.nested.items)) (ap (map of_line) c.deref-3.ensures.value ∙ c.in_ok-ones.ensures)
+            c.in_ok-nested.ensures.inside));
+        tells = refl;
+      },
+      wrote
+          ∙ ap₂ (λ (a b : Data). c.args.out.now ++ value_tokens (beside_data a b (map of_row nested))) (lines_there π t d c.deref-6.result.now (ap (map of_line) c.deref-6.ensures.value ∙ c.in_ok-ones.ensures))
+          (lines_there ρ u e c.deref-7.result.now (ap (map of_line) c.deref-7.ensures.value ∙ c.in_ok-others.ensures)),
+    ))
     c.write_beside.ensures
