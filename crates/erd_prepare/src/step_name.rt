@@ -13,6 +13,7 @@ use crate::kinds::write_kinds;
 use crate::left_behind::{name_all, take_out_counts, take_out_empty_texts};
 use crate::local::{Local, take_out};
 use crate::nulls::take_out_nulls;
+use crate::party_lines::name_party_lines;
 use crate::persons::take_out_unused_persons;
 use crate::repeated::take_out_repeated;
 use crate::shared_codes::take_out_shared_codes;
@@ -20,7 +21,9 @@ use crate::styles::take_out_unused_styles;
 use crate::twin_ids::tell_ids_apart;
 use crate::unused_ids::take_out_unused_ids;
 use crate::vendor_identifiers::take_vendor_identifiers;
+use crate::vendor_texts::rename_vendor_members;
 use crate::whole_numbers::write_whole_numbers;
+use crate::write_in_lines::number_write_in_lines;
 use serde_json::Value;
 use std::alloc::{AllocError, Global};
 
@@ -51,6 +54,8 @@ pub enum StepName {
     StrayIds,
     /// Makes the number of an object in its vendor's database its identifier, where it has none.
     VendorIdentifiers,
+    /// Gives members of a vendor's own that are named as references are a name that ends in `Code`.
+    VendorTexts,
     /// Takes out entries that a set has twice.
     Repeated,
     /// Takes out lines of candidates who are gone. A voter no longer sees them.
@@ -73,10 +78,14 @@ pub enum StepName {
     SharedCodes,
     /// Puts what tells objects apart in front of codes that several of them have.
     Codes,
+    /// Numbers the write-in lines of a contest among themselves, in their order on the ballots.
+    WriteInLines,
+    /// Gives the lines of one candidate for several parties the codes of the parties.
+    PartyLines,
 }
 
 /// The steps, in the order in which they are done.
-pub const STEPS: [StepName; 23] = [
+pub const STEPS: [StepName; 26] = [
     StepName::ClassNames,
     StepName::Nulls,
     StepName::Kinds,
@@ -89,6 +98,7 @@ pub const STEPS: [StepName; 23] = [
     StepName::WholeNumbers,
     StepName::StrayIds,
     StepName::VendorIdentifiers,
+    StepName::VendorTexts,
     StepName::Repeated,
     StepName::GoneCandidates,
     StepName::UnusedStyles,
@@ -100,6 +110,8 @@ pub const STEPS: [StepName; 23] = [
     StepName::CountyCodes,
     StepName::SharedCodes,
     StepName::Codes,
+    StepName::WriteInLines,
+    StepName::PartyLines,
 ];
 
 impl StepName {
@@ -118,6 +130,7 @@ impl StepName {
             StepName::WholeNumbers => "whole-numbers",
             StepName::StrayIds => "stray-ids",
             StepName::VendorIdentifiers => "vendor-identifiers",
+            StepName::VendorTexts => "vendor-texts",
             StepName::Repeated => "repeated",
             StepName::GoneCandidates => "gone-candidates",
             StepName::UnusedStyles => "unused-styles",
@@ -129,6 +142,8 @@ impl StepName {
             StepName::CountyCodes => "county-codes",
             StepName::SharedCodes => "shared-codes",
             StepName::Codes => "codes",
+            StepName::WriteInLines => "write-in-lines",
+            StepName::PartyLines => "party-lines",
         }
     }
 }
@@ -154,6 +169,7 @@ pub fn do_step(alloc: Global, step: StepName, report: &Value) -> Result<Done, Al
         StepName::WholeNumbers => write_whole_numbers(alloc, report),
         StepName::StrayIds => take_out(alloc, Local::StrayIds, report),
         StepName::VendorIdentifiers => take_vendor_identifiers(alloc, report),
+        StepName::VendorTexts => rename_vendor_members(alloc, report),
         StepName::Repeated => take_out_repeated(alloc, report),
         StepName::GoneCandidates => take_out_gone_candidates(alloc, report),
         StepName::UnusedStyles => take_out_unused_styles(alloc, report),
@@ -165,5 +181,7 @@ pub fn do_step(alloc: Global, step: StepName, report: &Value) -> Result<Done, Al
         StepName::CountyCodes => put_counties_in_front(alloc, report),
         StepName::SharedCodes => take_out_shared_codes(alloc, report),
         StepName::Codes => tell_codes_apart(alloc, report),
+        StepName::WriteInLines => number_write_in_lines(alloc, report),
+        StepName::PartyLines => name_party_lines(alloc, report),
     }
 }
