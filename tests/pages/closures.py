@@ -46,6 +46,8 @@ PROMISES = [
         'erd_normal/SameForms.SayingAndMeaningAgree', 'erd_canon/ByteLaws.OneFormForOneMeaning', 'erd_canon/ByteLaws.IsItsOwnForm',
         'erd_canon/ByteLaws.SameFormWhenRearranged']),
     ('The steps that prepare a report (`prepare`)', ['erd_prepare/Laws.UntoldStays', 'erd_prepare/Laws.UntoldIsUnchanged', 'erd_prepare/Steps.IsStepDone']),
+    ('A file that is prepared (`prepare_bytes`)', ['erd_prepare/Steps.IsNamedStepDone', 'erd_prepare/Preparations.IsPrepared',
+                                                   'erd_prepare/Preparations.IsUnprepared']),
     ('What is shown of objects and ballots (`members_tell`, `rows_of`)', [
         'erd_shown/Laws.MembersTell', 'erd_shown/Laws.ObjectsTell', 'erd_shown/Rows.AreRows']),
 ]

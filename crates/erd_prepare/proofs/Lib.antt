@@ -1,4 +1,6 @@
 pub mod Rising
 pub mod Adding
 pub mod Untold
+pub mod NamedSteps
+pub mod Preparing
 mod Examples

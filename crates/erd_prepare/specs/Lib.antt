@@ -12,4 +12,5 @@ pub mod ClassNames
 pub mod Kinds
 pub mod WholeNumbers
 pub mod Steps
+pub mod Preparations
 pub mod Laws

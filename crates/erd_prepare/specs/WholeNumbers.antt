@@ -3,7 +3,7 @@ use Rattle.std.specs.Prelude.{◌^◌, [], Bool, false, ◌&&◌, if◌then◌el
 use Rattle.std.specs.Float.{binary64, float_to_signed}
 use Rattle.std.specs.Float.Ieee.{eq, of_int}
 use Rattle.std.specs.Int.{w64}
-use Rattle.serde_json.specs.Data.{Data, null, boolean, number, string, array, object, unsigned, negative, float}
+use Rattle.serde_json.specs.Data.{Data, number, float}
 use Rattle.serde_json.specs.Find.{of_integer}
 use Rattle.erd_prepare.specs.Rules.{Rule, scope_in}
 

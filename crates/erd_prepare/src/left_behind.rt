@@ -1,7 +1,14 @@
 //! What the steps leave that decide by what stands there alone.
 ghost use Rattle.std.specs.Prelude.{◌≡◌, [], Some, IfOk};
 ghost use Rattle.serde_json.specs.View.{view};
-ghost use Rattle.erd_prepare.specs.Steps.{IsStepDone};
+ghost use Rattle.erd_tables.specs.declared.class.Role.TheVariants.{Report};
+ghost use Rattle.erd_check.specs.declared.want.Want.TheVariants.{Object};
+ghost use Rattle.erd_prepare.specs.Changes.{told_by};
+ghost use Rattle.erd_prepare.specs.Local.{dropping};
+ghost use Rattle.erd_prepare.specs.LocalSteps.{dropped_by};
+ghost use Rattle.erd_prepare.specs.Names.{naming};
+ghost use Rattle.erd_prepare.specs.Rules.{prepared, told};
+ghost use Rattle.erd_prepare.specs.declared.local.Local.TheVariants.{Counts, EmptyTexts};
 
 use crate::engine::Done;
 use crate::known_objects::{KnownObject, known_objects};
@@ -18,7 +25,8 @@ use std::alloc::{AllocError, Global};
 ///
 /// `AllocError` if out of memory.
 pub(crate) fn take_out_counts(alloc: Global, report: &Value) -> Result<Done, AllocError>
-    ensures done { IfOk result (IsStepDone (view report.now)) }
+    ensures tree { IfOk result (λ done. view done.tree ≡ prepared (dropping (dropped_by Counts)) [] (Some (Object Report)) (view report.now)) }
+    ensures changes { IfOk result (λ done. told_by done.changes.items ≡ told (dropping (dropped_by Counts)) [] (Some (Object Report)) (view report.now)) }
 {
     let done = take_out(alloc, Local::Counts, report)?;
     let mut left = Vec::new(alloc);
@@ -42,7 +50,8 @@ pub(crate) fn take_out_counts(alloc: Global, report: &Value) -> Result<Done, All
 ///
 /// `AllocError` if out of memory.
 pub(crate) fn take_out_empty_texts(alloc: Global, report: &Value) -> Result<Done, AllocError>
-    ensures done { IfOk result (IsStepDone (view report.now)) }
+    ensures tree { IfOk result (λ done. view done.tree ≡ prepared (dropping (dropped_by EmptyTexts)) [] (Some (Object Report)) (view report.now)) }
+    ensures changes { IfOk result (λ done. told_by done.changes.items ≡ told (dropping (dropped_by EmptyTexts)) [] (Some (Object Report)) (view report.now)) }
 {
     let done = take_out(alloc, Local::EmptyTexts, report)?;
     let mut left = Vec::new(alloc);
@@ -67,7 +76,8 @@ pub(crate) fn take_out_empty_texts(alloc: Global, report: &Value) -> Result<Done
 ///
 /// `AllocError` if out of memory.
 pub(crate) fn name_all(alloc: Global, report: &Value) -> Result<Done, AllocError>
-    ensures done { IfOk result (IsStepDone (view report.now)) }
+    ensures tree { IfOk result (λ done. view done.tree ≡ prepared (naming (view report.now)) [] (Some (Object Report)) (view report.now)) }
+    ensures changes { IfOk result (λ done. told_by done.changes.items ≡ told (naming (view report.now)) [] (Some (Object Report)) (view report.now)) }
 {
     let done = name_objects(alloc, report)?;
     let mut left = Vec::new(alloc);

@@ -1,7 +1,7 @@
 //! The steps by their names, in the order in which they are done.
 ghost use Rattle.std.specs.Prelude.{◌≡◌, [], Some, IfOk};
 ghost use Rattle.serde_json.specs.View.{view};
-ghost use Rattle.erd_prepare.specs.Steps.{IsStepDone};
+ghost use Rattle.erd_prepare.specs.Steps.{IsNamedStepDone};
 
 use crate::area_codes::{put_counties_in_front, put_towns_in_front};
 use crate::class_names::write_class_names;
@@ -23,6 +23,7 @@ use crate::unused_ids::take_out_unused_ids;
 use crate::vendor_identifiers::take_vendor_identifiers;
 use crate::vendor_texts::rename_vendor_members;
 use crate::whole_numbers::write_whole_numbers;
+use crate::write_in_candidates::number_write_in_candidates;
 use crate::write_in_lines::number_write_in_lines;
 use serde_json::Value;
 use std::alloc::{AllocError, Global};
@@ -76,6 +77,8 @@ pub enum StepName {
     CountyCodes,
     /// Takes out identifiers that several objects share.
     SharedCodes,
+    /// Numbers the candidates of write-in lines who have one code in one contest.
+    WriteInCandidates,
     /// Puts what tells objects apart in front of codes that several of them have.
     Codes,
     /// Numbers the write-in lines of a contest among themselves, in their order on the ballots.
@@ -85,7 +88,7 @@ pub enum StepName {
 }
 
 /// The steps, in the order in which they are done.
-pub const STEPS: [StepName; 26] = [
+pub const STEPS: [StepName; 27] = [
     StepName::ClassNames,
     StepName::Nulls,
     StepName::Kinds,
@@ -109,12 +112,23 @@ pub const STEPS: [StepName; 26] = [
     StepName::TownCodes,
     StepName::CountyCodes,
     StepName::SharedCodes,
+    StepName::WriteInCandidates,
     StepName::Codes,
     StepName::WriteInLines,
     StepName::PartyLines,
 ];
 
 impl StepName {
+    /// Returns the step of this name, if there is one.
+    pub fn named(name: &str) -> Option<StepName> {
+        for step in STEPS {
+            if step.text() == name {
+                return Some(step);
+            }
+        }
+        None
+    }
+
     /// Returns the name by which a caller chooses the step.
     pub fn text(self) -> &'static str {
         match self {
@@ -141,6 +155,7 @@ impl StepName {
             StepName::TownCodes => "town-codes",
             StepName::CountyCodes => "county-codes",
             StepName::SharedCodes => "shared-codes",
+            StepName::WriteInCandidates => "write-in-candidates",
             StepName::Codes => "codes",
             StepName::WriteInLines => "write-in-lines",
             StepName::PartyLines => "party-lines",
@@ -148,13 +163,14 @@ impl StepName {
     }
 }
 
-/// Does a step on a report, which stays as it is. Whatever the step does, all of it is told, and nothing else changes.
+/// Does a step on a report, which stays as it is. Whatever the step does, all of it is told, and nothing else changes. Where
+/// `rule_of` has the rule of the step, it does exactly that.
 ///
 /// # Errors
 ///
 /// `AllocError` if out of memory.
 pub fn do_step(alloc: Global, step: StepName, report: &Value) -> Result<Done, AllocError>
-    ensures done { IfOk result (IsStepDone (view report.now)) }
+    ensures done { IfOk result (IsNamedStepDone step (view report.now)) }
 {
     match step {
         StepName::ClassNames => write_class_names(alloc, report),
@@ -180,6 +196,7 @@ pub fn do_step(alloc: Global, step: StepName, report: &Value) -> Result<Done, Al
         StepName::TownCodes => put_towns_in_front(alloc, report),
         StepName::CountyCodes => put_counties_in_front(alloc, report),
         StepName::SharedCodes => take_out_shared_codes(alloc, report),
+        StepName::WriteInCandidates => number_write_in_candidates(alloc, report),
         StepName::Codes => tell_codes_apart(alloc, report),
         StepName::WriteInLines => number_write_in_lines(alloc, report),
         StepName::PartyLines => name_party_lines(alloc, report),

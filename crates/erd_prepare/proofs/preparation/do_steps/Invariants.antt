@@ -1,0 +1,8 @@
+use Rattle.std.proofs.Common.{take}
+use Rattle.serde_json.specs.View.{view}
+use Rattle.erd_prepare.specs.Preparations.{AreStepsDone}
+use Rattle.erd_prepare.specs.declared.step_name.TheConstants.{STEPS}
+use Rattle.erd_prepare.proofs.preparation.do_steps.Given as goal
+
+abbrev pub invariant-loop-step : goal.invariant-loop-step
+invariant-loop-step l = AreStepsDone l.chosen (view l.report) (take l.step-index STEPS) l.steps.items (view l.tree)
