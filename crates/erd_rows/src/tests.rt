@@ -17,6 +17,8 @@ mod parts;
 mod places;
 mod preferred_rows;
 mod prepared;
+mod prepared_files;
+mod prepared_steps;
 mod program;
 mod readers;
 mod refusing;

@@ -1,0 +1,92 @@
+//! Files that are prepared by several steps.
+use crate::tests::edits::spelled;
+use erd_prepare::{Others, PrepareError, StepGroup, StepName, prepare_bytes, steps_named};
+use std::alloc::Global;
+use std::process::Abort;
+use std::test::Fail;
+
+/// Prepares a file, and compares what comes of it and what is told.
+fn try_file(
+    rt: &impl Abort,
+    alloc: Global,
+    (steps, others): (&[StepName], Others),
+    file: &str,
+    after: &str,
+    told: &str,
+) -> Result<(), Fail> {
+    let file = spelled(alloc, file)?;
+    let after = spelled(alloc, after)?;
+    let told = spelled(alloc, told)?;
+    let prepared = prepare_bytes(alloc, file.as_bytes(), steps, others)
+        .ok()
+        .ok_or("not prepared")?;
+    assert!(rt; prepared.bytes.as_slice() == after.as_bytes());
+    assert!(rt; prepared.told.as_slice() == told.as_bytes());
+    Ok(())
+}
+
+/// Each place is that of the file that was given: the persons before the second went, and the offices were no list.
+#[test]
+fn places_are_those_of_the_file(rt: HostRuntime) -> Result<(), Fail> {
+    try_file(
+        &rt,
+        rt.alloc(),
+        (
+            &[StepName::Names, StepName::UnusedPersons, StepName::Kinds],
+            Others::Untold,
+        ),
+        r#"{"@type":"%ElectionReport","GpUnit":[{"@type":"%ReportingUnit","AuthorityIds":["p1","p3"],#U&}],"Office":{"@type":"%Office","Name":"Mayor"},"Person":[{"@id":"p0","@type":"%Person"},{"@id":"p1","@type":"%Person",#P&},{"@id":"p2","@type":"%Person"},{"@id":"p3","@type":"%Person"}]}"#,
+        r#"{"@type":"%ElectionReport","GpUnit":[{"@type":"%ReportingUnit","AuthorityIds":["p1","p3"],#U&}],"Office":[{"@type":"%Office","ExternalIdentifier":[{"@type":"%ExternalIdentifier","OtherType":"name","Type":"other","Value":"Mayor"}],"Name":"Mayor"}],"Person":[{"@id":"p1","@type":"%Person",#P&},{"@id":"p3","@type":"%Person"}]}"#,
+        r#"[{"changes":[{"after":[{"@type":"%Office","Name":"Mayor"}],"before":{"@type":"%Office","Name":"Mayor"},"place":["Office"]}],"count":1,"done":true,"left":[],"left_count":0,"more":false,"step":"kinds"},{"changes":[{"before":{"@id":"p0","@type":"%Person"},"place":["Person",0]},{"before":{"@id":"p2","@type":"%Person"},"place":["Person",2]}],"count":2,"done":true,"left":[],"left_count":0,"more":false,"step":"unused-persons"},{"changes":[{"after":[{"@type":"%ExternalIdentifier","OtherType":"name","Type":"other","Value":"Mayor"}],"place":["Office","ExternalIdentifier"]}],"count":1,"done":true,"left":[{"place":["Person",3],"why":"noName"}],"left_count":1,"more":false,"step":"names"}]"#,
+    )
+}
+
+#[test]
+fn numbers_stay_and_members_are_sorted(rt: HostRuntime) -> Result<(), Fail> {
+    try_file(
+        &rt,
+        rt.alloc(),
+        (&[StepName::Nulls], Others::Untold),
+        r#"{ "b~/" : null, "a": [18446744073709551615, -9223372036854775808, 1.50] }"#,
+        r#"{"a":[18446744073709551615,-9223372036854775808,1.5]}"#,
+        r#"[{"changes":[{"before":null,"place":["b~/"]}],"count":1,"done":true,"left":[],"left_count":0,"more":false,"step":"nulls"}]"#,
+    )
+}
+
+/// A step that is not chosen is told of at its turn: the office is a list by then, and its place is that in the file.
+#[test]
+fn others_are_told_and_not_done(rt: HostRuntime) -> Result<(), Fail> {
+    try_file(
+        &rt,
+        rt.alloc(),
+        (&[StepName::Kinds], Others::Told),
+        r#"{"@type":"%ElectionReport","Office":{"@type":"%Office","Name":"Mayor","Phone":null}}"#,
+        r#"{"@type":"%ElectionReport","Office":[{"@type":"%Office","Name":"Mayor","Phone":null}]}"#,
+        r#"[{"changes":[{"before":null,"place":["Office","Phone"]}],"count":1,"done":false,"left":[],"left_count":0,"more":false,"step":"nulls"},{"changes":[{"after":[{"@type":"%Office","Name":"Mayor","Phone":null}],"before":{"@type":"%Office","Name":"Mayor","Phone":null},"place":["Office"]}],"count":1,"done":true,"left":[],"left_count":0,"more":false,"step":"kinds"},{"changes":[{"after":[{"@type":"%ExternalIdentifier","OtherType":"name","Type":"other","Value":"Mayor"}],"place":["Office","ExternalIdentifier"]}],"count":1,"done":false,"left":[],"left_count":0,"more":false,"step":"names"}]"#,
+    )
+}
+
+#[test]
+fn words_choose_steps(rt: HostRuntime) -> Result<(), Fail> {
+    let chosen = steps_named(rt.alloc(), "names,visible,nulls")?.ok_or("no steps")?;
+    let wanted = [
+        StepName::Names,
+        StepName::GoneCandidates,
+        StepName::UnusedStyles,
+        StepName::Nulls,
+    ];
+    assert!(rt; chosen.as_slice() == wanted.as_slice());
+    assert!(rt; steps_named(rt.alloc(), "")?.ok_or("no steps")?.is_empty());
+    assert!(rt; steps_named(rt.alloc(), "names,")?.is_none());
+    for group in [StepGroup::Removed, StepGroup::FilledIn, StepGroup::Visible] {
+        assert!(rt; StepGroup::named(group.text()) == Some(group));
+    }
+    Ok(())
+}
+
+#[test]
+fn what_is_no_json_is_told(rt: HostRuntime) -> Result<(), Fail> {
+    let prepared = prepare_bytes(rt.alloc(), b"{", &[StepName::Nulls], Others::Told);
+    assert!(rt; matches!(prepared, Err(PrepareError::NotJson)));
+    Ok(())
+}
