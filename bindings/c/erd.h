@@ -134,9 +134,9 @@ enum erd_outcome erd_compare_data_piece(const void *left, size_t left_size, cons
  * the same. If a report is refused, the text is that of erd_compare_data_piece.
  *
  * An object for the member `ContestSelection` of a contest has a member `selections` too, with what differs inside. A name of a
- * selection has its keys in full, so this can grow with the square of their sizes. It takes the bytes of all names of both
- * contests, and those of each difference inside. Where these, with those of the objects before them in the piece, are more than
- * `enough_bytes`, that object and all behind it in the piece have no such member. */
+ * selection has its keys in full, so this can grow with the square of their sizes. Where the text of its value, with those of the
+ * objects before it in the piece, has more than `enough_bytes` bytes, that object and all behind it in the piece have no such
+ * member. */
 enum erd_outcome erd_differences_data(const void *left, size_t left_size, const void *right, size_t right_size,
                                       const char *prefer, struct erd_piece *piece, char **text, size_t *length);
 

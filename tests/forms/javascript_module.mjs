@@ -150,8 +150,8 @@ equal('all differences', `${wholeList.differences.length} ${wholeList.allDiffere
 equal('their keys', wholeList.differences.every(({ key }, index) => key[2] === `C-${10000 + index}`), true);
 equal('what differs inside each', JSON.stringify([...new Set(wholeList.differences.map(({ selections }) => JSON.stringify(selections)))]),
     JSON.stringify(['[{"name":["ElectionResults.CandidateSelection",[],false,null,null,["a","","S"]],"how":"member","member":"Note"}]']));
-// What differs inside a contest takes the names of both contests and that of the difference: 600 kB here. Two are more than a megabyte.
-const wide = [1, 2].map((note) => contests(3, note, 'a').replaceAll('"Type":"a"', `"Type":"${'a'.repeat(200_000)}"`));
+// The text of what differs inside each contest has 600 kB here. Two are more than a megabyte.
+const wide = [1, 2].map((note) => contests(3, note, 'a').replaceAll('"Type":"a"', `"Type":"${'a'.repeat(600_000)}"`));
 equal('names that are too long together', erd.differences(...wide).differences.map(({ selections }) => selections?.length).join(), '1,,');
 
 // The words of a command line.

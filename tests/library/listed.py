@@ -1,6 +1,5 @@
 """The list of all differences of two reports as the calls of the C library have to answer with it, made by the reference program
 (reference/erd_reference.py), and pieces of it by the rules of docs/API.md."""
-import itertools
 import pathlib
 import sys
 
@@ -13,21 +12,9 @@ import erd_reference  # noqa: E402
 ALL = 2 ** 64 - 1
 
 
-def bytes_in_name(name):
-    """How many bytes the texts in the name of a selection have: those of its keys, its label and its identifier."""
-    _, keys, _, _, label, triples = name
-    texts = itertools.chain(*keys, label, *triples)
-    return sum(len(text.encode('utf-8')) for text in texts)
-
-
-def bytes_in_differences(data):
-    """How many bytes the objects of the differences of selections take: the texts in the name of each, and its member."""
-    size = 0
-    for inside in data['selections']:
-        _, keys, _, _, label, identifier = inside['name']
-        texts = [*itertools.chain(*keys), label or '', *(identifier or []), inside.get('member', '')]
-        size += sum(len(text.encode('utf-8')) for text in texts)
-    return size
+def bytes_in_selections(data):
+    """How many bytes the text of the differences of selections has."""
+    return len(erd_reference.compact_text(data['selections']).encode('utf-8'))
 
 
 class Listed:
@@ -35,22 +22,16 @@ class Listed:
 
     def __init__(self, left, right):
         self.entries = list(erd_reference.entries(left, right))
-        self.meanings = erd_reference.meaning_of(left), erd_reference.meaning_of(right)
         self.outcome = 1 if self.entries else 0
 
-    def bytes_in_names(self, entry):
-        """How many bytes the names of all selections of both contests have."""
-        contests = [meaning['contest'][entry.key] for meaning in self.meanings]
-        return sum(bytes_in_name(name) for contest in contests for name in contest.members.get('ContestSelection', {}))
-
     def told(self, first, enough_bytes):
-        """The objects of the entries from the first on. Those inside selections are told as long as the names and they fit: behind
-        the first entry that doesn't fit, none is."""
+        """The objects of the entries from the first on. Those inside selections are told as long as their texts fit: behind the first
+        entry whose text doesn't fit, none is."""
         room = enough_bytes
         for entry in self.entries[first:]:
             data = erd_reference.difference_data(entry)
             if 'selections' in data:
-                room -= self.bytes_in_names(entry) + bytes_in_differences(data)
+                room -= bytes_in_selections(data)
                 if room < 0:
                     room = -1
                     del data['selections']

@@ -21,7 +21,7 @@ sys.path[:0] = [str(ROOT / 'tests' / 'program'), str(ROOT / 'tests' / 'reports')
 sys.dont_write_bytecode = True
 from agrees_with_reference import EXAMPLES, TYPES, edited, types_in, with_elections, written  # noqa: E402
 from by_ctypes import Library  # noqa: E402
-from listed import ALL, bytes_in_differences, erd_reference, listed  # noqa: E402
+from listed import ALL, bytes_in_selections, erd_reference, listed  # noqa: E402
 from reports import contest, identifier, label, report, selection, translation, unit  # noqa: E402
 
 CLASSES = ['CandidateSelection', 'BallotMeasureSelection', 'PartySelection']
@@ -151,11 +151,10 @@ def shared_library(folder):
 
 def sizes_of(found, dice):
     """Bounds for pieces: so many entries, and so many bytes. Some end where what differs inside selections just fits or just does
-    not, or where the names alone do."""
+    not."""
     entries = [entry for entry in found.entries if entry.selections is not None]
-    names = [found.bytes_in_names(entry) for entry in entries]
-    whole = [size + bytes_in_differences(erd_reference.difference_data(entry)) for size, entry in zip(names, entries)]
-    edges = [size + more for size in (sum(names[:1]), sum(whole[:1]), sum(whole[:2]), sum(whole)) for more in (-1, 0, 1) if size + more > 0]
+    whole = [bytes_in_selections(erd_reference.difference_data(entry)) for entry in entries]
+    edges = [size + more for size in (sum(whole[:1]), sum(whole[:2]), sum(whole)) for more in (-1, 0, 1) if size + more > 0]
     return [(1, ALL), (2, 1000), (ALL, 1), (1000, 2 ** 20), (3, 300), (ALL, dice.randrange(1, 2000)), *((ALL, edge) for edge in edges)]
 
 

@@ -183,8 +183,8 @@ def test_a_list_that_is_longer_than_a_piece(top):
 
 
 def test_names_of_selections_that_are_too_long_together(top):
-    # Each contest takes the names of both reports and that of the difference: 600 kB. Two are more than a megabyte.
-    found = erd.differences(*(contests(top, 3, note, 'a' * 200_000) for note in (1, 2))).differences
+    # The text of what differs inside each contest has 600 kB. Two are more than a megabyte.
+    found = erd.differences(*(contests(top, 3, note, 'a' * 600_000) for note in (1, 2))).differences
     assert [None if it.selections is None else len(it.selections) for it in found] == [1, None, None]
 
 

@@ -1,17 +1,19 @@
 -- What differs inside the selections of contests, and the list of all differences with it. All of this is the profile's own.
-use Rattle.std.specs.Prelude.{ℕ, zero, suc, ◌+◌, ◌≤◌, ◌≡◌, ◌≢◌, ◌↔◌, List, [], ◌∷◌, Bool, true, false, map, length, sum_by, Option, Some, None, option_and_then, option_map, unwrap_or, codes, ⊤}
-use Rattle.std.specs.List.{AllByRecursion, IsDistinct}
+use Rattle.std.specs.Prelude.{ℕ, ◌+◌, ◌<◌, ◌≤◌, ◌≡◌, List, [], ◌∷◌, ◌++◌, Bool, true, false, map, take, drop, length, sum_by, Option, Some, None, option_and_then, option_map, codes, ⊤}
+use Rattle.std.specs.List.{AllByRecursion}
 use Rattle.std.specs.List.Sorted.{IsStrictlySortedBy}
 use Rattle.std.specs.Option.{option_cmp}
-use Rattle.std.specs.Ordering.{eq_by_cmp, ordering_then}
+use Rattle.std.specs.Ordering.{ordering_then}
 use Rattle.std.specs.Str.{bytes_eq}
 use Rattle.std.specs.declared.cmp.Ordering.{Ordering}
+use Rattle.serde_json.specs.Written.{compact_text}
 use Rattle.erd_tables.specs.Texts.{text_cmp}
 use Rattle.erd_meaning.specs.Meaning.{SelectionRecord, MemberValue, a_selection_map, Meaning}
 use Rattle.erd_meaning.specs.NameParts.{NameParts}
 use Rattle.erd_meaning.specs.SelectionNames.{name_cmp}
 use Rattle.erd_meaning.specs.declared.keys.key.Key.{Key}
 use Rattle.erd_compare.specs.Differences.{record_at, member_of, AgreeBut, AreDifferences, DifferIn, Stands}
+use Rattle.erd_compare.specs.SelectionData.{selections_data}
 use Rattle.erd_compare.specs.declared.detailed.DetailedDifference.{DetailedDifference}
 use Rattle.erd_compare.specs.declared.difference.Difference.{Difference}
 use Rattle.erd_compare.specs.declared.difference.How.{How}
@@ -53,37 +55,6 @@ pub record AreSelectionDifferences (m n : SelectionMap) (ds : List SelectionDiff
   pub differ : AllByRecursion (AreUnlikeSelections m n) ds
   pub all : (name : NameParts) → AgreeBut (λ how. Stands (record { name = name; how = how }) ds) (m name) (n name)
 
--- ---- how long names and differences are
-
--- How many bytes the three texts of a key have.
-abbrev pub key_size : Key → ℕ
-key_size k = length k.kind + (length k.other + length k.value)
-
--- How many bytes the texts in a name have: those of its keys, of its label and of its identifier.
-abbrev pub name_size : NameParts → ℕ
-name_size n = sum_by key_size n.keys + (unwrap_or (option_map length n.label) 0 + unwrap_or (option_map key_size n.identifier) 0)
-
--- These are the names of all selections of a contest, each once.
-pub record AreNamesOf (m : SelectionMap) (names : List NameParts) : Type 0 where
-  pub once : IsDistinct (eq_by_cmp name_cmp) names
-  pub all : (name : NameParts) → Stands name names ↔ (m name ≢ None)
-
--- How many bytes the texts in a difference have: those of the name of its selection, and the name of the member.
-abbrev pub difference_size : SelectionDifference → ℕ
-difference_size d = name_size d.name + unwrap_or (option_map length (member_of d.how)) 0
-
--- What differs between the selections of two contests takes so many bytes: the names of both contests, and then each difference.
--- So a name that both contests have counts for each, and once more for each difference at it. Where so many bytes of `most` are
--- used that not even the names fit, any list may stand for the differences.
-pub record HaveSize (m n : SelectionMap) (used most size : ℕ) : Type 0 where
-  pub left : List NameParts
-  pub right : List NameParts
-  pub inside : List SelectionDifference
-  pub left_names : AreNamesOf m left
-  pub right_names : AreNamesOf n right
-  pub differences : used + (sum_by name_size left + sum_by name_size right) ≤ most → AreSelectionDifferences m n inside
-  pub counted : size ≡ sum_by name_size left + sum_by name_size right + sum_by difference_size inside
-
 -- ---- the list of all differences
 
 -- True for the member of a contest that has its selections.
@@ -95,31 +66,48 @@ is_member_of_selections p how = false
 abbrev pub is_in_selections : Difference → Bool
 is_in_selections d = is_member_of_selections d.part d.how
 
--- How many bytes telling the difference takes: those of its selections, if it is in the selections of a contest, and none
--- otherwise.
-abbrev pub Takes : Meaning → Meaning → (used most : ℕ) → Difference → ℕ → Type 0
-Takes m n used most d size = (is_in_selections d ≡ true → HaveSize (selections_with_key m d.key) (selections_with_key n d.key) used most size) × (is_in_selections d ≡ false → size ≡ 0)
-
--- What is told with a difference: all differences of the selections, if it is in the selections of a contest and `Fits` holds,
+-- What stands with a difference that is told whole: all differences of the selections, if it is in the selections of a contest,
 -- and nothing otherwise.
-abbrev pub TellsSelections : Meaning → Meaning → Type 0 → Difference → Option (List SelectionDifference) → Type 0
-TellsSelections m n Fits d None = is_in_selections d ≡ true → ¬ Fits
-TellsSelections m n Fits d (Some ds) = (is_in_selections d ≡ true) × Fits × AreSelectionDifferences (selections_with_key m d.key) (selections_with_key n d.key) ds
+abbrev pub TellsAll : Meaning → Meaning → Difference → Option (List SelectionDifference) → Type 0
+TellsAll m n d None = is_in_selections d ≡ false
+TellsAll m n d (Some ds) = (is_in_selections d ≡ true) × AreSelectionDifferences (selections_with_key m d.key) (selections_with_key n d.key) ds
 
--- The difference is told with those of the selections, if it is in the selections of a contest and `Fits` holds.
-abbrev pub IsDetailed : Meaning → Meaning → Type 0 → DetailedDifference → Type 0
-IsDetailed m n Fits d = TellsSelections m n Fits d.difference (option_map (λ v. v.items) d.selections)
+-- What is told of the selections with a difference, or none.
+abbrev pub told_with : DetailedDifference → Option (List SelectionDifference)
+told_with d = option_map (λ v. v.items) d.selections
 
--- The differences before the number `first` are told without those of the selections. From there on, a difference is told with
--- them if and only if what it takes fits: with what the differences since `first` take, which have used so many bytes, it has at
--- most `most`. So the first that does not fit is the last that counts.
-abbrev pub AreTold : Meaning → Meaning → (first used most : ℕ) → List DetailedDifference → Type 0
-AreTold m n first used most [] = ⊤
-AreTold m n (suc first) used most (d ∷ ds) = IsDetailed m n ⊥ d × AreTold m n first used most ds
-AreTold m n zero used most (d ∷ ds) = (size : ℕ) × Takes m n used most d.difference size × IsDetailed m n (used + size ≤ most) d × AreTold m n zero (used + size) most ds
+-- The difference is told whole.
+abbrev pub IsWhole : Meaning → Meaning → DetailedDifference → Type 0
+IsWhole m n d = TellsAll m n d.difference (told_with d)
 
--- These are all differences of the two meanings, in rising order. From the number `first` on, each is told with those of the
--- selections, as long as these take at most `most` bytes together.
+-- The difference is told without those of the selections.
+abbrev pub IsBare : DetailedDifference → Type 0
+IsBare d = told_with d ≡ None
+
+-- How many bytes the text of the differences of selections has: the compact text of their JSON array. Where none are told, there
+-- is no text.
+abbrev pub text_size : Option (List SelectionDifference) → ℕ
+text_size None = 0
+text_size (Some ds) = length (compact_text (selections_data ds))
+
+-- Nothing is left, or the text of the next difference does not fit: with the bytes that are used, it has more than `most`.
+abbrev pub NoneFits : Meaning → Meaning → (used most : ℕ) → List DetailedDifference → Type 0
+NoneFits m n used most [] = ⊤
+NoneFits m n used most (d ∷ ds) = (inside : Option (List SelectionDifference)) × TellsAll m n d.difference inside × (most < used + text_size inside)
+
+-- The differences that are told whole are the longest run from the first on whose texts have at most `most` bytes together.
+pub record IsLongestRun (m n : Meaning) (most : ℕ) (ds : List DetailedDifference) : Type 0 where
+  pub run : List DetailedDifference
+  pub behind : List DetailedDifference
+  pub split : ds ≡ run ++ behind
+  pub whole : AllByRecursion (IsWhole m n) run
+  pub fits : sum_by (λ d. text_size (told_with d)) run ≤ most
+  pub bare : AllByRecursion IsBare behind
+  pub longest : NoneFits m n (sum_by (λ d. text_size (told_with d)) run) most behind
+
+-- These are all differences of the two meanings, in rising order. Those before the number `first` are told without those of the
+-- selections. From there on, the longest run whose texts have at most `most` bytes together is told whole.
 pub record AreDetailedDifferences (m n : Meaning) (first most : ℕ) (ds : List DetailedDifference) : Type 0 where
   pub list : AreDifferences m n (map (λ d. d.difference) ds)
-  pub selections : AreTold m n first 0 most ds
+  pub before : AllByRecursion IsBare (take first ds)
+  pub run : IsLongestRun m n most (drop first ds)

@@ -5,6 +5,7 @@ pub use Rattle.indexmap.specs.IndexSet.{insert_all}
 pub use Rattle.serde_json.specs.Data.{member, no_members, object, string}
 pub use Rattle.serde_json.specs.Find.{get}
 pub use Rattle.serde_json.specs.View.{members_view}
+pub use Rattle.serde_json.specs.Written.{compact_text}
 pub use Rattle.erd_tables.specs.Classes.{role_of_class}
 pub use Rattle.erd_tables.specs.Table.{kind_of_member}
 pub use Rattle.erd_tables.specs.declared.class.Role.TheVariants.{Election, OfFamily}
@@ -20,5 +21,5 @@ pub use Rattle.erd_compare.specs.DifferenceData.{difference_data, difference_mem
 pub use Rattle.erd_compare.specs.DifferenceLine.{difference_line, how_text, key_as_json, key_text, part_text}
 pub use Rattle.erd_compare.specs.Differences.{first_of, record_at, AreDifferences, AreDifferent, IsDifference, Stands}
 pub use Rattle.erd_compare.specs.SelectionData.{detailed_data, label_data, name_data, order_data, selection_data, selections_data, whole_data}
-pub use Rattle.erd_compare.specs.SelectionDifferences.{difference_size, is_in_selections, key_size, name_size, selections_with_key, AreDetailedDifferences, AreSelectionDifferences, AreTold}
+pub use Rattle.erd_compare.specs.SelectionDifferences.{is_in_selections, selections_with_key, text_size, AreDetailedDifferences, AreSelectionDifferences}
 pub use Rattle.erd_compare.specs.declared.difference.How.TheVariants.{Member, OnlyLeft, OnlyRight}

@@ -1,13 +1,13 @@
 //! The list of all differences, with what differs inside the selections of contests.
-ghost use Rattle.std.specs.Prelude.{◌≡◌, ◌+◌, map, option_copied, option_map, IfOk};
-ghost use Rattle.erd_compare.specs.Words.{view, meaning, is_in_selections, selections_with_key, AreDetailedDifferences, AreTold};
-ghost use Rattle.erd_compare.specs.code.ContestSelections.{contest_map, size_in, PassesInside, PassesOne};
+ghost use Rattle.std.specs.Prelude.{◌≡◌, map, option_copied, option_map, IfOk, Some};
+ghost use Rattle.erd_compare.specs.Words.{view, meaning, is_in_selections, selections_with_key, AreDetailedDifferences};
+ghost use Rattle.erd_compare.specs.code.ContestSelections.{contest_map, AreTold, PassesInside, PassesOne};
 ghost use Rattle.erd_compare.specs.code.KeyedDifferences.{IsComparable};
 
 use crate::comparer::Comparer;
 use crate::difference::{Difference, How, Part};
 use crate::first::all_differences;
-use crate::inside::room::{Room, left_after_both, left_after_differences};
+use crate::inside::room::{Room, left_after_text};
 use crate::inside::told::differences_at;
 use crate::inside::{SelectionDifference, selection_ways};
 use erd_meaning::{Key, Report};
@@ -28,10 +28,10 @@ pub struct DetailedDifference {
 /// the selections of the contest, as long as it fits. Both reports must have been resolved under the same preference.
 ///
 /// A name has its keys in full, so the names of one contest can be as long as the square of a report, and so can the differences
-/// inside it. So a difference is told with its selections only if they take at most `most_bytes` bytes, together with those of
-/// the differences since `first`. They take the texts of all keys, labels and identifiers in the names of both contests, and for
-/// each difference inside the texts of its name once more, and the name of its member. The first difference that does not fit
-/// and all behind it have no selections. No name is copied before that is known. With 0 and `usize::MAX` there is no bound.
+/// inside it. So those that are told with their selections are the longest run from `first` on whose texts have at most
+/// `most_bytes` bytes together. The text of a difference is the compact JSON of the member `selections` of `to_value`. The first
+/// difference that does not fit and all behind it have no selections. No more than `most_bytes` bytes of text and one difference
+/// inside is copied before that is known. With 0 and `usize::MAX` there is no bound.
 ///
 /// The differences of selections rise by the names of the selections, and then by the names of members. If only one contest
 /// has a selection with a name, that is one difference. Otherwise there is one for each member that differs.
@@ -67,7 +67,7 @@ fn with_selections(
     most_bytes: usize,
 ) -> Result<Vec<DetailedDifference>, AllocError>
     ensures listed { IfOk result (λ found. map (λ d. d.difference) found.items ≡ differences.items) }
-    ensures told { IfOk result (λ found. AreTold (meaning comparer.now.left.prefer (view comparer.now.left.tree)) (meaning comparer.now.right.prefer (view comparer.now.right.tree)) first 0 most_bytes found.items) }
+    ensures told { IfOk result (λ found. AreTold (meaning comparer.now.left.prefer (view comparer.now.left.tree)) (meaning comparer.now.right.prefer (view comparer.now.right.tree)) first (Some most_bytes) found.items) }
 {
     let mut found = Vec::with_capacity(comparer.alloc, differences.len())?;
     let mut room = Room {
@@ -105,22 +105,21 @@ fn selections_of(
     selections_within(comparer, contest, other_contest, &mut room.bytes)
 }
 
-/// Returns the differences of the selections of the contests at these positions, if their names and the differences fit into the
-/// room, and leaves what is left of it. No position stands for a contest without selections.
+/// Returns the differences of the selections of the contests at these positions, if their text fits into the room, and leaves
+/// what is left of it. No position stands for a contest without selections.
 fn selections_within(
     comparer: &Comparer,
     contest: Option<usize>,
     other_contest: Option<usize>,
     room: &mut Option<usize>,
 ) -> Result<Option<Vec<SelectionDifference>>, AllocError>
-    ensures { IfOk result (λ told. PassesInside (contest_map comparer.now.left contest) (contest_map comparer.now.right other_contest) (size_in comparer.now.left contest + size_in comparer.now.right other_contest) (option_map (λ v. v.items) told) room.old room.new) }
+    ensures { IfOk result (λ told. PassesInside (contest_map comparer.now.left contest) (contest_map comparer.now.right other_contest) (option_map (λ v. v.items) told) room.old room.new) }
 {
-    *room = left_after_both(comparer, contest, other_contest, *room);
-    let Some(left) = *room else {
+    let Some(bytes) = *room else {
         return Ok(None);
     };
     let ways = selection_ways(comparer, contest, other_contest)?;
-    *room = left_after_differences(&ways, left);
+    *room = left_after_text(comparer.alloc, &ways, bytes)?;
     match *room {
         Some(_) => Ok(Some(differences_at(comparer.alloc, &ways)?)),
         None => Ok(None),

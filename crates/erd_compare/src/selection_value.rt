@@ -111,15 +111,26 @@ impl SelectionDifference {
     pub fn to_value(&self, alloc: Global) -> Result<Value, AllocError>
         ensures { IfOk result (λ value. view value ≡ selection_data self.now) }
     {
-        let name = name_value(alloc, &self.name)?;
-        match &self.how {
-            How::OnlyLeft => json!(in alloc; {"how": "only left", "name": name}),
-            How::OnlyRight => json!(in alloc; {"how": "only right", "name": name}),
-            How::OtherClass => json!(in alloc; {"how": "other class", "name": name}),
-            How::Member(member) => {
-                let member = member.as_str();
-                json!(in alloc; {"how": "member", "member": member, "name": name})
-            }
+        selection_value(alloc, &self.name, &self.how)
+    }
+}
+
+/// Returns the difference of two selections with this name as a JSON object.
+pub(crate) fn selection_value(
+    alloc: Global,
+    name: &SelectionName,
+    how: &How,
+) -> Result<Value, AllocError>
+    ensures { IfOk result (λ value. view value ≡ selection_data (record { name = name.now; how = how.now })) }
+{
+    let name = name_value(alloc, name)?;
+    match how {
+        How::OnlyLeft => json!(in alloc; {"how": "only left", "name": name}),
+        How::OnlyRight => json!(in alloc; {"how": "only right", "name": name}),
+        How::OtherClass => json!(in alloc; {"how": "other class", "name": name}),
+        How::Member(member) => {
+            let member = member.as_str();
+            json!(in alloc; {"how": "member", "member": member, "name": name})
         }
     }
 }

@@ -118,8 +118,8 @@ pub fn compare_data_piece(
 /// Lists the differences of the bytes of two reports, as `differences_data_with` does, and answers with a piece of the list. If
 /// a report is refused, it is a piece of its list of faults.
 ///
-/// An entry has its member `selections` only as long as it fits: the names of the selections of both contests and the texts of
-/// what differs inside, of the entries of the piece up to this one, have at most `enough_bytes` bytes together.
+/// An entry has its member `selections` only as long as it fits: the texts of these, of the entries of the piece up to this one,
+/// have at most `enough_bytes` bytes together.
 ///
 /// # Errors
 ///

@@ -1,23 +1,17 @@
 -- The names of selections are put into a set one after another.
-use Rattle.erd_compare.proofs.Common.{◌≡◌, List, [], ◌∷◌, map, Ordering, Less, Equal, Greater, match_ordering, sym, refl, inl, inr, Bor, IsStrictlySortedBy, Stands, ℕ, zero, suc, ◌+◌, ◌<◌, ◌++◌, length, take, slice_get, Some, None, codes, Option, option_map, ap, ◌∙◌, subst, arith, slice_get_within, get_or_from_slice_get, all_weakened, length-map, Data, Value, view, selections_before, family, entries_at, Judged, Placed, objects, name_of, take_more, ◌≤◌, drop, drop_all, filter_map, cons_option, NameParts, false, option_and_then, eq_by_cmp, Equal-is, In, any_at, name_cmp, find-Some, find-any, position_of, selection_record, IsDistinct, IsComparable}
+use Rattle.erd_compare.proofs.Common.{◌≡◌, List, [], ◌∷◌, map, Ordering, Less, Equal, Greater, match_ordering, sym, refl, inl, inr, Bor, IsStrictlySortedBy, Stands, ℕ, zero, suc, ◌+◌, ◌<◌, ◌++◌, length, take, slice_get, Some, None, codes, Option, option_map, ap, ◌∙◌, subst, arith, slice_get_within, get_or_from_slice_get, all_weakened, length-map, Data, Value, view, selections_before, family, entries_at, Judged, Placed, objects, name_of, take_more, ◌≤◌, drop, drop_all, NameParts, name_cmp}
 use Rattle.std.specs.BTreeSet.{insert_key}
-use Rattle.erd_check.proofs.Order.{sorted_map, In-filter_map, all_from_In}
+use Rattle.erd_check.proofs.Order.{sorted_map}
 use Rattle.erd_meaning.specs.NameParts.{NameParts}
 use Rattle.erd_meaning.specs.SelectionNames.{name_cmp}
 use Rattle.erd_meaning.specs.code.Orders.{name_cmp_exact}
 use Rattle.erd_meaning.proofs.selections.ContestSelections.{all_both}
-use Rattle.erd_compare.specs.code.ContestSelections.{AreNamesAmong, selection_values, Leaves, size_in, contest_map, has_name_in, names_in}
-use Rattle.erd_compare.proofs.contest_selections.ContestRecords.{name_here, object_here, values_of, beside_names, has_the_name, is_named, has_record}
+use Rattle.erd_compare.specs.code.ContestSelections.{AreNamesAmong, selection_values, Leaves}
+use Rattle.erd_compare.proofs.contest_selections.ContestRecords.{name_here, object_here, values_of}
 use Rattle.erd_meaning.specs.Lookups.{selection_in}
 use Rattle.std.specs.Prelude.{sum_by}
 use Rattle.std.proofs.lemmas.List.Sums.{sum_by-cons}
 use Rattle.erd_check.proofs.Positions.{left_there}
-use Rattle.erd_compare.specs.SelectionDifferences.{name_size, AreNamesOf, SelectionMap}
-use Rattle.std.proofs.lemmas.Bool.{false_from_ne_true}
-use Rattle.erd_meaning.specs.Accepted.{IsAccepted}
-use Rattle.erd_meaning.proofs.accepted.Standing.{no_selection_fault}
-use Rattle.erd_meaning.proofs.selections.WalkedNames.{one_selection}
-use Rattle.erd_compare.proofs.differing.Walks.{to_in, to_stands}
 
 -- names that are lent are compared as names
 abbrev pub lent_cmp : Bor NameParts → Bor NameParts → Ordering
@@ -144,142 +138,3 @@ module _ {A : Type 0} (size : A → ℕ) (xs : List A) (i total room left : ℕ)
   -- at the end all are taken
   pub all_fit : length xs ≤ i → left + total ≡ room
   all_fit end = let none : sum_by size (drop i xs) ≡ 0 = ap (sum_by size) (drop_all i xs end) in omega (arith, none, known)
-
--- an entry stands at each position that is low enough
-pub no_entry : {A : Type 0} (xs : List A) (i : ℕ) → i < length xs → slice_get xs i ≡ None → ⊥
-no_entry [] i low none = absurd (omega arith)
-no_entry (x ∷ xs) zero low none = cc
-no_entry (x ∷ xs) (suc i) low none = no_entry xs i (omega arith) none
-
--- ---- how many bytes the names of the selections of a contest have, selection by selection
-
--- the size of a name, if there is one
-abbrev pub size_if : Option NameParts → ℕ
-size_if None = 0
-size_if (Some n) = name_size n
-
--- and that of the name of a selection
-abbrev pub size_of_value : Judged → Data → ℕ
-size_of_value a d = size_if (name_of a.prefer (view a.tree) d)
-
--- the sizes of names that some entries have
-sizes_if : {A : Type 0} (name : A → Option NameParts) (xs : List A) → sum_by (λ x. size_if (name x)) xs ≡ sum_by name_size (filter_map name xs)
-sizes_if name [] = refl
-sizes_if {A} name (x ∷ xs) = sum_by-cons (λ (y : A). size_if (name y)) x xs ∙ (ap (λ s. size_if (name x) + s) (sizes_if name xs) ∙ at (name x))
-  where
-    at : (o : Option NameParts) → size_if o + sum_by name_size (filter_map name xs) ≡ sum_by name_size (cons_option o (filter_map name xs))
-    at None = omega arith
-    at (Some n) = sym (sum_by-cons name_size n (filter_map name xs))
-
-pub sizes_of_values : (a : Judged) (c : ℕ) → sum_by (size_of_value a) (selection_values a c) ≡ size_in a (Some c)
-sizes_of_values a c = sizes_if (name_of a.prefer (view a.tree)) (selection_values a c)
-
--- there are as many selections as entries
-pub as_many : (a : Judged) (c : ℕ) (v : Data) → Some v ≡ option_map (λ (o : Placed). o.value) (slice_get (objects family.Contest (view a.tree)) c) → (vs : List Value)
-    → map view vs ≡ entries_at (codes "ContestSelection") v → length (selection_values a c) ≡ length vs
-as_many a c v is vs entries = ap length (values_there a c v is ∙ sym entries) ∙ length-map vs view
-
--- ---- in the code
-
-module _ (a : Judged) (c i room left : ℕ) where
-  abbrev total : ℕ
-  total = sum_by (size_of_value a) (selection_values a c)
-
-  -- the names of the selections that are left are those to be taken
-  abbrev pub AreTaken : ℕ → ℕ → Type 0
-  AreTaken j rest = rest + total ≡ room + sum_by (size_of_value a) (drop j (selection_values a c))
-
-  module _ (known : AreTaken i left) (d : Data) (here : slice_get (selection_values a c) i ≡ Some d) where
-    pub name_fits : (n : NameParts) → name_of a.prefer (view a.tree) d ≡ Some n → (after : ℕ) → Leaves (name_size n) left (Some after) → AreTaken (i + 1) after
-    name_fits n named after fits =
-        one_fits (size_of_value a) (selection_values a c) i total room left known d here after (subst (λ s. Leaves s left (Some after)) (sym (ap size_if named)) fits)
-
-    pub name_does_not : (n : NameParts) → name_of a.prefer (view a.tree) d ≡ Some n → Leaves (name_size n) left None → room < size_in a (Some c)
-    name_does_not n named low =
-        subst (λ s. room < s) (sizes_of_values a c)
-        (one_does_not (size_of_value a) (selection_values a c) i total room left known d here (subst (λ s. Leaves s left None) (sym (ap size_if named)) low))
-
-    pub nameless_fits : name_of a.prefer (view a.tree) d ≡ None → AreTaken (i + 1) left
-    nameless_fits nameless =
-        one_fits (size_of_value a) (selection_values a c) i total room left known d here left (subst (λ s. Leaves s left (Some left)) (sym (ap size_if nameless)) (omega arith))
-
-  pub names_fit : AreTaken i left → length (selection_values a c) ≤ i → left + size_in a (Some c) ≡ room
-  names_fit known end = subst (λ s. left + s ≡ room) (sizes_of_values a c) (all_fit (size_of_value a) (selection_values a c) i total room left known end)
-
--- ---- the names of the selections of a contest of an accepted report: each once, and all of them
-
--- ---- names that some entries have
-
-came_from : {A B : Type 0} (f : A → Option B) (xs : List A) (y : B) → In y (filter_map f xs) → (x : A) × In x xs × (f x ≡ Some y)
-came_from f [] y h = absurd h
-came_from {A} {B} f (x ∷ xs) y h = at (f x) refl h (came_from f xs y)
-  where
-    at : (o : Option B) → f x ≡ o → In y (cons_option o (filter_map f xs)) → (In y (filter_map f xs) → (z : A) × In z xs × (f z ≡ Some y)) → (z : A) × In z (x ∷ xs) × (f z ≡ Some y)
-    at None is i more = let from = more i in (from.0, inr from.1, from.2)
-    at (Some z) is (inl e) more = (x, inl refl, is ∙ ap Some e)
-    at (Some z) is (inr i) more = let from = more i in (from.0, inr from.1, from.2)
-
--- no two have one name
-abbrev HasOnce : {A : Type 0} → (A → Option NameParts) → List A → Type 0
-HasOnce {A} name xs = (i j : ℕ) (x y : A) (n : NameParts) → slice_get xs i ≡ Some x → slice_get xs j ≡ Some y → name x ≡ Some n → name y ≡ Some n → i ≡ j
-
-names_once : {A : Type 0} (name : A → Option NameParts) (xs : List A) → HasOnce name xs → IsDistinct (eq_by_cmp name_cmp) (filter_map name xs)
-unfolding IsDistinct
-names_once name [] h = tt
-names_once name (x ∷ xs) h = at (name x) refl (names_once name xs (λ i j y z n a b e f. let later : suc i ≡ suc j = h (suc i) (suc j) y z n a b e f in omega (arith, later)))
-  where
-    differs : (n : NameParts) → name x ≡ Some n → (m : NameParts) → In m (filter_map name xs) → eq_by_cmp name_cmp n m ≡ false
-    differs n is m i = false_from_ne_true (eq_by_cmp name_cmp n m) (λ e.
-        let from = came_from name xs m i in
-        let place = position_of xs from.0 from.1 in
-        let same : m ≡ n = sym (name_cmp_exact n m ((Equal-is (name_cmp n m)).0 e)) in
-        let one : 0 ≡ suc place.0 = h 0 (suc place.0) x from.0 n refl place.1 is (from.2 ∙ ap Some same) in
-        absurd (omega (arith, one)))
-
-    at : (o : Option NameParts) → name x ≡ o → IsDistinct (eq_by_cmp name_cmp) (filter_map name xs) → IsDistinct (eq_by_cmp name_cmp) (cons_option o (filter_map name xs))
-    at None is rest = rest
-    at (Some n) is rest = (all_from_In (λ m. eq_by_cmp name_cmp n m ≡ false) (filter_map name xs) (differs n is), rest)
-
--- ---- the names of a contest
-
-module _ (a : Judged) (accepted : IsAccepted a.prefer (view a.tree)) where
-  -- no two selections have one name
-  once_at : (c : ℕ) → HasOnce (name_of a.prefer (view a.tree)) (selection_values a c)
-  once_at c i j d e n here there named other =
-      let start = selections_before (view a.tree) c in
-      let same : start + i ≡ start + j =
-      one_selection a.prefer (view a.tree) c n (start + i) (start + j) (no_selection_fault a.prefer (view a.tree) accepted)
-      (name_here a c start refl i d here ∙ ap (option_map (λ m. (c, m))) named) (name_here a c start refl j e there ∙ ap (option_map (λ m. (c, m))) other)
-      in
-      omega (arith, same)
-
-  module _ (c : ℕ) where
-    abbrev names : List NameParts
-    names = names_in a (Some c)
-
-    among : AreNamesAmong a names (selection_values a c)
-    among =
-        all_from_In (λ d. (n : NameParts) → name_of a.prefer (view a.tree) d ≡ Some n → Stands n names) (selection_values a c)
-        (λ d i n e. to_stands n names (In-filter_map (name_of a.prefer (view a.tree)) d n (selection_values a c) i e))
-
-    -- a name of a selection is one at which the contest has something
-    has_one : (n : NameParts) → Stands n names → contest_map a (Some c) n ≡ None → ⊥
-    has_one n stands none =
-        let from = came_from (name_of a.prefer (view a.tree)) (selection_values a c) n (to_in n names stands) in
-        let found = find-any (has_name_in a n) (selection_values a c) (any_at (has_name_in a n) from.0 (selection_values a c) from.1 (is_named a c n from.0 from.2)) in
-        let h = find-Some (has_name_in a n) (selection_values a c) found.0 found.1 in
-        let r = has_record a.prefer (view a.tree) found.0 n (has_the_name a c n found.0 h.1) in
-        let clash : None ≡ Some r.0 = sym none ∙ (ap (option_and_then (selection_record a.prefer (view a.tree))) found.1 ∙ r.1) in
-        cc
-
-  pub names_of_contest : (contest : Option ℕ) → AreNamesOf (contest_map a contest) (names_in a contest)
-  unfolding IsDistinct
-  names_of_contest None = record { once = tt; all = λ n. ((λ s. absurd s), (λ some. absurd (some refl))) }
-  names_of_contest (Some c) = record {
-    once = names_once (name_of a.prefer (view a.tree)) (selection_values a c) (once_at c);
-    all = λ n. (has_one c n, (λ some. elim (beside_names a c (names c) (among c) n) [ inl none ↦ absurd (some none) | inr stands ↦ stands ]));
-  }
-
--- the names of the contest that a meaning has for a key
-pub names_at : (a : Judged) → IsComparable a.prefer (view a.tree) → (c : Option ℕ) (m : SelectionMap) → contest_map a c ≡ m → AreNamesOf m (names_in a c)
-names_at a comparable c m is = subst (λ (x : SelectionMap). AreNamesOf x (names_in a c)) is (names_of_contest a comparable.accepted c)

@@ -1,13 +1,14 @@
--- What a bound lets be told of a contest whose selections differ: how long names and differences are, and which lists are told.
-use Rattle.erd_compare.proofs.Common.{[], ◌≡◌, ◌≢◌, ℕ, zero, ◌≤◌, Bool, false, List, ◌∷◌, Some, None, Option, codes, bytes_eq, sym, refl, ap, ◌∙◌, subst, inl, inr, arith, class, Class, Key, local_key, Meaning, ObjectRecord, a_selection_map, SelectionRecord, NameParts, Difference, Member, part, Family, family}
+-- What a bound lets be told of contests whose selections differ: how long texts are, and which runs are told.
+use Rattle.erd_compare.proofs.Common.{[], ◌≡◌, ℕ, zero, ◌+◌, ◌≤◌, ◌++◌, Bool, AllByRecursion, serde_json_on_literals, false, List, ◌∷◌, Some, None, Option, codes, bytes_eq, sym, refl, ap, ◌∙◌, subst, inl, inr, arith, class, Class, Key, local_key, Meaning, ObjectRecord, a_selection_map, SelectionRecord, NameParts, Difference, Member, part, Family, family}
 use Rattle.std.specs.List.Sorted.{IsStrictlySortedBy}
-use Rattle.std.specs.List.{IsDistinct}
 use Rattle.std.specs.Prelude.{ℤ, if◌then◌else◌, sum_by}
 use Rattle.std.specs.Global.{Vec}
 use Rattle.std.proofs.lemmas.List.Sums.{sum_by-cons}
 use Rattle.erd_compare.specs.Differences.{AgreeBut, Stands}
 use Rattle.erd_compare.proofs.examples.SelectionDifferenceExamples.{by_parts, left_alone, without_selections}
-use Rattle.erd_compare.specs.SelectionDifferences.{difference_size, name_size, AreNamesOf, AreSelectionDifferences, AreTold, SelectionMap, Takes}
+use Rattle.erd_compare.specs.SelectionDifferences.{text_size, told_with, AreSelectionDifferences, IsBare, IsLongestRun, IsWhole, SelectionMap}
+use Rattle.erd_compare.specs.code.ContestSelections.{size_of_list, size_of_one}
+use Rattle.erd_compare.proofs.contest_selections.SelectionTexts.{whole_size}
 use Rattle.erd_compare.specs.declared.detailed.DetailedDifference.{DetailedDifference}
 use Rattle.erd_compare.specs.declared.inside.SelectionDifference.{SelectionDifference}
 
@@ -29,27 +30,20 @@ one = by_parts sole
 abbrev only : SelectionDifference
 only = left_alone labelled
 
--- ---- names and sizes
+-- ---- sizes
 
-sizes : (name_size labelled ≡ 1) × (difference_size only ≡ 1) × (difference_size (record { name = labelled; how = Member (codes "Note") }) ≡ 5)
-sizes = (refl, refl, refl)
+-- [{"how":"only left","name":["ElectionResults.BallotMeasureSelection",[],false,null,"\u0000",null]}]
+one_text : text_size (Some (only ∷ [])) ≡ 99
+unfolding serde_json_on_literals
+one_text = refl
 
-has_it : (c : Class) (ks : List Key) (w : Bool) (o : Option ℤ) (l : Option (List ℕ)) (i : Option Key) → (sole c ks w o l i ≢ None)
-    → Stands (record { class = c; keys = ks; write_in = w; order = o; label = l; identifier = i }) (labelled ∷ [])
-has_it class.BallotMeasureSelection [] false None (Some (zero ∷ [])) None some = inl refl
-has_it c ks w o l i some = absurd (some refl)
+-- with a comma, and [{"how":"member","member":"Note","name":..}], which has 13 bytes more
+two_texts : text_size (Some (only ∷ record { name = labelled; how = Member (codes "Note") } ∷ [])) ≡ 99 + 1 + 97 + 13
+unfolding serde_json_on_literals
+two_texts = refl
 
-pub names_of_one : AreNamesOf one (labelled ∷ [])
-unfolding IsDistinct
-names_of_one = record { once = (tt, tt); all = λ n. (here n, has_it n.class n.keys n.write_in n.order n.label n.identifier) }
-  where
-    here : (n : NameParts) → Stands n (labelled ∷ []) → one n ≢ None
-    here n (inl same) none = let clash : one labelled ≡ None = ap one same ∙ none in cc
-    here n (inr never) none = absurd never
-
-names_of_other : AreNamesOf without_selections []
-unfolding IsDistinct
-names_of_other = record { once = tt; all = λ n. ((λ none. absurd none), (λ some. absurd (some refl))) }
+nothing_told : text_size None ≡ 0
+nothing_told = refl
 
 agree : (c : Class) (ks : List Key) (w : Bool) (o : Option ℤ) (l : Option (List ℕ)) (i : Option Key)
     → AgreeBut (λ how. Stands (record { name = record { class = c; keys = ks; write_in = w; order = o; label = l; identifier = i }; how = how }) (only ∷ [])) (sole c ks w o l i) (without_selections labelled)
@@ -79,33 +73,71 @@ in_selections = record { part = part.Contest; key = Some (local_key (codes "C1")
 abbrev detailed : Option (Vec SelectionDifference) → DetailedDifference
 detailed told = record { difference = in_selections; selections = told }
 
-abbrev Told : (first most : ℕ) → Option (Vec SelectionDifference) → Type 0
-Told first most told = AreTold (meaning_of one) (meaning_of without_selections) first 0 most (detailed told ∷ [])
+abbrev IsRun : ℕ → List DetailedDifference → Type 0
+IsRun most ds = IsLongestRun (meaning_of one) (meaning_of without_selections) most ds
 
--- the name takes one byte, and the difference one more
-takes : (most : ℕ) → Takes (meaning_of one) (meaning_of without_selections) 0 most in_selections 2
-takes most =
-    ((λ _. record { left = labelled ∷ []; right = []; inside = only ∷ []; left_names = names_of_one; right_names = names_of_other; differences = λ _. are_all; counted = refl }), (λ outside. absurd (cc outside)))
+abbrev size_of : DetailedDifference → ℕ
+size_of d = text_size (told_with d)
 
--- two bytes are enough
-pub told : (v : Vec SelectionDifference) → v.items ≡ only ∷ [] → Told 0 2 (Some v)
-told v items = (2, takes 2, (refl, omega arith, subst (AreSelectionDifferences one without_selections) (sym items) are_all), tt)
+of_items : (v : Vec SelectionDifference) → v.items ≡ only ∷ [] → size_of (detailed (Some v)) ≡ 99
+of_items v items = ap (λ ds. text_size (Some ds)) items ∙ one_text
 
--- and one is not, nor is anything told before the first
-pub untold : Told 0 1 None × Told 1 2 None
-untold = ((2, takes 1, (λ _ fits. omega (arith, fits)), tt), ((λ _ never. never), tt))
+is_whole : (v : Vec SelectionDifference) → v.items ≡ only ∷ [] → IsWhole (meaning_of one) (meaning_of without_selections) (detailed (Some v))
+is_whole v items = (refl, subst (AreSelectionDifferences one without_selections) (sym items) are_all)
 
--- what stands in a list of names counts
+-- 99 bytes are enough
+told : (v : Vec SelectionDifference) → v.items ≡ only ∷ [] → IsRun 99 (detailed (Some v) ∷ [])
+told v items =
+    let size = of_items v items in
+    let sum = sum_by-cons size_of (detailed (Some v)) [] in
+    record { run = detailed (Some v) ∷ []; behind = []; split = refl; whole = (is_whole v items, tt); fits = omega (arith, sum, size); bare = tt; longest = tt }
+
+-- and 98 are not
+untold : IsRun 98 (detailed None ∷ [])
+untold = let size = one_text in record { run = []; behind = detailed None ∷ []; split = refl; whole = tt; fits = omega arith; bare = (refl, tt); longest = (Some (only ∷ []), (refl, are_all), omega (arith, size)) }
+
+-- of three, one is told within 197, and none behind it
+one_of_three : (v : Vec SelectionDifference) → v.items ≡ only ∷ [] → IsRun 197 (detailed (Some v) ∷ detailed None ∷ detailed None ∷ [])
+one_of_three v items =
+    let size = of_items v items in
+    let next = one_text in
+    let sum = sum_by-cons size_of (detailed (Some v)) [] in
+    record {
+      run = detailed (Some v) ∷ [];
+      behind = detailed None ∷ detailed None ∷ [];
+      split = refl;
+      whole = (is_whole v items, tt);
+      fits = omega (arith, sum, size);
+      bare = (refl, (refl, tt));
+      longest = (Some (only ∷ []), (refl, are_all), omega (arith, sum, size, next));
+    }
+
+-- what stands in a list counts
 counted : {A : Type 0} (size : A → ℕ) (x : A) (xs : List A) → Stands x xs → size x ≤ sum_by size xs
 counted size x [] s = absurd s
 counted size x (y ∷ xs) (inl same) = let sum = sum_by-cons size y xs in let is = ap size same in omega (arith, sum, is)
 counted size x (y ∷ xs) (inr s) = let sum = sum_by-cons size y xs in let more = counted size x xs s in omega (arith, sum, more)
 
--- none may be told within one byte
-not_beyond : (v : Vec SelectionDifference) → Told 0 1 (Some v) → ⊥
-not_beyond v (size, takes, (inside, fits, are), rest) =
-    let h = takes.0 refl in
-    let name = counted name_size labelled h.left ((h.left_names.all labelled).1 (λ none. cc)) in
-    let known = h.counted in
-    let difference = counted difference_size only h.inside ((h.differences (omega (arith, fits, known))).all labelled) in
-    omega (arith, fits, known, name, difference)
+long_enough : (ds : List SelectionDifference) → AreSelectionDifferences one without_selections ds → 99 ≤ text_size (Some ds)
+unfolding serde_json_on_literals
+long_enough ds are =
+    let one : size_of_one only ≤ size_of_list ds = counted size_of_one only ds (are.all labelled) in
+    let known : size_of_one only ≡ 98 = refl in
+    elim (whole_size ds) [
+      | inl (none, _) ↦ absurd (omega (arith, one, known, none))
+      | inr (_, size) ↦ omega (arith, one, known, size)
+    ]
+
+-- none may be told within 98
+not_beyond : (v : Vec SelectionDifference) → IsRun 98 (detailed (Some v) ∷ []) → ⊥
+not_beyond v h = at h.run h.behind h.split h.whole h.fits h.bare
+  where
+    at : (run behind : List DetailedDifference) → detailed (Some v) ∷ [] ≡ run ++ behind → AllByRecursion (IsWhole (meaning_of one) (meaning_of without_selections)) run → sum_by size_of run ≤ 98 → AllByRecursion IsBare behind → ⊥
+    at [] behind split whole fits bare = let none : Some v.items ≡ None = (subst (AllByRecursion IsBare) (sym split) bare).0 in cc
+    at (e ∷ es) behind split whole fits bare =
+        let same : e ≡ detailed (Some v) = cc in
+        let it = subst (IsWhole (meaning_of one) (meaning_of without_selections)) same whole.0 in
+        let long = long_enough v.items it.1 in
+        let size = ap size_of same in
+        let sum = sum_by-cons size_of e es in
+        omega (arith, fits, sum, size, long)

@@ -1,12 +1,13 @@
 -- The selections of a contest that stands at a position of a report, by their names.
-use Rattle.std.specs.Prelude.{◌≡◌, ℕ, ◌+◌, ◌<◌, ◌≤◌, List, [], ◌∷◌, Bool, map, flat_map, sum_by, Option, Some, None, option_map, unwrap_or, codes}
+use Rattle.std.specs.Prelude.{◌≡◌, ℕ, zero, suc, ◌+◌, ◌<◌, List, [], ◌∷◌, Bool, map, flat_map, length, sum_by, Option, Some, None, option_map, unwrap_or, codes, ⊤}
 use Rattle.std.specs.BTreeSet.{BTreeSet}
 use Rattle.std.specs.Borrow.{Bor}
-use Rattle.std.specs.List.{AllByRecursion, filter_map}
+use Rattle.std.specs.List.{AllByRecursion}
 use Rattle.std.specs.Option.{option_cmp}
 use Rattle.std.specs.Ordering.{is_eq}
 use Rattle.serde_json.specs.Data.{Data}
 use Rattle.serde_json.specs.View.{view}
+use Rattle.serde_json.specs.Written.{compact_text}
 use Rattle.erd_check.specs.Values.{entries_at}
 use Rattle.erd_meaning.specs.Judged.{Judged}
 use Rattle.erd_meaning.specs.Meaning.{a_plain, Meaning, ObjectRecord, SelectionRecord}
@@ -16,7 +17,8 @@ use Rattle.erd_meaning.specs.Records.{selection_map}
 use Rattle.erd_meaning.specs.SelectionNames.{name_cmp, name_of}
 use Rattle.std.specs.List.{slice_get}
 use Rattle.erd_compare.specs.Differences.{Stands}
-use Rattle.erd_compare.specs.SelectionDifferences.{SelectionMap, AreSelectionDifferences, AreTold, difference_size, name_size}
+use Rattle.erd_compare.specs.SelectionData.{selection_data}
+use Rattle.erd_compare.specs.SelectionDifferences.{SelectionMap, AreSelectionDifferences, text_size, told_with, IsBare, TellsAll}
 use Rattle.erd_compare.specs.code.DifferingWays.{hows_of}
 use Rattle.erd_compare.specs.declared.detailed.DetailedDifference.{DetailedDifference}
 use Rattle.erd_compare.specs.declared.difference.Difference.{Difference}
@@ -55,15 +57,6 @@ abbrev pub AddsNames : Judged → Option ℕ → List NameParts → List NamePar
 AddsNames a None before after = (name : NameParts) → Stands name before → Stands name after
 AddsNames a (Some c) before after = ((name : NameParts) → Stands name before → Stands name after) × AreNamesAmong a after (selection_values a c)
 
--- The names of the selections of the contest, in the order of the report, or no names if there is no such contest.
-abbrev pub names_in : Judged → Option ℕ → List NameParts
-names_in a None = []
-names_in a (Some c) = filter_map (name_of a.prefer (view a.tree)) (selection_values a c)
-
--- How many bytes they have together.
-abbrev pub size_in : Judged → Option ℕ → ℕ
-size_in a contest = sum_by name_size (names_in a contest)
-
 -- The differences at the name of a selection, one for each way.
 abbrev pub differences_named : NameParts → Ways → List SelectionDifference
 differences_named name ways = map (λ how. record { name = name; how = how }) (hows_of ways)
@@ -72,38 +65,48 @@ differences_named name ways = map (λ how. record { name = name; how = how }) (h
 abbrev pub differences_at : List NamedWays → List SelectionDifference
 differences_at vs = flat_map (λ v. differences_named v.name.now v.ways) vs
 
+-- How many bytes a difference has in an array of differences, with the one that stands behind it.
+abbrev pub size_of_one : SelectionDifference → ℕ
+size_of_one d = suc (length (compact_text (selection_data d)))
+
 -- How many bytes they have together.
 abbrev pub size_of_list : List SelectionDifference → ℕ
-size_of_list ds = sum_by difference_size ds
+size_of_list ds = sum_by size_of_one ds
 
--- So many bytes are left of the room behind texts of this size, or none if they do not fit.
+-- So many bytes are left of the room behind a text of this size, or none if it does not fit.
 abbrev pub Leaves : ℕ → ℕ → Option ℕ → Type 0
 Leaves size room None = room < size
 Leaves size room (Some left) = left + size ≡ room
 
--- The same where there may be no room.
-abbrev pub LeavesRoom : ℕ → Option ℕ → Option ℕ → Type 0
-LeavesRoom size None left = left ≡ None
-LeavesRoom size (Some room) left = Leaves size room left
+-- What is told of the differences inside, if this is left behind them.
+abbrev pub if_left : Option ℕ → Option (List SelectionDifference) → Option (List SelectionDifference)
+if_left None inside = None
+if_left (Some left) inside = inside
 
--- Of `most` bytes, so many are left where so many were used, or none if more were used.
-abbrev pub IsLeft : ℕ → ℕ → Option ℕ → Type 0
-IsLeft most used None = most < used
-IsLeft most used (Some left) = left + used ≡ most
-
--- The names of two contests have so many bytes, and this is told of their differences: all of them if names and differences fit
--- into the room before, which leaves the room after.
-abbrev pub PassesInside : SelectionMap → SelectionMap → ℕ → Option (List SelectionDifference) → Option ℕ → Option ℕ → Type 0
-PassesInside m n names told None after = (told ≡ None) × (after ≡ None)
-PassesInside m n names told (Some room) after =
+-- This is told of the differences of two contests, if their text fits into the room before, which leaves the room after.
+abbrev pub PassesInside : SelectionMap → SelectionMap → Option (List SelectionDifference) → Option ℕ → Option ℕ → Type 0
+PassesInside m n told None after = (told ≡ None) × (after ≡ None)
+PassesInside m n told (Some room) after =
     (inside : List SelectionDifference)
-    × (names ≤ room → AreSelectionDifferences m n inside)
-    × Leaves (names + size_of_list inside) room after
-    × (told ≡ option_map (λ left. inside) after)
+    × AreSelectionDifferences m n inside
+    × Leaves (text_size (Some inside)) room after
+    × (told ≡ if_left after (Some inside))
+
+-- The differences are told, one after another, with this room: as many bare ones as it has first, and then whole ones, until the
+-- text of one does not fit into the bytes that are left.
+abbrev pub AreTold : Meaning → Meaning → (first : ℕ) → (bytes : Option ℕ) → List DetailedDifference → Type 0
+AreTold m n first bytes [] = ⊤
+AreTold m n (suc first) bytes (d ∷ ds) = IsBare d × AreTold m n first bytes ds
+AreTold m n zero None (d ∷ ds) = IsBare d × AreTold m n zero None ds
+AreTold m n zero (Some room) (d ∷ ds) =
+    (inside : Option (List SelectionDifference))
+    × (left : Option ℕ)
+    × TellsAll m n d.difference inside
+    × Leaves (text_size inside) room left
+    × (told_with d ≡ if_left left inside)
+    × AreTold m n zero left ds
 
 -- The next difference is told with this, and so the room of the differences is that of those behind it.
 abbrev pub PassesOne : Meaning → Meaning → Difference → Option (List SelectionDifference) → Room → Room → Type 0
 PassesOne m n d told before after =
-    (used most : ℕ) → IsLeft most used before.bytes
-    → (now : ℕ) × IsLeft most now after.bytes
-    × ((e : DetailedDifference) (rest : List DetailedDifference) → e.difference ≡ d → option_map (λ v. v.items) e.selections ≡ told → AreTold m n after.first now most rest → AreTold m n before.first used most (e ∷ rest))
+    (e : DetailedDifference) (rest : List DetailedDifference) → e.difference ≡ d → told_with e ≡ told → AreTold m n after.first after.bytes rest → AreTold m n before.first before.bytes (e ∷ rest)

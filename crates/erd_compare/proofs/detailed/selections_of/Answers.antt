@@ -1,8 +1,7 @@
-use Rattle.erd_compare.proofs.Common.{◌≡◌, ℕ, ◌+◌, ◌-◌, true, false, Option, option_map, refl, ap, ◌∙◌, subst, rules, arith, IfOk-weaker, option_copied, view, Judged, meaning, Key}
+use Rattle.erd_compare.proofs.Common.{◌≡◌, ℕ, ◌-◌, true, false, Option, option_map, refl, ap, ◌∙◌, subst, rules, arith, IfOk-weaker, option_copied, view, Judged, meaning, Key}
 use Rattle.erd_compare.specs.SelectionDifferences.{is_in_selections, selections_with_key}
-use Rattle.erd_compare.specs.code.ContestSelections.{contest_map, names_in, size_in, PassesInside}
-use Rattle.erd_compare.proofs.contest_selections.AddedNames.{names_at}
-use Rattle.erd_compare.proofs.contest_selections.SelectionLists.{passed_before, passed_beside, passed_inside}
+use Rattle.erd_compare.specs.code.ContestSelections.{contest_map, PassesInside}
+use Rattle.erd_compare.proofs.contest_selections.ToldLists.{passed_before, passed_beside, passed_inside}
 use Rattle.erd_compare.proofs.detailed.selections_of.Goals as goal
 
 pub returns-then-room-gt0 : goal.returns-then-room-gt0
@@ -40,7 +39,6 @@ returns c =
     let right = at_key c.right.result.now b other d.key (option_copied c.as_ref-2.result) c.right.ensures.same c.as_ref-2.ensures.value c.contest_with_key-other_contest.ensures in
     IfOk-weaker c.selections_within.result _ _
     (λ told passes.
-    passed_inside m n d inside (names_in a one) (names_in b other) (names_at a c.left.ensures.comparable one (selections_with_key m d.key) left) (names_at b c.right.ensures.comparable other (selections_with_key n d.key) right)
-    c.args.room.now (record { first = c.args.room.now.first; bytes = c.selections_within.new.room }) (omega (arith, c.if-room-gt0.false)) refl (option_map (λ v. v.items) told)
-    (subst (λ x. PassesInside x (selections_with_key n d.key) (size_in a one + size_in b other) (option_map (λ v. v.items) told) c.args.room.now.bytes c.selections_within.new.room) left
-    (subst (λ y. PassesInside (contest_map a one) y (size_in a one + size_in b other) (option_map (λ v. v.items) told) c.args.room.now.bytes c.selections_within.new.room) right passes))) c.selections_within.ensures
+    passed_inside m n d inside c.args.room.now (record { first = c.args.room.now.first; bytes = c.selections_within.new.room }) (omega (arith, c.if-room-gt0.false)) refl (option_map (λ v. v.items) told)
+    (subst (λ x. PassesInside x (selections_with_key n d.key) (option_map (λ v. v.items) told) c.args.room.now.bytes c.selections_within.new.room) left
+    (subst (λ y. PassesInside (contest_map a one) y (option_map (λ v. v.items) told) c.args.room.now.bytes c.selections_within.new.room) right passes))) c.selections_within.ensures

@@ -2,7 +2,7 @@ use Rattle.erd_compare.proofs.Common.{◌≡◌, ◌++◌, List, [], ◌∷◌, 
 use Rattle.std.proofs.lemmas.List.{append_assoc}
 use Rattle.std.specs.Vec.Iter.{into_iter_items}
 use Rattle.erd_compare.specs.declared.detailed.DetailedDifference.{DetailedDifference}
-use Rattle.erd_compare.proofs.contest_selections.SelectionLists.{all_told, one_told}
+use Rattle.erd_compare.proofs.contest_selections.ToldLists.{all_told, one_told}
 use Rattle.erd_compare.proofs.detailed.with_selections.Goals as goal
 
 -- one more is on the list

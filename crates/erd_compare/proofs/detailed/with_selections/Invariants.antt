@@ -1,6 +1,6 @@
 use Rattle.erd_compare.proofs.Common.{◌≡◌, ◌++◌, map, view, meaning}
 use Rattle.std.specs.Vec.Iter.{into_iter_items}
-use Rattle.erd_compare.proofs.contest_selections.SelectionLists.{AreToldUpTo}
+use Rattle.erd_compare.proofs.contest_selections.ToldLists.{AreToldUpTo}
 use Rattle.erd_compare.proofs.detailed.with_selections.Given as goal
 
 -- with the differences that are left, the list has all

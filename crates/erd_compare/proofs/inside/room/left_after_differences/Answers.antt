@@ -1,15 +1,24 @@
 use Rattle.erd_compare.proofs.Common.{◌≡◌, ◌+◌, ◌<◌, length, refl, subst, slice_get_read}
 use Rattle.std.specs.Prelude.{sum_by}
-use Rattle.erd_compare.proofs.contest_selections.SelectionLists.{size_at, sizes_at}
-use Rattle.erd_compare.proofs.contest_selections.AddedNames.{all_fit, one_does_not}
+use Rattle.erd_compare.specs.code.ContestSelections.{Leaves}
+use Rattle.erd_compare.proofs.contest_selections.AddedNames.{all_fit, one_does_not, one_fits}
+use Rattle.erd_compare.proofs.contest_selections.SelectionTexts.{size_at, sizes_at}
 use Rattle.erd_compare.proofs.inside.room.left_after_differences.Goals as goal
 
-pub returns-in_err-left : goal.returns-in_err-left
-returns-in_err-left c =
+pub loop-named-preserved : goal.loop-named-preserved
+loop-named-preserved c =
     let vs = c.args.ways.now in
-    let low = one_does_not size_at vs c.loop-named.named-index (sum_by size_at vs) c.args.room c.loop-named.left c.loop-named.invariant c.named-item.result
-    (slice_get_read vs (length vs) c.loop-named.named-index c.named-item.result refl c.loop-named-test.true c.named-item.is) c.in_err-left.ensures in
-    rw c.from_residual.ensures (subst (λ s. c.args.room < s) (sizes_at vs) low)
+    one_fits size_at vs c.loop-named.named-index (sum_by size_at vs) c.args.room c.loop-named.left c.loop-named.invariant c.named-item.result
+    (slice_get_read vs (length vs) c.loop-named.named-index c.named-item.result refl c.loop-named-test.true c.named-item.is) c.in-Some.less
+    (subst (λ o. Leaves (size_at c.named-item.result) c.loop-named.left o) c.in-Some.is c.in_ok-less.ensures)
+
+pub returns-in-None : goal.returns-in-None
+returns-in-None c =
+    let vs = c.args.ways.now in
+    subst (λ s. c.args.room < s) (sizes_at vs)
+    (one_does_not size_at vs c.loop-named.named-index (sum_by size_at vs) c.args.room c.loop-named.left c.loop-named.invariant c.named-item.result
+    (slice_get_read vs (length vs) c.loop-named.named-index c.named-item.result refl c.loop-named-test.true c.named-item.is)
+    (subst (λ o. Leaves (size_at c.named-item.result) c.loop-named.left o) c.in-None.is c.in_ok-less.ensures))
 
 pub returns : goal.returns
 returns c =

@@ -1,6 +1,6 @@
 use Rattle.erd_compare.proofs.Common.{◌≡◌, ◌+◌, drop}
 use Rattle.std.specs.Prelude.{sum_by}
-use Rattle.erd_compare.proofs.contest_selections.SelectionLists.{size_in_member}
+use Rattle.erd_compare.proofs.contest_selections.SelectionTexts.{size_in_member}
 use Rattle.erd_compare.proofs.inside.room.left_after_ways.Given as goal
 
 -- with the members that are left, all are taken from the room
