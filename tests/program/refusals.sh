@@ -101,7 +101,7 @@ for name in \
     parts::refused_order \
     parts::refused_values \
     command_lines::refused_lines \
-    command_lines::refused_help_and_usage \
+    help_texts::refused_help_and_usage \
     program::refused_rows \
     program::refused_help_and_usage; do
     one_test "$name"

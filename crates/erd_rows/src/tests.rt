@@ -7,6 +7,7 @@ mod devices;
 mod edits;
 mod election_rows;
 mod errors;
+mod help_texts;
 mod keys;
 mod later_rows;
 mod look_ups;
