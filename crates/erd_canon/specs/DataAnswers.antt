@@ -1,4 +1,4 @@
--- What the calls answer as data, for given bytes. docs/DATA.md describes the answers.
+-- What the calls answer as data, for given bytes. docs/API.md describes the answers.
 use Rattle.std.specs.Prelude.{ℕ, ◌≡◌, ◌⊎◌, List, [], ◌∷◌, Option, codes}
 use Rattle.serde_json.specs.Data.{Data, string}
 use Rattle.serde_json.specs.Written.{compact_text}

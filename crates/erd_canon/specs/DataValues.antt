@@ -1,4 +1,4 @@
--- The JSON values of faults and of a comparison. docs/DATA.md describes them.
+-- The JSON values of faults and of a comparison. docs/API.md describes them.
 use Rattle.std.specs.Prelude.{ℕ, List, Option, Some, None, map, codes}
 use Rattle.serde_json.specs.Data.{Data, unsigned, null, number, string, array, object, Members, no_members, member}
 use Rattle.serde_json.specs.View.{items_of}

@@ -1,4 +1,4 @@
--- What the words of a command line are answered with as data. docs/DATA.md describes the answers.
+-- What the words of a command line are answered with as data. docs/API.md describes the answers.
 use Rattle.std.specs.Prelude.{◌≡◌, ℕ, Bool, true, false, List, [], ◌∷◌, map, codes, Option, Some, None, Result, Ok, Err}
 use Rattle.serde_json.specs.Data.{Data, string, array, object, member}
 use Rattle.serde_json.specs.View.{items_of}

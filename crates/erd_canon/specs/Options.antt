@@ -16,11 +16,11 @@ preference_in rows = first_of (codes "TYPE") rows
 abbrev pub asks_json : List Row → Bool
 asks_json rows = bytes_eq (unwrap_or (first_of (codes "json") rows) []) (codes "true")
 
--- A preference as a string, or null if there is none. (docs/DATA.md)
+-- A preference as a string, or null if there is none. (docs/API.md)
 abbrev pub preference_data : Option (List ℕ) → Data
 preference_data None = null
 preference_data (Some type) = string type
 
--- The members of a request that are its options: whether JSON is asked for, and the preference. (docs/DATA.md)
+-- The members of a request that are its options: whether JSON is asked for, and the preference. (docs/API.md)
 abbrev pub option_members : Bool → Option (List ℕ) → Members
 option_members json prefer = member (codes "json") (boolean json) (member (codes "prefer") (preference_data prefer) no_members)

@@ -1,4 +1,4 @@
--- The JSON value of a difference. docs/DATA.md describes it.
+-- The JSON value of a difference. docs/API.md describes it.
 use Rattle.std.specs.Prelude.{ℕ, List, Option, Some, None, codes}
 use Rattle.serde_json.specs.Data.{Data, null, string, object, Members, no_members, member}
 use Rattle.erd_meaning.specs.declared.keys.key.Key.{Key}

@@ -1,4 +1,4 @@
--- The JSON values of what differs inside the selections of contests. docs/DATA.md describes them.
+-- The JSON values of what differs inside the selections of contests. docs/API.md describes them.
 use Rattle.std.specs.Prelude.{ℕ, ℤ, pos, negsuc, ◌^◌, nat_lt, if◌then◌else◌, List, [], ◌∷◌, map, Option, Some, None, option_map, codes}
 use Rattle.serde_json.specs.Data.{Data, unsigned, negative, null, boolean, number, string, array, object, Members, no_members, member}
 use Rattle.serde_json.specs.View.{items_of}

@@ -14,7 +14,7 @@ use std::alloc::{AllocError, Global};
 
 impl DetailedDifference {
     /// Returns the difference as a JSON object: that of `Difference::to_value`. If two contests differ in their selections, it
-    /// has a member `selections` too, with the array of the differences of these. docs/DATA.md describes the objects.
+    /// has a member `selections` too, with the array of the differences of these. docs/API.md describes the objects.
     ///
     /// # Errors
     ///

@@ -14,7 +14,7 @@ use std::alloc::{AllocError, Global};
 pub struct Answer {
     /// The outcome, as that of an engine.
     pub outcome: Outcome,
-    /// Compact JSON, without a line feed. docs/DATA.md describes its values.
+    /// Compact JSON, without a line feed. docs/API.md describes its values.
     pub text: String,
 }
 
@@ -41,7 +41,7 @@ pub fn check_data(alloc: Global, bytes: &[u8]) -> Result<Answer, AllocError>
 /// Checks the bytes of a report under a preferred type of identifier, or under none, and answers with a JSON text.
 ///
 /// The text is an empty array if the report is accepted, an array with an object for each fault, in the order of the faults, or
-/// the string `not JSON`. docs/DATA.md describes the objects.
+/// the string `not JSON`. docs/API.md describes the objects.
 ///
 /// # Errors
 ///

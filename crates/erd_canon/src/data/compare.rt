@@ -36,7 +36,7 @@ pub fn compare_data(alloc: Global, left: &[u8], right: &[u8]) -> Result<Answer, 
 ///
 /// The text is `null` if the reports mean the same, or an object for their first difference. If the left report is refused, or
 /// else if the right one is, the text is an object with the side and the value that `check_data_with` answers for that report.
-/// docs/DATA.md describes the objects.
+/// docs/API.md describes the objects.
 ///
 /// # Errors
 ///
@@ -125,7 +125,7 @@ pub fn differences_data(alloc: Global, left: &[u8], right: &[u8]) -> Result<Answ
 /// The text is an array with an object for each difference, in rising order, which is empty if the reports mean the same. The
 /// objects are those of `compare_data_with`, and the first is the one that it answers. The object of a difference in the
 /// selections of a contest has what differs inside them too, in a member `selections`. If a report is refused, the text is what
-/// `compare_data_with` answers. docs/DATA.md describes the objects.
+/// `compare_data_with` answers. docs/API.md describes the objects.
 ///
 /// A name of a selection has its keys in full, so the text can be as long as the square of the reports. `differences_data_piece`
 /// bounds it.

@@ -14,7 +14,7 @@ pub struct LineAnswer {
     /// The exit status of the program for these words, if they make no request: 0 for help, 3 for wrong words. `None` for a
     /// request.
     pub status: Option<u8>,
-    /// For a request, compact JSON without a line feed: docs/DATA.md describes its value. Otherwise the text that the program
+    /// For a request, compact JSON without a line feed: docs/API.md describes its value. Otherwise the text that the program
     /// writes: help to standard output, and what is wrong with the words to standard error.
     pub text: String,
 }
