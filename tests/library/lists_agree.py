@@ -200,6 +200,22 @@ def failure_of_long_name(library):
     return why or (None if len(found.entries[0].selections) == 2000 else f'{len(found.entries[0].selections)} members differ')
 
 
+def failure_of_orders_alone(library):
+    """What is wrong in the list of two reports, or None, of which one has 20,000 selections with names without any text: a sequence order
+    alone. Such names count by what is written of them, too."""
+    reports = []
+    for orders in (range(20_000), (70_000,)):
+        chosen = [selection(f's{order}', SequenceOrder=order) for order in orders]
+        reports.append(json.dumps(report([unit('u', 'U')], 'u', Contest=[contest('c', 'C', 'u', chosen)])).encode())
+    found = listed(*reports, None)
+    size = bytes_in_selections(erd_reference.difference_data(found.entries[0]))
+    for enough, is_told in ((1, False), (2 ** 20, False), (size - 1, False), (size, True)):
+        answer = library.piece('erd_differences_data', reports, None, 0, ALL, enough)
+        if ('selections' in json.loads(answer[1])[0]) != is_told or len(answer[1]) > enough + 200:
+            return f'with room for {enough} bytes there are {len(answer[1])}'
+    return failure_of_list(library, reports, None, found, [(ALL, 1), (ALL, size - 1), (ALL, size)], whole=False)
+
+
 def failure_of_refusal(library, reports, prefer):
     """What is wrong in the answers for two reports of which one is refused, or None."""
     status, value = erd_reference.entries_answer(*reports, None if prefer is None else prefer.decode())
@@ -231,7 +247,8 @@ def main():
     dice, seen = random.Random(seed), {'refused': 0, 'same': 0, 'different': 0}
     with tempfile.TemporaryDirectory() as folder:
         library = Library(shared_library(folder))
-        for what, failure_of in (('many entries', failure_of_many_entries), ('a long name', failure_of_long_name)):
+        for what, failure_of in (('many entries', failure_of_many_entries), ('a long name', failure_of_long_name),
+                                 ('orders alone', failure_of_orders_alone)):
             why = failure_of(library)
             if why:
                 print(f'FAILED  {what}: {why[:2000]}', '0 passed, 1 failed', sep='\n')
