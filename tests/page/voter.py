@@ -1,4 +1,6 @@
 """What a voter sees is told from the ballots that are shown, so the two agree, and what the ballots leave out is named."""
+import re
+
 import answers
 from made import candidate_contest, identified, listed, measure, report, style, typed, written
 
@@ -46,3 +48,25 @@ def run(session):
         session.said(f'voter: {name}, what is left out', '' if len(left_out) == len(named) and all(word in line for word, line in zip(named, left_out)) else repr(left_out))
         session.open_details()
         session.equal(f'voter: {name}, the ballots', session.text('#ballots details + div, #ballots .controls + div > p'), answers.say('ballots.counts', changed=differing, all=2))
+    partly(session)
+
+
+MANY = 21_000
+
+
+def partly(session):
+    """More differences than are listed, of which a voter may see the last one: neither the page nor its record says that nothing is visible."""
+    pair = []
+    for is_one in (False, True):
+        one = made(lambda one, election: one['Office'][0].update(IsPartisan=is_one))
+        one['GpUnit'] += [typed('ReportingUnit', id=f'm{number}', ExternalIdentifier=identified(f'M{number}'), Type='other', IsDistricted=is_one)
+                          for number in range(MANY)]
+        pair.append(written(session, f'{is_one}.json', one))
+    session.judged(*pair)
+    found = re.search(r'lists the first ([\d,]+)', session.text('.others'))
+    listed = int(found[1].replace(',', '')) if found else 0
+    part = answers.say('seen.part', listed=listed, all=MANY + 1)
+    session.equal('voter: of many differences', session.text('.seen h3'), answers.say('seen.shownSame', count=2))
+    session.has('voter: of which the page has looked at the first', session.text('.seen'), part)
+    session.has('voter: of many differences, the record', session.text('.filed'), part)
+    session.equal('voter: of many differences, their order in the record', session.text('[data-filed] > p'), answers.say('record.orderPart', listed=listed))

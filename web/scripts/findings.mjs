@@ -15,14 +15,14 @@ const MOST_INSIDE = 20;
 /**
  * The differences of two files.
  * @param {object[]} entries the first of them, as `Judgement.more` answers
- * @param {number} count how many there are
+ * @param {{count: number, listed: number}} known how many there are, and how many of them are known
  * @param {string[]} names
  */
-export function differencesFiled(entries, count, names) {
+export function differencesFiled(entries, { count, listed }, names) {
     const items = entries.map((entry) => element('li', { value: String(entry.number + 1) }, sentence(entry, names),
         ...linesOf(entry, names).map((line) => element('div', {}, line))));
     return element('div', { 'data-filed': 'differences' }, element('h4', {}, say('difference.all', { count })),
-        entries[0].word === undefined || count === 1 ? null : element('p', {}, say('record.order')),
+        entries[0].word === undefined || count === 1 ? null : element('p', {}, listed === count ? say('record.order') : say('record.orderPart', { listed })),
         element('ol', {}, ...items), leftOut(count - items.length));
 }
 

@@ -4,7 +4,7 @@ import { ENVELOPE } from './envelope.mjs';
 import { ownSentence } from './difference_list.mjs';
 import { convertedRecorded, savedName } from './from_xml/shown.mjs';
 import { copyRecorded } from './prepare_copy.mjs';
-import { leftOutShown, seenSentence } from './seen_box.mjs';
+import { leftOutShown, partShown, seenSentence } from './seen_box.mjs';
 import { sumShown } from './sums.mjs';
 import { numberText, say } from './texts.mjs';
 
@@ -35,7 +35,7 @@ export function recordOf(known, client) {
 // What only the printed record has.
 function filed({ notices, findings, listed }) {
     return element('div', { class: 'filed' }, ...notices.map((heading) => element('p', {}, element('strong', {}, ...heading))),
-        ...(listed?.seen ? leftOutShown(listed.seen.leftOut) : []), findings,
+        ...(listed?.seen ? partShown(listed) : []), ...(listed?.seen ? leftOutShown(listed.seen.leftOut) : []), findings,
         element('div', { class: 'signing' }, element('p', {}, say('record.proved')), element('p', {}, say('record.notProved')), signatures()));
 }
 

@@ -225,7 +225,7 @@ export class Result {
     async findings() {
         if (this.listed) {
             const entries = await this.client.ask('more', { group: 'filed', from: 0, count: MOST_FILED });
-            return differencesFiled(entries, this.listed.count, this.names);
+            return differencesFiled(entries, this.listed, this.names);
         }
         const refused = this.answer.files.map((file, index) => ({ ...file, index })).filter(({ outcome }) => outcome === 'refused');
         const parts = await Promise.all(refused.map(async ({ index, faults }) => faultsFiled(

@@ -8,19 +8,20 @@ import { say } from './texts.mjs';
 const MOST_LEFT_OUT = 12;
 
 /** The sentence on the ballots of both files. */
-export function seenSentence({ count, seen: { ballots, leftOut } }) {
+export function seenSentence({ count, listed, seen: { ballots, leftOut } }) {
     if (ballots.differing > 0) {
         return say('seen.differ', { differing: ballots.differing, all: ballots.all });
     }
-    return leftOut.length === 0 ? say('seen.unseen', { count }) : ballots.all === 0 ? say('seen.noBallots') : say('seen.shownSame', { count: ballots.all });
+    const isNothing = leftOut.length === 0 && listed === count;
+    return isNothing ? say('seen.unseen', { count }) : ballots.all === 0 ? say('seen.noBallots') : say('seen.shownSame', { count: ballots.all });
 }
 
 /** The box for the differences that the list has. */
 export function seenBox(listed) {
     const { count, seen: { ballots, leftOut, unseen } } = listed;
-    const isQuiet = ballots.differing === 0 && leftOut.length === 0;
+    const isQuiet = ballots.differing === 0 && leftOut.length === 0 && listed.listed === count;
     return element('section', { class: `seen ${isQuiet ? 'quiet' : 'touched'}`, 'aria-labelledby': 'seen' },
-        element('h3', { id: 'seen' }, seenSentence(listed)), ...leftOutShown(leftOut),
+        element('h3', { id: 'seen' }, seenSentence(listed)), ...leftOutShown(leftOut), ...partShown(listed),
         unseen === 0 ? null : element('p', {}, say('seen.count.unseen', { count: unseen }), ' ', say('seen.of', { count })),
         element('p', { class: 'note' }, say('seen.note'), ' ', documentButton('profile')));
 }
@@ -34,6 +35,11 @@ export function leftOutShown(leftOut) {
     const lines = leftOut.slice(0, MOST_LEFT_OUT).map((one) => element('li', {}, leftOutSentence(one)));
     return [element('p', {}, say('seen.leftOut')), element('ul', { class: 'left-out' }, ...lines,
         more === 0 ? null : element('li', {}, say('record.more', { count: more })))];
+}
+
+/** Which differences the page has looked at for what the ballots leave out, where these are not all. */
+export function partShown({ count, listed }) {
+    return listed === count ? [] : [element('p', {}, say('seen.part', { listed, all: count }))];
 }
 
 /** What the ballots leave out of objects, and how often. */
