@@ -2,10 +2,13 @@
 election, its envelope and whether it is a prepared copy."""
 import base64
 import json
+import re
+import shutil
 
 import answers
 from flows import pages_of
 from made import identified, listed, measure, report, style, typed, written
+from printed import texts_of
 from session import EXAMPLES, sha256
 
 TEXT = ' '.join(f'Word {number} of the measure.' for number in range(40))
@@ -68,10 +71,24 @@ def identity(session):
     session.equal('filed: the marks of a test', [line[1] for line in lines if line[0] == answers.say('record.test')], 2 * [answers.say('record.isTest')])
     envelopes = [line[1] for line in lines if line[0] == answers.say('record.envelope')]
     session.said('filed: the envelopes', '' if len(envelopes) == 2 and 'Issuer: Vendor' in envelopes[1] and 'Notes: Struck by court order' in envelopes[0] else repr(envelopes))
-    pages = pages_of(base64.b64decode(session.browser.command('print')))
-    session.said('filed: several pages', '' if pages > 1 else f'{pages} page')
-    session.equal('filed: the signatures stand with the last paragraphs', session.browser.script("""
-        return [...document.querySelector('.filed').lastElementChild.children].map((one) => one.className)"""), ['', '', 'signatures'])
+    pdf = base64.b64decode(session.browser.command('print'))
+    session.said('filed: several pages', '' if pages_of(pdf) > 1 else f'{pages_of(pdf)} page')
+    if shutil.which('pdftotext') is None:
+        print('skipped the printed record: not installed: poppler-utils')
+    else:
+        paper(session, texts_of(session.file('record.pdf', pdf)))
+
+
+def paper(session, pages):
+    """What is signed stands with the signatures: the verdict, and each file with its sum. Chromium numbers the pages as the record asks for; the
+    other browsers do so by themselves, in the dialogue of print."""
+    last = re.sub(r'\s+', ' ', pages[-1])
+    wanted = [answers.say('verdict.different'), *(f'{label} file: {name} SHA-256 {sha256((session.work / name).read_bytes())}' for label, name in (
+        ('First', 'left.json'), ('Second', 'right.json'))), answers.say('record.signature')]
+    session.equal('filed: what is signed stands where it is signed', [words for words in wanted if words not in last], [])
+    if session.browser.name == 'Chromium':
+        session.equal('filed: the pages are numbered', [re.sub(r'\s', '', text.rstrip().rpartition('\n')[2]) for text in pages],
+                      [f'{number}/{len(pages)}' for number in range(1, len(pages) + 1)])
 
 
 def copies(session):

@@ -364,7 +364,7 @@ class Result:
         return hashlib.sha256(pathlib.Path(urllib.request.url2pathname(urllib.parse.urlparse(page).path)).read_bytes()).hexdigest()
 
     def filed(self):
-        """What only the printed record has: the notices, the differences or the faults, and what is proved."""
+        """What only the printed record has: the notices, the differences or the faults, what is proved, and what is signed."""
         refused = [it for it, _ in self.each('refused')]
         headings = [say('faults.heading', name=it.name, count=len(it.faults)) for it in refused]
         entries = [line for it in refused for line in it.lines.decode('utf-8').splitlines()]
@@ -373,7 +373,13 @@ class Result:
             ordered = sorted(self.entries, key=lambda entry: ('seen', 'in doubt', 'unseen').index(self.word(entry))) if self.has_values else self.entries
             entries = [self.sentence_on(entry) + ''.join(self.inside(entry)[1:] or values_filed(entry)) for entry in ordered]
         left_out = [say('seen.leftOut')] if self.is_listed and self.has_values and len(self.seen()) > 1 else []
-        return {'headings': headings, 'entries': entries, 'paragraphs': [*self.notices(), *left_out, say('record.proved'), say('record.notProved')]}
+        paragraphs = [*self.notices(), *left_out, say('record.proved'), say('record.notProved'), *self.signed()]
+        return {'headings': headings, 'entries': entries, 'paragraphs': paragraphs}
+
+    def signed(self):
+        """What stands above the signatures: the verdict, and each file with its sum."""
+        labels = ['sheet.file'] if len(self.answers) == 1 else ['sheet.file1', 'sheet.file2']
+        return [self.verdict()[2], *(say(label, name=it.name) + (f' SHA-256 {it.sum}' if it.sum else '') for label, it in zip(labels, self.answers))]
 
     @staticmethod
     def record_of(it, number):

@@ -1,5 +1,5 @@
 // The record of a judgement: what two offices read to each other, and what is printed and filed.
-import { button, element, long, save, theirs } from './dom.mjs';
+import { button, element, long, save, saidWith, theirs } from './dom.mjs';
 import { ENVELOPE } from './envelope.mjs';
 import { ownSentence } from './difference_list.mjs';
 import { convertedRecorded, savedName } from './from_xml/shown.mjs';
@@ -7,8 +7,10 @@ import { copyRecorded } from './prepare_copy.mjs';
 import { leftOutShown, partShown, seenSentence } from './seen_box.mjs';
 import { sumShown } from './sums.mjs';
 import { numberText, say } from './texts.mjs';
+import { shortened } from './visible.mjs';
 
 const LONGEST_MEMBER = 2000;
+const LONGEST_SIGNED = 200;
 
 /**
  * The section of the record.
@@ -33,10 +35,18 @@ export function recordOf(known, client) {
 }
 
 // What only the printed record has.
-function filed({ notices, findings, listed }) {
+function filed({ notices, findings, listed, ...known }) {
     return element('div', { class: 'filed' }, ...notices.map((heading) => element('p', {}, element('strong', {}, ...heading))),
         ...(listed?.seen ? partShown(listed) : []), ...(listed?.seen ? leftOutShown(listed.seen.leftOut) : []), findings,
-        element('div', { class: 'signing' }, element('p', {}, say('record.proved')), element('p', {}, say('record.notProved')), signatures()));
+        element('div', { class: 'signing' }, element('p', {}, say('record.proved')), element('p', {}, say('record.notProved')),
+            ...signed(known), signatures()));
+}
+
+// What is signed: it stands on the page with the signatures, which may be the last of several.
+function signed({ files, names, verdict }) {
+    return [element('p', {}, element('strong', {}, verdict)), ...files.map(({ sha256 }, index) => element('p', { class: 'signed' },
+        saidWith(names.length === 1 ? 'sheet.file' : `sheet.file${index + 1}`, { name: theirs(shortened(names[index], LONGEST_SIGNED)) }),
+        sha256 === undefined ? null : ` SHA-256 ${sha256}`))];
 }
 
 function fileRows(file, name, index, count) {
