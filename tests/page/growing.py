@@ -21,6 +21,7 @@ def run(session):
     kinds(session)
     begun(session)
     cancelled(session)
+    miscounted(session)
     told(session)
 
 
@@ -93,10 +94,35 @@ def cancelled(session):
     session.equal('growing: nothing has failed', session.texts('.trouble'), [])
 
 
+# From now on each piece of a list is the first one.
+REPEAT = """
+    const post = Worker.prototype.postMessage;
+    Worker.prototype.postMessage = function (message) {
+        post.call(this, message.kind === 'more' ? {...message, question: {...message.question, from: 0}} : message);
+    };"""
+
+
+def miscounted(session):
+    """The page counts what it shows. Where an entry comes twice, it says so, and that nobody should rely on the list."""
+    session.judged(written(session, 'left.json', units('Ward')), written(session, 'right.json', units('Precinct')))
+    session.browser.script(REPEAT)
+    session.browser.script(f'{BUTTON}.click()')
+    session.becomes('growing: an entry that comes twice is told', lambda: session.texts('.others .trouble'),
+                    [answers.say('difference.miscounted', shown=50, all=COUNT)])
+
+
+# Whether an element can be seen where a reader is.
+IS_IN_VIEW = """
+    const { top, bottom, height } = document.querySelector(arguments[0])?.getBoundingClientRect() ?? { height: 0 };
+    return height > 0 && top >= 0 && bottom <= innerHeight;"""
+
+
 def told(session):
-    """An error that nothing else takes is shown."""
-    session.fresh()
+    """An error that nothing else takes is shown, and in view at the foot of a long list too."""
+    session.judged(written(session, 'left.json', units('Ward')), written(session, 'right.json', units('Precinct')))
+    session.browser.script('scrollTo(0, document.body.scrollHeight)')
     session.browser.script("""
         const promise = Promise.resolve();
         dispatchEvent(new PromiseRejectionEvent('unhandledrejection', {promise, reason: new Error('of a test')}));""")
     session.equal('growing: an error is shown', session.texts('#trouble .trouble'), [answers.say('trouble.failed', error='of a test') + ' '])
+    session.equal('growing: an error is in view', session.browser.script(IS_IN_VIEW, '#trouble .trouble'), True)

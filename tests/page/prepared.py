@@ -178,21 +178,42 @@ def not_prepared(session):
     session.becomes('untrusted names are texts', lambda: session.texts('.prepare .pointer b'), [])
 
 
+# Whether a reader sees how far something is, and a button that ends it.
+IN_VIEW = """
+    const isInView = (one) => {
+        const { top, bottom, height } = one.getBoundingClientRect();
+        return height > 0 && top >= 0 && bottom <= innerHeight;
+    };
+    return [...document.querySelectorAll('progress')].some(isInView)
+        && [...document.querySelectorAll('button')].some((one) => one.textContent === arguments[0] && isInView(one));"""
+
+
+def long_export(session):
+    """A large file for which there are so many steps that a reader scrolls through them: an export with many units."""
+    made = json.loads((EXAMPLES / 'state-primary.raw.json').read_text(encoding='utf-8'))
+    units = json.loads(report_of_units(session.work / 'units.json', UNITS).read_text(encoding='utf-8'))['GpUnit']
+    made['GpUnit'] += [unit | {'IsMailOnly': None} for unit in units]
+    return session.file('long.json', json.dumps(made))
+
+
 def cancelled(session):
     """A large file: its steps are told as they are done, and can be cancelled and begun again. The verdict stays."""
-    path = session.work / 'long.json'
-    report_of_units(path, UNITS)
-    path.write_text(path.read_text(encoding='utf-8').replace('"Name": "Precinct ', '"IsMailOnly": null, "Name": "Precinct '), encoding='utf-8')
+    path = long_export(session)
     session.judged(path)
     verdict = session.text('#verdict')
     session.click('#prepare-begin-0')
-    stage = 'return document.getElementById("prepare-stage-0")?.textContent ?? ""'
-    told = session.browser.until(f'const told = (() => {{ {stage} }})(); return told.startsWith(arguments[0]) ? told : "";', WORDS['progress.step'].split('{')[0])
-    names = [WORDS[f'step.{step.name}'] for step in STEPS]
-    session.said('a large file: the step is told', '' if any(told == WORDS['progress.step'].replace('{name}', name) for name in names) else told)
+    stages = [WORDS['progress.step'].replace('{name}', WORDS[f'step.{step.name}']) for step in STEPS]
+    session.browser.until('return arguments[0].some((stage) => document.body.innerText.includes(stage))', stages)
+    session.said('a large file: the step is told', '')
+    session.equal('a large file: how far it is, in view with a way to cancel it', session.browser.script(IN_VIEW, WORDS['progress.cancel']), True)
     session.browser.script("document.querySelector('.prepare-progress button').click()")
     session.becomes('a large file: cancelled', lambda: session.text('.preparing > p'), WORDS['trouble.cancelled'])
     session.equal('a large file: the verdict stays', session.text('#verdict'), verdict)
     session.click('#prepare-begin-0')
     session.becomes('a large file: begun again', lambda: 'nulls' in ticked(session), True, seconds=200)
     session.equal('a large file: nothing is left of its progress', session.texts('.prepare-progress'), [])
+    session.browser.resize(375, 667)
+    session.browser.script("const box = [...document.querySelectorAll('.prepare input')].at(-1); box.scrollIntoView({block: 'center'}); box.click()")
+    session.said('a large file: a tick far below shows its progress, and how to cancel it', '' if session.browser.until(
+        IN_VIEW, WORDS['progress.cancel'], seconds=10) else 'it is out of view')
+    session.browser.script("document.querySelector('.prepare-progress button').click()")
