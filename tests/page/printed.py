@@ -90,6 +90,7 @@ def sheets(session):
     text = ' '.join(columns[side][at] for at in range(counts['BS-1']) for side in (0, 1))
     session.equal('printed: a long text is whole, and in its order', re.findall(r'w\d{4}', text), WORDS)
     session.has('printed: where a contest goes on', whole, 'Roof Bond (continued)')
+    session.has('printed: what a title lacks stands right below it', re.sub(r'\s+', ' ', text), f'Office 1 {answers.say("ballot.titleInNone")} Vote for 1')
 
 
 def last_line(text):

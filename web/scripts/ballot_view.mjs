@@ -48,21 +48,21 @@ export function pieceAlone(one) {
 
 function itemInPieces(item, number) {
     const statements = item.lines.filter(({ role }) => STATEMENTS.includes(role));
-    const heads = item.lines.filter(({ role }) => !STATEMENTS.includes(role));
+    const [title, ...heads] = item.lines.filter(({ role }) => !STATEMENTS.includes(role)).map((line) => lineShown(line, onPaper));
     const note = noteOf(item);
     const parts = [
-        [markOf(item), ...heads.map((line) => lineShown(line, onPaper)), ...lackingShown(item)],
+        [markOf(item), title, ...lackingShown(item), ...heads],
         ...statements.map((line) => [lineShown(line, onPaper)]),
         ...(item.selections ?? []).map((selection, at) => [element('ol', { start: String(item.first + at + 1) }, selectionShown(selection, onPaper))]),
         ...(note === null ? [] : [[note]]),
     ];
-    const title = beginningOf(item.lines[0].texts[0].pieces.map(({ text }) => text).join(''), LONGEST_TITLE);
+    const name = beginningOf(item.lines[0].texts[0].pieces.map(({ text }) => text).join(''), LONGEST_TITLE);
     const last = parts.length - 1;
     return parts.map((nodes, at) => {
         const one = holderOf(item, nodes);
         one.classList.toggle('begins', at === 0);
         one.classList.toggle('ends', at === last);
-        return { element: one, keeps: item.kind === 'header' || (at < last && (at === 0 || at === last - 1)), item: number, title };
+        return { element: one, keeps: item.kind === 'header' || (at < last && (at === 0 || at === last - 1)), item: number, title: name };
     });
 }
 
