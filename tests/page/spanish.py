@@ -1,6 +1,7 @@
 """The page in Spanish: its language is switched, and all of it follows."""
 import json
 
+from made import candidate_contest, listed, measure, report, style, typed, written
 from session import COUNTY, ROOT, SMALL
 
 TEXTS = {lang: json.loads((ROOT / 'web' / ('texts.%s.json' % lang)).read_text(encoding='utf-8')) for lang in ('en', 'es')}
@@ -10,6 +11,8 @@ def run(session):
     switched(session)
     faults(session)
     selections(session)
+    languages(session)
+    titles(session)
 
 
 def speak(session, language):
@@ -59,3 +62,40 @@ def selections(session):
         'La selección Candidato “Cy” (local-level K3) difiere en la marca de candidato por escrito (IsWriteIn).'])
     session.has('Spanish: things have articles', session.text('#first-difference + .sentence'), 'La contienda “')
     speak(session, 'en')
+
+
+# The names of the languages of a ballot in each language of the page, in the order that a reader of it knows: by letters and not by code points.
+NAMES = {'en': ['Arabic (ar)', 'Chinese (zh)', 'German (de)', 'Spanish (es)'], 'es': ['alemán (de)', 'árabe (ar)', 'chino (zh)', 'español (es)']}
+
+
+def languages(session):
+    """Languages have the names that a reader knows, and stand in the order of these names."""
+    title = typed('InternationalizedText', Text=[typed('LanguageString', Content=f'Sheriff {tag}', Language=tag) for tag in ('zh', 'es', 'de', 'ar')])
+    contest, candidates = candidate_contest('S', 'Sheriff', 'Ann', BallotTitle=title)
+    path = written(session, 'languages.json', report([(contest, candidates)], [style('BS-1', [typed('OrderedContest', ContestId='S')])]))
+    for language, names in NAMES.items():
+        session.fresh()
+        speak(session, language)
+        session.choose(0, path)
+        session.verdict()
+        session.browser.script("document.getElementById('ballots').open = true")
+        session.becomes(f'Spanish: languages to choose from, {language}', lambda: session.texts('#ballot-language option')[1:], names)
+        session.has(f'Spanish: languages of a file, {language}', session.text('#card'), ', '.join(names))
+    speak(session, 'en')
+
+
+def titles(session):
+    """A sentence on the ballots has the title of a contest in the language of the page, where the file has it."""
+    def made(lines):
+        texts = [typed('LanguageString', Content=text, Language=tag) for tag, text in (('en-US', 'Road Bond'), ('es-US', 'Bono vial'))]
+        title = typed('InternationalizedText', Text=texts)
+        return report([measure('M', 'Measure', BallotTitle=title)], [style('BS-1', [listed(lines)])])
+
+    paths = [written(session, 'left.json', made('M: Yes No')), written(session, 'right.json', made('M: No'))]
+    for language, wanted in (('es', 'Bono vial, en 1 de 1 boletas: la opción Yes falta en el segundo archivo'),
+                             ('en', 'Road Bond, on 1 of 1 ballots: the choice Yes is missing in the second file')):
+        session.fresh()
+        speak(session, language)
+        session.choose(0, *paths)
+        session.verdict()
+        session.becomes(f'Spanish: the title of a contest, {language}', lambda: session.texts('.finding > summary'), [wanted])

@@ -1,6 +1,7 @@
 // What differs on the ballots of two files, each thing once with the ballots on which it is: a contest, a choice, or words.
 import { mergedItem, isUnchangedLine } from './ballot_changes.mjs';
 import { hasWords } from './search.mjs';
+import { spokenOf } from './texts.mjs';
 import { endOf, shortened } from './visible.mjs';
 
 /** The most lines of ballots that are compared, and the most ballots of one thing that are named. */
@@ -114,14 +115,14 @@ function isEqual(left, right) {
 }
 
 function textOfLines(lines, roles) {
-    return lines.filter(({ role }) => roles.includes(role)).map(({ label }) => label[0]?.text ?? '').join(' + ');
+    return lines.filter(({ role }) => roles.includes(role)).map(({ label }) => spokenOf(label)?.text ?? '').join(' + ');
 }
 
 // What a choice is called, in the words of the second file where both have it.
 function choiceText(lines) {
     const named = lines.filter(({ role }) => role === 'name' || role === 'writeIn');
-    return named.map(({ texts }) => texts[0].pieces.filter(({ mark }) => mark !== 'removed').map(({ text }) => text).join('')
-        || texts[0].pieces.map(({ text }) => text).join('')).join(' + ');
+    return named.map(({ texts }) => spokenOf(texts).pieces).map((pieces) => pieces.filter(({ mark }) => mark !== 'removed').map(({ text }) => text).join('')
+        || pieces.map(({ text }) => text).join('')).join(' + ');
 }
 
 // Of the first text that differs the passage in which it does, in each file.

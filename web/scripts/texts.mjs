@@ -4,6 +4,7 @@
 const LOCALES = { en: 'en-US', es: 'es-US' };
 
 let table = {};
+let spoken = 'en';
 let plurals = new Intl.PluralRules('en');
 let numbers = new Intl.NumberFormat('en');
 let languages = new Intl.DisplayNames(['en'], { type: 'language', fallback: 'none' });
@@ -12,6 +13,7 @@ let collator = new Intl.Collator('en', { numeric: true });
 /** Takes a table of texts, and the language that it is in. */
 export function useTexts(texts, language) {
     table = texts;
+    spoken = language;
     plurals = new Intl.PluralRules(language);
     numbers = new Intl.NumberFormat(LOCALES[language] ?? language);
     languages = new Intl.DisplayNames([language], { type: 'language', fallback: 'none' });
@@ -27,6 +29,11 @@ export function languageText(tag) {
         name = undefined;
     }
     return name === undefined ? tag : `${name} (${tag})`;
+}
+
+/** Of texts in several languages the one in the language of the page, or else the first. */
+export function spokenOf(texts) {
+    return texts.find(({ lang }) => lang.toLowerCase().split('-')[0] === spoken) ?? texts[0];
 }
 
 /** The order in which the language of the page has two texts. */
