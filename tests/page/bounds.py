@@ -7,9 +7,13 @@ from typing import NamedTuple
 
 import answers
 from made import candidate_contest, identified, report, style, typed, written
+from session import EXAMPLES
 
 MOST_SECONDS = 5
 MOST_MEGABYTES = 300
+SECONDS_TO_PRINT = 20
+# How many ballots are printed.
+COUNT = 800
 TRIES = 3
 # What the browser and the system do beside the pages.
 MOST_BESIDE = 0.6
@@ -23,6 +27,7 @@ def run(session):
     long_name(session)
     many_differences(session)
     printed(session)
+    ended(session)
 
 
 class Taken(NamedTuple):
@@ -44,12 +49,13 @@ class Cost:
     """Measures from now on: the seconds that processors work for the processes of pages, where the scripts of a page and its workers run,
     and for those that begin later; how much memory the greatest of those that are there takes more; and the clock."""
 
-    def __init__(self, session):
+    def __init__(self, session, earlier=None):
         self.browser = session.browser.process.pid
         self.files = pages_of(self.browser)
         for path in self.files:
             (path / 'clear_refs').write_text('5')
-        self.before = {path: kilobytes(path, 'VmRSS') for path in self.files}
+        # What an earlier try has left in a process counts for this one too, since the system need not give it back.
+        self.before = {path: kilobytes(path, 'VmRSS') for path in self.files} | (earlier or {})
         self.worked = {path: seconds_of(path) for path in self.files}
         self.idle = idle_seconds()
         self.clock = time.monotonic()
@@ -65,10 +71,11 @@ class Cost:
 
 def tries_of(session, prepare, act, most_seconds, most_megabytes, most_tries):
     """What each try took, until one is within the bounds."""
-    tries = []
+    tries, before = [], {}
     while len(tries) < most_tries and not (tries and tries[-1].is_within(most_seconds, most_megabytes)):
         prepare()
-        cost = Cost(session)
+        cost = Cost(session, before)
+        before = cost.before
         act()
         tries.append(cost.taken())
     return tries
@@ -161,7 +168,9 @@ def saved(session):
         session.downloaded('nulls.prepared.changes.json')
 
     bounded(session, 'a list of changes', act)
-    steps = json.loads(session.downloaded('nulls.prepared.changes.json'))
+    data = session.downloaded('nulls.prepared.changes.json')
+    session.said('bounds: the changes are saved', '' if data else 'nothing was saved')
+    steps = json.loads(data or '[{"step": "nulls", "count": 0, "changes": []}]')
     nulls = next(step for step in steps if step['step'] == 'nulls')
     session.equal('bounds: the changes are counted', [nulls['count'], len(nulls['changes']) + nulls.get('more', 0)], [12_000, 12_000])
 
@@ -221,14 +230,47 @@ def many_differences(session):
 def printed(session):
     """Many ballots are printed in parts."""
     contest, candidates = candidate_contest('S', 'Sheriff', *(f'N{number}' for number in range(100)))
-    one = report([(contest, candidates)], [style(f'BS-{number:03}', [typed('OrderedContest', ContestId='S')] * 4) for number in range(200)])
-    session.judged(written(session, 'county.json', one))
-    session.browser.script("document.getElementById('ballots').open = true")
-    session.browser.until("return document.querySelector('.style') !== null")
-    session.browser.script("window.print = () => { window.printed = (window.printed ?? 0) + 1; }")
-    session.browser.script("[...document.querySelectorAll('#ballots .controls button')].at(-1).click()")
-    session.browser.until('return window.printed === 1')
+    one = report([(contest, candidates)], [style(f'BS-{number:03}', [typed('OrderedContest', ContestId='S')] * 4) for number in range(COUNT)])
+    path = written(session, 'county.json', one)
+
+    def act():
+        session.judged(path)
+        session.browser.script("document.getElementById('ballots').open = true")
+        session.browser.until("return document.querySelector('.style') !== null")
+        session.browser.script("window.print = () => { window.printed = (window.printed ?? 0) + 1; }")
+        session.browser.script("[...document.querySelectorAll('#ballots .controls button')].at(-1).click()")
+        session.browser.until('return window.printed === 1')
+
+    bounded(session, 'ballots are printed', act, SECONDS_TO_PRINT)
     first = len(session.texts('.print-pages .ballot-head'))
-    session.said('bounds: ballots are printed in parts', '' if 0 < first < 200 else f'{first} ballots')
-    session.equal('bounds: the next ones', session.text('#ballots .controls p:last-child button'), answers.say('ballots.printNext', next=first + 1, all=200))
+    session.said('bounds: ballots are printed in parts', '' if 0 < first < COUNT else f'{first} ballots')
+    session.equal('bounds: the next ones', session.text('#ballots .controls p:last-child button'), answers.say('ballots.printNext', next=first + 1, all=COUNT))
     session.browser.script("dispatchEvent(new Event('afterprint'))")
+
+
+# The worker that is asked for a verdict ends, once.
+END = """
+    const post = Worker.prototype.postMessage;
+    Worker.prototype.postMessage = function (message) {
+        if (message.kind === 'verdict') {
+            Worker.prototype.postMessage = post;
+            this.terminate();
+            setTimeout(() => this.dispatchEvent(new ErrorEvent('error', {message: 'out of memory'})));
+        }
+        post.call(this, message);
+    };"""
+
+
+def ended(session):
+    """A worker that ends is told, with a way on: the same file is judged again."""
+    session.fresh()
+    session.browser.script(END)
+    session.choose(0, EXAMPLES / 'small-ballot.json')
+    session.becomes('bounds: a worker that ends', session.verdict, answers.say('verdict.failed'))
+    session.has('bounds: why it ends', session.text('#result-top'), 'out of memory')
+    again = "return [...document.querySelectorAll('#result-top button')].find((one) => one.textContent === arguments[0]) ?? null"
+    button = session.browser.script(again, answers.say('trouble.again'))
+    session.said('bounds: there is a way on', '' if button else 'there is no button')
+    if button:
+        button.click()
+        session.becomes('bounds: the way on', session.verdict, answers.say('verdict.accepted'))

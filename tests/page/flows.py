@@ -241,11 +241,18 @@ def licences(session):
     session.becomes('the licences', lambda: session.text('#licences pre').split()[-len(wanted):] == wanted, True)
 
 
+OPENER = "return [...document.querySelectorAll('summary, button')].find((one) => one.textContent.includes(arguments[0])) ?? null"
+
+
 def documents(session):
     """The profile and the letter to the vendor are in the page, and can be opened from where they are named."""
-    for name, file in (('profile', 'PROFILE.md'), ('letter', 'VENDORS.md')):
+    for name, words, file in (('profile', 'PROFILE.md', 'PROFILE.md'), ('letter', 'letter to the vendor', 'VENDORS.md')):
         session.fresh()
-        session.click(f'#{name} summary')
+        opener = session.browser.script(OPENER, words)
+        session.said(f'{file} can be opened', '' if opener else f'nothing that opens says {words}')
+        if opener is None:
+            return
+        opener.click()
         session.becomes(f'{file} in the page', lambda: session.text(f'#{name} pre'), (ROOT / 'docs' / file).read_text(encoding='utf-8'))
     session.fresh()
     session.browser.script("document.querySelectorAll('#examples button')[2].click()")

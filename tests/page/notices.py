@@ -5,6 +5,7 @@ import answers
 from session import EXAMPLES, SMALL
 
 COUNTY = EXAMPLES / 'county.vendor-a.json'
+MANY = 11_000
 ENVELOPE = ['Format', 'GeneratedDate', 'Issuer', 'IssuerAbbreviation', 'VendorApplicationId', 'Notes', 'SequenceStart', 'SequenceEnd',
             'ExternalIdentifier']
 
@@ -24,6 +25,7 @@ def run(session):
     renamed(session)
     other_type(session)
     worst_type(session)
+    type_of_many(session)
 
 
 def small(**changes):
@@ -205,6 +207,21 @@ def worst_type(session):
 
     session.judged(written(session, 'left.json', with_codes('x', 1)), written(session, 'right.json', with_codes('y', 2)))
     session.equal('the worst type is not offered', session.texts('.offer p'), [])
+
+
+def type_of_many(session):
+    """Another type is offered where more objects differ than the page lists, too."""
+    def with_codes(codes):
+        report = small()
+        unit = report['GpUnit'][0]
+        report['GpUnit'] += [unit | {'@id': f'm{number}', 'ExternalIdentifier': [
+            {'@type': 'ElectionResults.ExternalIdentifier', 'Type': kind, 'Value': value} for kind, value in (
+                ('a-vendor', f'{codes}{number}'), ('local-level', f'M{number}'))]} for number in range(MANY)]
+        return report
+
+    session.judged(*(written(session, f'{codes}.json', with_codes(codes)) for codes in ('x', 'y')))
+    session.becomes('another type, of many: it is offered', lambda: session.text('.offer p'),
+                    answers.say('offer.fewer', type='local-level', fewer=0, count=2 * MANY))
 
 
 def own_view(session):

@@ -3,6 +3,11 @@ from session import COUNTY, EXAMPLES, SMALL
 
 SIZES = ((1280, 800), (375, 667))
 FAULTY = EXAMPLES / 'state-primary.raw.json'
+# Whether the choice of a type stands below the verdict, and whether it can be seen.
+BOX = """
+    const select = document.getElementById('prefer');
+    const follows = document.getElementById('verdict').compareDocumentPosition(select) & Node.DOCUMENT_POSITION_FOLLOWING;
+    return [follows !== 0, select.checkVisibility()];"""
 IS_IN_VIEW = """
     const { top, bottom } = document.getElementById('verdict').getBoundingClientRect();
     return top >= 0 && bottom <= innerHeight;"""
@@ -18,6 +23,15 @@ def run(session):
     for number in range(3):
         in_view(session, f'example {number + 1}', lambda number=number: session.browser.all('#examples button')[number].click())
     in_view(session, 'two files of a table', lambda: of_table(session, COUNTY[0], changed, SMALL, FAULTY))
+    identifiers(session, changed)
+
+
+def identifiers(session, changed):
+    """The box on identifiers stands below the verdict. It is open only where another type may help: not where all is well."""
+    for name, paths, is_open in (('an accepted file', [COUNTY[0]], False), ('two files that mean the same', COUNTY, False),
+                                 ('two files that differ', [COUNTY[0], changed], True), ('a refused file', [FAULTY], True)):
+        session.judged(*paths)
+        session.equal(f'top: the box on identifiers, {name}', session.browser.script(BOX), [True, is_open])
 
 
 def in_view(session, name, act):
