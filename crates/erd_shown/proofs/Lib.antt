@@ -11,5 +11,6 @@ mod LineNodes
 mod PartnerLists
 mod Things
 mod RowLists
+mod RowLaws
 mod NameLists
 mod MembersWritten

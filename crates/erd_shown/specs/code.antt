@@ -8,3 +8,4 @@ pub mod LineTexts
 pub mod BesideWritten
 pub mod LentNames
 pub mod SelectionsFound
+pub mod StyleRows

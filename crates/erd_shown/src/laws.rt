@@ -1,3 +1,4 @@
+ghost use Rattle.erd_shown.specs.BallotLaws.{BallotsTell};
 ghost use Rattle.erd_shown.specs.Laws.{MembersTell, ObjectsTell};
 
 /// The law that the members with one name, of two objects of one class, are written alike if and only if they mean the same. The
@@ -10,4 +11,10 @@ pub fn members_tell()
 /// accepted reports, each under its own preference. The function does nothing.
 pub fn objects_tell()
     ensures law { ObjectsTell }
+{}
+
+/// The law that the lines of two ballots are equal if no row of them tells a difference: all are of lines of both ballots, and
+/// these are equal. The function does nothing.
+pub fn ballots_tell()
+    ensures law { BallotsTell }
 {}

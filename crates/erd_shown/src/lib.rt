@@ -2,6 +2,7 @@
 //! other.
 #![tactic(auto)]
 
+mod ballot_differences;
 mod ballots;
 mod ballots_beside;
 mod beside;
@@ -26,12 +27,13 @@ mod selections;
 mod texts;
 mod values;
 
+pub use ballot_differences::ballot_differences_text;
 pub use ballots::ballot_text;
 pub use ballots_beside::write_ballots_beside;
 pub use beside::rows_between;
 pub use beside_texts::ballots_beside_text;
 pub use heads::ballots_text;
-pub use laws::{members_tell, objects_tell};
+pub use laws::{ballots_tell, members_tell, objects_tell};
 pub use objects::write_object;
 pub use partners::{occurrences, partners_of};
 pub use rows::{Row, rows_of};

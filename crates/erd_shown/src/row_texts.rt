@@ -80,7 +80,7 @@ fn write_inside(inside: &SelectionRows, out: &mut Output) -> Result<(), AllocErr
 }
 
 /// Writes a position, or null.
-fn write_place(place: Option<usize>, out: &mut Output) -> Result<(), AllocError>
+pub(crate) fn write_place(place: Option<usize>, out: &mut Output) -> Result<(), AllocError>
     ensures { OnOk result (out.new ≡ out.old ++ value_tokens (number_or_null place)) }
 {
     match place {

@@ -2,8 +2,8 @@
 use crate::callers::report_of;
 use erd_meaning::Report;
 use erd_shown::{
-    Row, ballot_text, ballots_beside_text, ballots_text, occurrences, partners_of, rows_between,
-    rows_of, write_ballots_beside, write_object,
+    Row, ballot_differences_text, ballot_text, ballots_beside_text, ballots_text, occurrences,
+    partners_of, rows_between, rows_of, write_ballots_beside, write_object,
 };
 use erd_tables::{Family, Role};
 use erd_text::Output;
@@ -15,6 +15,10 @@ use std::test::Fail;
 // A county with an election that has a key, a candidate, a contest with two selections, and a ballot that lists one of them.
 const BALLOT: &str =
     r#"{"@type":"ElectionResults.ElectionReport","Status":"pre-election","GpUnit":[{"@id":"u7","@type":"ElectionResults.ReportingUnit","Type":"county","ExternalIdentifier":[{"@type":"ElectionResults.ExternalIdentifier","Type":"fips","Value":"20"}]}],"Election":[{"@type":"ElectionResults.Election","Name":"Test","Type":"general","StartDate":"2026-11-03","EndDate":"2026-11-03","ElectionScopeId":"u7","ExternalIdentifier":[{"@type":"ElectionResults.ExternalIdentifier","Type":"local-level","Value":"E1"}],"Candidate":[{"@id":"k1","@type":"ElectionResults.Candidate","BallotName":"Ann","ExternalIdentifier":[{"@type":"ElectionResults.ExternalIdentifier","Type":"local-level","Value":"K1"}]}],"Contest":[{"@id":"c1","@type":"ElectionResults.CandidateContest","Name":"Mayor","ElectionDistrictId":"u7","VotesAllowed":1,"ExternalIdentifier":[{"@type":"ElectionResults.ExternalIdentifier","Type":"local-level","Value":"C1"}],"ContestSelection":[{"@id":"s2","@type":"ElectionResults.CandidateSelection","IsWriteIn":true},{"@id":"s1","@type":"ElectionResults.CandidateSelection","CandidateIds":["k1"]}]}],"BallotStyle":[{"@type":"ElectionResults.BallotStyle","GpUnitIds":["u7"],"ExternalIdentifier":[{"@type":"ElectionResults.ExternalIdentifier","Type":"local-level","Value":"B1"}],"OrderedContent":[{"@type":"ElectionResults.OrderedContest","ContestId":"c1","OrderedContestSelectionIds":["s1"]}]}]}]}"#;
+
+// The same, and its ballot lists no selections.
+const UNLISTED: &str =
+    r#"{"@type":"ElectionResults.ElectionReport","Status":"pre-election","GpUnit":[{"@id":"u7","@type":"ElectionResults.ReportingUnit","Type":"county","ExternalIdentifier":[{"@type":"ElectionResults.ExternalIdentifier","Type":"fips","Value":"20"}]}],"Election":[{"@type":"ElectionResults.Election","Name":"Test","Type":"general","StartDate":"2026-11-03","EndDate":"2026-11-03","ElectionScopeId":"u7","ExternalIdentifier":[{"@type":"ElectionResults.ExternalIdentifier","Type":"local-level","Value":"E1"}],"Candidate":[{"@id":"k1","@type":"ElectionResults.Candidate","BallotName":"Ann","ExternalIdentifier":[{"@type":"ElectionResults.ExternalIdentifier","Type":"local-level","Value":"K1"}]}],"Contest":[{"@id":"c1","@type":"ElectionResults.CandidateContest","Name":"Mayor","ElectionDistrictId":"u7","VotesAllowed":1,"ExternalIdentifier":[{"@type":"ElectionResults.ExternalIdentifier","Type":"local-level","Value":"C1"}],"ContestSelection":[{"@id":"s2","@type":"ElectionResults.CandidateSelection","IsWriteIn":true},{"@id":"s1","@type":"ElectionResults.CandidateSelection","CandidateIds":["k1"]}]}],"BallotStyle":[{"@type":"ElectionResults.BallotStyle","GpUnitIds":["u7"],"ExternalIdentifier":[{"@type":"ElectionResults.ExternalIdentifier","Type":"local-level","Value":"B1"}],"OrderedContent":[{"@type":"ElectionResults.OrderedContest","ContestId":"c1"}]}]}]}"#;
 
 // What the contest means: its selections stand in the order of their names, with keys in place of references.
 const CONTEST: &str =
@@ -31,6 +35,9 @@ const BALLOT_LINES: &str =
 // The heads of the ballots: one style, with one line.
 const HEADS: &str =
     r#"[{"at":0,"key":["local-level","","B1"],"lines":1,"parties":[],"units":[["fips","","20"]]}]"#;
+
+// The style whose ballots differ, where the other one lists no selections.
+const DIFFERS: &str = r#"[{"key":["local-level","","B1"],"left":0,"right":0}]"#;
 
 // The ballot beside itself.
 const BESIDE: &str =
@@ -117,6 +124,39 @@ fn texts_stand_beside(
     let missing = ballots_beside_text(alloc, left, 0, right, 1)?;
     assert!(rt; missing.as_str() == "null");
     Ok(())
+}
+
+fn no_ballot_differs(
+    rt: &impl Abort,
+    alloc: Global,
+    left: &Report,
+    right: &Report,
+) -> Result<(), Fail> {
+    let text = ballot_differences_text(alloc, left, right)?;
+    assert!(rt; text.as_str() == "[]");
+    Ok(())
+}
+
+fn a_ballot_differs(
+    rt: &impl Abort,
+    alloc: Global,
+    left: &Report,
+    right: &Report,
+) -> Result<(), Fail> {
+    let text = ballot_differences_text(alloc, left, right)?;
+    assert!(rt; text.as_str() == DIFFERS);
+    Ok(())
+}
+
+#[test]
+fn differences_of_ballots(rt: HostRuntime) -> Result<(), Fail> {
+    let alloc = rt.alloc();
+    let left_tree = Value::from_str(alloc, BALLOT)?;
+    let right_tree = Value::from_str(alloc, UNLISTED)?;
+    let left = report_of(alloc, &left_tree)?;
+    let right = report_of(alloc, &right_tree)?;
+    no_ballot_differs(&rt, alloc, &left, &left)?;
+    a_ballot_differs(&rt, alloc, &left, &right)
 }
 
 #[test]

@@ -1,0 +1,11 @@
+use Rattle.erd_shown.proofs.Common.{◌≡◌, ◌++◌, drop, map, filter_map, view}
+use Rattle.erd_shown.specs.BallotDifferences.{is_same_ballot, told_of_row}
+use Rattle.erd_shown.specs.code.LineLists.{of_place}
+use Rattle.erd_shown.specs.code.StyleRows.{of_style}
+use Rattle.erd_shown.proofs.ballot_differences.told_of_rows.Given as goal
+
+abbrev pub invariant-loop-row : goal.invariant-loop-row
+invariant-loop-row l =
+    map of_style l.found.items
+    ++ filter_map (told_of_row (is_same_ballot l.left.prefer (view l.left.tree) l.right.prefer (view l.right.tree)) (map of_place l.ones) (map of_place l.others)) (drop l.row-index l.rows)
+    ≡ filter_map (told_of_row (is_same_ballot l.left.prefer (view l.left.tree) l.right.prefer (view l.right.tree)) (map of_place l.ones) (map of_place l.others)) l.rows

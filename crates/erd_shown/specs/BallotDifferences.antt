@@ -1,0 +1,76 @@
+-- The styles whose ballots are not the same in two reports. All of this is the profile's own.
+use Rattle.std.specs.Prelude.{ℕ, ◌≡◌, List, Bool, if◌then◌else◌, Option, Some, None, map, option_map, slice_get, codes}
+use Rattle.std.specs.List.{filter_map}
+use Rattle.std.specs.Option.{option_cmp}
+use Rattle.std.specs.Ordering.{eq_by_cmp}
+use Rattle.std.specs.Str.{bytes_eq}
+use Rattle.serde_json.specs.Data.{Data, object, Members, no_members, member}
+use Rattle.serde_json.specs.Written.{compact_text}
+use Rattle.erd_tables.specs.declared.class.Family.TheVariants as family
+use Rattle.erd_meaning.specs.Keys.{Preference, key_cmp}
+use Rattle.erd_meaning.specs.Lookups.{rising_keys}
+use Rattle.erd_meaning.specs.declared.keys.key.Key.{Key}
+use Rattle.erd_shown.specs.Ballots.{ballot_in}
+use Rattle.erd_shown.specs.KeyData.{array_of, shown_key_or_null}
+use Rattle.erd_shown.specs.Partners.{partners}
+use Rattle.erd_shown.specs.RowData.{number_or_null}
+use Rattle.erd_shown.specs.Rows.{AreRows}
+use Rattle.erd_shown.specs.declared.rows.Row.{Row}
+use Rattle.erd_shown.specs.declared.rows.Row.TheVariants.{Both, Removed, Added, MovedAway, MovedHere}
+
+-- Where a style stands in the right report, or null, as the last member of its object.
+abbrev pub right_members : Option ℕ → Members
+right_members right = member (codes "right") (number_or_null right) no_members
+
+-- A style: its key, and where it stands in the left report and in the right one, or null.
+abbrev pub style_data : Option Key → Option ℕ → Option ℕ → Data
+style_data key left right =
+    object (member (codes "key") (shown_key_or_null key) (member (codes "left") (number_or_null left) (right_members right)))
+
+-- True if the ballots of the styles at two positions have one text.
+abbrev pub is_same_ballot : Preference → Data → Preference → Data → ℕ → ℕ → Bool
+is_same_ballot π t ρ u i j = bytes_eq (compact_text (ballot_in π t i)) (compact_text (ballot_in ρ u j))
+
+-- What is told of a style of both reports: nothing if its ballots are the same.
+abbrev pub told_of_both : (ℕ → ℕ → Bool) → Option (Option Key × ℕ) → Option (Option Key × ℕ) → Option Data
+told_of_both same (Some a) (Some b) = if same a.1 b.1 then None else Some (style_data a.0 (Some a.1) (Some b.1))
+told_of_both same (Some a) None = None
+told_of_both same None b = None
+
+-- What is told of a style of the left report alone, and of one of the right report alone.
+abbrev pub told_of_left : Option (Option Key × ℕ) → Option Data
+told_of_left a = option_map (λ a. style_data a.0 (Some a.1) None) a
+
+abbrev pub told_of_right : Option (Option Key × ℕ) → Option Data
+told_of_right b = option_map (λ b. style_data b.0 None (Some b.1)) b
+
+-- What is told of a row of the styles of two reports. A style that moved is told where it is now.
+abbrev pub told_of_row : (ℕ → ℕ → Bool) → List (Option Key × ℕ) → List (Option Key × ℕ) → Row → Option Data
+told_of_row same ls rs (Both i j) = told_of_both same (slice_get ls i) (slice_get rs j)
+told_of_row same ls rs (Removed i) = told_of_left (slice_get ls i)
+told_of_row same ls rs (Added j) = told_of_right (slice_get rs j)
+told_of_row same ls rs (MovedAway i j) = None
+told_of_row same ls rs (MovedHere i j) = told_of_both same (slice_get ls i) (slice_get rs j)
+
+-- True if two keys, of which either may be missing, are one.
+abbrev pub is_one_key : Option Key → Option Key → Bool
+is_one_key = eq_by_cmp (option_cmp key_cmp)
+
+-- The keys of styles.
+abbrev pub style_keys : List (Option Key × ℕ) → List (Option Key)
+style_keys ps = map (λ p. p.0) ps
+
+-- The rows have each style of either list once.
+abbrev pub AreStyleRows : List (Option Key × ℕ) → List (Option Key × ℕ) → List Row → Type 0
+AreStyleRows ls rs rows = AreRows (partners is_one_key (style_keys ls) (style_keys rs)) (partners is_one_key (style_keys rs) (style_keys ls)) rows
+
+-- Told are the styles whose ballots differ: each style of either report stands in one row, and those of both are told if their
+-- ballots are not the same.
+pub record AreBallotDifferences (π : Preference) (t : Data) (ρ : Preference) (u : Data) (told : Data) : Type 0 where
+  pub rows : List Row
+  pub are_rows : AreStyleRows (rising_keys π t family.Style) (rising_keys ρ u family.Style) rows
+  pub tells : told ≡ array_of (filter_map (told_of_row (is_same_ballot π t ρ u) (rising_keys π t family.Style) (rising_keys ρ u family.Style)) rows)
+
+-- The text tells them.
+abbrev pub IsBallotDifferencesText : Preference → Data → Preference → Data → List ℕ → Type 0
+IsBallotDifferencesText π t ρ u text = (told : Data) × AreBallotDifferences π t ρ u told × (text ≡ compact_text told)
