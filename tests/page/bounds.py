@@ -149,7 +149,7 @@ def crowded(session):
         session.said(f'bounds: one contest {times} times, elements', '' if nodes < 10_000 else f'{nodes} elements')
         session.has(f'bounds: one contest {times} times, what is left', session.text('.rest'), answers.say('ballots.left', count=times - 4))
         before = len(session.texts('.ballot .contest'))
-        session.browser.script("document.querySelector('.rest button').click()")
+        session.browser.script("document.querySelector('.rest button')?.click()")
         session.becomes(f'bounds: one contest {times} times, more of it', lambda: len(session.texts('.ballot .contest')) > before, True)
 
 

@@ -35,6 +35,7 @@ CASES = {
     'a name': (lambda one, election: election['Candidate'][0].update(BallotName='Anne'), ('seen.differ', {'differing': 1, 'all': 2}), 1, []),
     'a lost line': (lambda one, election: election['BallotStyle'][1].update(OrderedContent=[listed('M: Yes')]),
                     ('seen.differ', {'differing': 1, 'all': 2}), 1, []),
+    'rotation': (lambda one, election: election['Contest'][0].update(HasRotation=True), ('seen.differ', {'differing': 1, 'all': 2}), 1, []),
     'a district': (lambda one, election: one['GpUnit'][0].update(IsDistricted=True), ('seen.unseen', {}), 0, []),
 }
 
@@ -48,7 +49,21 @@ def run(session):
         session.said(f'voter: {name}, what is left out', '' if len(left_out) == len(named) and all(word in line for word, line in zip(named, left_out)) else repr(left_out))
         session.open_details()
         session.equal(f'voter: {name}, the ballots', session.text('#ballots details + div, #ballots .controls + div > p'), answers.say('ballots.counts', changed=differing, all=2))
+    ticket(session)
     partly(session)
+
+
+def ticket(session):
+    """The top of a ticket is another candidate: the two change places on the ballot."""
+    def made_with(top):
+        def change(one, election):
+            election['Contest'][0]['ContestSelection'][0]['CandidateIds'] = ['ca-S-Ann', 'ca-S-Bo']
+            election['Candidate'][top]['IsTopTicket'] = True
+        return made(change)
+
+    session.judged(*(written(session, f'{top}.json', made_with(top)) for top in (0, 1)))
+    session.equal('voter: the top of a ticket', session.text('.seen h3'), answers.say('seen.differ', differing=1, all=2))
+    session.equal('voter: the top of a ticket, what is left out', session.texts('.seen .left-out li'), [])
 
 
 MANY = 21_000
