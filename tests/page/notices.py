@@ -135,6 +135,7 @@ def look_alikes(session):
     left['Election'][0]['Candidate'][0]['BallotName'] = 'Ann l'
     session.judged(written(session, 'left.json', left), written(session, 'right.json', report))
     session.equal('look-alikes: letters of one shape', session.text('.alike'), answers.say('alike.shapes'))
+    session.has('look-alikes: told where the ballots differ, too', session.text('.on-ballots'), answers.say('alike.shapes'))
 
 
 def with_selections(session, name, count, note, filling=''):

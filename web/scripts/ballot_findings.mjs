@@ -1,5 +1,6 @@
 // What differs on the ballots of two files, each thing once with the ballots on which it is: a contest, a choice, or words.
 import { mergedItem, isUnchangedLine } from './ballot_changes.mjs';
+import { whyAlike } from './look_alikes.mjs';
 import { hasWords } from './search.mjs';
 import { spokenOf } from './texts.mjs';
 import { endOf, shortened } from './visible.mjs';
@@ -39,7 +40,8 @@ export class BallotFindings {
     /** Some of the things that have these words, and how many have them. */
     some({ words, from, count }) {
         const fitting = this.entries.filter((entry) => hasWords(wordsOf(entry), words));
-        return { count: fitting.length, entries: fitting.slice(from, from + count).map((entry) => ({ ...entry, all: this.all })) };
+        const told = (entry) => ({ ...entry, all: this.all, alike: whyAlike(entry.left ?? '', entry.right ?? '') });
+        return { count: fitting.length, entries: fitting.slice(from, from + count).map(told) };
     }
 
     look(head) {

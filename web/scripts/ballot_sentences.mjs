@@ -67,7 +67,7 @@ export class BallotSentences {
         const holder = element('div', {});
         const details = element('details', { class: 'finding' }, element('summary', {}, findingSentence(entry)), holder);
         details.addEventListener('toggle', () => attempted(holder, () => this.open(entry, holder)), { once: true });
-        return element('li', {}, details);
+        return element('li', {}, details, ...entry.alike.map((way) => element('p', { class: 'note' }, say(`alike.${way}`))));
     }
 
     // The ballots of a sentence, and the first of them.
