@@ -4,6 +4,9 @@ from made import candidate_contest, listed, measure, report, style, written
 from session import COUNTY
 
 SENTENCES = 'return [...document.querySelectorAll(".finding > summary")].map((one) => one.textContent)'
+IS_BEFORE = """
+    const follows = document.getElementById('on-ballots').compareDocumentPosition(document.getElementById('first-difference'));
+    return (follows & Node.DOCUMENT_POSITION_FOLLOWING) !== 0"""
 OPEN = 'return [...document.querySelectorAll(".finding")].map((one) => one.open)'
 CARD = """
     return Object.fromEntries([...document.querySelectorAll('#card dl > div')].map((row) => [row.querySelector('dt').textContent, row.querySelector('dd').textContent]))"""
@@ -90,6 +93,7 @@ def sentences(session):
         session.judged(left, written(session, 'right.json', made(*styles)))
         session.equal(f'sentences: {name}', sorted(session.browser.script(SENTENCES)), sorted(wanted))
         session.equal(f'sentences: {name}, how many', session.text('#on-ballots'), answers.say('finding.heading', count=len(wanted)))
+    session.equal('sentences: they stand before the list', session.browser.script(IS_BEFORE), True)
     other = made(WHOLE, WHOLE)
     other['Election'][0]['Candidate'][0]['BallotName'] = 'Anne'
     other['Election'][0]['Contest'][0]['VotesAllowed'] = 2
