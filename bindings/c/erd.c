@@ -149,14 +149,17 @@ static bool has_text(enum call call, uint32_t outcome) {
 /* The text at the front of the room, with a zero byte behind it. What the text does not need of the room is given back. */
 static char *text_in(uint8_t *room, size_t length) {
     uint8_t *text = realloc(room, length + 1);
-    return (char *)(text != NULL ? text : room);
+    room = text != NULL ? text : room;
+    room[length] = 0;
+    return (char *)room;
 }
 
 /* Calls with this much room for the text. If that is too little, calls once more with as much room as the text needs. The
- * zero byte behind the text has a byte of its own. */
+ * zero byte behind the text has a byte of its own. Nothing reads the room before it is written, so what no text needs of it costs
+ * no memory, and no time to clear. */
 static uint32_t answer(struct question *it, size_t room_size, char **text, size_t *length) {
     while (room_size < SIZE_MAX) {
-        uint8_t *room = calloc(room_size + 1, 1);
+        uint8_t *room = malloc(room_size + 1);
         if (room == NULL)
             return ERD_NO_MEMORY;
         struct told told = ask(it, room, room_size);
@@ -323,7 +326,7 @@ enum erd_outcome erd_next(struct erd_list *list, struct erd_piece *piece, char *
     set_to_none(text, length);
     wanted->first = list->next;
     wanted->told = wanted->all = 0;
-    if (!list->is_over && list->next == list->kept && keep_entries(list, wanted) > ERD_NOT_JSON)
+    if (!list->is_over && list->next == list->kept && keep_entries(list) > ERD_NOT_JSON)
         return list->outcome;
     wanted->all = list->all;
     if (list->is_over)

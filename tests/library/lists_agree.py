@@ -216,6 +216,25 @@ def failure_of_orders_alone(library):
     return failure_of_list(library, reports, None, found, [(ALL, 1), (ALL, size - 1), (ALL, size)], whole=False)
 
 
+def failure_of_line_feeds(library):
+    """What is wrong in the lines of an open list, or None: names in them have line feeds, and one looks like a line of its own. Each
+    piece has to be what the call for this piece answers."""
+    faults = {'a\nb': [1.5] * 5, '\n/Election: wrong number of elections\n': [1.5], 'c\\n"]}': [1.5] * 3}
+    refused = json.dumps({'@type': 'ElectionResults.ElectionReport', 'Election': [], **faults}).encode()
+    for name, reports in (('erd_check_piece', [refused]), ('erd_canonical_piece', [refused]), ('erd_compare_piece', [refused] * 2),
+                          ('erd_differences', [refused] * 2)):
+        for most, enough, room in ((1, ALL, 0), (2, ALL, 0), (ALL, 1, 100), (ALL, ALL, 0)):
+            count = 0
+            for outcome, text, first, told, _all in library.opened(name, reports, None, most, enough, room):
+                wanted = library.piece(name, reports, None, count, most if room == 0 else told, ALL)
+                if told > 0 and (first != count or (outcome, text, told) != wanted[:3]):
+                    return f'{name} of {count}, {most}, {enough}:\n{text}\nthe call for the piece:\n{wanted}'
+                count += told
+            if count != wanted[3]:
+                return f'{name}: {count} entries of {wanted[3]}'
+    return None
+
+
 def failure_of_refusal(library, reports, prefer):
     """What is wrong in the answers for two reports of which one is refused, or None."""
     status, value = erd_reference.entries_answer(*reports, None if prefer is None else prefer.decode())
@@ -248,7 +267,7 @@ def main():
     with tempfile.TemporaryDirectory() as folder:
         library = Library(shared_library(folder))
         for what, failure_of in (('many entries', failure_of_many_entries), ('a long name', failure_of_long_name),
-                                 ('orders alone', failure_of_orders_alone)):
+                                 ('orders alone', failure_of_orders_alone), ('line feeds', failure_of_line_feeds)):
             why = failure_of(library)
             if why:
                 print(f'FAILED  {what}: {why[:2000]}', '0 passed, 1 failed', sep='\n')

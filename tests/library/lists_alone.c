@@ -10,17 +10,18 @@
  * The report is not read. */
 enum { ENTRIES = 60000, SIZE = 4194304 };
 
-static unsigned judged, passed, failed;
+static unsigned judged, refused_at, passed, failed;
 static size_t entries;
-static bool has_side, has_line_feed, has_no_memory;
+static bool has_side, has_line_feed;
 
 static const char *entry(size_t number, bool is_data) {
     static char text[80];
-    const char *inner = number % 3 == 0 ? "]}\\\"{[" : number % 3 == 1 ? "\\\\" : "";
+    bool is_broken = has_line_feed && number % 10 == 7;
+    const char *inner = number % 3 == 0 ? "]}\\\"{[" : number % 3 == 1 ? "\\\\n" : "";
     if (is_data)
-        snprintf(text, sizeof text, "{\"a\":[%zu,[],{}],\"b\":\"%s\"}", number, inner);
+        snprintf(text, sizeof text, "{\"a\":[%zu,[],{}],\"b\":\"%s%s\"}", number, inner, is_broken ? "\\n/8: wrong\\n" : "");
     else
-        snprintf(text, sizeof text, "/%zu%s: wrong\n", number, has_line_feed && number == 7 ? "a\nb" : "");
+        snprintf(text, sizeof text, "/%zu%s: wrong\n", number, is_broken ? "\n/8: wrong\n" : "");
     return text;
 }
 
@@ -43,8 +44,7 @@ static size_t text_of(const struct wanted *wanted, bool is_data, size_t *told, c
 static struct told judge(struct wanted *wanted, bool is_data, uint8_t *room, size_t room_size) {
     static char text[100 * ENTRIES + 100];
     size_t told;
-    judged++;
-    if (has_no_memory)
+    if (++judged == refused_at)
         return (struct told){ERD_NO_MEMORY, 0};
     size_t length = text_of(wanted, is_data, &told, text);
     wanted->told = told;
@@ -133,32 +133,40 @@ static void pieces(enum erd_listing listing) {
         said(wrong_in(listing, bounds[i][0], bounds[i][1], bounds[i][2]), listing, "in pieces");
 }
 
-/* A list is judged once, and once for each `room` bytes if it has more; the same piece comes again after no memory. */
-static void judgings(enum erd_listing listing) {
-    judged = 0;
-    wrong_in(listing, 50, SIZE_MAX, 0);
-    said(judged == 1 ? NULL : "it was judged more than once", listing, "piece by piece");
-    judged = 0;
-    wrong_in(listing, 50, SIZE_MAX, 5000);
-    said(judged <= 1000 ? NULL : "it was judged for fewer bytes than have room", listing, "in little room");
+/* The same piece comes again after a judging that has no memory. */
+static void without_memory(enum erd_listing listing, unsigned judging) {
     struct erd_list *list = erd_open(listing, "", 0, "", 0, NULL, 0);
     struct erd_piece piece = {0, 1, SIZE_MAX, 0, 0};
     char *text;
-    has_no_memory = true;
+    judged = 0;
+    refused_at = judging;
     bool is_refused = erd_next(list, &piece, &text, NULL) == ERD_NO_MEMORY && text == NULL && piece.told == 0;
-    has_no_memory = false;
+    refused_at = 0;
     said(is_refused && erd_next(list, &piece, NULL, NULL) == ERD_BAD && piece.told == 1 ? NULL : "another outcome", listing, "no memory");
     erd_close(list);
+}
+
+/* A list is judged once, and once for each `room` bytes if it has more; and as data too if a name in a line has a line feed. */
+static void judgings(enum erd_listing listing) {
+    unsigned once = 1 + has_line_feed;
+    judged = 0;
+    wrong_in(listing, 50, SIZE_MAX, 0);
+    said(judged == once ? NULL : "it was judged more than once", listing, "piece by piece");
+    judged = 0;
+    wrong_in(listing, 50, SIZE_MAX, 5000);
+    said(judged <= 1000 ? NULL : "it was judged for fewer bytes than have room", listing, "in little room");
+    for (unsigned judging = 1; judging <= once; judging++)
+        without_memory(listing, judging);
 }
 
 int main(void) {
     for (int listing = ERD_LIST_CHECK; listing <= ERD_LIST_DIFFERENCES_DATA; listing++) {
         bool is_data = listing >= ERD_LIST_CHECK_DATA;
-        entries = ENTRIES;
-        judgings((enum erd_listing)listing);
         for (int form = 0; form < 2; form++) {
             has_side = is_data && form == 1;
             has_line_feed = !is_data && form == 1;
+            entries = ENTRIES;
+            judgings((enum erd_listing)listing);
             entries = 0;
             pieces((enum erd_listing)listing);
             entries = 50;

@@ -49,6 +49,20 @@ int bcmp(const void *left, const void *right, size_t size) {
     return memcmp(left, right, size);
 }
 
+void *memchr(const void *bytes, int value, size_t size) {
+    const uint64_t ones = 0x0101010101010101, highest = 0x8080808080808080, wanted = (uint8_t)value * ones;
+    const uint8_t *at = bytes;
+    for (; size >= WORD; size -= WORD, at += WORD) {
+        uint64_t other = *(const word *)at ^ wanted;
+        if (((other - ones) & ~other & highest) != 0)
+            break;
+    }
+    for (; size > 0; size--, at++)
+        if (*at == (uint8_t)value)
+            return (void *)(uintptr_t)at;
+    return NULL;
+}
+
 size_t strlen(const char *text) {
     size_t length = 0;
     while (text[length] != 0)
