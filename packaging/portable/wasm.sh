@@ -23,8 +23,9 @@ compiled() {
 }
 
 # The calls of 64 bits have `wide_` before their names, since those of 32 bits have the names.
-mapfile -t names < <(exports)
-wide=()
+# calls.c says why one call is left out.
+mapfile -t names < <(exports | grep -vx erd_prepare)
+wide=(-DERD_WITHOUT_PREPARE)
 for name in "${names[@]}"; do
     wide+=("-D$name=wide_$name")
 done

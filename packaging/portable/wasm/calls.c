@@ -115,6 +115,8 @@ PIECE_OF_TWO_REPORTS(erd_differences)
 PIECE_OF_TWO_REPORTS(erd_compare_data_piece)
 PIECE_OF_TWO_REPORTS(erd_differences_data)
 
+/* Not exported: erd_prepare, with which the page would have more than a megabyte. */
+
 address exported_erd_open(uint32_t listing, address left, uint32_t left_size, address right, uint32_t right_size, address prefer,
                           uint32_t room) EXPORTED("erd_open");
 address exported_erd_open(uint32_t listing, address left, uint32_t left_size, address right, uint32_t right_size, address prefer,
@@ -141,15 +143,6 @@ uint32_t exported_erd_command_line(address words, uint32_t size, address text, a
     struct answer answer = {NULL, 0};
     enum erd_line line = erd_command_line(at(words), size, text != 0 ? &answer.text : NULL, &answer.length);
     return handed_on(line, answer, text, length);
-}
-
-uint32_t exported_erd_prepare(address bytes, uint32_t size, address steps, uint32_t others, address text, address length)
-    EXPORTED("erd_prepare");
-uint32_t exported_erd_prepare(address bytes, uint32_t size, address steps, uint32_t others, address text, address length) {
-    struct answer answer = {NULL, 0};
-    enum erd_outcome outcome =
-        erd_prepare(at(bytes), size, at(steps), (int)others, text != 0 ? &answer.text : NULL, &answer.length);
-    return handed_on(outcome, answer, text, length);
 }
 
 void exported_erd_free(address room) EXPORTED("erd_free");
