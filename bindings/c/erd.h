@@ -208,8 +208,11 @@ enum erd_line erd_command_line(const void *words, size_t size, char **text, size
  *
  * in which a change is as {"before":null,"place":["Notes"]}. Places are those of the report that was given. `before` is missing
  * where nothing stood, and `after` where nothing stands. `left` has the places that the step leaves, with the reason. At most 1,000
- * changes of a step, or about a megabyte of them, are told, and as many places that it leaves; `count` and `left_count` say how many
- * there are, and `more` whether some are not told. `done` is false for what a step would do.
+ * changes of a step, or about a megabyte of them, are told, and as many places that it leaves; `count` and `left_count` say how
+ * many there are, and `more` whether some are not told. `done` is false for what a step would do.
+ *
+ * Numbers are read as serde_json holds them, and no place tells of that: 1.50 becomes 1.5, and a whole number beyond 64 bits loses
+ * digits. Do not prepare a report that has such numbers.
  *
  * The outcome is ERD_NOT_JSON if the bytes are not JSON, and ERD_WRONG if the report is too long or `steps` has a name that no
  * step and no group has; there is then no text. A prepared report may still be refused: check it. */
