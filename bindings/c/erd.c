@@ -34,6 +34,8 @@ typedef struct told piece_of_pair(const uint8_t *left, size_t left_size, const u
 piece_of_report erd_tell_check_piece, erd_tell_canonical_piece, erd_tell_check_data_piece, erd_tell_canonical_data_piece;
 piece_of_pair erd_tell_compare_piece, erd_tell_differences, erd_tell_compare_data_piece, erd_tell_differences_data;
 struct told erd_tell_command_line(const uint8_t *words, size_t size, uint8_t *room, size_t room_size);
+struct told erd_tell_prepared(const uint8_t *bytes, size_t size, const uint8_t *steps, size_t steps_size, bool others,
+                              uint8_t *room, size_t room_size);
 
 enum { MOST_BYTES = 67108864, ROOM_FOR_LINES = 4096, ROOM_FOR_PIECE = 1048576, ROOM_FOR_LIST = 16777216 };
 
@@ -56,13 +58,15 @@ enum call {
     CANONICAL_DATA_PIECE,
     COMPARE_DATA_PIECE,
     DIFFERENCES_DATA,
-    COMMAND_LINE
+    COMMAND_LINE,
+    PREPARED
 };
 
 struct question {
     enum call call;
     struct bytes left, right, prefer;
     struct wanted wanted;
+    bool others;
 };
 
 static struct bytes bytes_of(const void *at, size_t size) {
@@ -72,7 +76,7 @@ static struct bytes bytes_of(const void *at, size_t size) {
 
 static struct question question_of(enum call call, struct bytes left, struct bytes right, const char *prefer) {
     struct wanted all = {0, SIZE_MAX, SIZE_MAX, 0, 0, prefer != NULL};
-    return (struct question){call, left, right, bytes_of(prefer, prefer ? strlen(prefer) : 0), all};
+    return (struct question){call, left, right, bytes_of(prefer, prefer ? strlen(prefer) : 0), all, false};
 }
 
 static struct told ask_of_report(piece_of_report *call, struct question *it, uint8_t *room, size_t room_size) {
@@ -123,14 +127,23 @@ static struct told ask(struct question *it, uint8_t *room, size_t room_size) {
                                      it->prefer.at, it->prefer.size, room, room_size);
     case COMMAND_LINE:
         return erd_tell_command_line(it->left.at, it->left.size, room, room_size);
+    case PREPARED:
+        return erd_tell_prepared(it->left.at, it->left.size, it->right.at, it->right.size, it->others, room, room_size);
     default:
         return ask_for_piece(it, room, room_size);
     }
 }
 
-/* Wrong words have a text, and wrong arguments of a call have none. */
+/* Wrong words have a text, and wrong arguments of a call have none. What is not prepared has no text. */
 static bool has_text(enum call call, uint32_t outcome) {
-    return outcome <= (call == COMMAND_LINE ? (uint32_t)ERD_LINE_WRONG : (uint32_t)ERD_NOT_JSON);
+    switch (call) {
+    case COMMAND_LINE:
+        return outcome <= (uint32_t)ERD_LINE_WRONG;
+    case PREPARED:
+        return outcome == (uint32_t)ERD_GOOD;
+    default:
+        return outcome <= (uint32_t)ERD_NOT_JSON;
+    }
 }
 
 /* The text at the front of the room, with a zero byte behind it. What the text does not need of the room is given back. */
@@ -204,6 +217,13 @@ enum erd_outcome erd_compare_data(const void *left, size_t left_size, const void
                                   const char *prefer, char **text, size_t *length) {
     struct question it = question_of(COMPARE_DATA, bytes_of(left, left_size), bytes_of(right, right_size), prefer);
     return call(&it, ROOM_FOR_LINES, text, length);
+}
+
+enum erd_outcome erd_prepare(const void *bytes, size_t size, const char *steps, int others, char **text, size_t *length) {
+    struct question it = question_of(PREPARED, bytes_of(bytes, size), bytes_of(steps, steps ? strlen(steps) : 0), NULL);
+    it.others = others != 0;
+    /* most reports are no longer when they are prepared, and what was done is short */
+    return call(&it, size + ROOM_FOR_PIECE, text, length);
 }
 
 /* Room for the text of a list, so that most lists are made at once: as many bytes as are enough, at most a mebibyte, the commas

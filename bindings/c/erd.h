@@ -1,7 +1,7 @@
 /* erd: canonical form, check and comparison of pre-election ballot definitions.
  *
- * Each call but erd_command_line takes the bytes of one report, or of two, and does what a command of `erd` does. The manual page
- * erd(1) describes the commands, their texts and the preferred type of identifier. A call keeps no state but that of the list
+ * Each call but erd_command_line takes the bytes of one report, or of two, and all but it and erd_prepare do what a command of
+ * `erd` does. The manual page erd(1) describes the commands, their texts and the preferred type of identifier. A call keeps no state but that of the list
  * that it is given: its result does not depend on other calls, and several threads may call at once, each with lists of its
  * own. It reads only the bytes that it is given, and never ends the program. */
 #ifndef ERD_H
@@ -193,6 +193,26 @@ enum erd_line {
  * files, of a comparison the left one first. `prefer` is null if the words state no preference. Words that are not UTF-8 are
  * wrong. */
 enum erd_line erd_command_line(const void *words, size_t size, char **text, size_t *length);
+
+/* Prepares a report that is refused: does steps that fix what exports often have, each of which changes only what it tells.
+ * `steps` has the names of steps and of their groups with commas between them, and is ended by a zero byte; null and ""
+ * ask for none. The steps are done in an order of their own. docs/FIXES.md says what each of them does. With `others` other than 0, it is told too what
+ * each step that is not asked for would do at its turn.
+ *
+ * With ERD_GOOD the text has two lines, with a line feed between them and none behind: what was done, as a JSON array, and then the
+ * prepared report as compact JSON, the members of each object in the order of their names. The array has an object for each step
+ * that changes or leaves something, which looks like
+ *
+ *     {"changes":[{"after":"ElectionResults.Person","before":"Person","place":["Person",0,"@type"]}],"count":1,"done":true,
+ *      "left":[],"left_count":0,"more":false,"step":"class-names"}
+ *
+ * Places are those of the report that was given. `after` or `before` is missing where nothing stands. `left` has the places that the
+ * step leaves, with the reason. At most 1,000 changes, or about a megabyte, are told of a step, and as many places that it leaves;
+ * `count` and `left_count` say how many there are, and `more` whether some are not told. `done` is false for what a step would do.
+ *
+ * The outcome is ERD_NOT_JSON if the bytes are not JSON, and ERD_WRONG if the report is too long or `steps` has a name that no
+ * step and no group has; there is then no text. A prepared report may still be refused: check it. */
+enum erd_outcome erd_prepare(const void *bytes, size_t size, const char *steps, int others, char **text, size_t *length);
 
 /* Frees a text that one of these calls returned. Null is allowed, and does nothing. */
 void erd_free(char *text);

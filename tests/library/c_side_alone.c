@@ -12,12 +12,12 @@ static const uint8_t *last_prefer;
 static int last_call;
 static const char *why;
 
-enum { SIZE = 1000, CALLS = 13, LINE = CALLS, FIRST_OF_PIECES = 5, MEBIBYTE = 1048576,
+enum { SIZE = 1000, CALLS = 13, LINE = CALLS, PREPARE, FIRST_OF_PIECES = 5, MEBIBYTE = 1048576,
        ROOM_OF_MEBIBYTE = MEBIBYTE + MEBIBYTE / 16 + 4096 };
-static const char *const names[CALLS + 1] = {"check",      "canonical",        "compare",            "check_data",
+static const char *const names[CALLS + 2] = {"check",      "canonical",        "compare",            "check_data",
                                              "compare_data", "check_data_piece", "compare_data_piece", "canonical_data_piece",
                                              "differences_data", "check_piece", "compare_piece", "canonical_piece",
-                                             "differences", "command_line"};
+                                             "differences", "command_line", "prepare"};
 static const char report[SIZE];
 
 static uint8_t letter(size_t at) {
@@ -31,7 +31,7 @@ static struct told told_next(bool prefers, const uint8_t *prefer, size_t prefer_
     last_prefers = prefers;
     last_prefer = prefer;
     last_prefer_size = prefer_size;
-    uint32_t textless = last_call == LINE ? ERD_LINE_NO_MEMORY : ERD_WRONG;
+    uint32_t textless = last_call == LINE ? ERD_LINE_NO_MEMORY : last_call == PREPARE ? ERD_BAD : ERD_WRONG;
     for (size_t at = 0; next.outcome < textless && next.length <= room_size && at < next.length; at++)
         room[at] = letter(at);
     return next;
@@ -111,6 +111,17 @@ OF_PAIR(erd_tell_differences, 12)
 struct told erd_tell_command_line(const uint8_t *words, size_t size, uint8_t *room, size_t room_size) {
     last_size = size;
     return told_report(LINE, words, false, words, 0, room, room_size);
+}
+
+static size_t last_steps_size;
+static bool last_others;
+
+struct told erd_tell_prepared(const uint8_t *bytes, size_t size, const uint8_t *steps, size_t steps_size, bool others,
+                              uint8_t *room, size_t room_size) {
+    last_size = size;
+    last_steps_size = steps_size;
+    last_others = others;
+    return told_report(PREPARE, bytes, false, steps, 0, room, room_size);
 }
 
 static enum erd_outcome asked_for_piece(int call, struct bytes it, const char *prefer, struct erd_piece *piece, char **text,
@@ -320,6 +331,39 @@ static void line(enum erd_line wanted, size_t wanted_length) {
     said(LINE, "no memory for a text of length", wanted_length);
 }
 
+/* What was done and the prepared report are one text. Bytes that are not JSON have none. */
+static void prepared(size_t wanted_length, const char *steps, int others) {
+    char *text = NULL;
+    size_t length = 7;
+    next = (struct told){ERD_GOOD, wanted_length};
+    calls = 0;
+    if (erd_prepare(report, SIZE, steps, others, &text, &length) != ERD_GOOD || text == NULL || length != wanted_length
+        || text[length] != 0)
+        why = "another answer";
+    else if (last_call != PREPARE || last_size != SIZE || last_steps_size != strlen(steps) || last_others != (others != 0)
+             || calls != (wanted_length > SIZE + MEBIBYTE ? 2 : 1))
+        why = "another call";
+    for (size_t at = 0; why == NULL && at < length; at++)
+        if ((uint8_t)text[at] != letter(at))
+            why = "another text";
+    erd_free(text);
+    said(PREPARE, "a text of length", wanted_length);
+
+    static const uint32_t textless[] = {ERD_NOT_JSON, ERD_WRONG, ERD_NO_MEMORY};
+    for (size_t at = 0; at < sizeof textless / sizeof *textless; at++) {
+        text = (char *)"";
+        length = 7;
+        next = (struct told){textless[at], 0};
+        if (erd_prepare(NULL, 0, steps, others, &text, &length) != (enum erd_outcome)textless[at] || text != NULL || length != 0)
+            why = "a text where there is none";
+        said(PREPARE, "no text with outcome", textless[at]);
+    }
+    calls = 0;
+    if (erd_prepare(report, (size_t)67108864 + 1, steps, others, &text, &length) != ERD_WRONG || calls != 0)
+        why = "a report that is too long";
+    said(PREPARE, "too long a report with others", (size_t)others);
+}
+
 int main(void) {
     static char long_preference[60002];
     static const size_t lengths[] = {0, 1, 15, 4095, 4096, 4097, 6095, 6096, 6097, 6098, 60001, 1118207,
@@ -354,6 +398,10 @@ int main(void) {
         line(ERD_LINE_HELP, lengths[at]);
         line(ERD_LINE_REQUEST, lengths[at]);
         line(ERD_LINE_WRONG, lengths[at]);
+    }
+    for (size_t at = 0; at < sizeof lengths / sizeof *lengths; at++) {
+        prepared(lengths[at], "nulls,codes", 0);
+        prepared(lengths[at], "", 1);
     }
     for (int call = 2; call <= 4; call += 2) {
         one_too_long(call, SIZE, (size_t)67108864 + 1);

@@ -189,6 +189,41 @@ static int odd_lines(void) {
     return erd_command_line("erd", 4, NULL, &length) == ERD_LINE_REQUEST && length == strlen(filter) ? 0 : 51;
 }
 
+/* The number of the first report that is prepared wrongly, or 0. */
+static int odd_preparations(void) {
+#define REPORT "{\"@type\":\"ElectionResults.ElectionReport\""
+#define NULLS(done)                                                                                                            \
+    "[{\"changes\":[{\"before\":null,\"place\":[\"Notes\"]}],\"count\":1,\"done\":" done                                        \
+    ",\"left\":[],\"left_count\":0,\"more\":false,\"step\":\"nulls\"}]\n"
+    static const struct {
+        const char *report, *steps;
+        int others;
+        enum erd_outcome outcome;
+        const char *text;
+    } rows[] = {
+        {REPORT ",\"Notes\":null}", "nulls", 0, ERD_GOOD, NULLS("true") REPORT "}"},
+        {REPORT ",\"Notes\":null}", "removed", 0, ERD_GOOD, NULLS("true") REPORT "}"},
+        {REPORT ",\"Notes\":null}", "codes,nulls", 0, ERD_GOOD, NULLS("true") REPORT "}"},
+        {REPORT ",\"Notes\":null}", "", 0, ERD_GOOD, "[]\n" REPORT ",\"Notes\":null}"},
+        {REPORT ",\"Notes\":null}", NULL, 2, ERD_GOOD, NULLS("false") REPORT ",\"Notes\":null}"},
+        {REPORT "}", "nulls,nosuch", 0, ERD_WRONG, NULL},
+        {REPORT "}", "nulls,", 0, ERD_WRONG, NULL},
+        {REPORT "}", "\xff", 0, ERD_WRONG, NULL},
+        {REPORT, "nulls", 0, ERD_NOT_JSON, NULL},
+    };
+    for (size_t at = 0; at < sizeof rows / sizeof *rows; at++) {
+        char *text = "";
+        size_t length = 1;
+        enum erd_outcome outcome = erd_prepare(rows[at].report, strlen(rows[at].report), rows[at].steps, rows[at].others, &text, &length);
+        if (outcome != rows[at].outcome)
+            return 61 + (int)at;
+        if (rows[at].text == NULL ? text != NULL || length != 0 : !is_text(text, length, rows[at].text))
+            return 61 + (int)at;
+        erd_free(text);
+    }
+    return 0;
+}
+
 /* A type of identifier of this many letters. */
 static int preferred(struct file file, size_t size) {
     char *prefer = malloc(size + 1);
@@ -236,7 +271,8 @@ static int odd(const char *name) {
     erd_free(other);
     int wrong = odd_data(file);
     free(file.bytes);
-    return wrong ? wrong : odd_lines();
+    wrong = wrong ? wrong : odd_lines();
+    return wrong ? wrong : odd_preparations();
 }
 
 int main(int count, char **words) {

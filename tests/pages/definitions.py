@@ -47,6 +47,7 @@ MOST_WORDS = 13
 PROFILE = 'profile'
 SOURCES = {
     'erd_c/Lines': 'this project',
+    'erd_c/Prepared': 'this project',
     'erd_c/Told': 'this project',
     'erd_canon/Bytes.IsNotJson': 'RFC 8259, as `serde_json` reads it',
     'erd_canon/DataAnswers': 'docs/API.md',

@@ -14,11 +14,13 @@ ghost use Rattle.erd_c.specs.Told.{HasCanonicalText, IsCall, IsPieceCall};
 
 mod answers;
 mod line;
+mod prepared;
 mod questions;
 mod told;
 
 use answers::{canonical, checked, checked_data, compared, compared_data};
 pub use line::erd_tell_command_line;
+pub use prepared::erd_tell_prepared;
 use questions::Question;
 use std::alloc::Global;
 pub use told::{Told, Wanted};

@@ -143,6 +143,15 @@ uint32_t exported_erd_command_line(address words, uint32_t size, address text, a
     return handed_on(line, answer, text, length);
 }
 
+uint32_t exported_erd_prepare(address bytes, uint32_t size, address steps, uint32_t others, address text, address length)
+    EXPORTED("erd_prepare");
+uint32_t exported_erd_prepare(address bytes, uint32_t size, address steps, uint32_t others, address text, address length) {
+    struct answer answer = {NULL, 0};
+    enum erd_outcome outcome =
+        erd_prepare(at(bytes), size, at(steps), (int)others, text != 0 ? &answer.text : NULL, &answer.length);
+    return handed_on(outcome, answer, text, length);
+}
+
 void exported_erd_free(address room) EXPORTED("erd_free");
 void exported_erd_free(address room) {
     erd_free(at(room));
