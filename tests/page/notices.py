@@ -160,8 +160,8 @@ def many_selections(session):
 
 
 def long_names(session):
-    """Names of selections that are longer than a megabyte together: the page says that they are not listed."""
-    session.judged(*(with_selections(session, name, 2, note, 'x' * 300_000) for name, note in (('left.json', 1), ('right.json', 2))))
+    """Selections that differ, with names that are longer than a megabyte together: the page says that they are not listed."""
+    session.judged(*(with_selections(session, name, 4, note, 'x' * 300_000) for name, note in (('left.json', 1), ('right.json', 2))))
     session.equal('long names: they are not listed', session.texts('[aria-labelledby="first-difference"] > .note'), [answers.say('inside.notTold')])
     session.equal('long names: nor in the record', session.texts('[data-filed] li > div')[:1], [answers.say('inside.notTold')])
 
