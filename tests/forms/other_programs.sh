@@ -16,6 +16,11 @@ tried() {
     # a trial of wrong lines runs no more than has their cases
     [[ -z ${CASES:-} || $CASES == *'the conformance suite'* ]] || return
     run conformance/run "$@"
+    # wine ends a program now and then with status 1 and no word: what fails twice is the program's
+    if ! tail -n 1 "$work/out" | grep -qx '[1-9][0-9]* passed, 0 failed'; then
+        echo "notice: $name: the conformance suite once more, since $(grep -m 1 FAILED "$work/out")"
+        run conformance/run "$@"
+    fi
     said "$name: the conformance suite: $(tail -n 1 "$work/out")" "$(grep FAILED "$work/out" | head -n 3)$(
         tail -n 1 "$work/out" | grep -qx '[1-9][0-9]* passed, 0 failed' || echo 'it did not pass')"
 }

@@ -77,7 +77,18 @@ class Session:
         self.browser.one('#input-%d' % side).type('\n'.join(str(path) for path in paths))
 
     def verdict(self, seconds=60):
-        """Waits for the verdict, and returns its heading."""
+        """Waits for the verdict, and returns its heading. Firefox says once in some hundred loads that there is too much recursion, where
+        there is none. The page then offers to try again, and so does this, once."""
+        found = self.next_verdict(seconds)
+        if 'too much recursion' in found:
+            print('notice: %s: too much recursion; tried again' % self.browser.name, flush=True)
+            self.browser.script("""[...document.querySelectorAll('#verdict button')].at(-1)?.click();
+                document.getElementById('verdict')?.remove();""")
+            found = self.next_verdict(seconds)
+        return found
+
+    def next_verdict(self, seconds):
+        """Waits until there is a verdict, and returns its text."""
         self.browser.until("return document.documentElement.dataset.busy === 'no' && document.getElementById('verdict') !== null",
                            seconds=seconds)
         return self.text('#verdict')
