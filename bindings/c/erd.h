@@ -197,8 +197,10 @@ enum erd_line erd_command_line(const void *words, size_t size, char **text, size
 
 /* Prepares a report that is refused: does steps that fix what exports often have, each of which changes only what it tells.
  * `steps` has the names of steps and of their groups with commas between them, and is ended by a zero byte; null and "" ask for
- * none. The steps are done in an order of their own. docs/FIXES.md says what each of them does. With `others` other than 0, it is
- * told too what each step that is not asked for would do at its turn.
+ * none. The steps are done in an order of their own. docs/FIXES.md says what each of them does, but for three that it does not have
+ * yet: unused-ids takes out an @id that several objects have and to which nothing refers, town-codes puts the code of the town in
+ * front of numbers that begin again inside a county, and write-in-candidates numbers the write-in candidates of a contest who have
+ * one code. With `others` other than 0, it is told too what each step that is not asked for would do at its turn.
  *
  * With ERD_GOOD the text has two lines, with a line feed between them and none behind: what was done, as a JSON array, and then the
  * prepared report as compact JSON, the members of each object in the order of their names. The array has an object for each step
