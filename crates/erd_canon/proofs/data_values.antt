@@ -1,5 +1,6 @@
 pub mod DataTrees
 pub mod DetailedTrees  -- the values of differences with what differs inside selections
+pub mod BallotTexts  -- what a call on ballots answers for bytes that are refused
 pub mod DataTexts
 pub mod Fronts  -- the front of a list that a piece shows
 pub mod FrontLaws  -- that a list has one front and one piece

@@ -9,6 +9,7 @@ pub mod Reading  -- what came from a reader
 pub mod Run  -- what a run read and wrote that ends with an outcome
 pub mod DataValues  -- the JSON values of faults and of a comparison
 pub mod DataAnswers  -- what the calls answer as data
+pub mod BallotAnswers  -- what the calls on ballots answer as data
 pub mod Pieces  -- which entries of a list an answer has if its caller bounds them
 pub mod Writing  -- what a writer holds after a failed write
 pub mod Devices  -- what contracts know of readers and writers

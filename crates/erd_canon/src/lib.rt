@@ -18,6 +18,7 @@ pub use bytes::refusal::{Refusal, Side};
 pub use commands::prefer::Prefer;
 pub use commands::request::{FileName, LineFault, Request};
 pub use commands::words::command_line;
+pub use data::ballots::{BallotsAsked, ballots_data_with};
 pub use data::check::{Answer, check_data, check_data_with};
 pub use data::compare::{compare_data, compare_data_with, differences_data, differences_data_with};
 pub use data::line::{LineAnswer, command_line_data};

@@ -77,7 +77,7 @@ pub(crate) fn accepted(alloc: Global) -> Result<Answer, AllocError>
 }
 
 /// Returns the answer for a report that is refused.
-fn refused(alloc: Global, refusal: &Refusal) -> Result<Answer, AllocError>
+pub(crate) fn refused(alloc: Global, refusal: &Refusal) -> Result<Answer, AllocError>
     ensures { IfOk result (λ answer. AnswersData (TellsRefusalAs answer.outcome refusal.now) (string_bytes answer.text)) }
 {
     let mut text = String::new(alloc);
