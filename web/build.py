@@ -32,6 +32,10 @@ MOST_BYTES = 1_000_000
 
 IMPORT = re.compile(r"^import \{([^}]*)\} from '([^']+)';\n", re.M)
 EXPORT = re.compile(r'^export (?=(?:async )?(?:function\*?|class|const) (\w+))', re.M)
+# The scripts of the page and of its worker. What both need stands first in that of the page, up to this line, and the worker takes it from
+# there: embedded.mjs has the line too.
+FIRST, WORKER = 'page.mjs', 'worker.mjs'
+SHARED = '// the worker has what stands above\n'
 
 
 class BuildError(Exception):
@@ -39,10 +43,23 @@ class BuildError(Exception):
 
 
 def joined(first):
-    """The modules that one of them needs, as one script: each after those that it imports, in a function of its own."""
+    """The modules that one of the two scripts needs, as one script: each after those that it imports, in a function of its own. That of
+    the worker goes on where the shared modules end."""
+    modules, others = modules_of(first), modules_of(WORKER if first == FIRST else FIRST)
+    shared = ''.join(text for path, text in modules.items() if path in others)
+    own = ''.join(text for path, text in modules.items() if path not in others) + '})();\n'
+    if first == WORKER:
+        return own
+    if SHARED.strip() in shared:
+        raise BuildError('a module that both scripts need has the line that ends these modules')
+    return '(() => {\n"use strict";\n' + shared + SHARED + own
+
+
+def modules_of(first):
+    """The modules that one of them needs, each after those that it imports."""
     modules = {}
     add_module((SCRIPTS / first).resolve(), modules)
-    return '(() => {\n"use strict";\n' + ''.join(modules.values()) + '})();\n'
+    return modules
 
 
 def add_module(path, modules):
@@ -141,7 +158,7 @@ def page(wasm):
     """The whole page."""
     texts = {language: texts_of(language) for language in LANGUAGES}
     style = '\n' + '\n'.join((ROOT / 'web' / name).read_text(encoding='utf-8') for name in STYLES)
-    script = in_script(joined('page.mjs'))
+    script = in_script(joined(FIRST))
     template = (ROOT / 'web' / 'page.html').read_text(encoding='utf-8')
     examples = {name: (ROOT / 'examples' / name).read_text(encoding='utf-8') for name in EXAMPLES}
     parts = {
@@ -150,7 +167,7 @@ def page(wasm):
         'style': style,
         'script': script,
         'policy': html.escape(policy(style, script), quote=False),
-        'worker': packed(joined('worker.mjs').encode()),
+        'worker': packed(joined(WORKER).encode()),
         'tables': packed(tables(texts, template).encode()),
         'wasm': packed(wasm),
         'licences': packed(licences().encode()),

@@ -127,10 +127,8 @@ static struct told ask(struct question *it, uint8_t *room, size_t room_size) {
                                      it->prefer.at, it->prefer.size, room, room_size);
     case COMMAND_LINE:
         return erd_tell_command_line(it->left.at, it->left.size, room, room_size);
-#ifndef ERD_WITHOUT_PREPARE
     case PREPARED:
         return erd_tell_prepared(it->left.at, it->left.size, it->right.at, it->right.size, it->others, room, room_size);
-#endif
     default:
         return ask_for_piece(it, room, room_size);
     }
@@ -224,15 +222,12 @@ enum erd_outcome erd_compare_data(const void *left, size_t left_size, const void
     return call(&it, ROOM_FOR_LINES, text, length);
 }
 
-/* erd.wasm is made without the steps: nothing else calls their code, so the linker leaves it out. */
-#ifndef ERD_WITHOUT_PREPARE
 enum erd_outcome erd_prepare(const void *bytes, size_t size, const char *steps, int others, char **text, size_t *length) {
     struct question it = question_of(PREPARED, bytes_of(bytes, size), bytes_of(steps, steps ? strlen(steps) : 0), NULL);
     it.others = others != 0;
     /* most reports are no longer when they are prepared, and what was done is short */
     return call(&it, size + ROOM_FOR_PIECE, text, length);
 }
-#endif
 
 /* Room for the text of a list, so that most lists are made at once: as many bytes as are enough, at most a mebibyte, the commas
  * between entries of 16 bytes or more, and then one entry more. */

@@ -23,14 +23,15 @@ compiled() {
 }
 
 # The calls of 64 bits have `wide_` before their names, since those of 32 bits have the names.
-# calls.c says why one call is left out.
-mapfile -t names < <(exports | grep -vx erd_prepare)
-wide=(-DERD_WITHOUT_PREPARE)
+mapfile -t names < <(exports)
+wide=()
 for name in "${names[@]}"; do
     wide+=("-D$name=wide_$name")
 done
 from_c bindings/c/erd.c "$parts/wide.ll" "${wide[@]}"
-proved_for wasm "$parts/proved.ll" "$parts/proved_wasm.ll"
+# What only these calls need is made small, since the page must have less than a megabyte.
+python3 packaging/portable/wasm/small.py erd_tell_command_line erd_tell_prepared < "$parts/proved.ll" > "$parts/small.ll"
+proved_for wasm "$parts/small.ll" "$parts/proved_wasm.ll"
 take_profile
 compiled proved_wasm "${profile[@]}" -Wno-override-module -x ir "$parts/proved_wasm.ll"
 for part in wide heap; do

@@ -43,10 +43,16 @@ typedef enum erd_outcome of_one(const void *, size_t, const char *, char **, siz
 typedef enum erd_outcome of_two(const void *, size_t, const void *, size_t, const char *, char **, size_t *);
 typedef enum erd_outcome of_pieces(const void *, size_t, const void *, size_t, const char *, struct erd_piece *, char **, size_t *);
 
+/* The steps stand where other calls have the preferred type. It is told too what the other steps would do. */
+static enum erd_outcome prepared(const void *bytes, size_t size, const char *steps, char **text, size_t *length) {
+    return erd_prepare(bytes, size, steps, 1, text, length);
+}
+
 static const struct {
     const char *name;
     of_one *call;
-} of_one_report[] = {{"check", erd_check}, {"canon", erd_canonical}, {"check_data", erd_check_data}};
+} of_one_report[] = {
+    {"check", erd_check}, {"canon", erd_canonical}, {"check_data", erd_check_data}, {"prepare", prepared}};
 
 static const struct {
     const char *name;

@@ -3,8 +3,9 @@
 usage: compare_form.py PROGRAM NATIVE PAIRS SEED FOLDER NAME COMMAND ..
 
 COMMAND is a program that answers many calls, as tests/forms/caller.c does. It gets every case of `conformance/`, whose answers stand
-there, and PAIRS random reports and pairs, which PROGRAM answers too. The answers as data to all of these are compared with those of
-NATIVE, the same caller with the library of this machine in it. All is compared byte for byte. FOLDER is for files.
+there, and PAIRS random reports and pairs, which PROGRAM answers too. The answers as data to all of these, and what all steps make of
+the reports, are compared with those of NATIVE, the same caller with the library of this machine in it. All is compared byte for
+byte. FOLDER is for files.
 """
 import copy
 import importlib.machinery
@@ -21,6 +22,7 @@ sys.path.insert(0, str(ROOT / 'tests' / 'program'))
 from agrees_with_reference import EXAMPLES, cases  # noqa: E402
 
 MOST_SECONDS = 600
+STEPS = 'removed,filled-in,visible'
 
 
 def suite():
@@ -96,6 +98,22 @@ def as_data(native, questions):
         if question.command != 'canon' and not question.command.endswith('_data'):
             asked.append(copy.copy(question))
             asked[-1].command += '_data'
+    return answered(native, asked)
+
+
+def prepared(native, questions):
+    """Each report once more, with all that all steps make of it, and what the native library answers. The steps stand in the
+    place of the preference."""
+    asked = []
+    for question in questions:
+        if question.command in ('check', 'canon'):
+            asked.append(copy.copy(question))
+            asked[-1].command, asked[-1].prefer = 'prepare', STEPS
+    return answered(native, asked)
+
+
+def answered(native, asked):
+    """Questions with what the native library answers."""
     for question, (outcome, text) in zip(asked, answers_of([native], asked)):
         question.expected = (text, b'', outcome)
     return asked
@@ -125,6 +143,7 @@ def main():
         ('the suite', of_suite),
         (f'random reports and pairs, seed {seed}', of_random),
         ('answers as data', as_data(native, of_suite + of_random)),
+        ('what is prepared', prepared(native, of_suite + of_random)),
     ]:
         answers = answers_of(command, questions)
         differences = [question.what_differs(*answer) for question, answer in zip(questions, answers)]

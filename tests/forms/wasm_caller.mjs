@@ -5,9 +5,11 @@ import { readFileSync, writeSync } from 'node:fs';
 const CALLS = {
     check: 'erd_check', canon: 'erd_canonical', compare: 'erd_compare',
     check_data: 'erd_check_data', compare_data: 'erd_compare_data',
+    differences: 'erd_differences', differences_data: 'erd_differences_data',
+    prepare: 'erd_prepare',
 };
 // The calls that have a whole list where they get no piece.
-const LISTS = { differences: 'erd_differences', differences_data: 'erd_differences_data' };
+const LISTS = new Set(['differences', 'differences_data']);
 
 const module = new WebAssembly.Module(readFileSync(process.argv[2]));
 if (WebAssembly.Module.imports(module).length > 0) throw new Error('erd.wasm has imports');
@@ -26,9 +28,9 @@ function ask(name, prefer, files) {
     const given = files.map((file) => readFileSync(file)).map((bytes) => [put(bytes), bytes.length]);
     const preferred = prefer === '-' ? 0 : put(Buffer.from(prefer.slice(1), 'hex'));
     const answer = erd.erd_malloc(8);
-    const asked = [...given.flat(), preferred];
-    const outcome = name in LISTS
-        ? erd[LISTS[name]](...asked, 0, answer, answer + 4) : erd[CALLS[name]](...asked, answer, answer + 4);
+    // The whole of a list; and of a preparation what other steps would do too.
+    const more = LISTS.has(name) ? [0] : name === 'prepare' ? [1] : [];
+    const outcome = erd[CALLS[name]](...given.flat(), preferred, ...more, answer, answer + 4);
     const [text, length] = new Uint32Array(erd.memory.buffer, answer, 2);
     const found = Buffer.from(erd.memory.buffer, text, length);
     const written = Buffer.concat([Buffer.from(`${outcome} ${length}\n`), found]);

@@ -1,10 +1,18 @@
 // What the build has put into the page, compressed: the proved code, the worker, the tables of texts, the examples, and what can be read at
 // the foot.
 
-/** All of it but what stands at the foot, unpacked. */
+// Ends the modules that the worker has too, which stand first in the script of the page: build.py writes the line.
+const SHARED = '// the worker has what stands above\n';
+
+/** All of it but what stands at the foot, unpacked. The worker is a text. */
 export async function embedded() {
     const [wasm, worker, tables, examples] = await Promise.all(['wasm', 'worker', 'tables', 'examples-data'].map(unpacked));
-    return { ...JSON.parse(textOf(tables)), wasm, worker, examples: JSON.parse(textOf(examples)) };
+    return { ...JSON.parse(textOf(tables)), wasm, worker: sharedModules() + textOf(worker), examples: JSON.parse(textOf(examples)) };
+}
+
+function sharedModules() {
+    const script = document.getElementById('script').textContent;
+    return script.slice(0, script.indexOf(SHARED));
 }
 
 /** Unpacks the licences when somebody opens them. */

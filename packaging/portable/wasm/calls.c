@@ -115,7 +115,14 @@ PIECE_OF_TWO_REPORTS(erd_differences)
 PIECE_OF_TWO_REPORTS(erd_compare_data_piece)
 PIECE_OF_TWO_REPORTS(erd_differences_data)
 
-/* Not exported: erd_prepare, with which the page would have more than a megabyte. */
+uint32_t exported_erd_prepare(address bytes, uint32_t size, address steps, uint32_t others, address text, address length)
+    EXPORTED("erd_prepare");
+uint32_t exported_erd_prepare(address bytes, uint32_t size, address steps, uint32_t others, address text, address length) {
+    struct answer answer = {NULL, 0};
+    enum erd_outcome outcome =
+        erd_prepare(at(bytes), size, at(steps), others != 0, text != 0 ? &answer.text : NULL, &answer.length);
+    return handed_on(outcome, answer, text, length);
+}
 
 address exported_erd_open(uint32_t listing, address left, uint32_t left_size, address right, uint32_t right_size, address prefer,
                           uint32_t room) EXPORTED("erd_open");
