@@ -34,15 +34,14 @@ PYTEST = (BOUNDED + 'ERD_TOP=$PWD ERD_LIBRARY=$PWD/out/portable/linux-x86_64/lib
           '/usr/bin/python3 -m pytest -q -x -p no:cacheprovider bindings/python/tests/')
 LINES = ("python3 tests/forms/command_lines.py --beside ./erd 'python -m erd' package,python env "
          'ERD_LIBRARY=$PWD/out/portable/linux-x86_64/liberd.so.0 PYTHONPATH=$PWD/bindings/python/src python3 -m erd')
-STEPS = [BOUNDED + f'python3 tests/prepare/steps.py {words}' for words in ('10 1 agreement', '10 1')]
+STEPS = [BOUNDED + 'python3 tests/prepare/steps.py']
 MODULE = 'node tests/forms/javascript_module.mjs'
 COMMAND = 'cp -n out/portable/erd.wasm bindings/js; node tests/forms/javascript_command.mjs bindings/js'
 PARTS = [f'node tests/page/{name}.mjs' for name in ('parts', 'lines', 'words', 'ballot_words', 'record_words', 'modules')]
 
 # The files, and the commands that try them, the cheapest first.
 AREAS = {
-    'bindings/python/src/erd/prepare/*.py': [*STEPS, PYTEST + 'test_prepare.py'],
-    'bindings/python/src/erd/prepare/steps/*.py': STEPS,
+    'bindings/python/src/erd/prepare/*.py': [PYTEST + 'test_prepare.py', *STEPS],
     'bindings/python/src/erd/from_xml/*.py': [PYTEST + 'test_from_xml.py'],
     'bindings/python/src/erd/*.py': [*(PYTEST + f'test_{name}.py' for name in ('calls', 'resume', 'suite', 'commands', 'many')), LINES],
     'bindings/js/lib/prepare/*.mjs': [MODULE, *STEPS],

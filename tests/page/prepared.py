@@ -1,14 +1,14 @@
 """From a refused export to an accepted copy by the page alone: for the exports of the examples, and three more. Each takes at most
-five clicks and no typing. What the page writes and tells is what the Python package writes and tells."""
+five clicks and no typing. What the page writes and tells is what the package for JavaScript writes and tells."""
 import json
 import re
 import sys
 
 from session import EXAMPLES, ROOT, report_of_units, sha256
 
-sys.path[:0] = [str(ROOT / 'bindings' / 'python' / 'src'), str(ROOT / 'tests' / 'reports')]
+sys.path.insert(0, str(ROOT / 'tests' / 'reports'))
 import vendor_exports  # noqa: E402
-from erd.prepare import STEPS, Preparation, steps_of  # noqa: E402
+from by_node import STEPS, Preparation, steps_of  # noqa: E402
 
 MOST_CLICKS = 5
 # So many units that their steps take some seconds.
@@ -59,7 +59,7 @@ class Clicks:
 
 def marked(prepared, name, data, done):
     """The copy as the page writes it: its notes say where it comes from."""
-    steps = ', '.join(f'{it.name} {len(it.made)}' for it in done if it.made)
+    steps = ', '.join(f'{it.name} {it.count}' for it in done if it.count)
     line = f'Prepared by erd from {json.dumps(name, ensure_ascii=False)} (SHA-256 {sha256(data)}): {steps}.'
     text = prepared.decode('utf-8')
     report = json.loads(text)
@@ -110,7 +110,7 @@ def accepted(session, name, data):
 
 def told(done):
     """What the page writes of the steps that were done."""
-    return [f'{WORDS["step." + it.name]} ({len(it.made):,})' for it in done]
+    return [f'{WORDS["step." + it.name]} ({it.count:,})' for it in done]
 
 
 def saved(session, name, clicks):

@@ -12,6 +12,7 @@ import itertools
 import json
 import os
 import pathlib
+import platform
 import random
 import re
 import shlex
@@ -51,7 +52,9 @@ def workshop(folder):
     program = [str(ROOT / word) if (ROOT / word).exists() else word for word in program]
     (folder / 'bin').mkdir()
     package = shlex.quote(str(ROOT / 'bindings' / 'python' / 'src'))
-    for name, words in (('erd', f'exec {shlex.join(program)}'), ('erd-prepare', f'PYTHONPATH={package} exec python3 -B -m erd.prepare')):
+    library = shlex.quote(os.environ.get('ERD_LIBRARY', str(ROOT / f'out/portable/linux-{platform.machine()}/liberd.so.0')))
+    for name, words in (('erd', f'exec {shlex.join(program)}'),
+                        ('erd-prepare', f'ERD_LIBRARY={library} PYTHONPATH={package} exec python3 -B -m erd.prepare')):
         (folder / 'bin' / name).write_text(f'#!/bin/sh\n{words} "$@"\n', encoding='utf-8')
         (folder / 'bin' / name).chmod(0o755)
     os.environ['PATH'] = f'{folder / "bin"}:{os.environ["PATH"]}'

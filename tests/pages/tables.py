@@ -90,12 +90,10 @@ def rows_of_version_1(name, line):
 
 # The file, the lines that begin and end its table, and the lines of the table.
 FROM_XML = {'python': 'bindings/python/src/erd/from_xml/table.py', 'javascript': 'web/scripts/from_xml/table.mjs'}
-PREPARE = {'python': 'bindings/python/src/erd/prepare/member_table.py', 'javascript': 'bindings/js/lib/prepare/member_table.mjs'}
+PREPARE = 'bindings/js/lib/prepare/member_table.mjs'
 TABLES = (
-    (PREPARE['python'], 'ROWS = {', '}', rows("    '%s': (", '', '),')),
-    (PREPARE['python'], 'FAMILIES = {', '}', families("    '%s': [%s],")),
-    (PREPARE['javascript'], 'const ROWS = {', '};', rows('    %s: [', '+ ', '],')),
-    (PREPARE['javascript'], 'export const FAMILIES = {', '};', families('    %s: [%s],')),
+    (PREPARE, 'const ROWS = {', '};', rows('    %s: [', '+ ', '],')),
+    (PREPARE, 'export const FAMILIES = {', '};', families('    %s: [%s],')),
     ('bindings/python/src/erd/results.py', 'WORDS = {', '}', (f"    {number}: '{words}'," for number, words in text_of_reasons().items())),
     ('bindings/js/lib/words.mjs', 'const WORDS_OF_REASONS = [', '];', (f"    '{words}'," for words in text_of_reasons().values())),
     (FROM_XML['python'], 'ROWS = {', '}', xml_rows("    '%s': (", '', '),')),

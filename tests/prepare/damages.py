@@ -67,6 +67,12 @@ def twin_ids(report):
         report[family][0]['@id'] = new
 
 
+def unused_ids(report):
+    """Two persons of one `@id`, to which nothing refers."""
+    report['Person'] += [{'@id': 'clerk', '@type': CLASS + 'Person', 'FullName': name, 'ExternalIdentifier': [identifier(name)]}
+                         for name in ('Ada Clerk', 'Bea Clerk')]
+
+
 def rename_references(value, members, old, new):
     if isinstance(value, list):
         for entry in value:
@@ -188,14 +194,18 @@ def two_counties(report):
         unit.pop('ComposingGpUnitIds', None)
 
 
-def a_unit_of_two_counties(report):
-    """The same with counties that have another code too, and a unit that is in both and has one of these numbers."""
-    two_counties(report)
-    for number, unit in enumerate(report['GpUnit'][:2]):
-        unit['ExternalIdentifier'].append(identifier(f'C-{number}', 'county-code'))
-    report['GpUnit'][6].update({'Type': 'precinct', 'ExternalIdentifier': [identifier('1')]})
-    for unit in report['GpUnit'][:2]:
-        unit['ComposingGpUnitIds'].append(report['GpUnit'][6]['@id'])
+def two_towns(report):
+    """Makes a county of the first unit and two towns of the next two, with two of the other units in each that have the same numbers."""
+    county, *towns = report['GpUnit'][:3]
+    county.update({'Type': 'county', 'ExternalIdentifier': [identifier('99031', 'fips')], 'ComposingGpUnitIds': [one['@id'] for one in towns]})
+    for number, unit in enumerate(towns):
+        inside = report['GpUnit'][3 + 2 * number:5 + 2 * number]
+        unit.update({'Type': 'town', 'ExternalIdentifier': [identifier(f'T-{number}')], 'ComposingGpUnitIds': [one['@id'] for one in inside]})
+        for position, one in enumerate(inside):
+            one.update({'Type': 'precinct', 'ExternalIdentifier': [identifier(f'{position}')]})
+            one.pop('ComposingGpUnitIds', None)
+    for unit in report['GpUnit'][7:]:
+        unit.pop('ComposingGpUnitIds', None)
 
 
 def shared_codes(report):
@@ -229,6 +239,18 @@ def write_in_lines(report):
     contest = max(contests(report), key=lambda contest: sum(selection.get('IsWriteIn') is True for selection in contest['ContestSelection']))
     listed = [content for style in styles(report) for content in contents(style['OrderedContent']) if content.get('ContestId') == contest['@id']]
     listed[-1]['OrderedContestSelectionIds'].reverse()
+
+
+def write_in_candidates(report):
+    """Write-in lines of a contest, each with a candidate of its own, all of whom have one code."""
+    contest = max(contests(report), key=lambda contest: sum(selection.get('IsWriteIn') is True for selection in contest['ContestSelection']))
+    lines = [selection for selection in contest['ContestSelection'] if selection.get('IsWriteIn') is True]
+    election = next(election for election in report['Election'] if contest in election['Contest'])
+    for number, one in enumerate(lines):
+        one['CandidateIds'] = [f'write-in-{number}']
+        election['Candidate'].append({'@id': f'write-in-{number}', '@type': CLASS + 'Candidate', 'ExternalIdentifier': [identifier('W-1')],
+                                      'BallotName': {'@type': CLASS + 'InternationalizedText', 'Text': [
+                                          {'@type': CLASS + 'LanguageString', 'Language': 'en', 'Content': 'Write-in'}]}})
 
 
 def contents(entries):
@@ -269,8 +291,6 @@ DAMAGES = {
     'unused-styles': (COUNTY, unused_styles), 'unused-persons': (COUNTY, unused_persons), 'empty-lists': (COUNTY, empty_lists),
     'empty-texts': (COUNTY, empty_texts), 'names': (COUNTY, names), 'county-codes': (COUNTY, two_counties),
     'shared-codes': (COUNTY, shared_codes), 'codes': (ELECTIONS, codes), 'write-in-lines': (COUNTY, write_in_lines),
-    'party-lines': (COUNTY, party_lines),
+    'party-lines': (COUNTY, party_lines), 'unused-ids': (COUNTY, unused_ids), 'town-codes': (COUNTY, two_towns),
+    'write-in-candidates': (COUNTY, write_in_candidates),
 }
-
-# Where both packages have to agree, beside all of these.
-OTHERS = {'a unit of two counties': (COUNTY, a_unit_of_two_counties)}

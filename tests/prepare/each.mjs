@@ -1,20 +1,12 @@
-// Prepares each report of a list, `[[FILE, [STEP, ..]], ..]`, and writes a line of JSON for each: what was written and told.
+// Prepares reports: for each line of JSON that comes, `[FILE, [STEP, ..]]`, it writes one, with what was written and told. The first line has
+// the names of all steps.
 import { readFileSync } from 'node:fs';
-import { Preparation, told } from '../../bindings/js/lib/prepare/prepared.mjs';
-import { NotJson } from '../../bindings/js/lib/scanner.mjs';
+import { createInterface } from 'node:readline';
+import { Preparation, STEPS, told } from '../../bindings/js/lib/prepare/prepared.mjs';
 
-for (const [file, names] of JSON.parse(readFileSync(process.argv[2]))) {
-    console.log(JSON.stringify(prepared(new Uint8Array(readFileSync(file)), names)));
-}
-
-function prepared(bytes, names) {
-    try {
-        const { bytes: text, steps } = new Preparation(bytes).prepare(names, { tellsOthers: true });
-        return { text: Buffer.from(text).toString(), done: steps.map(told) };
-    } catch (error) {
-        if (error instanceof NotJson) {
-            return { error: 'not JSON' };
-        }
-        throw error;
-    }
+console.log(JSON.stringify(STEPS.map(({ name }) => name)));
+for await (const line of createInterface({ input: process.stdin })) {
+    const [file, names] = JSON.parse(line);
+    const { bytes, steps } = new Preparation(new Uint8Array(readFileSync(file))).prepare(names);
+    console.log(JSON.stringify([Buffer.from(bytes).toString(), steps.map(told)]));
 }

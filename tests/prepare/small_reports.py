@@ -1,4 +1,4 @@
-"""Small reports in which a step of `prepare` has to decide, for the agreement of both packages: each with the step that decides."""
+"""Small reports in which a step of `prepare` has to decide: each with the step that decides."""
 from damages import CLASS, identifier
 
 

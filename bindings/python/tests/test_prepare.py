@@ -1,4 +1,4 @@
-"""The steps that prepare an export, as the wheel has them. tests/prepare/steps.py tries the steps themselves."""
+"""The steps that prepare an export, as the package hands them on. tests/prepare/steps.py tries the steps themselves."""
 
 import json
 import subprocess
@@ -8,6 +8,7 @@ import pytest
 
 import erd
 from erd import prepare
+from erd.library import prepared as prepared_by_library
 
 
 @pytest.mark.parametrize('name', ['county-general', 'municipal', 'state-primary'])
@@ -16,7 +17,120 @@ def test_raw_examples(top, name):
     assert not erd.check(data).accepted
     prepared, done = prepare.prepare(data, prepare.steps_of('removed', 'filled-in', 'visible'))
     assert erd.check(prepared).accepted
-    assert all(step.made for step in done)
+    assert all(step.count and step.done for step in done)
+    names = [step.name for step in prepare.STEPS]
+    assert [step.name for step in done] == sorted((step.name for step in done), key=names.index)
+
+
+def report(members):
+    return ('{"@type":"ElectionResults.ElectionReport",' + members + '}').encode()
+
+
+NULLS = report('"Notes":null,"~/":[{"b":1,"a":null}]')
+
+
+def test_what_is_told():
+    """Each change has its place in the report that was given, and the value before and after: here a member is gone."""
+    prepared, done = prepare.prepare(NULLS, ['nulls'])
+    assert prepared == b'{"@type":"ElectionResults.ElectionReport","~/":[{"b":1}]}'
+    assert [change.place for change in done[0].made] == [('Notes',), ('~/', 0, 'a')]
+    assert [step.told() for step in done] == [{
+        'step': 'nulls', 'done': True, 'count': 2, 'left_count': 0, 'left': [], 'more': False,
+        'changes': [{'pointer': '/Notes', 'before': 'null', 'after': None}, {'pointer': '/~0~1/0/a', 'before': 'null', 'after': None}],
+    }]
+
+
+def test_what_is_left():
+    data = report('"Party":[{"@type":"ElectionResults.Party","@id":"p"}]')
+    prepared, done = prepare.prepare(data, ['names'])
+    assert (prepared, [step.told()['left'] for step in done]) == (data, [[{'pointer': '/Party/0', 'why': 'noName'}]])
+    assert (done[0].count, done[0].left_count, done[0].left[0].place) == (0, 1, ('Party', 0))
+
+
+def test_numbers_that_are_written_in_another_way(monkeypatch):
+    """They are told by line and column. A file that keeps its bytes keeps its numbers."""
+    numbers = ('{"changes":[{"after":"1.5","before":"1.50","column":12,"line":3}],"count":1,"done":true,"left":[],"left_count":0,'
+               '"more":false,"step":"numbers"}')
+    nulls = ('{"changes":[{"before":null,"place":["a",0]},{"after":1.0,"before":"1","place":["b"]}],"count":2,"done":%s,"left":[],'
+             '"left_count":0,"more":false,"step":"nulls"}')
+    for done, names, copy in (('true', ['numbers', 'nulls'], b'{}'), ('false', ['nulls'], b'{"n":1.50}')):
+        answer = f'[{numbers},{nulls % done}]\n{{}}'.encode()
+        monkeypatch.setattr(prepare.prepared, 'prepared', lambda *_: (0, answer))
+        prepared, told = prepare.Preparation(b'{"n":1.50}').prepare([], tells_others=True)
+        assert (prepared, [step.name for step in told]) == (copy, names)
+        assert told[-1].told()['changes'] == [{'pointer': '/a/0', 'before': 'null', 'after': None}, {'pointer': '/b', 'before': '"1"', 'after': '1.0'}]
+        assert names[0] != 'numbers' or told[0].told() == {
+            'step': 'numbers', 'done': True, 'count': 1, 'left_count': 0, 'left': [], 'more': False,
+            'changes': [{'line': 3, 'column': 12, 'before': '1.50', 'after': '1.5'}]}
+
+
+def test_the_others_are_told():
+    prepared, done = prepare.Preparation(NULLS).prepare([], tells_others=True)
+    assert (prepared, [(step.name, step.done, step.count) for step in done]) == (NULLS, [('nulls', False, 2)])
+    assert prepare.Preparation(NULLS).prepare([])[1] == []
+
+
+def test_a_list_has_a_bound():
+    data = report('"n":[' + ','.join(['{"a":null}'] * 3000) + ']')
+    step = prepare.prepare(data, ['nulls'])[1][0]
+    assert (step.count, len(step.made), step.more) == (3000, 1000, True)
+
+
+def test_values_before_and_after():
+    """Numbers are told as they are written."""
+    data = report('"Election":[{"@type":"ElectionResults.Election","Contest":[{"@type":"ElectionResults.CandidateContest","VotesAllowed":"1",'
+                  '"CountItemStatus":{"a":[1.5,true,"x"]}}]}]')
+    step = next(step for step in prepare.Preparation(data).prepare(['kinds'])[1] if step.name == 'kinds')
+    assert ('/Election/0/Contest/0/VotesAllowed', '"1"', '1') in [tuple(change.values()) for change in step.told()['changes']]
+
+
+MARK = b'\xef\xbb\xbf'
+
+
+def test_a_byte_order_mark():
+    """It is the package that takes it away: the library takes bytes without a mark."""
+    told = [{'step': 'byte-order-mark', 'done': True, 'count': 1, 'changes': [{'pointer': '', 'before': '"\ufeff"', 'after': None}],
+             'left_count': 0, 'left': [], 'more': False}]
+    twice = b'{"a":1,"a":2, "b":null}'
+    prepared, done = prepare.prepare(MARK + twice, ['byte-order-mark'])
+    assert (prepared, [step.told() for step in done]) == (twice, told)
+    assert prepare.prepare(MARK + twice, ['nulls'])[0] == MARK + b'{"a":2}'
+    assert prepare.prepare(MARK + twice, ['byte-order-mark', 'nulls'])[0] == b'{"a":2}'
+    assert prepare.prepare(MARK + twice, []) == (MARK + twice, [])
+    assert [(step.name, step.done) for step in prepare.Preparation(MARK + b'{}').prepare([], tells_others=True)[1]] == [('byte-order-mark', False)]
+
+
+def test_a_file_of_which_nothing_changes_keeps_its_bytes(top):
+    for path in sorted(set((top / 'examples').glob('*.json')) - set((top / 'examples').glob('*.raw.json'))):
+        data = path.read_bytes()
+        assert prepare.prepare(data, ['nulls', 'kinds', 'class-names', 'codes', 'write-in-lines', 'party-lines', 'repeated']) == (data, [])
+
+
+def test_what_is_refused():
+    for data in (b'{', b'', MARK, MARK + MARK + b'{}', b'\xff', b'[' * 200):
+        with pytest.raises(prepare.NotJson):
+            prepare.prepare(data)
+    for names in (['nosuch'], ['removed'], ['nulls', ''], ['nulls,kinds'], ['numbers']):
+        with pytest.raises(ValueError, match='no step has the name'):
+            prepare.prepare(b'{}', names)
+    with pytest.raises(erd.TooLong):
+        prepare.prepare(b' ' * (2 ** 26 + 1))
+
+
+def test_words_that_stand_for_steps():
+    assert prepare.names_of('visible,nulls') == ['gone-candidates', 'unused-styles', 'nulls']
+    assert prepare.names_of('removed') == prepare.steps_of('removed')
+    for words in ('nosuch', '', 'nulls,', 'removed,Nulls'):
+        with pytest.raises(ValueError, match='there is no step'):
+            prepare.names_of(words)
+
+
+def test_the_library_has_each_step():
+    """It takes each name, and the groups are its own."""
+    for step in prepare.STEPS:
+        if step.name != 'byte-order-mark':
+            assert prepared_by_library(b'{}', step.name.encode(), False)[0] == 0
+    assert prepared_by_library(b'{}', b'byte-order-mark', False)[0] == 3
 
 
 def run(*words):
@@ -33,7 +147,7 @@ def test_command(top, name, groups):
     left = erd.check(prepared, most_faults=10)
     assert (ran.returncode, ran.stdout) == (left.status, prepared)
     told = ran.stderr.decode('utf-8').splitlines()
-    assert told[0].startswith(f'{done[0].name}: {len(done[0].made)}, first ')
+    assert told[0].startswith(f'{done[0].name}: {done[0].count}, first ')
     if left.accepted:
         assert not any(line.startswith('faults left') for line in told)
     else:
@@ -61,5 +175,5 @@ def test_command_whose_library_is_missing(top, monkeypatch):
     monkeypatch.setenv('ERD_LIBRARY', '/no/such')
     path = top / 'examples' / 'one-unit.json'
     ran = run(path)
-    assert (ran.returncode, ran.stdout) == (3, path.read_bytes())
+    assert (ran.returncode, ran.stdout) == (3, b'')
     assert ran.stderr.startswith(b'erd failed: OSError: ') and ran.stderr.count(b'\n') == 1

@@ -54,7 +54,7 @@ def judge(file: str, prefer: Optional[str], steps: Sequence[str] = (), folder: s
         data = bytes_of_file(os.path.join(folder, file))
         if steps:
             data, done = prepare(data, steps)
-            told = ', '.join(f'{step.name} {len(step.made)}' for step in done if step.made)
+            told = ', '.join(f'{step.name} {step.count}' for step in done if step.count)
         result = canonical(data, prefer=prefer, most_faults=1)
     except NotJson:
         return Row(file, NOT_JSON)

@@ -77,6 +77,8 @@ def load(path: str) -> ctypes.CDLL:
     loaded.erd_next.restype = ctypes.c_int
     loaded.erd_close.argtypes = [ctypes.c_void_p]
     loaded.erd_close.restype = None
+    loaded.erd_prepare.argtypes = report + [ctypes.c_char_p, ctypes.c_int] + text
+    loaded.erd_prepare.restype = ctypes.c_int
     loaded.erd_command_line.argtypes = report + text
     loaded.erd_command_line.restype = ctypes.c_int
     loaded.erd_free.argtypes = [ctypes.c_void_p]
@@ -88,7 +90,7 @@ def load(path: str) -> ctypes.CDLL:
 
 @lru_cache(maxsize=None)
 def library() -> ctypes.CDLL:
-    """Returns the library, which is loaded when something calls it. What only prepares files needs none."""
+    """Returns the library, which is loaded when something calls it. What only converts XML needs none."""
     return load(path_of_library())
 
 
@@ -125,6 +127,19 @@ def command_line(words: Sequence[str]) -> Tuple[int, Request]:
     options = json.loads(told)
     command, names = options.pop('command'), options.pop('files')
     return line, Request(command, [os.fsdecode(name.encode('utf-8')) for name in names], options)
+
+
+def prepared(report: bytes, steps: bytes, others: bool) -> Tuple[int, bytes]:
+    """Returns the outcome of preparing a report by these steps, with commas between their names, and the text: what was done as a line
+    of JSON, and the prepared report."""
+    text, length = ctypes.c_void_p(), ctypes.c_size_t()
+    outcome = library().erd_prepare(report, len(report), steps, others, ctypes.byref(text), ctypes.byref(length))
+    if outcome == NO_MEMORY:
+        raise MemoryError('out of memory')
+    try:
+        return outcome, ctypes.string_at(text.value, length.value) if outcome == GOOD else b''
+    finally:
+        library().erd_free(text)
 
 
 Taken = TypeVar('Taken')

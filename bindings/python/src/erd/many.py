@@ -20,8 +20,7 @@ from typing import Dict, Iterable, Iterator, List, Optional
 
 from .journal import Journal
 from .judging import Row, judge
-from .parsing import Done, Parser, Version, above_zero, not_empty
-from .prepare.__main__ import names_of
+from .parsing import Done, Parser, Version, above_zero, names_of_steps, not_empty
 from .repeats import visible
 from .running import run_here, run_on_cluster
 from .streams import (INTERRUPTED, STANDARD_ERROR, STANDARD_OUTPUT, ReaderGone, Stop, is_terminal, status_of, tell, write_text)
@@ -147,7 +146,7 @@ def parser() -> argparse.ArgumentParser:
     form.add_argument('--json', dest='text_of', action='store_const', const=json_of, help='write a JSON array')
     form.add_argument('--csv', dest='text_of', action='store_const', const=csv_of, help='write CSV')
     words.add_argument('--prefer', metavar='TYPE', type=not_empty, help='the type of identifier that keys follow')
-    words.add_argument('--prepare', metavar='STEPS', type=names_of, default=[], help='judge a copy of each file on which these steps '
+    words.add_argument('--prepare', metavar='STEPS', type=names_of_steps, default=[], help='judge a copy of each file on which these steps '
                        'of erd-prepare were done: names of steps or of groups, with commas between them; the files stay as they are')
     words.add_argument('--pattern', default='*.json', type=pattern_of, help='which files of a folder are judged (default: %(default)s)')
     words.add_argument('--jobs', type=above_zero, default=os.cpu_count() or 1, metavar='N', help='how many processes (default: one a core)')

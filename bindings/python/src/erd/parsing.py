@@ -3,10 +3,11 @@
 from __future__ import annotations
 
 import argparse
-from typing import NoReturn, Optional
+from typing import List, NoReturn, Optional
 
 from .library import version
 from .listing import utf_8
+from .prepare import names_of
 from .streams import STANDARD_OUTPUT, Stop, write_text
 
 
@@ -52,6 +53,14 @@ def type_of_identifier(text: str) -> str:
     except ValueError as error:
         raise argparse.ArgumentTypeError(str(error)) from None
     return text
+
+
+def names_of_steps(text: str) -> List[str]:
+    """Returns the names of the steps that a text stands for, or refuses it."""
+    try:
+        return names_of(text)
+    except ValueError as error:
+        raise argparse.ArgumentTypeError(str(error)) from None
 
 
 def above_zero(text: str) -> int:

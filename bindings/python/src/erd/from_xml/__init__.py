@@ -19,9 +19,9 @@ from dataclasses import dataclass
 from typing import List
 
 from ..library import TooLong
-from ..prepare.tree import NotJson, read_tree, without_mark, written
 from ..repeats import repeated_names
 from ..streams import MOST_BYTES
+from ..tree import NotJson, read_tree, without_mark, written
 from .born import read_born, root_of
 from .converting import MOST_NOT_UNDERSTOOD, Converter, NotXml, Told
 from .reading import read_xml

@@ -5,7 +5,7 @@ from __future__ import annotations
 
 from typing import Iterator, List, Optional, Tuple
 
-from ..prepare.tree import Tree, WrittenNumber
+from ..tree import Tree, WrittenNumber
 from .converting import BLANKS, MOST_OF_NAME, NIL, ROOT, TYPE, Converter, NotXml
 from .reading import NO_NAMESPACE, VERSIONS
 

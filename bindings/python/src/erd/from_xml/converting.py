@@ -10,7 +10,7 @@ import re
 from sys import intern
 from typing import Callable, Dict, List, NamedTuple, Optional, Tuple, Union
 
-from ..prepare.tree import MOST_LEVELS, WrittenNumber
+from ..tree import MOST_LEVELS, WrittenNumber
 from .table import (ATTRIBUTES, COLLECTIONS, OLD_ATTRIBUTES, TEXT_MEMBER, Shape, class_by_default, old_names_of, shapes_of)
 
 PREFIX = 'ElectionResults.'

@@ -17,12 +17,12 @@ import sys
 from typing import List, Optional
 
 from .. import check
-from ..parsing import Done as Written, Parser, Version, type_of_identifier
+from ..parsing import Done as Written, Parser, Version, names_of_steps, type_of_identifier
 from ..repeats import repeated_names, visible
 from ..streams import STANDARD_ERROR, STANDARD_OUTPUT, Input, Stop, read, status_of, write, write_text
-from .prepared import STEPS, Done, Preparation, pointer_of, steps_of
-from .step_words import GROUP_WORDS, LEFT_WORDS, STEP_WORDS
-from .tree import NotJson, without_mark
+from ..tree import NotJson, without_mark
+from .prepared import STEPS, ChangedNumber, Done, Preparation, pointer_of, steps_of
+from .step_words import GROUP_WORDS, LEFT_WORDS
 
 MOST_LEFT = 10
 NOT_JSON = 2
@@ -35,9 +35,9 @@ def parser() -> argparse.ArgumentParser:
         'Writes a copy of a report on which steps were done that make an export ready for erd. FILE stays as it is. What was done is '
         'told on standard error, and which faults are left in the copy: while there are some, the exit status is 1. The groups of steps '
         f'are {groups}.'))
-    words.add_argument('--steps', metavar='NAMES', type=names_of, default=steps_of('removed'),
+    words.add_argument('--steps', metavar='NAMES', type=names_of_steps, default=steps_of('removed'),
                        help='which steps are done: names of steps or of groups, with commas between them (default: removed)')
-    words.add_argument('--without', metavar='NAMES', type=names_of, default=[], help='which of these are not done')
+    words.add_argument('--without', metavar='NAMES', type=names_of_steps, default=[], help='which of these are not done')
     words.add_argument('--prefer', metavar='TYPE', type=type_of_identifier, help='the type of identifier that keys follow where the copy is judged')
     words.add_argument('--report', metavar='REPORT', help='also write each change to this file, as JSON')
     words.add_argument('--list', action='store_true', dest='lists', help='list all steps, or those that would do something to FILE')
@@ -46,20 +46,10 @@ def parser() -> argparse.ArgumentParser:
     return words
 
 
-def names_of(text: str) -> List[str]:
-    """Returns the names of steps that a text stands for: names of steps and of groups, with commas between them."""
-    names: List[str] = []
-    for word in text.split(','):
-        if word not in GROUP_WORDS and word not in STEP_WORDS:
-            raise argparse.ArgumentTypeError(f'there is no step {word}')
-        names += steps_of(word) if word in GROUP_WORDS else [word]
-    return names
-
-
 def counted(done: Done) -> str:
     """Returns a line of the list of a file."""
     group, title = next((step.group, step.title) for step in STEPS if step.name == done.name)
-    return f'{len(done.made):6}  {done.name:18}  {group:9}  {title}\n'
+    return f'{done.count:6}  {done.name:18}  {group:9}  {title}\n'
 
 
 def place_text(place: tuple) -> str:
@@ -67,12 +57,18 @@ def place_text(place: tuple) -> str:
     return visible(pointer_of(place)) if place else 'the file itself'
 
 
+def first_place(done: Done) -> str:
+    """Returns the place of the first change for a person."""
+    first = done.made[0]
+    return f'line {first.line}, column {first.column}' if isinstance(first, ChangedNumber) else place_text(first.place)
+
+
 def lines_of(done: Done) -> List[str]:
     """Returns what a step did, as lines for a person."""
-    _, does, loses = STEP_WORDS[done.name]
-    lines = [f'{done.name}: {len(done.made)}, first {place_text(done.made[0].place)}. {does} {loses}'] if done.made else []
+    words = ' '.join(text for step in STEPS if step.name == done.name for text in (step.does, step.loses))
+    lines = [f'{done.name}: {done.count}, first {first_place(done)}. {words}'.rstrip()] if done.made else []
     lines += [f'{done.name}: left {place_text(place)}: {LEFT_WORDS[why]}' for place, why in done.left[:MOST_LEFT]]
-    return lines + ([f'{done.name}: left {len(done.left) - MOST_LEFT} more'] if len(done.left) > MOST_LEFT else [])
+    return lines + ([f'{done.name}: left {done.left_count - MOST_LEFT} more'] if done.left_count > MOST_LEFT else [])
 
 
 def repeats(data: bytes) -> List[str]:
@@ -93,7 +89,7 @@ def answer(words: argparse.Namespace) -> int:
     preparation = Preparation(data)
     if words.lists:
         _, found = preparation.prepare(steps_of('removed', 'filled-in'), tells_others=True)
-        write(STANDARD_OUTPUT, ''.join(counted(done) for done in found if done.made).encode('utf-8'))
+        write(STANDARD_OUTPUT, ''.join(counted(done) for done in found if done.count).encode('utf-8'))
         return 0
     prepared, steps = preparation.prepare(set(words.steps) - set(words.without))
     told = [*repeats(data), *(line for done in steps for line in lines_of(done))]

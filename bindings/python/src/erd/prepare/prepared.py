@@ -1,78 +1,19 @@
-"""Prepares a report: a fixed list of steps, of which a caller chooses."""
+"""Prepares a report: the library does the steps, and this hands on what it tells."""
 
 from __future__ import annotations
 
-from typing import Callable, Iterable, List, NamedTuple, Tuple
+import json
+from typing import Any, Iterable, List, NamedTuple, Tuple, Union
 
-from .changes import ABSENT, Change, Changes, Left
-from .step_words import STEP_WORDS
-from .steps.class_names import write_class_names
-from .steps.codes import tell_codes_apart
-from .steps.coordinates import take_out_coordinates
-from .steps.counts import take_out_counts
-from .steps.county_codes import put_counties_in_front
-from .steps.devices import take_out_devices
-from .steps.empty_lists import take_out_empty_lists
-from .steps.empty_texts import take_out_empty_texts
-from .steps.gone_candidates import take_out_gone_candidates
-from .steps.kinds import write_kinds
-from .steps.names import name_objects
-from .steps.nulls import take_out_nulls
-from .steps.outside import take_out_outside
-from .steps.party_lines import name_party_lines
-from .steps.repeated_entries import take_out_repeated
-from .steps.shared_codes import take_out_shared_codes
-from .steps.stray_ids import take_out_stray_ids
-from .steps.twin_ids import tell_ids_apart
-from .steps.unused_persons import take_out_unused_persons
-from .steps.unused_styles import take_out_unused_styles
-from .steps.vendor_identifiers import take_vendor_identifiers
-from .steps.vendor_texts import rename_vendor_members
-from .steps.whole_numbers import write_whole_numbers
-from .steps.write_in_lines import number_write_ins
-from .tree import MARK, Tree, copy_of, indented, read_tree, written
-
-MOST_BYTES = 67108864
+from ..library import GOOD, NOT_JSON, TooLong, prepared
+from ..tree import MARK, NotJson, Tree, WrittenNumber, without_mark, written
+from .step_words import GROUP_WORDS, STEP_WORDS
 
 MARK_STEP = 'byte-order-mark'
-"""The step that concerns the bytes and not the tree."""
+"""The step that concerns the bytes and not the tree. The library takes bytes without a mark."""
 
-
-class TreeStep(NamedTuple):
-    """A step on a tree of its own, which it changes in place."""
-
-    name: str
-    group: str
-    act: Callable[[Tree, Changes], None]
-
-
-# The steps in the order in which they are done, whatever order a caller names them in.
-TREE_STEPS = [
-    TreeStep('nulls', 'removed', take_out_nulls),
-    TreeStep('kinds', 'filled-in', write_kinds),
-    TreeStep('class-names', 'filled-in', write_class_names),
-    TreeStep('twin-ids', 'filled-in', tell_ids_apart),
-    TreeStep('outside', 'removed', take_out_outside),
-    TreeStep('counts', 'removed', take_out_counts),
-    TreeStep('devices', 'removed', take_out_devices),
-    TreeStep('coordinates', 'removed', take_out_coordinates),
-    TreeStep('whole-numbers', 'filled-in', write_whole_numbers),
-    TreeStep('stray-ids', 'removed', take_out_stray_ids),
-    TreeStep('vendor-identifiers', 'filled-in', take_vendor_identifiers),
-    TreeStep('vendor-texts', 'filled-in', rename_vendor_members),
-    TreeStep('repeated', 'filled-in', take_out_repeated),
-    TreeStep('gone-candidates', 'visible', take_out_gone_candidates),
-    TreeStep('unused-styles', 'visible', take_out_unused_styles),
-    TreeStep('unused-persons', 'removed', take_out_unused_persons),
-    TreeStep('empty-lists', 'removed', take_out_empty_lists),
-    TreeStep('empty-texts', 'removed', take_out_empty_texts),
-    TreeStep('names', 'filled-in', name_objects),
-    TreeStep('county-codes', 'filled-in', put_counties_in_front),
-    TreeStep('shared-codes', 'filled-in', take_out_shared_codes),
-    TreeStep('codes', 'filled-in', tell_codes_apart),
-    TreeStep('write-in-lines', 'filled-in', number_write_ins),
-    TreeStep('party-lines', 'filled-in', name_party_lines),
-]
+NUMBERS = 'numbers'
+"""What is told of numbers that change because the report is read and written again. No step does it, and none can be chosen."""
 
 
 class Step(NamedTuple):
@@ -85,46 +26,69 @@ class Step(NamedTuple):
     loses: str
 
 
-STEPS = [Step(name, group, *STEP_WORDS[name]) for name, group in
-         [(MARK_STEP, 'removed'), *((step.name, step.group) for step in TREE_STEPS)]]
+STEPS = [Step(name, *words) for name, words in STEP_WORDS.items()]
 """Every step, in the order in which they are done."""
+
+ABSENT = object()
+"""The value of a member or an entry that is not there."""
+
+Place = Tuple[Union[str, int], ...]
+
+
+class Change(NamedTuple):
+    """A value before and after, with its place in the report that was given."""
+
+    place: Place
+    before: object
+    after: object
+
+
+class ChangedNumber(NamedTuple):
+    """A number that is written in another way, by its line in the file and its column there, which counts bytes. Both begin with 1."""
+
+    line: int
+    column: int
+    before: str
+    after: str
+
+
+class Left(NamedTuple):
+    """A place that was left as it is, and why: a key of the words of what is left."""
+
+    place: Place
+    why: str
 
 
 class Done(NamedTuple):
-    """What a step did, or would do at its turn if it is not done."""
+    """What a step did, or would do at its turn if it is not done. The lists have the first thousand changes, and places that are left,
+    and fewer if they have more than a megabyte together."""
 
     name: str
     done: bool
-    made: List[Change]
+    made: List[Union[Change, ChangedNumber]]
     left: List[Left]
+    count: int
+    """How many changes there are."""
+
+    left_count: int
+    """How many places are left."""
+
+    more: bool
+    """Whether some of them are not told."""
 
     def told(self) -> dict:
-        """Returns it as plain data: each place as a JSON Pointer, with the compact text of the value before and after. Of the changes,
-        and of what is left, these are the first thousand, and fewer if they have more than a megabyte together: `count` and `left_count`
-        are how many there are, and `more` is whether some are not told."""
-        changes = _first(({'pointer': pointer_of(place), 'before': _text_or_none(before), 'after': _text_or_none(after)}
-                          for place, before, after in self.made))
-        left = _first(({'pointer': pointer_of(place), 'why': why} for place, why in self.left))
+        """Returns it as plain data: each place as a JSON Pointer, with the compact text of the value before and after."""
         return {
-            'step': self.name, 'done': self.done, 'count': len(self.made), 'changes': changes, 'left_count': len(self.left),
-            'left': left, 'more': len(changes) < len(self.made) or len(left) < len(self.left),
+            'step': self.name, 'done': self.done, 'count': self.count, 'changes': [_told_of(change) for change in self.made],
+            'left_count': self.left_count, 'left': [{'pointer': pointer_of(place), 'why': why} for place, why in self.left],
+            'more': self.more,
         }
 
 
-MOST_TOLD = 1000
-ENOUGH_TEXT = 2 ** 20
-
-
-def _first(entries: Iterable[dict]) -> List[dict]:
-    """Returns the first entries: no further one once there are a thousand, or their texts have a megabyte together."""
-    told: List[dict] = []
-    length = 0
-    for entry in entries:
-        told.append(entry)
-        length += sum(len(text) for text in entry.values() if text is not None)
-        if len(told) == MOST_TOLD or length >= ENOUGH_TEXT:
-            break
-    return told
+def _told_of(change: Union[Change, ChangedNumber]) -> dict:
+    if isinstance(change, ChangedNumber):
+        return change._asdict()
+    return {'pointer': pointer_of(change.place), 'before': _text_or_none(change.before), 'after': _text_or_none(change.after)}
 
 
 def pointer_of(place: Iterable[object]) -> str:
@@ -132,7 +96,7 @@ def pointer_of(place: Iterable[object]) -> str:
     return ''.join('/' + str(step).replace('~', '~0').replace('/', '~1') for step in place)
 
 
-def _text_or_none(value: object) -> object:
+def _text_or_none(value: Any) -> object:
     return None if value is ABSENT else written(value)
 
 
@@ -141,59 +105,80 @@ def steps_of(*groups: str) -> List[str]:
     return [step.name for step in STEPS if step.group in groups]
 
 
-def do_step(tree: Tree, name: str) -> Tuple[Tree, Done]:
-    """Does one step on a copy of the tree. Returns the copy, or the same tree if nothing was changed, and what was done."""
-    copy = copy_of(tree)
-    changes = _act_on(copy, next(step for step in TREE_STEPS if step.name == name))
-    return (copy if changes.made else tree), Done(name, True, changes.made, changes.left)
+def names_of(text: str) -> List[str]:
+    """Returns the names of the steps that a text stands for: names of steps and of groups, with commas between them. Raises ValueError
+    for a word that is neither."""
+    names: List[str] = []
+    for word in text.split(','):
+        if word not in GROUP_WORDS and word not in STEP_WORDS:
+            raise ValueError(f'there is no step {word}')
+        names += steps_of(word) if word in GROUP_WORDS else [word]
+    return names
 
 
-def _act_on(tree: Tree, step: TreeStep) -> Changes:
-    changes = Changes()
-    if isinstance(tree, dict):
-        step.act(tree, changes)
-    return changes
+def _number_of(number: Any) -> int:
+    return int(number.text)
+
+
+def _place_of(steps: list) -> Place:
+    return tuple(step if isinstance(step, str) else _number_of(step) for step in steps)
+
+
+def _change_of(change: dict) -> Union[Change, ChangedNumber]:
+    if 'place' not in change:
+        return ChangedNumber(_number_of(change['line']), _number_of(change['column']), change['before'], change['after'])
+    return Change(_place_of(change['place']), change.get('before', ABSENT), change.get('after', ABSENT))
+
+
+def _done_of(entry: dict) -> Done:
+    """Returns what the library tells of a step."""
+    left = [Left(_place_of(it['place']), it['why']) for it in entry['left']]
+    return Done(entry['step'], entry['done'], [_change_of(it) for it in entry['changes']], left, _number_of(entry['count']),
+                _number_of(entry['left_count']), entry['more'])
+
+
+def _tree_of(told: bytes) -> Tree:
+    """Returns the value of what the library tells, in which numbers are as they are written."""
+    return json.loads(told, parse_int=WrittenNumber, parse_float=WrittenNumber)
 
 
 class Preparation:
-    """A file that is being prepared. Raises NotJson if its bytes are not JSON."""
+    """A file that is being prepared."""
 
     def __init__(self, data: bytes) -> None:
         self.data = data
-        self.tree = read_tree(data)
         self.has_mark = data.startswith(MARK)
 
     def prepare(self, names: Iterable[str], *, tells_others: bool = False) -> Tuple[bytes, List[Done]]:
         """Does these steps, in the fixed order, on a copy. Each step that changes or leaves something is told; with `tells_others`
-        those too that are not done: what they would do at their turn.
+        those too that are not done: what they would do at their turn. Raises NotJson if the bytes are not JSON, ValueError for a
+        name that no step has, and TooLong for a report of more than 67,108,864 bytes.
+
+        The copy is compact JSON, with the members of each object in the order of their names. If a number is written in another way
+        there, that is told first. A file of which no step changes anything keeps its bytes.
 
         >>> Preparation(b'{"@type":"ElectionResults.ElectionReport","Notes":null}').prepare(['nulls'])[0]
         b'{"@type":"ElectionResults.ElectionReport"}'
         """
         chosen = set(names)
-        unknown = chosen - {step.name for step in STEPS}
+        unknown = chosen - set(STEP_WORDS)
         if unknown:
             raise ValueError(f'no step has the name {min(unknown)!r}')
-        tree = copy_of(self.tree)
-        done = [Done(MARK_STEP, MARK_STEP in chosen, [Change((), '\ufeff', ABSENT)], [])] if self.has_mark else []
-        for step in TREE_STEPS:
-            is_chosen = step.name in chosen
-            if is_chosen or tells_others:
-                changes = _act_on(tree if is_chosen else copy_of(tree), step)
-                if changes.made or changes.left:
-                    done.append(Done(step.name, is_chosen, changes.made, changes.left))
-        told = [it for it in done if it.done or tells_others]
-        return self._written(tree, told), told
+        goes = MARK_STEP in chosen
+        told, copy = self._by_the_library(chosen - {MARK_STEP}, tells_others)
+        if not any(it.done and it.count for it in told if it.name != NUMBERS):
+            told, copy = [it for it in told if it.name != NUMBERS], without_mark(self.data)
+        if not self.has_mark:
+            return copy, told
+        mark = Done(MARK_STEP, goes, [Change((), '\ufeff', ABSENT)], [], 1, 0, False)
+        return copy if goes else MARK + copy, [mark, *told] if goes or tells_others else told
 
-    def _written(self, tree: Tree, told: List[Done]) -> bytes:
-        """Returns the bytes of the tree. A file of which nothing was changed keeps its bytes."""
-        done = [it.name for it in told if it.done and it.made]
-        if all(name == MARK_STEP for name in done):
-            return self.data[len(MARK):] if done else self.data
-        return _encoded('\ufeff' if self.has_mark and MARK_STEP not in done else '', tree, b'\n' in self.data)
-
-
-def _encoded(mark: str, tree: Tree, has_lines: bool) -> bytes:
-    """Returns the bytes of a tree. A file of several lines stays one of several lines, unless it would be too long for erd."""
-    data = (f'{mark}{indented(tree)}\n' if has_lines else mark + written(tree)).encode('utf-8')
-    return (mark + written(tree)).encode('utf-8') if has_lines and len(data) > MOST_BYTES else data
+    def _by_the_library(self, names: Iterable[str], tells_others: bool) -> Tuple[List[Done], bytes]:
+        """Returns what the library tells and writes."""
+        outcome, text = prepared(without_mark(self.data), ','.join(sorted(names)).encode('ascii'), tells_others)
+        if outcome == NOT_JSON:
+            raise NotJson()
+        if outcome != GOOD:
+            raise TooLong()
+        told, _, copy = text.partition(b'\n')
+        return [_done_of(entry) for entry in _tree_of(told)], copy

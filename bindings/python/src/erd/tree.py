@@ -4,12 +4,10 @@ in the order in which they are written. Of a name that is written twice the last
 from __future__ import annotations
 
 import json
-import re
 from typing import List, Union
 
 MARK = b'\xef\xbb\xbf'
 MOST_LEVELS = 127
-WHOLE = re.compile(r'(?:-?[1-9][0-9]*|0)\Z')
 
 
 class NotJson(ValueError):
@@ -29,11 +27,6 @@ class WrittenNumber:
 
 
 Tree = Union[None, bool, str, WrittenNumber, List['Tree'], dict]
-
-
-def is_whole(text: str) -> bool:
-    """Returns whether a number that is written so is whole, as docs/PROFILE.md has it."""
-    return len(text) <= 20 and WHOLE.match(text) is not None and -2 ** 63 <= int(text) <= 2 ** 64 - 1
 
 
 def without_mark(data: bytes) -> bytes:
@@ -83,13 +76,6 @@ def _judge_text(text: str) -> None:
         raise NotJson()
 
 
-def copy_of(tree: Tree) -> Tree:
-    """Returns a tree with the same values, of which no part is a part of the other one."""
-    if isinstance(tree, dict):
-        return {name: copy_of(value) for name, value in tree.items()}
-    return [copy_of(entry) for entry in tree] if isinstance(tree, list) else tree
-
-
 def text_of(text: str) -> str:
     """Returns the JSON text of a text."""
     return json.dumps(text, ensure_ascii=False)
@@ -98,28 +84,16 @@ def text_of(text: str) -> str:
 LITERALS = {None: 'null', True: 'true', False: 'false'}
 
 
-def written(value: Tree, in_order: bool = False) -> str:
-    """Returns the compact text of a value. With `in_order`, the members of each object are in the order of their names.
+def written(value: Tree) -> str:
+    """Returns the compact text of a value.
 
-    >>> written({'b': [None, True], 'a': WrittenNumber('1.0')}, in_order=True)
-    '{"a":1.0,"b":[null,true]}'
+    >>> written({'b': [None, True], 'a': WrittenNumber('1.0')})
+    '{"b":[null,true],"a":1.0}'
     """
     if isinstance(value, dict):
-        names = sorted(value) if in_order else value
-        return '{' + ','.join(f'{text_of(name)}:{written(value[name], in_order)}' for name in names) + '}'
-    if isinstance(value, (list, tuple)):
-        return '[' + ','.join(written(entry, in_order) for entry in value) + ']'
+        return '{' + ','.join(f'{text_of(name)}:{written(inner)}' for name, inner in value.items()) + '}'
+    if isinstance(value, list):
+        return '[' + ','.join(map(written, value)) + ']'
     if isinstance(value, WrittenNumber):
         return value.text
     return text_of(value) if isinstance(value, str) else LITERALS[value]
-
-
-def indented(value: Tree, blanks: str = '') -> str:
-    """Returns the text of a value with a line for each member and entry."""
-    inner = blanks + ' '
-    if isinstance(value, dict) and value:
-        members = [f'{inner}{text_of(name)}: {indented(member, inner)}' for name, member in value.items()]
-        return '{\n' + ',\n'.join(members) + f'\n{blanks}}}'
-    if isinstance(value, list) and value:
-        return '[\n' + ',\n'.join(inner + indented(entry, inner) for entry in value) + f'\n{blanks}]'
-    return written(value)
