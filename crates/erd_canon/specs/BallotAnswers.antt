@@ -29,8 +29,8 @@ pub record IsRefusalText (π : Preference) (bytes : List ℕ) (outcome : Outcome
   pub refused : IsRefusalData π bytes outcome value
   pub is_text : IsDataText text value
 
--- What is asked of the ballots of the bytes is answered with this outcome and this text: what is asked if the report is accepted, or
--- else why the bytes are refused.
+-- What is asked of the ballots of the bytes is answered with this outcome and this text: what is asked if the report is
+-- accepted, or else why the bytes are refused.
 abbrev pub IsBallotsData : BallotsAsked → Preference → List ℕ → Outcome → List ℕ → Type 0
 IsBallotsData asked π bytes Good text = AreBallotsTold asked π bytes text
 IsBallotsData asked π bytes Bad text = IsRefusalText π bytes Bad text

@@ -14,3 +14,4 @@ mod RowLists
 mod RowLaws
 mod NameLists
 mod MembersWritten
+mod BallotTrees

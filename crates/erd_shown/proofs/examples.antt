@@ -1,3 +1,4 @@
 pub mod ValueExamples
 pub mod RowExamples
 pub mod PartnerExamples
+pub mod BallotExamples

@@ -1,12 +1,11 @@
 -- The styles whose ballots are not the same in two reports. All of this is the profile's own.
-use Rattle.std.specs.Prelude.{ℕ, ◌≡◌, List, Bool, if◌then◌else◌, Option, Some, None, map, option_map, slice_get, codes}
+use Rattle.std.specs.Prelude.{ℕ, ◌≡◌, List, Bool, if◌then◌else◌, Option, Some, None, map, option_copied, option_map, slice_get, codes}
 use Rattle.std.specs.List.{filter_map}
 use Rattle.std.specs.Option.{option_cmp}
 use Rattle.std.specs.Ordering.{eq_by_cmp}
-use Rattle.std.specs.Str.{bytes_eq}
 use Rattle.serde_json.specs.Data.{Data, object, Members, no_members, member}
-use Rattle.serde_json.specs.Written.{compact_text}
 use Rattle.erd_tables.specs.declared.class.Family.TheVariants as family
+use Rattle.erd_check.specs.Trees.{is_same_json}
 use Rattle.erd_meaning.specs.Keys.{Preference, key_cmp}
 use Rattle.erd_meaning.specs.Lookups.{rising_keys}
 use Rattle.erd_meaning.specs.declared.keys.key.Key.{Key}
@@ -15,6 +14,7 @@ use Rattle.erd_shown.specs.KeyData.{array_of, shown_key_or_null}
 use Rattle.erd_shown.specs.Partners.{partners}
 use Rattle.erd_shown.specs.RowData.{number_or_null}
 use Rattle.erd_shown.specs.Rows.{AreRows}
+use Rattle.erd_shown.specs.declared.ballot_differences.BallotDifference.{BallotDifference}
 use Rattle.erd_shown.specs.declared.rows.Row.{Row}
 use Rattle.erd_shown.specs.declared.rows.Row.TheVariants.{Both, Removed, Added, MovedAway, MovedHere}
 
@@ -22,30 +22,44 @@ use Rattle.erd_shown.specs.declared.rows.Row.TheVariants.{Both, Removed, Added, 
 abbrev pub right_members : Option ℕ → Members
 right_members right = member (codes "right") (number_or_null right) no_members
 
--- A style: its key, and where it stands in the left report and in the right one, or null.
-abbrev pub style_data : Option Key → Option ℕ → Option ℕ → Data
-style_data key left right =
-    object (member (codes "key") (shown_key_or_null key) (member (codes "left") (number_or_null left) (right_members right)))
+-- A style: its key, and where it stands in the left report and in the right one, if it does.
+pub record StyleFound : Type 0 where
+  pub key : Option Key
+  pub left : Option ℕ
+  pub right : Option ℕ
 
--- True if the ballots of the styles at two positions have one text.
+-- A style as it is told.
+abbrev pub of_style : BallotDifference → StyleFound
+of_style s = record { key = option_copied s.key; left = s.left; right = s.right }
+
+-- The same as JSON, with null where the style doesn't stand.
+abbrev pub style_data : StyleFound → Data
+style_data s =
+    object (member (codes "key") (shown_key_or_null s.key) (member (codes "left") (number_or_null s.left) (right_members s.right)))
+
+-- Styles as the array of their objects.
+abbrev pub styles_data : List StyleFound → Data
+styles_data found = array_of (map style_data found)
+
+-- True if the ballots of the styles at two positions are one value.
 abbrev pub is_same_ballot : Preference → Data → Preference → Data → ℕ → ℕ → Bool
-is_same_ballot π t ρ u i j = bytes_eq (compact_text (ballot_in π t i)) (compact_text (ballot_in ρ u j))
+is_same_ballot π t ρ u i j = is_same_json (ballot_in π t i) (ballot_in ρ u j)
 
 -- What is told of a style of both reports: nothing if its ballots are the same.
-abbrev pub told_of_both : (ℕ → ℕ → Bool) → Option (Option Key × ℕ) → Option (Option Key × ℕ) → Option Data
-told_of_both same (Some a) (Some b) = if same a.1 b.1 then None else Some (style_data a.0 (Some a.1) (Some b.1))
+abbrev pub told_of_both : (ℕ → ℕ → Bool) → Option (Option Key × ℕ) → Option (Option Key × ℕ) → Option StyleFound
+told_of_both same (Some a) (Some b) = if same a.1 b.1 then None else Some (record { key = a.0; left = Some a.1; right = Some b.1 })
 told_of_both same (Some a) None = None
 told_of_both same None b = None
 
 -- What is told of a style of the left report alone, and of one of the right report alone.
-abbrev pub told_of_left : Option (Option Key × ℕ) → Option Data
-told_of_left a = option_map (λ a. style_data a.0 (Some a.1) None) a
+abbrev pub told_of_left : Option (Option Key × ℕ) → Option StyleFound
+told_of_left a = option_map (λ a. record { key = a.0; left = Some a.1; right = None }) a
 
-abbrev pub told_of_right : Option (Option Key × ℕ) → Option Data
-told_of_right b = option_map (λ b. style_data b.0 None (Some b.1)) b
+abbrev pub told_of_right : Option (Option Key × ℕ) → Option StyleFound
+told_of_right b = option_map (λ b. record { key = b.0; left = None; right = Some b.1 }) b
 
 -- What is told of a row of the styles of two reports. A style that moved is told where it is now.
-abbrev pub told_of_row : (ℕ → ℕ → Bool) → List (Option Key × ℕ) → List (Option Key × ℕ) → Row → Option Data
+abbrev pub told_of_row : (ℕ → ℕ → Bool) → List (Option Key × ℕ) → List (Option Key × ℕ) → Row → Option StyleFound
 told_of_row same ls rs (Both i j) = told_of_both same (slice_get ls i) (slice_get rs j)
 told_of_row same ls rs (Removed i) = told_of_left (slice_get ls i)
 told_of_row same ls rs (Added j) = told_of_right (slice_get rs j)
@@ -66,11 +80,7 @@ AreStyleRows ls rs rows = AreRows (partners is_one_key (style_keys ls) (style_ke
 
 -- Told are the styles whose ballots differ: each style of either report stands in one row, and those of both are told if their
 -- ballots are not the same.
-pub record AreBallotDifferences (π : Preference) (t : Data) (ρ : Preference) (u : Data) (told : Data) : Type 0 where
+pub record AreBallotDifferences (π : Preference) (t : Data) (ρ : Preference) (u : Data) (found : List StyleFound) : Type 0 where
   pub rows : List Row
   pub are_rows : AreStyleRows (rising_keys π t family.Style) (rising_keys ρ u family.Style) rows
-  pub tells : told ≡ array_of (filter_map (told_of_row (is_same_ballot π t ρ u) (rising_keys π t family.Style) (rising_keys ρ u family.Style)) rows)
-
--- The text tells them.
-abbrev pub IsBallotDifferencesText : Preference → Data → Preference → Data → List ℕ → Type 0
-IsBallotDifferencesText π t ρ u text = (told : Data) × AreBallotDifferences π t ρ u told × (text ≡ compact_text told)
+  pub tells : found ≡ filter_map (told_of_row (is_same_ballot π t ρ u) (rising_keys π t family.Style) (rising_keys ρ u family.Style)) rows

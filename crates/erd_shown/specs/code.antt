@@ -8,4 +8,3 @@ pub mod LineTexts
 pub mod BesideWritten
 pub mod LentNames
 pub mod SelectionsFound
-pub mod StyleRows

@@ -1,12 +1,10 @@
 ghost use Rattle.std.specs.Prelude.{◌≡◌, ◌++◌, map, bytes_eq, Some, option_map, option_to_list, slice_get, string_bytes, IfOk, OnOk};
 ghost use Rattle.std.specs.List.{filter_map};
-ghost use Rattle.serde_json.specs.Data.{Data};
 ghost use Rattle.serde_json.specs.View.{view};
+ghost use Rattle.serde_json.specs.Written.{compact_text};
 ghost use Rattle.erd_text.specs.Tokens.{members_tokens, value_tokens};
-ghost use Rattle.erd_shown.specs.BallotDifferences.{AreBallotDifferences, AreStyleRows, IsBallotDifferencesText, is_same_ballot, right_members, told_of_both, told_of_left, told_of_right, told_of_row};
-ghost use Rattle.erd_shown.specs.KeyData.{array_of};
+ghost use Rattle.erd_shown.specs.BallotDifferences.{AreBallotDifferences, AreStyleRows, is_same_ballot, of_style, right_members, style_data, styles_data, told_of_both, told_of_left, told_of_right, told_of_row};
 ghost use Rattle.erd_shown.specs.code.LineLists.{of_place};
-ghost use Rattle.erd_shown.specs.code.StyleRows.{of_style};
 
 use crate::ballots::ballot_text;
 use crate::beside::rows_between;
@@ -22,51 +20,64 @@ use std::alloc::{AllocError, Global};
 /// A style: its key, and its position in its report.
 type Place<'a> = (Option<&'a Key>, usize);
 
-/// A style that is told: its key, and its position in the left report and in the right one.
-#[derive(Clone, Copy)]
-struct StyleRow<'a> {
-    key: Option<&'a Key>,
-    left: Option<usize>,
-    right: Option<usize>,
+/// A style whose ballots are not the same in two reports.
+#[derive(Clone, Copy, Debug, PartialEq, Eq)]
+pub struct BallotDifference<'a> {
+    /// The key of the style.
+    pub key: Option<&'a Key>,
+    /// The position of the style in the left report, if that has the style.
+    pub left: Option<usize>,
+    /// The position of the style in the right report, if that has the style.
+    pub right: Option<usize>,
 }
 
-/// Returns the styles whose ballots are not the same in two reports, as compact JSON: of each its key, and its position in the
-/// left report and in the right one. A style that only one report has is told with null for the other.
+/// Returns the styles whose ballots are not the same in two reports, each by its key. A style that only one report has is among
+/// them.
+///
+/// Two ballots are the same if they have the same lines in the same order, for the same parties and units, with the same
+/// selections. The words of a contest, a header or a candidate are not compared.
 ///
 /// # Errors
 ///
 /// `AllocError` if out of memory.
 ///
 /// ```
-/// let text = ballot_differences_text(alloc, left, right)?;
-/// assert_eq!(rt; text.as_str(), "[]");
+/// let found = differing_ballots(alloc, left, right)?;
+/// assert_eq!(rt; found.first().and_then(|style| style.left), Some(0));
 /// ```
-pub fn ballot_differences_text(
+pub fn differing_ballots<'a>(
     alloc: Global,
-    left: &Report,
-    right: &Report,
-) -> Result<String, AllocError>
-    ensures { IfOk result (λ text. IsBallotDifferencesText left.now.prefer (view left.now.tree) right.now.prefer (view right.now.tree) (string_bytes text)) }
-{
-    let mut out = Output::new(alloc);
-    write_differences(alloc, left, right, &mut out)?;
-    text_of(out)
-}
-
-/// Writes the styles whose ballots are not the same.
-fn write_differences(
-    alloc: Global,
-    left: &Report,
-    right: &Report,
-    out: &mut Output,
-) -> Result<(), AllocError>
-    ensures { OnOk result ((told : Data) × AreBallotDifferences left.now.prefer (view left.now.tree) right.now.prefer (view right.now.tree) told × (out.new ≡ out.old ++ value_tokens told)) }
+    left: &'a Report,
+    right: &'a Report,
+) -> Result<Vec<BallotDifference<'a>>, AllocError>
+    ensures { IfOk result (λ found. AreBallotDifferences left.now.prefer (view left.now.tree) right.now.prefer (view right.now.tree) (map of_style found.items)) }
 {
     let ones = left.rising_keys(alloc, Family::Style)?;
     let others = right.rising_keys(alloc, Family::Style)?;
     let rows = rows_of_styles(alloc, &ones, &others)?;
-    let told = told_of_rows(alloc, left, &ones, right, &others, &rows)?;
-    write_styles(&told, out)
+    told_of_rows(alloc, left, &ones, right, &others, &rows)
+}
+
+/// Returns styles whose ballots are not the same as compact JSON: of each its key, and its position in the left report and in
+/// the right one. A style that only one report has is told with null for the other.
+///
+/// # Errors
+///
+/// `AllocError` if out of memory.
+///
+/// ```
+/// let text = ballot_differences_text(alloc, &differing_ballots(alloc, report, report)?)?;
+/// assert_eq!(rt; text.as_str(), "[]");
+/// ```
+pub fn ballot_differences_text(
+    alloc: Global,
+    found: &[BallotDifference],
+) -> Result<String, AllocError>
+    ensures { IfOk result (λ text. string_bytes text ≡ compact_text (styles_data (map of_style found.now))) }
+{
+    let mut out = Output::new(alloc);
+    write_styles(found, &mut out)?;
+    text_of(out)
 }
 
 /// Returns rows of the styles of two reports, by their keys.
@@ -97,7 +108,7 @@ fn told_of_rows<'a>(
     right: &Report,
     others: &[Place<'a>],
     rows: &[Row],
-) -> Result<Vec<StyleRow<'a>>, AllocError>
+) -> Result<Vec<BallotDifference<'a>>, AllocError>
     ensures { IfOk result (λ found. map of_style found.items
         ≡ filter_map (told_of_row (is_same_ballot left.now.prefer (view left.now.tree) right.now.prefer (view right.now.tree)) (map of_place ones.now) (map of_place others.now)) rows.now) }
 {
@@ -111,8 +122,8 @@ fn told_of_rows<'a>(
 
 /// Appends a style, if it is told.
 fn push_told<'a>(
-    told: Option<StyleRow<'a>>,
-    found: &mut Vec<StyleRow<'a>>,
+    told: Option<BallotDifference<'a>>,
+    found: &mut Vec<BallotDifference<'a>>,
 ) -> Result<(), AllocError>
     ensures { OnOk result (found.new.items ≡ found.old.items ++ option_to_list told.entry) }
 {
@@ -130,7 +141,7 @@ fn told_of_row<'a>(
     right: &Report,
     others: &[Place<'a>],
     row: &Row,
-) -> Result<Option<StyleRow<'a>>, AllocError>
+) -> Result<Option<BallotDifference<'a>>, AllocError>
     ensures { IfOk result (λ found. option_map of_style found
         ≡ told_of_row (is_same_ballot left.now.prefer (view left.now.tree) right.now.prefer (view right.now.tree)) (map of_place ones.now) (map of_place others.now) row.now) }
 {
@@ -165,7 +176,7 @@ fn told_of_both<'a>(
     one: Option<Place<'a>>,
     right: &Report,
     other: Option<Place<'a>>,
-) -> Result<Option<StyleRow<'a>>, AllocError>
+) -> Result<Option<BallotDifference<'a>>, AllocError>
     ensures { IfOk result (λ found. option_map of_style found
         ≡ told_of_both (is_same_ballot left.now.prefer (view left.now.tree) right.now.prefer (view right.now.tree)) (option_map of_place one.entry) (option_map of_place other.entry)) }
 {
@@ -185,14 +196,14 @@ fn told_of_pair<'a>(
     one: Place<'a>,
     right: &Report,
     other: Place<'a>,
-) -> Result<Option<StyleRow<'a>>, AllocError>
+) -> Result<Option<BallotDifference<'a>>, AllocError>
     ensures { IfOk result (λ found. option_map of_style found
         ≡ told_of_both (is_same_ballot left.now.prefer (view left.now.tree) right.now.prefer (view right.now.tree)) (Some (of_place one.entry)) (Some (of_place other.entry))) }
 {
     if is_same_ballot(alloc, left, one.1, right, other.1)? {
         Ok(None)
     } else {
-        Ok(Some(StyleRow {
+        Ok(Some(BallotDifference {
             key: one.0,
             left: Some(one.1),
             right: Some(other.1),
@@ -223,11 +234,11 @@ fn is_same_text(one: &str, other: &str) -> bool
 }
 
 /// Returns what is told of a style of the left report alone.
-fn told_of_left<'a>(one: Option<Place<'a>>) -> Option<StyleRow<'a>>
+fn told_of_left<'a>(one: Option<Place<'a>>) -> Option<BallotDifference<'a>>
     ensures { option_map of_style result ≡ told_of_left (option_map of_place one.entry) }
 {
     let (key, index) = one?;
-    Some(StyleRow {
+    Some(BallotDifference {
         key,
         left: Some(index),
         right: None,
@@ -235,11 +246,11 @@ fn told_of_left<'a>(one: Option<Place<'a>>) -> Option<StyleRow<'a>>
 }
 
 /// Returns what is told of a style of the right report alone.
-fn told_of_right<'a>(other: Option<Place<'a>>) -> Option<StyleRow<'a>>
+fn told_of_right<'a>(other: Option<Place<'a>>) -> Option<BallotDifference<'a>>
     ensures { option_map of_style result ≡ told_of_right (option_map of_place other.entry) }
 {
     let (key, index) = other?;
-    Some(StyleRow {
+    Some(BallotDifference {
         key,
         left: None,
         right: Some(index),
@@ -247,8 +258,8 @@ fn told_of_right<'a>(other: Option<Place<'a>>) -> Option<StyleRow<'a>>
 }
 
 /// Writes styles as an array.
-fn write_styles(styles: &[StyleRow], out: &mut Output) -> Result<(), AllocError>
-    ensures { OnOk result (out.new ≡ out.old ++ value_tokens (array_of (map of_style styles.now))) }
+fn write_styles(styles: &[BallotDifference], out: &mut Output) -> Result<(), AllocError>
+    ensures { OnOk result (out.new ≡ out.old ++ value_tokens (styles_data (map of_style styles.now))) }
 {
     out.begin_array()?;
     for style in styles {
@@ -258,8 +269,8 @@ fn write_styles(styles: &[StyleRow], out: &mut Output) -> Result<(), AllocError>
 }
 
 /// Writes a style: its key, and its positions.
-fn write_style(style: &StyleRow, out: &mut Output) -> Result<(), AllocError>
-    ensures { OnOk result (out.new ≡ out.old ++ value_tokens (of_style style.now)) }
+fn write_style(style: &BallotDifference, out: &mut Output) -> Result<(), AllocError>
+    ensures { OnOk result (out.new ≡ out.old ++ value_tokens (style_data (of_style style.now))) }
 {
     out.begin_object()?;
     out.key("key")?;

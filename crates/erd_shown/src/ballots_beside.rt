@@ -5,11 +5,11 @@ ghost use Rattle.serde_json.specs.View.{view};
 ghost use Rattle.erd_text.specs.Tokens.{members_tokens, value_tokens};
 ghost use Rattle.std.specs.Ordering.{eq_by_cmp};
 ghost use Rattle.erd_shown.specs.Partners.{partners};
-ghost use Rattle.erd_shown.specs.RowData.{AreBeside, beside_data, rows_members, thing_cmp};
+ghost use Rattle.erd_shown.specs.RowData.{AreBeside, rows_members, thing_cmp};
 ghost use Rattle.erd_shown.specs.Rows.{AreRows};
 ghost use Rattle.erd_shown.specs.SelectionRows.{AreSelections, AreSelectionsAt, IsInside};
 ghost use Rattle.erd_shown.specs.code.LineLists.{of_line, of_thing};
-ghost use Rattle.erd_shown.specs.code.LineTexts.{things_in, written_lines};
+ghost use Rattle.erd_shown.specs.code.LineTexts.{things_in};
 ghost use Rattle.erd_shown.specs.code.SelectionsFound.{of_row, of_selections};
 
 use crate::ballots::{lines_of, thing_at, write_lines};
@@ -51,7 +51,12 @@ pub fn write_ballots_beside(
     let others = lines_of(alloc, other)?;
     let rows = rows_of_lines(alloc, left, &ones, right, &others)?;
     let nested = with_selections(alloc, left, &ones, right, &others, &rows)?;
-    write_beside(alloc, left, &ones, right, &others, &nested, out)
+    out.begin_object()?;
+    out.key("left")?;
+    write_lines(alloc, left, &ones, out)?;
+    out.key("right")?;
+    write_lines(alloc, right, &others, out)?;
+    write_rows_member(&nested, out)
 }
 
 /// Returns rows of lines, each with the selections inside it.
@@ -144,26 +149,6 @@ fn rows_of_lines(
     let left_things = things_at(alloc, left, ones)?;
     let right_things = things_at(alloc, right, others)?;
     rows_between(alloc, &left_things, &right_things)
-}
-
-/// Writes lines of two ballots and their rows.
-fn write_beside(
-    alloc: Global,
-    left: &Report,
-    ones: &[Line],
-    right: &Report,
-    others: &[Line],
-    rows: &[(Row, SelectionRows)],
-    out: &mut Output,
-) -> Result<(), AllocError>
-    ensures { OnOk result (out.new ≡ out.old ++ value_tokens (beside_data (written_lines left.now.prefer (view left.now.tree) ones.now) (written_lines right.now.prefer (view right.now.tree) others.now) (map of_row rows.now))) }
-{
-    out.begin_object()?;
-    out.key("left")?;
-    write_lines(alloc, left, ones, out)?;
-    out.key("right")?;
-    write_lines(alloc, right, others, out)?;
-    write_rows_member(rows, out)
 }
 
 /// Writes the rows as the last member of an object.

@@ -3,6 +3,7 @@
 #![tactic(auto)]
 
 mod ballot_differences;
+mod ballot_lines;
 mod ballots;
 mod ballots_beside;
 mod beside;
@@ -27,7 +28,8 @@ mod selections;
 mod texts;
 mod values;
 
-pub use ballot_differences::ballot_differences_text;
+pub use ballot_differences::{BallotDifference, ballot_differences_text, differing_ballots};
+pub use ballot_lines::{ballot_differences_lines, ballots_lines};
 pub use ballots::ballot_text;
 pub use ballots_beside::write_ballots_beside;
 pub use beside::rows_between;

@@ -2,8 +2,9 @@
 use crate::callers::report_of;
 use erd_meaning::Report;
 use erd_shown::{
-    Row, ballot_differences_text, ballot_text, ballots_beside_text, ballots_text, occurrences,
-    partners_of, rows_between, rows_of, write_ballots_beside, write_object,
+    Row, ballot_differences_lines, ballot_differences_text, ballot_text, ballots_beside_text,
+    ballots_lines, ballots_text, differing_ballots, occurrences, partners_of, rows_between,
+    rows_of, write_ballots_beside, write_object,
 };
 use erd_tables::{Family, Role};
 use erd_text::Output;
@@ -13,11 +14,11 @@ use std::process::Abort;
 use std::test::Fail;
 
 // A county with an election that has a key, a candidate, a contest with two selections, and a ballot that lists one of them.
-const BALLOT: &str =
+pub(crate) const BALLOT: &str =
     r#"{"@type":"ElectionResults.ElectionReport","Status":"pre-election","GpUnit":[{"@id":"u7","@type":"ElectionResults.ReportingUnit","Type":"county","ExternalIdentifier":[{"@type":"ElectionResults.ExternalIdentifier","Type":"fips","Value":"20"}]}],"Election":[{"@type":"ElectionResults.Election","Name":"Test","Type":"general","StartDate":"2026-11-03","EndDate":"2026-11-03","ElectionScopeId":"u7","ExternalIdentifier":[{"@type":"ElectionResults.ExternalIdentifier","Type":"local-level","Value":"E1"}],"Candidate":[{"@id":"k1","@type":"ElectionResults.Candidate","BallotName":"Ann","ExternalIdentifier":[{"@type":"ElectionResults.ExternalIdentifier","Type":"local-level","Value":"K1"}]}],"Contest":[{"@id":"c1","@type":"ElectionResults.CandidateContest","Name":"Mayor","ElectionDistrictId":"u7","VotesAllowed":1,"ExternalIdentifier":[{"@type":"ElectionResults.ExternalIdentifier","Type":"local-level","Value":"C1"}],"ContestSelection":[{"@id":"s2","@type":"ElectionResults.CandidateSelection","IsWriteIn":true},{"@id":"s1","@type":"ElectionResults.CandidateSelection","CandidateIds":["k1"]}]}],"BallotStyle":[{"@type":"ElectionResults.BallotStyle","GpUnitIds":["u7"],"ExternalIdentifier":[{"@type":"ElectionResults.ExternalIdentifier","Type":"local-level","Value":"B1"}],"OrderedContent":[{"@type":"ElectionResults.OrderedContest","ContestId":"c1","OrderedContestSelectionIds":["s1"]}]}]}]}"#;
 
 // The same, and its ballot lists no selections.
-const UNLISTED: &str =
+pub(crate) const UNLISTED: &str =
     r#"{"@type":"ElectionResults.ElectionReport","Status":"pre-election","GpUnit":[{"@id":"u7","@type":"ElectionResults.ReportingUnit","Type":"county","ExternalIdentifier":[{"@type":"ElectionResults.ExternalIdentifier","Type":"fips","Value":"20"}]}],"Election":[{"@type":"ElectionResults.Election","Name":"Test","Type":"general","StartDate":"2026-11-03","EndDate":"2026-11-03","ElectionScopeId":"u7","ExternalIdentifier":[{"@type":"ElectionResults.ExternalIdentifier","Type":"local-level","Value":"E1"}],"Candidate":[{"@id":"k1","@type":"ElectionResults.Candidate","BallotName":"Ann","ExternalIdentifier":[{"@type":"ElectionResults.ExternalIdentifier","Type":"local-level","Value":"K1"}]}],"Contest":[{"@id":"c1","@type":"ElectionResults.CandidateContest","Name":"Mayor","ElectionDistrictId":"u7","VotesAllowed":1,"ExternalIdentifier":[{"@type":"ElectionResults.ExternalIdentifier","Type":"local-level","Value":"C1"}],"ContestSelection":[{"@id":"s2","@type":"ElectionResults.CandidateSelection","IsWriteIn":true},{"@id":"s1","@type":"ElectionResults.CandidateSelection","CandidateIds":["k1"]}]}],"BallotStyle":[{"@type":"ElectionResults.BallotStyle","GpUnitIds":["u7"],"ExternalIdentifier":[{"@type":"ElectionResults.ExternalIdentifier","Type":"local-level","Value":"B1"}],"OrderedContent":[{"@type":"ElectionResults.OrderedContest","ContestId":"c1"}]}]}]}"#;
 
 // What the contest means: its selections stand in the order of their names, with keys in place of references.
@@ -33,14 +34,20 @@ const BALLOT_LINES: &str =
     r#"{"key":["local-level","","B1"],"lines":[{"depth":0,"listed":true,"selections":[["ElectionResults.CandidateSelection",[["local-level","","K1"]],false,null,null,null]],"what":["contest",["local-level","","C1"]]}],"parties":[],"units":[["fips","","20"]]}"#;
 
 // The heads of the ballots: one style, with one line.
-const HEADS: &str =
+pub(crate) const HEADS: &str =
     r#"[{"at":0,"key":["local-level","","B1"],"lines":1,"parties":[],"units":[["fips","","20"]]}]"#;
 
+// The line for it.
+pub(crate) const HEAD_LINE: &str = "ballot [\"local-level\",\"\",\"B1\"]: 1 lines\n";
+
+// The line for the style whose ballots differ.
+pub(crate) const DIFFERENCE_LINE: &str = "ballot [\"local-level\",\"\",\"B1\"]: differs\n";
+
 // The style whose ballots differ, where the other one lists no selections.
-const DIFFERS: &str = r#"[{"key":["local-level","","B1"],"left":0,"right":0}]"#;
+pub(crate) const DIFFERS: &str = r#"[{"key":["local-level","","B1"],"left":0,"right":0}]"#;
 
 // The ballot beside itself.
-const BESIDE: &str =
+pub(crate) const BESIDE: &str =
     r#"{"left":[{"depth":0,"listed":true,"selections":[["ElectionResults.CandidateSelection",[["local-level","","K1"]],false,null,null,null]],"what":["contest",["local-level","","C1"]]}],"right":[{"depth":0,"listed":true,"selections":[["ElectionResults.CandidateSelection",[["local-level","","K1"]],false,null,null,null]],"what":["contest",["local-level","","C1"]]}],"rows":[{"how":"both","left":0,"right":0,"selections":[{"how":"both","name":["ElectionResults.CandidateSelection",[["local-level","","K1"]],false,null,null,null]}]}]}"#;
 
 fn no_header(rt: &impl Abort, alloc: Global, report: &Report) -> Result<(), Fail> {
@@ -96,6 +103,8 @@ fn ballots_are(rt: &impl Abort, alloc: Global, report: &Report) -> Result<(), Fa
 fn heads_are(rt: &impl Abort, alloc: Global, report: &Report) -> Result<(), Fail> {
     let text = ballots_text(alloc, report)?;
     assert!(rt; text.as_str() == HEADS);
+    let text = ballots_lines(alloc, report)?;
+    assert!(rt; text.as_str() == HEAD_LINE);
     Ok(())
 }
 
@@ -132,8 +141,12 @@ fn no_ballot_differs(
     left: &Report,
     right: &Report,
 ) -> Result<(), Fail> {
-    let text = ballot_differences_text(alloc, left, right)?;
+    let found = differing_ballots(alloc, left, right)?;
+    assert!(rt; found.is_empty());
+    let text = ballot_differences_text(alloc, &found)?;
     assert!(rt; text.as_str() == "[]");
+    let text = ballot_differences_lines(alloc, &found)?;
+    assert!(rt; text.as_str() == "same ballots\n");
     Ok(())
 }
 
@@ -143,8 +156,12 @@ fn a_ballot_differs(
     left: &Report,
     right: &Report,
 ) -> Result<(), Fail> {
-    let text = ballot_differences_text(alloc, left, right)?;
+    let found = differing_ballots(alloc, left, right)?;
+    assert!(rt; found.first().and_then(|style| style.left) == Some(0));
+    let text = ballot_differences_text(alloc, &found)?;
     assert!(rt; text.as_str() == DIFFERS);
+    let text = ballot_differences_lines(alloc, &found)?;
+    assert!(rt; text.as_str() == DIFFERENCE_LINE);
     Ok(())
 }
 

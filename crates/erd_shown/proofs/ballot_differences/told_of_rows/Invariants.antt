@@ -1,7 +1,6 @@
 use Rattle.erd_shown.proofs.Common.{◌≡◌, ◌++◌, drop, map, filter_map, view}
-use Rattle.erd_shown.specs.BallotDifferences.{is_same_ballot, told_of_row}
+use Rattle.erd_shown.specs.BallotDifferences.{is_same_ballot, of_style, told_of_row}
 use Rattle.erd_shown.specs.code.LineLists.{of_place}
-use Rattle.erd_shown.specs.code.StyleRows.{of_style}
 use Rattle.erd_shown.proofs.ballot_differences.told_of_rows.Given as goal
 
 abbrev pub invariant-loop-row : goal.invariant-loop-row

@@ -1,4 +1,4 @@
-use Rattle.erd_text.proofs.Common.{◌≡◌, ◌++◌, ℕ, List, Option, map, sym, refl, ap, ap₂, ◌∙◌, subst, view, Data, value_tokens, AllByRecursion}
+use Rattle.erd_text.proofs.Common.{◌≡◌, ◌++◌, ℕ, List, Option, codes, map, sym, refl, ap, ap₂, ◌∙◌, subst, view, Data, value_tokens, AllByRecursion}
 use Rattle.std.proofs.lemmas.Result.{on_ok_weaker}
 use Rattle.std.proofs.lemmas.Simd.{map-map}
 use Rattle.std.specs.Ordering.{eq_by_cmp}
@@ -6,7 +6,8 @@ use Rattle.erd_meaning.specs.Keys.{Preference}
 use Rattle.erd_shown.specs.Ballots.{line_data, lines_data, lines_of, thing_at}
 use Rattle.erd_shown.specs.KeyData.{array_of}
 use Rattle.erd_shown.specs.Partners.{partners}
-use Rattle.erd_shown.specs.RowData.{beside_data, thing_cmp, things_of}
+use Rattle.erd_shown.proofs.Written.{two_then}
+use Rattle.erd_shown.specs.RowData.{beside_data, rows_members, thing_cmp, things_of}
 use Rattle.erd_shown.specs.Rows.{AreRows}
 use Rattle.erd_shown.specs.code.LineLists.{of_line}
 use Rattle.erd_shown.specs.code.LineTexts.{things_in, written_lines}
@@ -39,8 +40,8 @@ returns c =
     let firsts : map (λ (r : Row × Beside). r.0) (map of_row nested) ≡ c.in_ok-rows.rows.items =
     map-map (λ (r : Row × Beside). r.0) of_row nested ∙ ap (map (λ (r : Row × SelectionRows). r.0)) c.deref-8.ensures.value ∙ c.in_ok-nested.ensures.rows ∙ c.deref-5.ensures.value in
     let inside = λ (ls rs : List (ℕ × Data)). IsInside (AreSelectionsAt π t ls ρ u rs) in
-    on_ok_weaker c.write_beside.result
-    (λ wrote. (
+    on_ok_weaker c.write_rows_member.result
+    (λ last. (
       beside_data (lines_data π t d) (lines_data ρ u e) (map of_row nested),
       record {
         rows = map of_row nested;
@@ -56,8 +57,10 @@ returns c =
             c.in_ok-nested.ensures.inside));
         tells = refl;
       },
-      wrote
+      two_then c.args.out.now c.begin_object.new.self c.key.new.self c.write_lines.new.out c.key-2.new.self c.write_lines-2.new.out c.write_rows_member.new.out (codes "left") (codes "right")
+          (written_lines π t c.deref-6.result.now) (written_lines ρ u c.deref-7.result.now) (rows_members (map of_row nested))
+          c.in_ok-begin_object.ensures c.in_ok-key.ensures c.in_ok-write_lines.ensures c.in_ok-key-2.ensures c.in_ok-write_lines-2.ensures last
           ∙ ap₂ (λ (a b : Data). c.args.out.now ++ value_tokens (beside_data a b (map of_row nested))) (lines_there π t d c.deref-6.result.now (ap (map of_line) c.deref-6.ensures.value ∙ c.in_ok-ones.ensures))
           (lines_there ρ u e c.deref-7.result.now (ap (map of_line) c.deref-7.ensures.value ∙ c.in_ok-others.ensures)),
     ))
-    c.write_beside.ensures
+    c.write_rows_member.ensures
