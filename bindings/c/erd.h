@@ -197,10 +197,8 @@ enum erd_line erd_command_line(const void *words, size_t size, char **text, size
 
 /* Prepares a report that is refused: does steps that fix what exports often have, each of which changes only what it tells.
  * `steps` has the names of steps and of their groups with commas between them, and is ended by a zero byte; null and "" ask for
- * none. The steps are done in an order of their own. docs/FIXES.md says what each of them does, but for three that it does not have
- * yet: unused-ids takes out an @id that several objects have and to which nothing refers, town-codes puts the code of the town in
- * front of numbers that begin again inside a county, and write-in-candidates numbers the write-in candidates of a contest who have
- * one code. With `others` other than 0, it is told too what each step that is not asked for would do at its turn.
+ * none. The steps are done in an order of their own. docs/FIXES.md says what each of them does. With `others` other than 0, it is
+ * told too what each step that is not asked for would do at its turn.
  *
  * With ERD_GOOD the text has two lines, with a line feed between them and none behind: what was done, as a JSON array, and then the
  * prepared report as compact JSON, the members of each object in the order of their names. The array has an object for each step
@@ -213,8 +211,12 @@ enum erd_line erd_command_line(const void *words, size_t size, char **text, size
  * changes of a step, or about a megabyte of them, are told, and as many places that it leaves; `count` and `left_count` say how
  * many there are, and `more` whether some are not told. `done` is false for what a step would do.
  *
- * Numbers are read as serde_json holds them, and no place tells of that: 1.50 becomes 1.5, and a whole number beyond 64 bits loses
- * digits. Do not prepare a report that has such numbers.
+ * Numbers are read as serde_json holds them: 1.50 becomes 1.5, and a whole number beyond 64 bits loses digits. The numbers whose
+ * texts change so are told first, as the changes of a step "numbers", which no caller chooses and which is missing if there are none:
+ *
+ *     {"after":"1.5","before":"1.50","column":12,"line":3}
+ *
+ * Lines end by a line feed, and columns count bytes, both from 1.
  *
  * The outcome is ERD_NOT_JSON if the bytes are not JSON, and ERD_WRONG if the report is too long or `steps` has a name that no
  * step and no group has; there is then no text. A prepared report may still be refused: check it. */

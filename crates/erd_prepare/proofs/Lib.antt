@@ -4,3 +4,5 @@ pub mod Untold
 pub mod NamedSteps
 pub mod Preparing
 mod Examples
+pub mod Scanned
+pub mod Chosen

@@ -12,5 +12,9 @@ pub mod ClassNames
 pub mod Kinds
 pub mod WholeNumbers
 pub mod Steps
+pub mod StepWords
+pub mod Reading
+pub mod Numbers
 pub mod Preparations
 pub mod Laws
+pub mod code

@@ -1,12 +1,13 @@
 -- Several steps, one after the other.
 use Rattle.std.specs.Prelude.{◌≡◌, ◌≤◌, ℕ, List, [], ◌∷◌, ◌++◌, Some, ⊤}
 use Rattle.std.specs.List.{Contains}
-use Rattle.std.specs.Str.{IsUtf8}
 use Rattle.serde_json.specs.Data.{Data, depth}
 use Rattle.serde_json.specs.Read.{read, max_depth}
 use Rattle.erd_tables.specs.declared.class.Role.TheVariants as role
 use Rattle.erd_check.specs.declared.want.Want.TheVariants.{Object}
 use Rattle.erd_prepare.specs.Changes.{told_by}
+use Rattle.erd_prepare.specs.Numbers.{AreChangedNumbers}
+use Rattle.erd_prepare.specs.Reading.{IsNoJson, IsReadAs}
 use Rattle.erd_prepare.specs.Rules.{Rule, prepared, told}
 use Rattle.erd_prepare.specs.Steps.{IsOwnRule}
 use Rattle.erd_prepare.specs.declared.prepare_error.PrepareError.{PrepareError}
@@ -36,22 +37,14 @@ pub data AreStepsDone (chosen : List StepName) (given : Data) : List StepName �
   left_out : (names : List StepName) (name : StepName) (dones : List StepDone) (tree : Data) → ¬ (Contains chosen name)
       → AreStepsDone chosen given names dones tree → AreStepsDone chosen given (names ++ name ∷ []) dones tree
 
--- The bytes are read as this value.
-pub record IsReadAs (bytes : List ℕ) (d : Data) : Type 0 where
-  pub is_text : IsUtf8 bytes
-  pub value : read bytes ≡ Some d
-
--- The file holds the report that was read, after the chosen steps.
+-- The file holds the report that was read, after the chosen steps. The numbers whose texts reading changes are told.
 pub record IsPrepared (bytes : List ℕ) (chosen : List StepName) (file : PreparedBytes) : Type 0 where
   pub given : Data
   pub tree : Data
   pub was_read : IsReadAs bytes given
+  pub numbers : AreChangedNumbers bytes file.numbers.items
   pub steps : AreStepsDone chosen given STEPS file.steps.items tree
   pub is_written : depth tree ≤ max_depth → read file.bytes.items ≡ Some tree
-
--- The bytes are read as no value: they are no JSON.
-abbrev pub IsNoJson : List ℕ → Type 0
-IsNoJson bytes = (d : Data) → ¬ (IsReadAs bytes d)
 
 -- Why bytes are not prepared. If the call ran out of memory, nothing is claimed.
 abbrev pub IsUnprepared : List ℕ → PrepareError → Type 0

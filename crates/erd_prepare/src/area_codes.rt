@@ -21,7 +21,7 @@ type NumberSort<'a> = (&'a str, &'a str, &'a str);
 /// An identifier of a unit that the area around it does not have.
 #[derive(Drop)]
 struct Numbered<'a> {
-    /// The JSON Pointer of its `Value`.
+    /// The JSON Pointer of the identifier.
     place: String,
     sort: NumberSort<'a>,
     code: &'a str,
@@ -124,7 +124,7 @@ fn number_at<'a>(
     triple: Triple<'a>,
     around: (Option<usize>, Option<usize>),
 ) -> Result<Numbered<'a>, AllocError> {
-    let place = format!(in alloc; "{}/ExternalIdentifier/{}/Value", unit.known.place, index)?;
+    let place = format!(in alloc; "{}/ExternalIdentifier/{}", unit.known.place, index)?;
     Ok(Numbered {
         place,
         sort: (unit.text_at("Type"), triple.kind, triple.other),
@@ -149,10 +149,10 @@ fn planned<'a>(
                 Some(area) => areas.code(area),
                 None => "",
             };
-            let place = number.place.clone()?;
             if front.is_empty() {
-                planned.leave(place, why)?;
+                planned.leave(number.place.clone()?, why)?;
             } else {
+                let place = format!(in alloc; "{}/Value", number.place)?;
                 let code = format!(in alloc; "{}-{}", front, number.code)?;
                 planned
                     .plan

@@ -2,20 +2,25 @@
 ghost use Rattle.std.specs.Prelude.{Decides, IfErr, IfOk};
 ghost use Rattle.std.specs.List.{Contains};
 ghost use Rattle.serde_json.specs.View.{view};
-ghost use Rattle.erd_prepare.specs.Preparations.{AreStepsDone, IsPrepared, IsReadAs, IsStepAdded, IsUnprepared};
+ghost use Rattle.erd_prepare.specs.Preparations.{AreStepsDone, IsPrepared, IsStepAdded, IsUnprepared};
+ghost use Rattle.erd_prepare.specs.Reading.{IsReadAs};
 
+use crate::changed_number::ChangedNumber;
+use crate::numbers::changed_numbers;
 use crate::origins::Moves;
 use crate::prepare_error::PrepareError;
 use crate::step_done::{Others, Prepared, PreparedBytes, StepDone};
 use crate::step_name::{STEPS, StepName, do_step};
-use crate::told::{Turn, told_value};
+use crate::told::{Turn, numbers_value, told_value};
 use serde_json::Value;
 use std::alloc::{AllocError, Global};
 
 /// Prepares a file: reads it by `serde_json`, does these steps, and writes what comes of it. The steps are done in the order of
 /// `STEPS`, whatever order they are given in, each once. What the other steps would do is told if it is asked for.
 ///
-/// The members of each object are written in the order of their names, and numbers as `serde_json` holds them.
+/// The members of each object are written in the order of their names, and numbers as `serde_json` holds them: `1.50` becomes
+/// `1.5`, and a whole number beyond 64 bits loses digits. Each number whose text changes so is told before anything else, by its
+/// line and column.
 ///
 /// # Errors
 ///
@@ -32,12 +37,31 @@ pub fn prepare_bytes(
     let report = report_of(alloc, bytes)?;
     let prepared = do_steps(alloc, &report, chosen, others)?;
     let written = prepared.tree.to_vec(alloc)?;
-    let told = Value::Array(prepared.told).to_vec(alloc)?;
+    let numbers = changed_numbers(alloc, bytes)?;
+    let told = with_numbers(alloc, &numbers, prepared.told)?.to_vec(alloc)?;
     Ok(PreparedBytes {
         bytes: written,
+        numbers,
         steps: prepared.steps,
         told,
     })
+}
+
+/// Returns what is told as a JSON array: the numbers that change, if any do, and what the steps did.
+fn with_numbers(
+    alloc: Global,
+    numbers: &Vec<ChangedNumber>,
+    told: Vec<Value>,
+) -> Result<Value, AllocError> {
+    if numbers.is_empty() {
+        return Ok(Value::Array(told));
+    }
+    let mut all = Vec::with_capacity(alloc, told.len().saturating_add(1))?;
+    all.push(numbers_value(alloc, numbers)?)?;
+    for entry in told {
+        all.push(entry)?;
+    }
+    Ok(Value::Array(all))
 }
 
 /// Reads a report.

@@ -1,5 +1,6 @@
 //! What the steps of a preparation did.
 use crate::change::Change;
+use crate::changed_number::ChangedNumber;
 use crate::left::Left;
 use crate::step_name::StepName;
 use serde_json::Value;
@@ -41,9 +42,11 @@ pub struct Prepared {
 pub struct PreparedBytes {
     /// The report after the steps: compact JSON, the members of each object in the order of their names.
     pub bytes: Vec<u8>,
+    /// The numbers of the file that are written otherwise once they are read, in the order of the file.
+    pub numbers: Vec<ChangedNumber>,
     /// What each step did, in the order in which they were done.
     pub steps: Vec<StepDone>,
-    /// The same as a JSON array, of the steps that changed or left something, with the places of the file that was given; and of
-    /// the steps that were not chosen, if they are told.
+    /// The same as a JSON array: the numbers that change, if any do, as those of a step `numbers`; the steps that changed or left
+    /// something, with the places of the file that was given; and the steps that were not chosen, if they are told.
     pub told: Vec<u8>,
 }

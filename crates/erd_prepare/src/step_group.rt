@@ -1,4 +1,7 @@
 //! What the steps do to what a voter sees, and steps by the words of a caller.
+ghost use Rattle.std.specs.Prelude.{◌≡◌, ◌++◌, IfOk, MatchOption, OnOk, false, map, option_map, true};
+ghost use Rattle.erd_prepare.specs.StepWords.{group_named, group_of, name_of_group, is_same_group, steps_by_word, steps_chosen, steps_of_group, words_at_commas};
+
 use crate::step_name::{STEPS, StepName};
 use std::alloc::{AllocError, Global};
 
@@ -15,7 +18,9 @@ pub enum StepGroup {
 
 impl StepGroup {
     /// Returns the group of this name, if there is one.
-    pub fn named(name: &str) -> Option<StepGroup> {
+    pub fn named(name: &str) -> Option<StepGroup>
+        ensures { result ≡ group_named name.now }
+    {
         match name {
             "removed" => Some(StepGroup::Removed),
             "filled-in" => Some(StepGroup::FilledIn),
@@ -25,7 +30,9 @@ impl StepGroup {
     }
 
     /// Returns the name by which a caller chooses all steps of the group.
-    pub fn text(self) -> &'static str {
+    pub fn text(self) -> &'static str
+        ensures { result.now ≡ name_of_group self }
+    {
         match self {
             StepGroup::Removed => "removed",
             StepGroup::FilledIn => "filled-in",
@@ -33,8 +40,17 @@ impl StepGroup {
         }
     }
 
+    /// Returns whether the group has the step.
+    fn has(self, step: StepName) -> bool
+        ensures { result ≡ is_same_group (group_of step) self }
+    {
+        StepGroup::of(step) == self
+    }
+
     /// Returns the group of a step.
-    pub fn of(step: StepName) -> StepGroup {
+    pub fn of(step: StepName) -> StepGroup
+        ensures { result ≡ group_of step }
+    {
         match step {
             StepName::Nulls
             | StepName::UnusedIds
@@ -72,26 +88,52 @@ impl StepGroup {
 /// # Errors
 ///
 /// `AllocError` if out of memory.
-pub fn steps_named(alloc: Global, words: &str) -> Result<Option<Vec<StepName>>, AllocError> {
+pub fn steps_named(alloc: Global, words: &str) -> Result<Option<Vec<StepName>>, AllocError>
+    ensures { IfOk result (λ chosen. option_map (λ steps. steps.items) chosen ≡ steps_chosen words.now) }
+{
     let mut steps = Vec::new(alloc);
-    if words.is_empty() {
-        return Ok(Some(steps));
-    }
-    for word in words.split(',') {
-        if let Some(step) = StepName::named(word) {
-            steps.push(step)?;
-        } else if let Some(group) = StepGroup::named(word) {
-            push_group(group, &mut steps)?;
-        } else {
+    for word in &words_at_commas(alloc, words)? {
+        if !add_word(word, &mut steps)? {
             return Ok(None);
         }
     }
     Ok(Some(steps))
 }
 
-fn push_group(group: StepGroup, steps: &mut Vec<StepName>) -> Result<(), AllocError> {
+/// Adds the steps that one word chooses, and returns whether it chooses some.
+fn add_word(word: &str, steps: &mut Vec<StepName>) -> Result<bool, AllocError>
+    ensures { IfOk result (λ is_known. MatchOption (steps_by_word word.now) (is_known ≡ false)
+        (λ more. (is_known ≡ true) × (steps.new.items ≡ steps.old.items ++ more))) }
+{
+    if let Some(step) = StepName::named(word) {
+        steps.push(step)?;
+        return Ok(true);
+    }
+    match StepGroup::named(word) {
+        Some(group) => {
+            push_group(group, steps)?;
+            Ok(true)
+        }
+        None => Ok(false),
+    }
+}
+
+/// Returns the words of a text with commas between them. The empty text has none.
+fn words_at_commas(alloc: Global, text: &str) -> Result<Vec<&str>, AllocError>
+    ensures { IfOk result (λ words. map (λ word. word.now) words.items ≡ words_at_commas text.now) }
+{
+    if text.is_empty() {
+        return Ok(Vec::new(alloc));
+    }
+    text.split(',').collect(alloc)
+}
+
+/// Adds the steps of a group, in the order in which they are done.
+fn push_group(group: StepGroup, steps: &mut Vec<StepName>) -> Result<(), AllocError>
+    ensures { OnOk result (steps.new.items ≡ steps.old.items ++ steps_of_group group) }
+{
     for step in STEPS {
-        if StepGroup::of(step) == group {
+        if group.has(step) {
             steps.push(step)?;
         }
     }

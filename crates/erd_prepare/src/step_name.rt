@@ -1,6 +1,8 @@
 //! The steps by their names, in the order in which they are done.
 ghost use Rattle.std.specs.Prelude.{◌≡◌, [], Some, IfOk};
+ghost use Rattle.std.specs.Str.{bytes_eq};
 ghost use Rattle.serde_json.specs.View.{view};
+ghost use Rattle.erd_prepare.specs.StepWords.{step_named, name_of_step};
 ghost use Rattle.erd_prepare.specs.Steps.{IsNamedStepDone};
 
 use crate::area_codes::{put_counties_in_front, put_towns_in_front};
@@ -120,17 +122,28 @@ pub const STEPS: [StepName; 27] = [
 
 impl StepName {
     /// Returns the step of this name, if there is one.
-    pub fn named(name: &str) -> Option<StepName> {
+    pub fn named(name: &str) -> Option<StepName>
+        ensures { result ≡ step_named name.now }
+    {
         for step in STEPS {
-            if step.text() == name {
+            if step.has_name(name) {
                 return Some(step);
             }
         }
         None
     }
 
+    /// Returns whether this is the name of the step.
+    fn has_name(self, name: &str) -> bool
+        ensures { result ≡ bytes_eq (name_of_step self) name.now }
+    {
+        self.text() == name
+    }
+
     /// Returns the name by which a caller chooses the step.
-    pub fn text(self) -> &'static str {
+    pub fn text(self) -> &'static str
+        ensures { result.now ≡ name_of_step self }
+    {
         match self {
             StepName::ClassNames => "class-names",
             StepName::Nulls => "nulls",

@@ -1,5 +1,6 @@
 //! What steps did, as JSON.
 use crate::change::Change;
+use crate::changed_number::ChangedNumber;
 use crate::engine::Done;
 use crate::left::Left;
 use crate::origins::{Moves, origin_of, steps_to};
@@ -92,6 +93,44 @@ pub(crate) fn told_value(
         "more": more,
         "step": name
     })
+}
+
+/// Returns the numbers whose texts change as a JSON object like that of a step: each with its line, its column and both texts.
+///
+/// # Errors
+///
+/// `AllocError` if out of memory.
+pub(crate) fn numbers_value(
+    alloc: Global,
+    numbers: &Vec<ChangedNumber>,
+) -> Result<Value, AllocError> {
+    let mut changes = Told::new(alloc);
+    for number in numbers {
+        if !changes.is_full() {
+            changes.add(number_value(alloc, number)?)?;
+        }
+    }
+    let count = numbers.len();
+    let more = changes.entries.len() < count;
+    let changes = Value::Array(changes.entries);
+    json!(in alloc; {
+        "changes": changes,
+        "count": count,
+        "done": true,
+        "left": [],
+        "left_count": 0,
+        "more": more,
+        "step": "numbers"
+    })
+}
+
+/// Returns a number whose text changes.
+fn number_value(alloc: Global, number: &ChangedNumber) -> Result<Value, AllocError> {
+    let after = number.after.clone()?;
+    let before = number.before.clone()?;
+    let column = number.column;
+    let line = number.line;
+    json!(in alloc; {"after": after, "before": before, "column": column, "line": line})
 }
 
 /// Returns a change: its place, what stood there if anything did, and what stands there now if anything does.

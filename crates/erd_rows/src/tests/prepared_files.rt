@@ -49,8 +49,91 @@ fn numbers_stay_and_members_are_sorted(rt: HostRuntime) -> Result<(), Fail> {
         (&[StepName::Nulls], Others::Untold),
         r#"{ "b~/" : null, "a": [18446744073709551615, -9223372036854775808, 1.50] }"#,
         r#"{"a":[18446744073709551615,-9223372036854775808,1.5]}"#,
-        r#"[{"changes":[{"before":null,"place":["b~/"]}],"count":1,"done":true,"left":[],"left_count":0,"more":false,"step":"nulls"}]"#,
+        r#"[{"changes":[{"after":"1.5","before":"1.50","column":67,"line":1}],"count":1,"done":true,"left":[],"left_count":0,"more":false,"step":"numbers"},{"changes":[{"before":null,"place":["b~/"]}],"count":1,"done":true,"left":[],"left_count":0,"more":false,"step":"nulls"}]"#,
     )
+}
+
+/// A file, what becomes of it by no step, and the numbers that are told, as the JSON of their list has them.
+const NUMBERS: &[(&str, &str, &str)] = &[
+    (
+        "[1.50]",
+        "[1.5]",
+        r#"{"after":"1.5","before":"1.50","column":2,"line":1}"#,
+    ),
+    (
+        r#"{"a":18446744073709551616}"#,
+        r#"{"a":1.8446744073709552e+19}"#,
+        r#"{"after":"1.8446744073709552e+19","before":"18446744073709551616","column":6,"line":1}"#,
+    ),
+    (
+        "[1e2, 1E+2]",
+        "[100.0,100.0]",
+        r#"{"after":"100.0","before":"1e2","column":2,"line":1},{"after":"100.0","before":"1E+2","column":7,"line":1}"#,
+    ),
+    (
+        "-0",
+        "-0.0",
+        r#"{"after":"-0.0","before":"-0","column":1,"line":1}"#,
+    ),
+    (
+        "[1.5,\r\n\t2.50,\n\n3.0e0]",
+        "[1.5,2.5,3.0]",
+        r#"{"after":"2.5","before":"2.50","column":2,"line":2},{"after":"3.0","before":"3.0e0","column":1,"line":4}"#,
+    ),
+    (
+        r#"["é",1.50]"#,
+        r#"["é",1.5]"#,
+        r#"{"after":"1.5","before":"1.50","column":7,"line":1}"#,
+    ),
+    (
+        r#"{"1.50":"2.50\\","\"3.50":"\\\"4.50"}"#,
+        r#"{"\"3.50":"\\\"4.50","1.50":"2.50\\"}"#,
+        "",
+    ),
+    (
+        "[0, -1, 1.5, 18446744073709551615, -9223372036854775808, 1e+300, true]",
+        "[0,-1,1.5,18446744073709551615,-9223372036854775808,1e+300,true]",
+        "",
+    ),
+];
+
+#[test]
+fn numbers_that_change_are_told(rt: HostRuntime) -> Result<(), Fail> {
+    let alloc = rt.alloc();
+    for (file, after, numbers) in NUMBERS {
+        let told = numbers_told(alloc, numbers)?;
+        let steps = (&[StepName::Nulls][..], Others::Untold);
+        try_file(&rt, alloc, steps, file, after, told.as_str())?;
+    }
+    Ok(())
+}
+
+/// What is told of a file in which these numbers and nothing else changes.
+fn numbers_told(alloc: Global, numbers: &str) -> Result<String, Fail> {
+    if numbers.is_empty() {
+        return Ok(String::from_str(alloc, "[]")?);
+    }
+    let count = numbers.split('{').skip(1).count();
+    let told = format!(in alloc; "[{{\"changes\":[{numbers}],\"count\":{count},\"done\":true,\"left\":[],\"left_count\":0,\"more\":false,\"step\":\"numbers\"}}]")?;
+    Ok(told)
+}
+
+#[test]
+fn a_thousand_numbers_are_told(rt: HostRuntime) -> Result<(), Fail> {
+    let mut file = String::from_str(rt.alloc(), "[1.50")?;
+    for _ in 0..1000 {
+        file.push_str(",1.50")?;
+    }
+    file.push_str("]")?;
+    let prepared = prepare_bytes(rt.alloc(), file.as_bytes(), &[], Others::Untold)
+        .ok()
+        .ok_or("not prepared")?;
+    assert_eq!(rt; prepared.numbers.len(), 1001);
+    let told = String::from_utf8(prepared.told).ok().ok_or("no text")?;
+    assert_eq!(rt; told.as_str().split("\"before\"").count(), 1001);
+    assert!(rt; told.as_str().contains(r#""count":1001,"done":true"#));
+    assert!(rt; told.as_str().contains(r#""more":true,"step":"numbers""#));
+    Ok(())
 }
 
 /// A step that is not chosen is told of at its turn: the office is a list by then, and its place is that in the file.

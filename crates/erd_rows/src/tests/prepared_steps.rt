@@ -98,7 +98,7 @@ const CASES: &[Case] = &[
         StepName::TownCodes,
         r#"{"@type":"%ElectionReport","GpUnit":[{"@type":"%ReportingUnit","@id":"c","Type":"county",#C&,"ComposingGpUnitIds":["t1","t2","b3"]},{"@type":"%ReportingUnit","@id":"t1","Type":"town",#T1&,"ComposingGpUnitIds":["b1"]},{"@type":"%ReportingUnit","@id":"t2","Type":"city",#T2&,"ComposingGpUnitIds":["b2"]},{"@type":"%ReportingUnit","@id":"b1","Type":"precinct",#1&},{"@type":"%ReportingUnit","@id":"b2","Type":"precinct",#1&},{"@type":"%ReportingUnit","@id":"b3","Type":"precinct",#2&}]}"#,
         r#"{"@type":"%ElectionReport","GpUnit":[{"@type":"%ReportingUnit","@id":"c","Type":"county",#C&,"ComposingGpUnitIds":["t1","t2","b3"]},{"@type":"%ReportingUnit","@id":"t1","Type":"town",#T1&,"ComposingGpUnitIds":["b1"]},{"@type":"%ReportingUnit","@id":"t2","Type":"city",#T2&,"ComposingGpUnitIds":["b2"]},{"@type":"%ReportingUnit","@id":"b1","Type":"precinct",#T1-1&},{"@type":"%ReportingUnit","@id":"b2","Type":"precinct",#T2-1&},{"@type":"%ReportingUnit","@id":"b3","Type":"precinct",#2&}]}"#,
-        "/GpUnit/5/ExternalIdentifier/0/Value noTown;",
+        "/GpUnit/5/ExternalIdentifier/0 noTown;",
     ),
     (
         StepName::TownCodes,
@@ -110,7 +110,7 @@ const CASES: &[Case] = &[
         StepName::CountyCodes,
         r#"{"@type":"%ElectionReport","GpUnit":[{"@type":"%ReportingUnit","@id":"c","Type":"county",#C&,"ComposingGpUnitIds":["t"]},{"@type":"%ReportingUnit","@id":"d","Type":"county","ExternalIdentifier":[{"@type":"%ExternalIdentifier","Type":"county-code","Value":"0"},{"@type":"%ExternalIdentifier","Type":"fips","Value":"D"}],"ComposingGpUnitIds":["b3"]},{"@type":"%ReportingUnit","@id":"t","Type":"town",#T&,"ComposingGpUnitIds":["b1","b2"]},{"@type":"%ReportingUnit","@id":"b1","Type":"precinct","ExternalIdentifier":[{"@type":"%ExternalIdentifier","Type":"local-level","Value":"C"},{"@type":"%ExternalIdentifier","Type":"local-level","Value":"1"}]},{"@type":"%ReportingUnit","@id":"b2","Type":"precinct",#2&},{"@type":"%ReportingUnit","@id":"b3","Type":"precinct",#1&},{"@type":"%ReportingUnit","@id":"b4","Type":"precinct",#3&}]}"#,
         r#"{"@type":"%ElectionReport","GpUnit":[{"@type":"%ReportingUnit","@id":"c","Type":"county",#C&,"ComposingGpUnitIds":["t"]},{"@type":"%ReportingUnit","@id":"d","Type":"county","ExternalIdentifier":[{"@type":"%ExternalIdentifier","Type":"county-code","Value":"0"},{"@type":"%ExternalIdentifier","Type":"fips","Value":"D"}],"ComposingGpUnitIds":["b3"]},{"@type":"%ReportingUnit","@id":"t","Type":"town",#T&,"ComposingGpUnitIds":["b1","b2"]},{"@type":"%ReportingUnit","@id":"b1","Type":"precinct","ExternalIdentifier":[{"@type":"%ExternalIdentifier","Type":"local-level","Value":"C"},{"@type":"%ExternalIdentifier","Type":"local-level","Value":"C-1"}]},{"@type":"%ReportingUnit","@id":"b2","Type":"precinct",#C-2&},{"@type":"%ReportingUnit","@id":"b3","Type":"precinct",#D-1&},{"@type":"%ReportingUnit","@id":"b4","Type":"precinct",#3&}]}"#,
-        "/GpUnit/6/ExternalIdentifier/0/Value noCounty;",
+        "/GpUnit/6/ExternalIdentifier/0 noCounty;",
     ),
     (
         StepName::Codes,
