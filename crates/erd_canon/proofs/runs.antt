@@ -5,3 +5,5 @@ pub mod Listings
 pub mod Agreement
 pub mod Moving
 pub mod Answering
+pub mod StepLines
+pub mod TextRuns

@@ -30,6 +30,7 @@ pub use Rattle.erd_canon.specs.Writing.{IsAnswerPartWritten, IsCheckPartWritten,
 pub use Rattle.erd_canon.specs.Devices.{between, Reader, Writer}
 pub use Rattle.erd_canon.specs.Engines.{IsCanonRun, IsCheckRun, IsCompareRun}
 pub use Rattle.erd_canon.specs.Answering.{listing_lines, IsCheckLine, IsCompareLine, IsListed, IsListLine, IsPairPartWritten, IsPairRun, IsPairWritten, IsReportPartWritten, IsReportRun, IsReportWritten}
+pub use Rattle.erd_canon.specs.Preparing.{asked_steps, count_lines, done_lines, file_lines, grouped_text, tried_lines, AreFileTexts, AreNotJsonTexts, AreStepsListed, AreStepsTried, AreTextsPartWritten, AreTextsWith, AreTextsWritten, AreToldTexts, AreTriedTexts, IsJudged, IsPreparationTold, IsPreparedAs, IsTextsRun}
 pub use Rattle.erd_canon.specs.Statuses.{fault_status, fault_words, outcome_status}
 pub use Rattle.erd_canon.specs.Options.{asks_json, preference_in, preference_data}
 pub use Rattle.erd_canon.specs.ExactLines.{words_of, HasPlainWords}

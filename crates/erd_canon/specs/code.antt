@@ -5,3 +5,4 @@ pub mod RefusalData  -- the JSON value of a refusal
 pub mod Pending  -- what moves from a buffer to a writer
 pub mod Fronts  -- the front of a list that a piece shows
 pub mod PairCommands  -- what the engine for each command on two reports answers
+pub mod PrepareCommands  -- what the engine for each command that prepares a report answers

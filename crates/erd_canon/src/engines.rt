@@ -4,5 +4,7 @@ pub(crate) mod answers;
 pub(crate) mod buffered;
 pub(crate) mod lines;
 pub(crate) mod outcome;
+pub(crate) mod prepare;
+pub(crate) mod prepare_texts;
 pub(crate) mod runs;
 pub(crate) mod write_and_flush;

@@ -38,6 +38,7 @@ pub use engines::answers::{
     run_check_data, run_compare_data, run_differences, run_differences_data,
 };
 pub use engines::outcome::{Outcome, RunFault};
+pub use engines::prepare::{run_prepare, run_prepare_list, run_prepare_report, steps_asked};
 pub use engines::runs::{
     run_canon, run_canon_disposing, run_canon_with, run_check, run_check_disposing, run_check_with,
     run_compare, run_compare_disposing, run_compare_with,

@@ -17,6 +17,7 @@ mod pair_calls;
 mod parts;
 mod places;
 mod preferred_rows;
+mod prepare_runs;
 mod prepared;
 mod prepared_files;
 mod prepared_steps;

@@ -5,6 +5,7 @@ mod data;
 mod engines;
 mod index;
 mod pieces;
+mod prepare;
 mod reports;
 mod shapes;
 mod shown;

@@ -1,0 +1,290 @@
+//! Runs of the engines that prepare a report, over readers and writers that work or fail.
+use crate::tests::edits::spelled;
+use crate::tests::readers::FailingReader;
+use crate::tests::writers::{ExpectedWriter, FailingWriter};
+use erd_canon::{
+    Outcome, ReadFrom, RunFault, Source, WriteTo, run_prepare, run_prepare_list, run_prepare_report,
+};
+use erd_prepare::StepName;
+use std::alloc::Global;
+use std::io::{Read, Write};
+use std::process::Abort;
+use std::test::Fail;
+
+// What a run leaves.
+#[derive(Drop)]
+struct Run<R, O, E> {
+    answer: Result<Outcome, RunFault>,
+    reader: ReadFrom<R>,
+    out: WriteTo<O>,
+    err: WriteTo<E>,
+}
+
+// A command that prepares a report.
+#[derive(Clone, Copy)]
+enum Command<'a> {
+    Prepare(&'a [StepName]),
+    List,
+    Report(&'a [StepName]),
+}
+
+fn run<R: Read, O: Write, E: Write>(
+    alloc: Global,
+    command: Command,
+    reader: R,
+    out: O,
+    err: E,
+) -> Run<R, O, E> {
+    let mut reader = ReadFrom::of(reader);
+    let mut out = WriteTo::of(out);
+    let mut err = WriteTo::of(err);
+    let answer = match command {
+        Command::Prepare(chosen) => {
+            run_prepare(alloc, &mut reader, &mut out, &mut err, chosen, None)
+        }
+        Command::List => run_prepare_list(alloc, &mut reader, &mut out, &mut err),
+        Command::Report(chosen) => {
+            run_prepare_report(alloc, &mut reader, &mut out, &mut err, chosen)
+        }
+    };
+    Run {
+        answer,
+        reader,
+        out,
+        err,
+    }
+}
+
+// A report that `nulls` and `names` prepare, and that is refused before and after that.
+const OFFICES: &str =
+    r#"{ "@type": "%ElectionReport", "Office": [{"@type":"%Office"},{"Phone":null,"@type":"%Office","Name":"Mayor"}] }"#;
+
+const CHOSEN: &[StepName] = &[StepName::Names, StepName::Nulls];
+
+const PREPARED: &str =
+    r#"{"@type":"%ElectionReport","Office":[{"@type":"%Office"},{"@type":"%Office","ExternalIdentifier":[{"@type":"%ExternalIdentifier","OtherType":"name","Type":"other","Value":"Mayor"}],"Name":"Mayor"}]}"#;
+
+const DONE: &str =
+    "nulls: 1 changed\nnames: 1 changed, 1 left\n: missing member Election\n: missing member Status\n/Office/0: missing member Name\n";
+
+fn wrote(
+    alloc: Global,
+    command: Command,
+    file: &str,
+    wanted: Outcome,
+    out: &str,
+    err: &str,
+) -> bool {
+    let out = ExpectedWriter::of(out);
+    let err = ExpectedWriter::of(err);
+    let run = run(alloc, command, file.as_bytes(), out, err);
+    run.answer == Ok(wanted) && run.out.writer.is_whole() && run.err.writer.is_whole()
+}
+
+// The prepared report, and what was done and why the report is refused.
+#[test]
+fn refused_report_is_written(rt: HostRuntime) -> Result<(), Fail> {
+    let alloc = rt.alloc();
+    let file = spelled(alloc, OFFICES)?;
+    let out = spelled(alloc, PREPARED)?;
+    assert!(rt;
+        wrote(
+            alloc,
+            Command::Prepare(CHOSEN),
+            &file,
+            Outcome::Bad,
+            &out,
+            DONE
+        )
+    );
+    Ok(())
+}
+
+// A step that only leaves something, and no step at all.
+#[test]
+fn what_is_left_is_told(rt: HostRuntime) -> Result<(), Fail> {
+    let alloc = rt.alloc();
+    let file = spelled(
+        alloc,
+        r#"{"@type":"%ElectionReport","Office":[{"@type":"%Office"}]}"#,
+    )?;
+    let faults =
+        ": missing member Election\n: missing member Status\n/Office/0: missing member Name\n";
+    let names = Command::Prepare(&[StepName::Names]);
+    let left = format!(in alloc; "names: 1 left\n{faults}")?;
+    assert!(rt; wrote(alloc, names, &file, Outcome::Bad, &file, &left));
+    assert!(rt;
+        wrote(
+            alloc,
+            Command::Prepare(&[]),
+            &file,
+            Outcome::Bad,
+            &file,
+            faults
+        )
+    );
+    Ok(())
+}
+
+// Numbers that are written otherwise are told before the steps.
+#[test]
+fn numbers_are_told(rt: HostRuntime) {
+    let file = r#"{"b":null,"a":1.50}"#;
+    let told = "numbers: 1 changed\nnulls: 1 changed\n: missing member @type\n";
+    assert!(rt;
+        wrote(
+            rt.alloc(),
+            Command::Prepare(CHOSEN),
+            file,
+            Outcome::Bad,
+            r#"{"a":1.5}"#,
+            told
+        )
+    );
+}
+
+#[test]
+fn steps_are_listed(rt: HostRuntime) -> Result<(), Fail> {
+    let alloc = rt.alloc();
+    let file = spelled(alloc, OFFICES)?;
+    let lines = "nulls (removed): 1 changed\nnames (filled-in): 1 changed, 1 left\n";
+    assert!(rt; wrote(alloc, Command::List, &file, Outcome::Good, lines, ""));
+    assert!(rt; wrote(alloc, Command::List, "{}", Outcome::Good, "", ""));
+    Ok(())
+}
+
+#[test]
+fn what_steps_did_is_told(rt: HostRuntime) -> Result<(), Fail> {
+    let alloc = rt.alloc();
+    let told =
+        "[{\"changes\":[{\"before\":null,\"place\":[\"a\"]}],\"count\":1,\"done\":true,\"left\":[],\"left_count\":0,\"more\":false,\"step\":\"nulls\"}]\n";
+    let done = Command::Report(CHOSEN);
+    assert!(rt; wrote(alloc, done, r#"{"a":null}"#, Outcome::Good, told, ""));
+    let told =
+        "[{\"changes\":[{\"before\":null,\"place\":[\"a\"]}],\"count\":1,\"done\":false,\"left\":[],\"left_count\":0,\"more\":false,\"step\":\"nulls\"}]\n";
+    let tried = Command::Report(&[]);
+    assert!(rt; wrote(alloc, tried, r#"{"a":null}"#, Outcome::Good, told, ""));
+    Ok(())
+}
+
+#[test]
+fn what_is_no_json_is_told(rt: HostRuntime) {
+    let alloc = rt.alloc();
+    for command in [
+        Command::Prepare(CHOSEN),
+        Command::List,
+        Command::Report(CHOSEN),
+    ] {
+        assert!(rt; wrote(alloc, command, "{", Outcome::NotJson, "", "not JSON\n"));
+    }
+}
+
+// A run whose read after this many reads fails, and that writes nothing then.
+fn reads(alloc: Global, file: &str, out: &str, good: usize) -> bool {
+    let fails = good <= file.len();
+    let (out, err) = if fails { ("", "") } else { (out, DONE) };
+    let reader = FailingReader::after(file.as_bytes(), good);
+    let out = ExpectedWriter::of(out);
+    let err = ExpectedWriter::of(err);
+    let run = run(alloc, Command::Prepare(CHOSEN), reader, out, err);
+    let wanted = if fails {
+        Err(RunFault::Read)
+    } else {
+        Ok(Outcome::Bad)
+    };
+    run.answer == wanted
+        && run.reader.failed() == fails
+        && run.out.writer.is_whole()
+        && run.err.writer.is_whole()
+}
+
+#[test]
+fn each_read_fails(rt: HostRuntime) -> Result<(), Fail> {
+    let alloc = rt.alloc();
+    let file = spelled(alloc, OFFICES)?;
+    let out = spelled(alloc, PREPARED)?;
+    for good in 0..file.len().saturating_add(2) {
+        assert!(rt; reads(alloc, &file, &out, good), "read {good}");
+    }
+    Ok(())
+}
+
+// A run whose write to `out` after this many writes fails: it writes nothing to `err`, and flushes nothing.
+fn out_writes(alloc: Global, file: &str, good: usize) -> bool {
+    let out = FailingWriter::after(good);
+    let err = FailingWriter::after(usize::MAX);
+    let run = run(alloc, Command::Prepare(CHOSEN), file.as_bytes(), out, err);
+    run.answer == Err(RunFault::Write)
+        && run.out.writer.taken == good
+        && run.out.writer.writes == good.saturating_add(1)
+        && run.out.writer.flushes == 0
+        && run.err.writer.writes == 0
+        && run.err.writer.flushes == 0
+}
+
+// The same of a write to `err`: all was written to `out`.
+fn err_writes(alloc: Global, file: &str, all: usize, good: usize) -> bool {
+    let out = FailingWriter::after(usize::MAX);
+    let err = FailingWriter::after(good);
+    let run = run(alloc, Command::Prepare(CHOSEN), file.as_bytes(), out, err);
+    run.answer == Err(RunFault::Write)
+        && run.out.writer.taken == all
+        && run.out.writer.flushes == 0
+        && run.err.writer.taken == good
+        && run.err.writer.writes == good.saturating_add(1)
+        && run.err.writer.flushes == 0
+}
+
+#[test]
+fn each_write_fails(rt: HostRuntime) -> Result<(), Fail> {
+    let alloc = rt.alloc();
+    let file = spelled(alloc, OFFICES)?;
+    let all = spelled(alloc, PREPARED)?.len();
+    for good in 0..all {
+        assert!(rt; out_writes(alloc, &file, good), "out {good}");
+    }
+    for good in 0..DONE.len() {
+        assert!(rt; err_writes(alloc, &file, all, good), "err {good}");
+    }
+    Ok(())
+}
+
+// `out` is flushed first, after all was written. A flush that fails ends the run.
+#[test]
+fn each_flush_fails(rt: HostRuntime) -> Result<(), Fail> {
+    let alloc = rt.alloc();
+    let file = spelled(alloc, OFFICES)?;
+    assert!(rt;
+        flushes(
+            alloc,
+            &file,
+            FailingWriter::at_flush(),
+            FailingWriter::after(usize::MAX),
+            0
+        )
+    );
+    assert!(rt;
+        flushes(
+            alloc,
+            &file,
+            FailingWriter::after(usize::MAX),
+            FailingWriter::at_flush(),
+            1
+        )
+    );
+    Ok(())
+}
+
+fn flushes(
+    alloc: Global,
+    file: &str,
+    out: FailingWriter,
+    err: FailingWriter,
+    err_flushes: usize,
+) -> bool {
+    let run = run(alloc, Command::Prepare(CHOSEN), file.as_bytes(), out, err);
+    run.answer == Err(RunFault::Write)
+        && run.err.writer.taken == DONE.len()
+        && run.out.writer.flushes == 1
+        && run.err.writer.flushes == err_flushes
+}
