@@ -36,16 +36,15 @@ pub fn steps_asked(alloc: Global, words: Option<&str>) -> Result<Option<Vec<Step
     steps_named(alloc, words.unwrap_or("removed"))
 }
 
-/// Reads a report to its end, does these steps on it, checks what they made of it under a preferred type of identifier, or under
-/// none, writes the prepared report to `out` and what was done to `err`, and flushes `out` and then `err`.
+/// Reads a report to its end, does these steps on it, checks what they made of it under a preferred type of identifier, or
+/// under none, writes the prepared report to `out` and what was done to `err`, and flushes `out` and then `err`.
 ///
 /// The prepared report is written as compact JSON with no line end, the members of each object in the order of their names. To
-/// `err` go a line such as `numbers: 3 changed` if reading changes the texts of numbers, a line for each step that changed or left
-/// something, such as `codes: 2 changed, 1 left`, and then, if the prepared report is refused, the lines that `run_check_with`
-/// writes for it. It is written all the same, and the outcome is `Bad`. For
-/// bytes that are not JSON, it writes the line `not JSON` to `err`. Each line ends with one line feed. A report may have at most
-/// 67,108,864 bytes. The devices must not have failed before the call. After a failure, the run reads, writes and flushes nothing
-/// more.
+/// `err` go a line such as `numbers: 3 changed` if reading changes the texts of numbers, a line for each step that changed or
+/// left something, such as `codes: 2 changed, 1 left`, and then, if the prepared report is refused, the lines that
+/// `run_check_with` writes for it. It is written all the same, and the outcome is `Bad`. For bytes that are not JSON, it writes
+/// the line `not JSON` to `err`. Each line ends with one line feed. A report may have at most 67,108,864 bytes. The devices must
+/// not have failed before the call. After a failure, the run reads, writes and flushes nothing more.
 ///
 /// # Errors
 ///
