@@ -13,7 +13,7 @@ use std::test::Fail;
 
 // What a run leaves.
 #[derive(Drop)]
-struct Run<R, O, E> {
+struct PrepareRun<R, O, E> {
     answer: Result<Outcome, RunFault>,
     reader: ReadFrom<R>,
     out: WriteTo<O>,
@@ -28,13 +28,13 @@ enum Command<'a> {
     Report(&'a [StepName]),
 }
 
-fn run<R: Read, O: Write, E: Write>(
+fn prepare_run<R: Read, O: Write, E: Write>(
     alloc: Global,
     command: Command,
     reader: R,
     out: O,
     err: E,
-) -> Run<R, O, E> {
+) -> PrepareRun<R, O, E> {
     let mut reader = ReadFrom::of(reader);
     let mut out = WriteTo::of(out);
     let mut err = WriteTo::of(err);
@@ -47,7 +47,7 @@ fn run<R: Read, O: Write, E: Write>(
             run_prepare_report(alloc, &mut reader, &mut out, &mut err, chosen)
         }
     };
-    Run {
+    PrepareRun {
         answer,
         reader,
         out,
@@ -77,7 +77,7 @@ fn wrote(
 ) -> bool {
     let out = ExpectedWriter::of(out);
     let err = ExpectedWriter::of(err);
-    let run = run(alloc, command, file.as_bytes(), out, err);
+    let run = prepare_run(alloc, command, file.as_bytes(), out, err);
     run.answer == Ok(wanted) && run.out.writer.is_whole() && run.err.writer.is_whole()
 }
 
@@ -186,7 +186,7 @@ fn reads(alloc: Global, file: &str, out: &str, good: usize) -> bool {
     let reader = FailingReader::after(file.as_bytes(), good);
     let out = ExpectedWriter::of(out);
     let err = ExpectedWriter::of(err);
-    let run = run(alloc, Command::Prepare(CHOSEN), reader, out, err);
+    let run = prepare_run(alloc, Command::Prepare(CHOSEN), reader, out, err);
     let wanted = if fails {
         Err(RunFault::Read)
     } else {
@@ -213,7 +213,7 @@ fn each_read_fails(rt: HostRuntime) -> Result<(), Fail> {
 fn out_writes(alloc: Global, file: &str, good: usize) -> bool {
     let out = FailingWriter::after(good);
     let err = FailingWriter::after(usize::MAX);
-    let run = run(alloc, Command::Prepare(CHOSEN), file.as_bytes(), out, err);
+    let run = prepare_run(alloc, Command::Prepare(CHOSEN), file.as_bytes(), out, err);
     run.answer == Err(RunFault::Write)
         && run.out.writer.taken == good
         && run.out.writer.writes == good.saturating_add(1)
@@ -226,7 +226,7 @@ fn out_writes(alloc: Global, file: &str, good: usize) -> bool {
 fn err_writes(alloc: Global, file: &str, all: usize, good: usize) -> bool {
     let out = FailingWriter::after(usize::MAX);
     let err = FailingWriter::after(good);
-    let run = run(alloc, Command::Prepare(CHOSEN), file.as_bytes(), out, err);
+    let run = prepare_run(alloc, Command::Prepare(CHOSEN), file.as_bytes(), out, err);
     run.answer == Err(RunFault::Write)
         && run.out.writer.taken == all
         && run.out.writer.flushes == 0
@@ -282,7 +282,7 @@ fn flushes(
     err: FailingWriter,
     err_flushes: usize,
 ) -> bool {
-    let run = run(alloc, Command::Prepare(CHOSEN), file.as_bytes(), out, err);
+    let run = prepare_run(alloc, Command::Prepare(CHOSEN), file.as_bytes(), out, err);
     run.answer == Err(RunFault::Write)
         && run.err.writer.taken == DONE.len()
         && run.out.writer.flushes == 1

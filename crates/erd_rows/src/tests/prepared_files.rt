@@ -114,7 +114,9 @@ fn numbers_told(alloc: Global, numbers: &str) -> Result<String, Fail> {
         return Ok(String::from_str(alloc, "[]")?);
     }
     let count = numbers.split('{').skip(1).count();
-    let told = format!(in alloc; "[{{\"changes\":[{numbers}],\"count\":{count},\"done\":true,\"left\":[],\"left_count\":0,\"more\":false,\"step\":\"numbers\"}}]")?;
+    let told = format!(in alloc;
+        "[{{\"changes\":[{numbers}],\"count\":{count},\"done\":true,\"left\":[],\"left_count\":0,\"more\":false,\"step\":\"numbers\"}}]"
+    )?;
     Ok(told)
 }
 
