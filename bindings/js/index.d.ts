@@ -183,6 +183,13 @@ export class Erd {
     writtenAsJson<T>(command: 'check' | 'compare' | 'differences', reports: Report[], options: Preference | undefined,
         take: (bytes: Uint8Array, status: number) => T): { status: number; bytes: T };
     /**
+     * What steps make of a report: what they did, as `erd_prepare` of the C library tells it in JSON, and the bytes of the copy; null if
+     * the report is not JSON. `Preparation` of `erd/prepare` reads it.
+     * @param names of steps or of groups, with commas between them
+     * @throws {RangeError} for a name that no step and no group has
+     */
+    prepared(report: Report, names: string, options?: { tellsOthers?: boolean }): { told: Uint8Array; bytes: Uint8Array } | null;
+    /**
      * What the words of a command line ask for, as the program parses them. Help and wrong words have the exit status of the program,
      * and the bytes that it writes.
      */
@@ -191,12 +198,18 @@ export class Erd {
 
 /** What the words of a command line ask for. */
 export interface CommandRequest {
-    readonly command: 'filter' | 'check' | 'canon' | 'compare' | 'differences';
+    readonly command: 'filter' | 'check' | 'canon' | 'compare' | 'differences' | 'prepare';
     /** The names of the files, in the order of the words. */
     readonly files: string[];
     /** Whether the answer is to be JSON. */
     readonly json: boolean;
     readonly prefer: string | null;
+    /** Of `prepare`: whether the steps that would do something are listed. */
+    readonly list?: boolean;
+    /** Of `prepare`: whether what the steps do is told in JSON. */
+    readonly report?: boolean;
+    /** Of `prepare`: the names of the steps; null where no word names them. */
+    readonly steps?: string | null;
 }
 
 /** Loads the proved code: `erd.wasm` beside this file, or the module that is handed in. */

@@ -1,3 +1,5 @@
+import { Erd } from './index.js';
+
 /** A step, in the order in which they are done. */
 export interface Step {
     name: string;
@@ -10,14 +12,37 @@ export interface Step {
     loses: string;
 }
 
-/** What a step did, or would do at its turn if it is not done. */
+/** A change, with its place in the report that was given. A value that is not there is undefined. */
+export interface Change {
+    place: (string | number)[];
+    before: unknown;
+    after: unknown;
+}
+
+/** A number that is written in another way in the copy, by its line and its column, which counts bytes. Both begin with 1. */
+export interface ChangedNumber {
+    line: number;
+    column: number;
+    before: string;
+    after: string;
+}
+
+/**
+ * What a step did, or would do at its turn if it is not done. `made` has the first thousand changes, and fewer if they have more than a
+ * megabyte together; so has `left`. `numbers`, of which the changes have no place, is no step that can be chosen.
+ */
 export interface Done {
     name: string;
     done: boolean;
-    /** Each change, with its place in the tree as it was before the step. A value that is not there is undefined. */
-    made: { place: (string | number)[]; before: unknown; after: unknown }[];
+    made: (Change | ChangedNumber)[];
     /** What the step left as it is, and why. */
     left: { place: (string | number)[]; why: string }[];
+    /** How many changes there are. */
+    count: number;
+    /** How many places are left. */
+    leftCount: number;
+    /** Whether some of them are not told. */
+    more: boolean;
 }
 
 /** Every step. */
@@ -28,23 +53,20 @@ export function stepsOf(...groups: Step['group'][]): string[];
 
 /** A file that is being prepared. */
 export class Preparation {
-    /** @throws {Error} if the bytes are not JSON */
-    constructor(bytes: Uint8Array);
+    constructor(bytes: Uint8Array, erd: Erd);
     /**
-     * Does these steps on a copy, in the order of `STEPS`. With `tellsOthers`, what the other steps would do is told too.
+     * Does these steps on a copy, in the order of `STEPS`. With `tellsOthers`, what the other steps would do is told too. The copy is
+     * compact JSON, with the members of each object in the order of their names; a file of which no step changes anything keeps its bytes.
+     * @throws {Error} if the bytes are not JSON
      * @throws {RangeError} for a name that no step has
      */
     prepare(names: Iterable<string>, options?: { tellsOthers?: boolean }): { bytes: Uint8Array; steps: Done[] };
 }
 
-/**
- * What a step did, as plain data: each place as a JSON Pointer, with the compact text of the value before and after. Of the changes, and
- * of what is left, these are the first thousand, and fewer if they have more than a megabyte together: `count` and `left_count` are how
- * many there are, and `more` is whether some are not told.
- */
+/** What a step did, as plain data: each place as a JSON Pointer, with the compact text of the value before and after. */
 export function told(done: Done): {
     step: string; done: boolean; count: number;
-    changes: { pointer: string; before: string | null; after: string | null }[];
+    changes: ({ pointer: string; before: string | null; after: string | null } | ChangedNumber)[];
     left_count: number;
     left: { pointer: string; why: string }[];
     more: boolean;

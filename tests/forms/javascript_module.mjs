@@ -3,6 +3,7 @@
 import { existsSync, readdirSync, readFileSync } from 'node:fs';
 import { load, MOST_BYTES, NoMemoryError, repeatedNames, TooLongError, TrapError } from '../../bindings/js/index.mjs';
 import { compactText } from '../../bindings/js/lib/exact.mjs';
+import { Preparation, STEPS, stepsOf, told } from '../../bindings/js/lib/prepare/prepared.mjs';
 import { withMostPages } from '../shared/less_memory.mjs';
 
 const SUITE = new URL('../../out/conformance/', import.meta.url);
@@ -262,6 +263,38 @@ traps = false;
 equal('a call after a trap', trapping.check(bytes).outcome, 'accepted');
 equal('another instance after a trap', instances, 2);
 WebAssembly.Instance = real;
+
+// The steps that prepare a copy: the report, the names, the copy, and what is told.
+const REPORT = '"@type":"ElectionResults.ElectionReport"';
+const NULL_NOTES = { step: 'nulls', done: true, count: 1, changes: [{ pointer: '/Notes', before: 'null', after: null }], left_count: 0, left: [], more: false };
+const MARK_GONE = { ...NULL_NOTES, step: 'byte-order-mark', changes: [{ pointer: '', before: '"\ufeff"', after: null }] };
+const PREPARED = [
+    ['a step', `{"Notes":null,${REPORT}}`, ['nulls'], `{${REPORT}}`, [NULL_NOTES]],
+    ['a step that is not done', `{"Notes":null,${REPORT}}`, ['counts'], `{"Notes":null,${REPORT}}`, []],
+    ['no step', `{ "Notes":null,${REPORT}}`, [], `{ "Notes":null,${REPORT}}`, []],
+    ['a mark that stays', `\ufeff{"Notes":null,${REPORT}}`, ['nulls'], `\ufeff{${REPORT}}`, [NULL_NOTES]],
+    ['a mark that goes', `\ufeff{"Notes":null,${REPORT}}`, stepsOf('removed'), `{${REPORT}}`, [MARK_GONE, NULL_NOTES]],
+    ['a mark alone', `\ufeff{ ${REPORT}}`, ['byte-order-mark'], `{ ${REPORT}}`, [MARK_GONE]],
+    ['a place of the file', `{"a/b":[1,{"x":null}],${REPORT}}`, ['nulls'], `{${REPORT},"a/b":[1,{}]}`,
+        [{ ...NULL_NOTES, changes: [{ pointer: '/a~1b/1/x', before: 'null', after: null }] }]],
+];
+const encoder = new TextEncoder();
+for (const [name, report, names, copy, done] of PREPARED) {
+    const { bytes: prepared, steps } = new Preparation(encoder.encode(report), erd).prepare(names);
+    equal(`prepared, ${name}: the copy`, new TextDecoder('utf-8', { ignoreBOM: true }).decode(prepared), copy);
+    equal(`prepared, ${name}: what is told`, JSON.stringify(steps.map(told)), JSON.stringify(done));
+}
+const others = new Preparation(encoder.encode(`\ufeff{"Notes":null,${REPORT}}`), erd).prepare([], { tellsOthers: true });
+equal('prepared: what other steps would do', others.steps.map((step) => `${step.name} ${step.done} ${step.count}`).join(), 'byte-order-mark false 1,nulls false 1');
+const aLongList = new Preparation(encoder.encode(`{${REPORT},"a":[${Array(1500).fill('{"x":null}')}]}`), erd).prepare(['nulls']).steps;
+equal('prepared: a long list', aLongList.map(({ made, count, more }) => `${made.length} ${count} ${more}`).join(), '1000 1500 true');
+equal('prepared: the steps', STEPS.every(({ group, title, does, loses }) => [group, title, does, loses].every((text) => text.length > 5)), true);
+throws('prepared: no JSON', Error, () => new Preparation(encoder.encode('{'), erd).prepare([]));
+throws('prepared: a name that no step has', RangeError, () => new Preparation(encoder.encode('{}'), erd).prepare(['nosuch']));
+throws('prepared: a word that names nothing', RangeError, () => erd.prepared('{}', 'nulls,'));
+throws('prepared: a zero character', RangeError, () => erd.prepared('{}', 'nulls\0'));
+equal('prepared: no JSON for the call', erd.prepared('{', 'nulls'), null);
+throws('prepared: a report that is too long', TooLongError, () => erd.prepared(new Uint8Array(MOST_BYTES + 1), ''));
 
 equal('the code of TrapError', new TrapError(new Error('why')).code, 'TRAP');
 equal('the code of TooLongError', new TooLongError().code, 'TOO_LONG');

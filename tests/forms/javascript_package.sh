@@ -62,9 +62,10 @@ run in_fresh node first.mjs "$work/prepared.json" "$work/prepared.json"
 expect_text 'what it has prepared' 0 'accepted true '
 cat > "$work/fresh/second.mjs" <<'END'
 import { readFile } from 'node:fs/promises';
+import { load } from 'erd';
 import { Preparation, stepsOf } from 'erd/prepare';
-const { steps } = new Preparation(await readFile(process.argv[2])).prepare(stepsOf('visible'));
-console.log(steps.map(({ name, made }) => `${name} ${made.length}`).join());
+const { steps } = new Preparation(await readFile(process.argv[2]), await load()).prepare(stepsOf('visible'));
+console.log(steps.map(({ name, count }) => `${name} ${count}`).join());
 END
 run in_fresh node second.mjs "$PWD/examples/municipal.raw.json"
 expect_text 'the module erd/prepare' 0 'gone-candidates 2'

@@ -31,7 +31,7 @@ export { bytes, counts, difference, errors, files, more, order, pieces, name, si
 
 import { Preparation, stepsOf, told } from 'erd/prepare';
 
-const prepared = new Preparation(new Uint8Array()).prepare(stepsOf('removed'), { tellsOthers: true });
+const prepared = new Preparation(new Uint8Array(), erd).prepare(stepsOf('removed'), { tellsOthers: true });
 const lengths: number[] = [prepared.bytes.length, ...prepared.steps.map((step) => told(step).changes.length)];
 // @ts-expect-error no such group
 stepsOf('none');

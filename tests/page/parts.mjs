@@ -11,7 +11,7 @@ import { Client } from '../../web/scripts/client.mjs';
 import { markIn, withMark, withoutMark } from '../../web/scripts/copy_mark.mjs';
 import { whyNotJson } from '../../web/scripts/diagnosis.mjs';
 import { headIn } from '../../web/scripts/envelope.mjs';
-import { readTree } from '../../bindings/js/lib/prepare/tree.mjs';
+import { readTree } from '../../bindings/js/lib/tree.mjs';
 import { columnsOf } from '../../web/scripts/columns.mjs';
 import { compactText, readExactly } from '../../bindings/js/lib/exact.mjs';
 import { kindsOf } from '../../web/scripts/fault_kinds.mjs';

@@ -1,14 +1,18 @@
 """From a refused export to an accepted copy by the page alone: for the exports of the examples, and three more. Each takes at most
-five clicks and no typing. What the page writes and tells is what the package for JavaScript writes and tells."""
+five clicks and no typing. What the page writes and tells is what the package for Python writes and tells by the library of this machine:
+ERD_LIBRARY names it, if it is not the one in out/portable."""
 import json
+import os
+import platform
 import re
 import sys
 
 from session import EXAMPLES, ROOT, report_of_units, sha256
 
-sys.path.insert(0, str(ROOT / 'tests' / 'reports'))
+sys.path[:0] = [str(ROOT / 'bindings' / 'python' / 'src'), str(ROOT / 'tests' / 'reports')]
+os.environ.setdefault('ERD_LIBRARY', str(ROOT / f'out/portable/linux-{platform.machine()}/liberd.so.0'))
 import vendor_exports  # noqa: E402
-from by_node import STEPS, Preparation, steps_of  # noqa: E402
+from erd.prepare import STEPS, Preparation, steps_of  # noqa: E402
 
 MOST_CLICKS = 5
 # So many units that their steps take some seconds.
@@ -202,9 +206,8 @@ def cancelled(session):
     session.judged(path)
     verdict = session.text('#verdict')
     session.click('#prepare-begin-0')
-    stages = [WORDS['progress.step'].replace('{name}', WORDS[f'step.{step.name}']) for step in STEPS]
-    session.browser.until('return arguments[0].some((stage) => document.body.innerText.includes(stage))', stages)
-    session.said('a large file: the step is told', '')
+    session.browser.until('return document.body.innerText.includes(arguments[0])', WORDS['progress.preparing'].replace('{name}', 'long.json'))
+    session.said('a large file: what is done is told', '')
     session.equal('a large file: how far it is, in view with a way to cancel it', session.browser.script(IN_VIEW, WORDS['progress.cancel']), True)
     session.browser.script("document.querySelector('.prepare-progress button').click()")
     session.becomes('a large file: cancelled', lambda: session.text('.preparing > p'), WORDS['trouble.cancelled'])

@@ -1,7 +1,6 @@
-"""Holds the tables of the packages against docs/PROFILE.md: the member table, the families, the words of the reasons, and what drives the
-converter from XML (the other half of it is bindings/xml_classes.txt); and the options of the manual page and of the completions against
-the help of the program (options.py). With `--write` they are written anew. Each stands in its file between a line that begins it and one
-that ends it.
+"""Holds the tables of the packages against docs/PROFILE.md: the words of the reasons, and what drives the converter from XML (the
+other half of it is bindings/xml_classes.txt); and the options of the manual page and of the completions against the help of the program
+(options.py). With `--write` they are written anew. Each stands in its file between a line that begins it and one that ends it.
 """
 import pathlib
 import sys
@@ -11,20 +10,10 @@ sys.dont_write_bytecode = True
 sys.path[:0] = [str(ROOT / 'tests' / folder) for folder in ('pages', 'reports', 'shared')]
 import options  # noqa: E402
 from cases import tell_cases  # noqa: E402
-from facts_and_links import text_of_reasons, told_by_reason_12  # noqa: E402
+from facts_and_links import text_of_reasons  # noqa: E402
 from member_table import families_of_page, table_of_page  # noqa: E402
 
 MOST_WORDS = 110
-
-
-def rows_of_page():
-    """For each class the members that it requires, and the others, each a text. Who prepares a file adds no identifier: those of
-    reason 12 are among the others."""
-    for name, (required, optional) in table_of_page().items():
-        later = {member: kind for member, kind in required.items() if told_by_reason_12(member, kind)}
-        needed = {member: kind for member, kind in required.items() if member not in later}
-        yield name, [f'{member} {kind[0].upper()}{kind[1:]}' for member, kind in needed.items()], \
-            [f'{member} {kind[0].upper()}{kind[1:]}' for member, kind in {**later, **optional}.items()]
 
 
 def quoted(members, joint):
@@ -36,18 +25,6 @@ def quoted(members, joint):
         lines[-1] += member + '; '
     lines[-1] = lines[-1].removesuffix('; ')
     return [f"        {joint if number else ''}'{line}'" for number, line in enumerate(lines)]
-
-
-def rows(begin, joint, end):
-    for name, needed, others in rows_of_page():
-        first, last = quoted(needed, joint), quoted(others, joint)
-        yield from [begin % name, *first[:-1], first[-1] + ',', *last[:-1], last[-1] + end]
-
-
-def families(line):
-    for family, classes in families_of_page():
-        if family != 'none':
-            yield line % (family, ', '.join(f"'{name}'" for name in classes))
 
 
 XML_CLASSES = ROOT / 'bindings' / 'xml_classes.txt'
@@ -90,10 +67,7 @@ def rows_of_version_1(name, line):
 
 # The file, the lines that begin and end its table, and the lines of the table.
 FROM_XML = {'python': 'bindings/python/src/erd/from_xml/table.py', 'javascript': 'web/scripts/from_xml/table.mjs'}
-PREPARE = 'bindings/js/lib/prepare/member_table.mjs'
 TABLES = (
-    (PREPARE, 'const ROWS = {', '};', rows('    %s: [', '+ ', '],')),
-    (PREPARE, 'export const FAMILIES = {', '};', families('    %s: [%s],')),
     ('bindings/python/src/erd/results.py', 'WORDS = {', '}', (f"    {number}: '{words}'," for number, words in text_of_reasons().items())),
     ('bindings/js/lib/words.mjs', 'const WORDS_OF_REASONS = [', '];', (f"    '{words}'," for words in text_of_reasons().values())),
     (FROM_XML['python'], 'ROWS = {', '}', xml_rows("    '%s': (", '', '),')),

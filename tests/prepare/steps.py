@@ -1,25 +1,21 @@
-"""Tries the steps that prepare an export, in each package. One line a case that fails, and at the end the counts.
+"""Tries the steps that prepare an export, by the package for Python. One line a case that fails, and at the end the counts.
 
-- Both packages have the words of docs/FIXES.md.
+- The package has the words of docs/FIXES.md.
 - Each step alone mends a report that lacks only it; the same report rearranged is mended to one that means the same.
 - Each raw example is accepted after the steps, and so is each rearrangement, which then means the same.
 - What is told of a large report has a bound.
 - The steps take at most a little more than twice as long on a report twice as large, on the reports of growth.py.
 
-The package for Python has the steps of the C library: ERD_LIBRARY names it, if it is not the one in out/portable. The verdicts are those
-of the reference program.
+The package has the steps of the C library: ERD_LIBRARY names it, if it is not the one in out/portable. The verdicts are those of the
+reference program.
 """
-import itertools
 import json
 import os
 import pathlib
 import platform
 import random
 import re
-import shutil
-import subprocess
 import sys
-import tempfile
 import time
 
 ROOT = pathlib.Path(__file__).resolve().parents[2]
@@ -41,33 +37,12 @@ RAW = sorted(EXAMPLES.glob('*.raw.json'))
 EXPORTS = {**{path.name: path.read_bytes() for path in RAW}, 'fusion-primary': vendor_exports.fusion_primary(),
            'two-elections': vendor_exports.two_elections(), 'large-county': vendor_exports.large_county(20)}
 ALL = [step.name for step in STEPS]
-NODE = shutil.which('node')
 
 
 def by_the_library(data, names, tells_others=False):
     """What the package for Python writes and tells, as plain data."""
     prepared, done = Preparation(data).prepare(names, tells_others=tells_others)
     return prepared, [it.told() for it in done]
-
-
-class InJavaScript:
-    """What the package for JavaScript writes and tells, by a process of Node that prepares one report after another."""
-
-    def __init__(self, folder):
-        self.path = pathlib.Path(folder) / 'report.json'
-        self.node = subprocess.Popen([NODE, ROOT / 'tests' / 'prepare' / 'each.mjs'], stdin=subprocess.PIPE, stdout=subprocess.PIPE)
-        self.names = json.loads(self.node.stdout.readline())
-
-    def __call__(self, data, names):
-        self.path.write_bytes(data)
-        self.node.stdin.write(json.dumps([str(self.path), [name for name in names if name in self.names]]).encode() + b'\n')
-        self.node.stdin.flush()
-        prepared, done = json.loads(self.node.stdout.readline())
-        return prepared.encode(), done
-
-    def end(self):
-        self.node.stdin.close()
-        self.node.wait()
 
 
 def bytes_of(report):
@@ -111,43 +86,41 @@ class Turning(random.Random):
         x.reverse()
 
 
-def laws_of_steps(prepare, names, dice):
+def laws_of_steps(dice):
     """Each step alone mends what lacks only it, and commutes with rearrangements."""
     for name, (file, damage) in damages.DAMAGES.items():
-        if name not in names:
-            continue
         report = damaged_so(damage, file)
         data = bytes_of(report)
-        prepared, done = prepare(data, [name])
+        prepared, done = by_the_library(data, [name])
         yield f'{name}: its changes are told', [name], [it['step'] for it in done if it['count']]
         yield f'{name}: it mends', ['accepted'], judged(prepared)
         if name != 'empty-lists':
             yield f'{name}: something was wrong', True, judged(data) != ['accepted']
         for number, other_dice in enumerate((dice, dice, Turning())):
-            other, _ = prepare(bytes_of(rearranged(report, other_dice)), [name])
+            other, _ = by_the_library(bytes_of(rearranged(report, other_dice)), [name])
             yield f'{name}: rearrangement {number + 1}', 'same', compared(prepared, other)
 
 
-def left_alone(prepare):
+def left_alone():
     """What a step leaves as it is, and tells."""
     for step, damage, why in damages.LEFT:
         data = bytes_of(damaged_so(damage))
-        prepared, done = prepare(data, [step])
+        prepared, done = by_the_library(data, [step])
         yield f'{step}: left, {why}', (data, [step], [why]), (prepared, [it['step'] for it in done], [left['why'] for it in done for left in it['left']])
 
 
-def laws_of_examples(prepare, dice):
+def laws_of_examples(dice):
     for name, data in EXPORTS.items():
         yield f'{name}: refused', True, judged(data) != ['accepted']
-        prepared, done = prepare(data, ALL)
+        prepared, done = by_the_library(data, ALL)
         yield f'{name}: accepted', ['accepted'], judged(prepared)
-        again, changed = prepare(prepared, ALL)
+        again, changed = by_the_library(prepared, ALL)
         yield f'{name}: nothing is left to do', (prepared, []), (again, [it['step'] for it in changed if it['count']])
         report = json.loads(data.decode('utf-8-sig'))
         for number in range(3):
-            other, _ = prepare(bytes_of(rearranged(report, dice)), ALL)
+            other, _ = by_the_library(bytes_of(rearranged(report, dice)), ALL)
             yield f'{name}: rearrangement {number + 1}', 'same', compared(prepared, other)
-        yield f'{name}: the order of steps', prepared, prepare(data, ALL[::-1])[0]
+        yield f'{name}: the order of steps', prepared, by_the_library(data, ALL[::-1])[0]
 
 
 def one_after_another():
@@ -202,29 +175,17 @@ def seconds_for(data):
     return time.process_time() - begin
 
 
-def named(package, cases):
-    return ((f'{package}: {name}', wanted, found) for name, wanted, found in cases)
-
-
-def laws(package, prepare, names, dice):
-    return named(package, itertools.chain(laws_of_steps(prepare, names, dice), left_alone(prepare), laws_of_examples(prepare, dice)))
-
-
 def cases(seed):
     yield from words()
     yield 'each step is tried', sorted(ALL[1:]), sorted(damages.DAMAGES)
-    yield from laws('Python', by_the_library, ALL, random.Random(seed))
+    dice = random.Random(seed)
+    yield from laws_of_steps(dice)
+    yield from left_alone()
+    yield from laws_of_examples(dice)
     yield from one_after_another()
     yield from small_ones()
     yield from bounds()
     yield from growth_of_steps()
-    if not NODE:
-        print('skipped the steps in JavaScript: there is no node')
-        return
-    with tempfile.TemporaryDirectory() as folder:
-        javascript = InJavaScript(folder)
-        yield from laws('JavaScript', javascript, javascript.names, random.Random(seed))
-        javascript.end()
 
 
 if __name__ == '__main__':

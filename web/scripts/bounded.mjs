@@ -1,7 +1,7 @@
 // Texts and pointers of files, made only as far as they are shown: a small file can have names and values whose texts, each told anew for
 // every place, are larger than any memory.
 import { pointerOf } from '../../bindings/js/lib/words.mjs';
-import { WrittenNumber } from '../../bindings/js/lib/prepare/tree.mjs';
+import { WrittenNumber } from '../../bindings/js/lib/tree.mjs';
 import { beginningOf, shortened } from './visible.mjs';
 
 /** The most characters of a pointer that are made. */

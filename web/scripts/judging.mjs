@@ -9,7 +9,7 @@ import { Meaning } from './meaning.mjs';
 import { foundPlaces } from './places.mjs';
 import { Overview } from './overview.mjs';
 import { ownTypes, typesTold, withoutTypes } from './own_view.mjs';
-import { preparingOf } from './preparing.mjs';
+import { Preparing } from './preparing.mjs';
 import { isNoMemory, Side } from './side.mjs';
 import { trailOf } from './trail.mjs';
 import { shortened } from './visible.mjs';
@@ -310,8 +310,7 @@ export class Judgement {
 
     /** What steps do to a copy of a side; null if it is not JSON. */
     preparation({ index, steps }, tell) {
-        const preparing = this.preparing(index);
-        return preparing === null ? null : preparing.told(steps, tell);
+        return this.preparing(index).told(steps, tell);
     }
 
     /** The copy on which these steps were done. */
@@ -327,7 +326,7 @@ export class Judgement {
 
     preparing(index) {
         const side = this.sides[index];
-        side.preparing ??= preparingOf(side.bytes);
+        side.preparing ??= new Preparing(side.bytes, this.erd);
         return side.preparing;
     }
 

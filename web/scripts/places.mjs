@@ -95,10 +95,20 @@ const LONGEST_TITLE = 1 << 20;
  * @returns {(Found | null)[]} null where the report has no such place
  */
 export function foundPlaces(bytes, places) {
+    return partsOf(bytes, places).map((found) => (found.way.at(-1).start < 0 ? null : found));
+}
+
+/**
+ * Finds places in bytes that are JSON, as far as they are there: of a place that the report has not, the objects on the way to it have titles.
+ * @param {Uint8Array} bytes
+ * @param {(string | number)[][]} places
+ * @returns {Found[]}
+ */
+export function partsOf(bytes, places) {
     const root = new Node();
     const ways = places.map((place) => wayOf(root, place));
     new Scanner(bytes, new Finder()).whole(root);
-    return ways.map((way, index) => (way.at(-1).start < 0 ? null : new Found(bytes, places[index], way)));
+    return ways.map((way, index) => new Found(bytes, places[index], way));
 }
 
 function wayOf(root, place) {

@@ -55,7 +55,8 @@ export class CopyMaker {
             return;
         }
         const groups = GROUPS.map((group) => this.group(group, steps.filter((step) => step.group === group)));
-        this.body.replaceChildren(...groups.filter((group) => group !== null), this.buttons(steps.some(({ done, count }) => done && count > 0)));
+        const numbers = steps.filter(({ group }) => group === null).map(numbersShown);
+        this.body.replaceChildren(...numbers, ...groups.filter((group) => group !== null), this.buttons(steps.some(({ done, count }) => done && count > 0)));
         (document.getElementById(focus) ?? this.body.querySelector('input'))?.focus();
     }
 
@@ -77,9 +78,11 @@ export class CopyMaker {
         const waiting = setTimeout(() => this.body.prepend(shown), BEFORE_PROGRESS);
         this.body.setAttribute('aria-busy', 'true');
         try {
-            return await this.client.ask(kind, question, ({ stage: key, name, done, total }) => {
-                stage.textContent = say(`progress.${key}`, { name: name === undefined ? this.name : say(`step.${name}`) });
-                meter.value = total > 0 ? done / total : 0;
+            return await this.client.ask(kind, question, ({ stage: key, done, total }) => {
+                stage.textContent = say(`progress.${key}`, { name: this.name });
+                if (total > 0) {
+                    meter.value = done / total;
+                }
             });
         } finally {
             clearTimeout(waiting);
@@ -135,13 +138,24 @@ export class CopyMaker {
     }
 }
 
+// Numbers that the copy has in another form, before any step.
+function numbersShown({ made, count }) {
+    const rows = made.map(({ line, column, before, after }) => element('li', {}, say('prepare.numbers.where', { line, column }), ' ', theirs(before), ' → ', theirs(after)));
+    return element('details', { class: 'numbers' }, element('summary', {}, say('prepare.numbers', { count })),
+        element('p', { class: 'note' }, say('prepare.numbers.note')), element('ol', {}, ...rows), moreOf(made, count));
+}
+
+function moreOf(made, count) {
+    return count > made.length ? element('p', { class: 'note' }, say('prepare.more', { count: count - made.length })) : null;
+}
+
 // The first changes of a step, before and after.
 function preview({ name, made, count }) {
     const rows = made.map(({ before, after, ...place }) => element('li', {}, where(place), element('dl', { class: 'change' },
         element('div', {}, element('dt', {}, say('prepare.before')), element('dd', {}, valueShown(before))),
         element('div', {}, element('dt', {}, say('prepare.after')), element('dd', {}, valueShown(after))))));
     return element('details', { 'data-preview': name }, element('summary', {}, say('prepare.preview')), element('ol', {}, ...rows),
-        count > made.length ? element('p', { class: 'note' }, say('prepare.more', { count: count - made.length })) : null);
+        moreOf(made, count));
 }
 
 function valueShown(text) {

@@ -1,11 +1,11 @@
 // Prepares a copy of a refused file, in the worker.
 import { boundedPointer, boundedText } from './bounded.mjs';
-import { Changes } from '../../bindings/js/lib/prepare/changes.mjs';
-import { Preparation, STEPS, stepsOf } from '../../bindings/js/lib/prepare/prepared.mjs';
-import { compactText } from '../../bindings/js/lib/prepare/tree.mjs';
+import { NUMBERS, Preparation, STEPS, stepsOf } from '../../bindings/js/lib/prepare/prepared.mjs';
 import { withMark } from './copy_mark.mjs';
 import { sha256 } from './digest.mjs';
+import { partsOf } from './places.mjs';
 import { NotJson } from '../../bindings/js/lib/scanner.mjs';
+import { withoutMark } from '../../bindings/js/lib/tree.mjs';
 import { trailOf } from './trail.mjs';
 
 /** How many changes of a step are shown, and how many characters of a value. */
@@ -17,50 +17,15 @@ const MOST_SAVED = 20_000_000;
 const LONGEST_SAVED = 2000;
 const LONGEST_PIECE = 1_000_000;
 
-// The steps in their order but for the first one, which acts on bytes.
-const TREE_STEPS = STEPS.slice(1).map(({ name }) => name);
-
-/** Keeps of the first changes what a reader calls their places. */
-class TitledChanges extends Changes {
-    constructor(tree) {
-        super();
-        this.tree = tree;
-        this.trails = { made: [], left: [] };
-    }
-
-    changed(place, before, after) {
-        this.#keep('made', place);
-        super.changed(place, before, after);
-    }
-
-    leave(place, why) {
-        this.#keep('left', place);
-        super.leave(place, why);
-    }
-
-    #keep(kind, place) {
-        if (this.trails[kind].length < MOST_SHOWN) {
-            const title = (steps, name) => plainValue(valueAt(this.tree, place.slice(0, steps)), name);
-            this.trails[kind].push(trailOf({ title }, place));
-        }
-    }
-}
-
-function valueAt(tree, place) {
-    return place.reduce((value, step) => (value instanceof Map ? value.get(step) : Array.isArray(value) ? value[step] : undefined), tree);
-}
-
-// A member that says what an object is called, as a plain value.
-function plainValue(value, name) {
-    const member = value instanceof Map ? value.get(name) : undefined;
-    return member === undefined ? undefined : JSON.parse(compactText(member));
-}
-
 /** The preparation of one file. */
 export class Preparing {
-    constructor(bytes) {
+    /**
+     * @param {Uint8Array} bytes
+     * @param {import('../../bindings/js/lib/calls.mjs').Erd} erd
+     */
+    constructor(bytes, erd) {
         this.bytes = bytes;
-        this.preparation = new Preparation(bytes);
+        this.preparation = new Preparation(bytes, erd);
     }
 
     // The worker may have begun anew since these steps were done.
@@ -70,22 +35,21 @@ export class Preparing {
         }
     }
 
-    /** Does these steps, or the usual ones, and tells what each does and what the others would do. `tell` is told which step is done now. */
+    /**
+     * Does these steps, or the usual ones, and tells what each does and what the others would do; null if the bytes are not JSON behind a
+     * byte order mark. `tell` is told that it begins.
+     */
     told(names, tell = () => {}) {
-        const kept = new Map();
-        let at = 0;
-        const changesOf = (tree) => {
-            tell({ stage: 'step', name: TREE_STEPS[at], done: at, total: TREE_STEPS.length });
-            at++;
-            const changes = new TitledChanges(tree);
-            kept.set(changes.made, changes.trails);
-            return changes;
-        };
-        const { bytes, steps } = this.preparation.prepare(names ?? stepsOf('removed', 'filled-in'), { tellsOthers: true, changesOf });
+        tell({ stage: 'preparing', done: 0, total: 0 });
+        const prepared = preparedBy(this.preparation, names ?? stepsOf('removed', 'filled-in'));
+        if (prepared === null) {
+            return null;
+        }
+        const { bytes, steps } = prepared;
         this.copy = bytes;
-        this.done = steps.filter(({ done, made }) => done && made.length > 0);
+        this.done = steps.filter(({ done, count }) => done && count > 0);
         this.names = names?.join();
-        return steps.map((step) => toldOfStep(step, kept.get(step.made) ?? { made: [[]], left: [] }));
+        return toldOf(steps, withoutMark(this.bytes));
     }
 
     /**
@@ -95,7 +59,7 @@ export class Preparing {
     async copied(names, { name, converted }, tell) {
         this.#do(names, tell);
         const original = converted === null ? await sha256(this.bytes) : converted.sha256;
-        const origin = { name, original, converted, steps: this.done.map((step) => ({ name: step.name, count: step.made.length })) };
+        const origin = { name, original, converted, steps: this.done.map(({ name, count }) => ({ name, count })) };
         return { ...origin, bytes: withMark(this.copy, origin) };
     }
 
@@ -112,15 +76,31 @@ export class Preparing {
     }
 }
 
-// The changes of a step. Those that have no more room are counted.
-function writeChanges({ name, made }, written) {
-    written.add(`{"step":${JSON.stringify(name)},"count":${made.length},"changes":[\n`);
-    let count = 0;
-    for (; count < made.length && written.length < MOST_SAVED; count++) {
-        const { place, before, after } = made[count];
-        written.add((count === 0 ? '' : ',\n') + JSON.stringify({ pointer: boundedPointer(place), before: savedText(before), after: savedText(after) }));
+// What the steps make of a file; null if it is not JSON.
+function preparedBy(preparation, names) {
+    try {
+        return preparation.prepare(names, { tellsOthers: true });
+    } catch (error) {
+        if (error instanceof NotJson) {
+            return null;
+        }
+        throw error;
     }
-    written.add(count < made.length ? `],"more":${made.length - count}}` : ']}');
+}
+
+// The changes of a step that it tells. Those that have no more room, or that it does not tell, are counted.
+function writeChanges({ name, made, count }, written) {
+    written.add(`{"step":${JSON.stringify(name)},"count":${count},"changes":[\n`);
+    let listed = 0;
+    for (; listed < made.length && written.length < MOST_SAVED; listed++) {
+        written.add((listed === 0 ? '' : ',\n') + JSON.stringify(savedChange(made[listed])));
+    }
+    written.add(listed < count ? `],"more":${count - listed}}` : ']}');
+}
+
+function savedChange(change) {
+    return change.place === undefined ? change
+        : { pointer: boundedPointer(change.place), before: savedText(change.before), after: savedText(change.after) };
 }
 
 // A text that is written from its beginning to its end, and kept as bytes: a long one would be in memory several times while it is made.
@@ -153,33 +133,30 @@ function savedText(value) {
     return value === undefined ? null : boundedText(value, LONGEST_SAVED);
 }
 
-function toldOfStep({ name, done, made, left }, trails) {
-    const { group } = STEPS.find((step) => step.name === name);
-    return {
-        name, group, done, count: made.length, leftCount: left.length,
-        made: made.slice(0, MOST_SHOWN).map(({ place, before, after }, at) => ({
-            pointer: boundedPointer(place), trail: trails.made[at], before: valueText(before), after: valueText(after),
-        })),
-        left: left.slice(0, MOST_SHOWN).map(({ place, why }, at) => ({ pointer: boundedPointer(place), trail: trails.left[at], why })),
-    };
+// What is shown of the steps. Places are those of the file, and so is what its objects are called.
+function toldOf(steps, bytes) {
+    const shown = steps.map(({ made, left }) => ({ made: made.slice(0, MOST_SHOWN), left: left.slice(0, MOST_SHOWN) }));
+    const places = shown.flatMap(({ made, left }) => [...made, ...left]).filter(({ place }) => place !== undefined).map(({ place }) => place);
+    const trails = new Map(partsOf(bytes, places).map((found) => [found.place, trailOf(found, found.place)]));
+    return steps.map((step, at) => ({
+        name: step.name, group: groupOf(step), done: step.done, count: step.count, leftCount: step.leftCount,
+        made: shown[at].made.map((change) => changeShown(change, trails)),
+        left: shown[at].left.map(({ place, why }) => ({ pointer: boundedPointer(place), trail: trails.get(place), why })),
+    }));
+}
+
+// Numbers that are written in another way are no step, and so of no group.
+function groupOf({ name }) {
+    return name === NUMBERS ? null : STEPS.find((step) => step.name === name).group;
+}
+
+function changeShown(change, trails) {
+    const { place, before, after } = change;
+    return place === undefined ? change
+        : { pointer: boundedPointer(place), trail: trails.get(place), before: valueText(before), after: valueText(after) };
 }
 
 // The text of a value; null if it is not there.
 function valueText(value) {
-    if (value === undefined) {
-        return null;
-    }
-    return boundedText(value, LONGEST_VALUE);
-}
-
-/** The preparation of these bytes; null if they are not JSON behind a byte order mark. */
-export function preparingOf(bytes) {
-    try {
-        return new Preparing(bytes);
-    } catch (error) {
-        if (error instanceof NotJson) {
-            return null;
-        }
-        throw error;
-    }
+    return value === undefined ? null : boundedText(value, LONGEST_VALUE);
 }

@@ -80,6 +80,23 @@ export class Erd {
     }
 
     /**
+     * What steps make of a report: what they did, as the library tells it in JSON, and the bytes of the copy; null if the report is not
+     * JSON. `erd/prepare` reads it.
+     * @param {string} names of steps or of groups, with commas between them
+     * @param {{tellsOthers?: boolean}} [options] whether it is told too what the other steps would do
+     * @throws {RangeError} for a name that no step and no group has
+     */
+    prepared(report, names, { tellsOthers = false } = {}) {
+        const bytes = bytesOf(report, 'the report');
+        checkLengths([bytes]);
+        const { outcome, taken } = checked(this.#engine.prepare(bytes, encoded(names, 'a name'), tellsOthers, toldAndCopy));
+        if (outcome === OUTCOME.wrong || names.includes('\0')) {
+            throw new RangeError('unknown step');
+        }
+        return taken ?? null;
+    }
+
+    /**
      * What the words of a command line ask for, as the program parses them: `request` for a command, or else the `status` with
      * which the program ends, and the bytes of the text that it writes.
      * @param {string[]} words without the name of the program
@@ -185,6 +202,12 @@ const JSON_COMMANDS = {
 
 function copied(bytes) {
     return bytes.slice();
+}
+
+// A line of JSON and a report, with a line feed between them.
+function toldAndCopy(bytes) {
+    const end = bytes.indexOf(0x0a);
+    return { told: bytes.slice(0, end), bytes: bytes.slice(end + 1) };
 }
 
 // The list in an answer: of faults, or of differences.

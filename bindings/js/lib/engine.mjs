@@ -63,8 +63,25 @@ export class Engine {
      * @template T
      */
     call(name, reports, prefer, piece, take) {
+        return this.#once((exports) => answerOf(exports, name, reports, prefer, piece, take));
+    }
+
+    /**
+     * Does steps on a report.
+     * @param {Uint8Array} report
+     * @param {Uint8Array} steps their names, or those of groups, with commas between them
+     * @param {boolean} tellsOthers whether it is told too what the other steps would do
+     * @param {(bytes: Uint8Array, outcome: number) => T} take as in `call`
+     * @returns {{outcome: number, taken: T | undefined}}
+     * @template T
+     */
+    prepare(report, steps, tellsOthers, take) {
+        return this.#once((exports) => preparedOf(exports, report, steps, tellsOthers, take));
+    }
+
+    #once(asked) {
         const instance = this.#taken();
-        const answer = instance === null ? null : answerOf(instance.exports, name, reports, prefer, piece, take);
+        const answer = instance === null ? null : asked(instance.exports);
         if (answer === null) {
             return NO_MEMORY;
         }
@@ -141,6 +158,16 @@ function answerOf(exports, name, reports, prefer, { first, most, enoughBytes }, 
         const outcome = exports[name](...words, preferred, piece, places, places + 4);
         const [told, all] = new Uint32Array(exports.memory.buffer.slice(piece + 12, piece + 20));
         return { outcome, taken: takenAt(exports, places, outcome, take), told, all };
+    });
+}
+
+// Does steps on a report; null if there is no memory for it.
+function preparedOf(exports, report, steps, tellsOthers, take) {
+    return withRoom(exports, (room) => {
+        const places = room.taken(8);
+        const others = tellsOthers ? 1 : 0;
+        const outcome = exports.erd_prepare(room.filledWith(report), report.length, room.filledWith(steps, 1), others, places, places + 4);
+        return { outcome, taken: takenAt(exports, places, outcome, take) };
     });
 }
 

@@ -1,6 +1,6 @@
 // Reads JSON that a usual converter made from XML, as if it were the XML: attributes have names that begin with `@`, or stand in
 // `@attributes`; the text of an element that has more is `#text`; one element is no list; and numbers are texts.
-import { readTree, WrittenNumber } from '../../../bindings/js/lib/prepare/tree.mjs';
+import { readTree, WrittenNumber } from '../../../bindings/js/lib/tree.mjs';
 import { repeatedNames } from '../../../bindings/js/lib/repeated.mjs';
 import { bare, Converter, MOST_NOT_UNDERSTOOD, NIL, ROOT, TYPE } from './converting.mjs';
 import { NotXml } from './frame.mjs';

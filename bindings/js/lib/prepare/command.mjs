@@ -4,11 +4,11 @@ import { checkText } from '../command.mjs';
 import { bytesOfFile, checkThere, opened, STANDARD_ERROR, STANDARD_OUTPUT, Stop, versionOfPackage, write, writeFile } from '../files.mjs';
 import { repeatedNames } from '../repeated.mjs';
 import { NotJson } from '../scanner.mjs';
+import { withoutMark } from '../tree.mjs';
 import { pointerOf, visible } from '../words.mjs';
 import { isXml, WHERE_CONVERTED } from '../xml.mjs';
-import { Preparation, STEPS, stepsOf, told } from './prepared.mjs';
+import { NUMBERS, Preparation, STEPS, stepsOf, told } from './prepared.mjs';
 import { GROUP_WORDS, LEFT_WORDS, STEP_WORDS } from './step_words.mjs';
-import { withoutMark } from './tree.mjs';
 
 const MOST_LEFT = 10;
 
@@ -104,20 +104,20 @@ export async function run(words) {
         return 0;
     }
     const bytes = bytesOfFile(opened([file])[0]);
-    const preparation = preparationOf(bytes);
+    const erd = await load();
     if (lists) {
-        const { steps: found } = preparation.prepare(stepsOf('removed', 'filled-in'), { tellsOthers: true });
-        write(STANDARD_OUTPUT, found.filter(({ made }) => made.length > 0).map(counted).join(''));
+        const { steps: found } = preparedBy(erd, bytes, stepsOf('removed', 'filled-in'), { tellsOthers: true });
+        write(STANDARD_OUTPUT, found.filter(({ name, count }) => name !== NUMBERS && count > 0).map(counted).join(''));
         return 0;
     }
-    const { bytes: prepared, steps: done } = preparation.prepare(names);
+    const { bytes: prepared, steps: done } = preparedBy(erd, bytes, names);
     write(STANDARD_ERROR, [...repeats(bytes), ...done.flatMap(linesOf)].map((line) => `${line}\n`).join(''));
     if (report !== null) {
         writeFile(report, `${JSON.stringify(done.map(told), null, 1)}\n`);
     }
     checkThere(STANDARD_OUTPUT);
     write(STANDARD_OUTPUT, prepared);
-    return tellFaults(await load(), prepared, prefer);
+    return tellFaults(erd, prepared, prefer);
 }
 
 /** Judges the copy, which is written by now, says which faults are left, and returns the status. */
@@ -131,9 +131,9 @@ function tellFaults(erd, prepared, prefer) {
     return found.status;
 }
 
-function preparationOf(bytes) {
+function preparedBy(erd, bytes, names, options) {
     try {
-        return new Preparation(bytes);
+        return new Preparation(bytes, erd).prepare(names, options);
     } catch (error) {
         throw error instanceof NotJson && isXml(bytes) ? new Stop(`not JSON; ${WHERE_CONVERTED}`, 2) : error;
     }
@@ -143,9 +143,9 @@ function listed({ name, group, title, does, loses }) {
     return `${name} (${group}): ${title}. ${does} ${loses}\n`;
 }
 
-function counted({ name, made }) {
+function counted({ name, count }) {
     const { group, title } = STEPS.find((step) => step.name === name);
-    return `${String(made.length).padStart(6)}  ${name.padEnd(18)}  ${group.padEnd(9)}  ${title}\n`;
+    return `${String(count).padStart(6)}  ${name.padEnd(18)}  ${group.padEnd(9)}  ${title}\n`;
 }
 
 function repeats(bytes) {
@@ -155,12 +155,16 @@ function repeats(bytes) {
 }
 
 /** What a step did, as lines for a person. */
-export function linesOf({ name, made, left }) {
-    const [, does, loses] = STEP_WORDS[name];
-    const lines = made.length === 0 ? [] : [`${name}: ${made.length}, first ${placeText(made[0].place)}. ${does} ${loses}`];
+export function linesOf({ name, made, left, count, leftCount }) {
+    const words = name === NUMBERS ? [] : STEP_WORDS[name].slice(2);
+    const lines = made.length === 0 ? [] : [[`${name}: ${count}, first ${firstPlace(made[0])}.`, ...words].join(' ')];
     const shown = left.slice(0, MOST_LEFT).map(({ place, why }) => `${name}: left ${placeText(place)}: ${LEFT_WORDS[why]}`);
-    const more = left.length > MOST_LEFT ? [`${name}: left ${left.length - MOST_LEFT} more`] : [];
+    const more = leftCount > MOST_LEFT ? [`${name}: left ${leftCount - MOST_LEFT} more`] : [];
     return [...lines, ...shown, ...more];
+}
+
+function firstPlace({ place, line, column }) {
+    return place === undefined ? `line ${line}, column ${column}` : placeText(place);
 }
 
 function placeText(place) {

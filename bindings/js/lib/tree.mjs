@@ -1,7 +1,6 @@
 // The tree of a report, from which the same values can be written again: objects as maps, with their members in the order in which
 // they are written, and numbers as they are written. Of a name that is written twice the last value counts, as for erd.
-import { orderOfTexts } from '../order.mjs';
-import { NotJson, Scanner, Visitor, textOf } from '../scanner.mjs';
+import { NotJson, Scanner, Visitor, textOf } from './scanner.mjs';
 
 const MARK = [0xef, 0xbb, 0xbf];
 
@@ -10,15 +9,6 @@ export class WrittenNumber {
     constructor(text) {
         this.text = text;
     }
-}
-
-const WHOLE = /^(?:-?[1-9][0-9]*|0)$/;
-const LEAST = -(2n ** 63n);
-const GREATEST = 2n ** 64n - 1n;
-
-/** Whether a number that is written so is whole, as docs/PROFILE.md has it. */
-export function isWhole(text) {
-    return text.length <= 20 && WHOLE.test(text) && BigInt(text) >= LEAST && BigInt(text) <= GREATEST;
 }
 
 /** Whether the bytes begin with a byte order mark. */
@@ -84,35 +74,13 @@ export function readTree(bytes) {
     return reader.keep.value;
 }
 
-/** A tree with the same values, of which no part is a part of the other one. */
-export function copyOf(tree) {
-    if (tree instanceof Map) {
-        return new Map([...tree].map(([name, value]) => [name, copyOf(value)]));
-    }
-    return Array.isArray(tree) ? tree.map(copyOf) : tree;
-}
-
-/** The compact text of a value. With `sorted`, the members of each object are in the order of their names. */
-export function compactText(value, sorted = false) {
+/** The compact text of a value. */
+export function compactText(value) {
     if (value instanceof Map) {
-        const names = sorted ? [...value.keys()].sort(orderOfTexts) : [...value.keys()];
-        return `{${names.map((name) => `${JSON.stringify(name)}:${compactText(value.get(name), sorted)}`).join(',')}}`;
+        return `{${[...value].map(([name, member]) => `${JSON.stringify(name)}:${compactText(member)}`).join(',')}}`;
     }
     if (Array.isArray(value)) {
-        return `[${value.map((entry) => compactText(entry, sorted)).join(',')}]`;
+        return `[${value.map(compactText).join(',')}]`;
     }
     return value instanceof WrittenNumber ? value.text : JSON.stringify(value);
-}
-
-/** The text of a value with a line for each member and entry. */
-export function indentedText(value, blanks = '') {
-    const inner = `${blanks} `;
-    if (value instanceof Map && value.size > 0) {
-        const members = [...value].map(([name, member]) => `${inner}${JSON.stringify(name)}: ${indentedText(member, inner)}`);
-        return `{\n${members.join(',\n')}\n${blanks}}`;
-    }
-    if (Array.isArray(value) && value.length > 0) {
-        return `[\n${value.map((entry) => inner + indentedText(entry, inner)).join(',\n')}\n${blanks}]`;
-    }
-    return compactText(value);
 }
