@@ -4,3 +4,4 @@ mod ReportExamples
 mod LineExamples
 mod DataExamples
 mod PieceExamples
+mod PrepareExamples

@@ -1,5 +1,5 @@
 -- The lines of what changed and what was left, and of steps that are tried.
-use Rattle.erd_canon.proofs.Common.{◌≡◌, ℕ, zero, suc, ◌+◌, ◌<◌, List, [], ◌∷◌, ◌++◌, codes, decimal, take, get_or, length, refl, sym, ap, subst, ◌∙◌, append_assoc, append-nil, text_of_lines, Data}
+use Rattle.erd_canon.proofs.Common.{◌≡◌, ℕ, zero, suc, ◌+◌, ◌<◌, List, ◌++◌, codes, decimal, take, get_or, length, refl, sym, ap, subst, ◌∙◌, append_assoc, append-nil, text_of_lines, Data}
 use Rattle.std.proofs.lemmas.Grind.{flat_map-append}
 use Rattle.std.proofs.lemmas.List.{take_more}
 use Rattle.erd_prepare.specs.Steps.{IsNamedStepDone}
