@@ -47,7 +47,8 @@ PROMISES = [
         'erd_canon/ByteLaws.SameFormWhenRearranged']),
     ('The steps that prepare a report (`prepare`)', ['erd_prepare/Laws.UntoldStays', 'erd_prepare/Laws.UntoldIsUnchanged', 'erd_prepare/Steps.IsStepDone']),
     ('A file that is prepared (`prepare_bytes`)', ['erd_prepare/Steps.IsNamedStepDone', 'erd_prepare/Preparations.IsPrepared',
-                                                   'erd_prepare/Preparations.IsUnprepared', 'erd_c/Prepared.IsPrepareCall']),
+                                                   'erd_prepare/Preparations.IsUnprepared']),
+    ('What `erd_tell_prepared` tells', ['erd_c/Prepared.IsPrepareCall']),
     ('What is shown of objects and ballots (`members_tell`, `rows_of`)', [
         'erd_shown/Laws.MembersTell', 'erd_shown/Laws.ObjectsTell', 'erd_shown/Rows.AreRows']),
 ]

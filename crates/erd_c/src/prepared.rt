@@ -1,7 +1,8 @@
 //! A report that is prepared by steps.
-ghost use Rattle.std.specs.Prelude.{◌≡◌, ◌≤◌, ◌⊎◌, ◌++◌, ◌∷◌, length, IfErr, IfOk, OnOk};
+ghost use Rattle.std.specs.Prelude.{◌≡◌, ◌<◌, ◌⊎◌, ◌++◌, ◌∷◌, Err, List, length, IfErr, IfOk, OnOk};
 ghost use Rattle.erd_canon.specs.Limits.{most_bytes};
-ghost use Rattle.erd_c.specs.Prepared.{IsPrepareCall, IsPreparedText, IsUnpreparedBy, prepared_text};
+ghost use Rattle.erd_prepare.specs.declared.step_name.StepName.{StepName};
+ghost use Rattle.erd_c.specs.Prepared.{IsChosenBy, IsPrepareCall, IsPreparedText, IsUnpreparedBy, prepared_text};
 
 use crate::told::{Told, put, textless};
 use erd_canon::MOST_BYTES;
@@ -25,7 +26,7 @@ pub extern "C" fn erd_tell_prepared(
     others: bool,
     room: &mut [u8],
 ) -> Told
-    ensures { IsPrepareCall bytes.now result room.old room.new }
+    ensures { IsPrepareCall bytes.now words.now result room.old room.new }
 {
     match prepared(alloc, bytes, words, others) {
         Ok(text) => {
@@ -41,9 +42,9 @@ pub extern "C" fn erd_tell_prepared(
 
 // What was done as a line of JSON, and the prepared report; or the outcome that says why there is none.
 fn prepared(alloc: Global, bytes: &[u8], words: &[u8], others: bool) -> Result<Vec<u8>, u32>
-    ensures prepared { IfOk result (λ text. IsPreparedText bytes.now text.items) }
-    ensures short { IfOk result (λ _. length bytes.now ≤ most_bytes) }
-    ensures refused { IfErr result (IsUnpreparedBy bytes.now) }
+    ensures prepared { IfOk result (λ text. IsPreparedText bytes.now words.now text.items) }
+    ensures refused { IfErr result (IsUnpreparedBy bytes.now words.now) }
+    ensures long { most_bytes < length bytes.now → result ≡ Err 3 }
 {
     if bytes.len() > MOST_BYTES {
         return Err(3);
@@ -59,7 +60,8 @@ fn prepared(alloc: Global, bytes: &[u8], words: &[u8], others: bool) -> Result<V
 
 // The steps that the words name, or the outcome that says why there are none.
 fn steps_of(alloc: Global, words: &[u8]) -> Result<Vec<StepName>, u32>
-    ensures { IfErr result (λ outcome. (outcome ≡ 3) ⊎ (outcome ≡ 4)) }
+    ensures chosen { IfOk result (λ steps. IsChosenBy words.now steps.items) }
+    ensures unchosen { IfErr result (λ outcome. ((outcome ≡ 3) × ((chosen : List StepName) → ¬ (IsChosenBy words.now chosen))) ⊎ (outcome ≡ 4)) }
 {
     let Ok(words) = str::from_utf8(words) else {
         return Err(3);
