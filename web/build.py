@@ -36,6 +36,8 @@ EXPORT = re.compile(r'^export (?=(?:async )?(?:function\*?|class|const) (\w+))',
 # there: embedded.mjs has the line too.
 FIRST, WORKER = 'page.mjs', 'worker.mjs'
 SHARED = '// the worker has what stands above\n'
+# The digits of base 85 that mean something in HTML, and those in their place.
+PLAIN = str.maketrans('&<>', ',.:')
 
 
 class BuildError(Exception):
@@ -95,8 +97,8 @@ def without_comments(text):
 
 
 def packed(data):
-    """Bytes as a text of base64, compressed. The header of gzip has no time in it."""
-    return base64.b64encode(gzip.compress(data, 9, mtime=0)).decode()
+    """Bytes as a text of base 85, compressed. The header of gzip has no time in it."""
+    return base64.b85encode(gzip.compress(data, 9, mtime=0)).decode().translate(PLAIN)
 
 
 def in_script(text):

@@ -32,8 +32,24 @@ function textOf(bytes) {
 }
 
 async function unpacked(id) {
-    const packed = atob(document.getElementById(id).textContent.trim());
-    const bytes = Uint8Array.from(packed, (character) => character.charCodeAt(0));
+    const bytes = bytesIn(document.getElementById(id).textContent.trim());
     const stream = new Blob([bytes]).stream().pipeThrough(new DecompressionStream('gzip'));
     return new Uint8Array(await new Response(stream).arrayBuffer());
+}
+
+// The digits of base 85: five of them stand for four bytes, and fewer at the end for one byte less than there are digits.
+const DIGITS = '0123456789ABCDEFGHIJKLMNOPQRSTUVWXYZabcdefghijklmnopqrstuvwxyz!#$%,()*+-;.=:?@^_`{|}~';
+
+function bytesIn(text) {
+    const values = new Uint8Array(128);
+    [...DIGITS].forEach((digit, value) => (values[digit.charCodeAt(0)] = value));
+    const bytes = new DataView(new ArrayBuffer(Math.ceil(text.length / 5) * 4));
+    for (let at = 0; at < text.length; at += 5) {
+        let number = 0;
+        for (let next = at; next < at + 5; next++) {
+            number = number * DIGITS.length + (next < text.length ? values[text.charCodeAt(next)] : DIGITS.length - 1);
+        }
+        bytes.setUint32(at / 5 * 4, number);
+    }
+    return new Uint8Array(bytes.buffer, 0, Math.floor(text.length / 5 * 4));
 }
