@@ -43,15 +43,13 @@ PARTS = [f'node tests/page/{name}.mjs' for name in ('parts', 'lines', 'words', '
 AREAS = {
     'bindings/python/src/erd/prepare/*.py': [PYTEST + 'test_prepare.py', *STEPS],
     'bindings/python/src/erd/from_xml/*.py': [PYTEST + 'test_from_xml.py'],
-    'bindings/python/src/erd/*.py': [*(PYTEST + f'test_{name}.py' for name in ('calls', 'resume', 'suite', 'commands', 'many')), LINES],
+    'bindings/python/src/erd/*.py': [*(PYTEST + f'test_{name}.py' for name in ('calls', 'prepare', 'resume', 'suite', 'commands', 'many')), LINES],
     'bindings/js/lib/prepare/*.mjs': [MODULE, *STEPS],
     'bindings/js/lib/*.mjs': [MODULE, COMMAND, *PARTS, 'tests/forms/javascript_package.sh'],
     'web/scripts/from_xml/*.mjs': ['tests/page/page.sh xml_form xml_agree'],
     'web/scripts/*.mjs': [*PARTS, 'tests/page/page.sh flows results ballots', 'tests/page/page.sh notices lines growing voter record filed prepared '
                           'many named spanish keyboard hostile bounds accessibility'],
 }
-# What is written by a script from its source.
-MADE = ('member_table.py', 'member_table.mjs')
 # A command that takes so many times as long as without a mistake, and so many seconds more, has noticed it.
 TIMES, SECONDS_MORE = 5, 60
 UNTRIED = 'untried'
@@ -63,7 +61,7 @@ def files_of(names):
     for pattern, commands in AREAS.items():
         for path in sorted(TOP.glob(pattern)):
             name = str(path.relative_to(TOP))
-            if path.name not in MADE and (not names or name in names):
+            if not names or name in names:
                 found.setdefault(name, commands)
     return found
 

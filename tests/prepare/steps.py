@@ -30,7 +30,7 @@ import erd_reference  # noqa: E402
 from cases import tell_cases  # noqa: E402
 from exports import rearranged  # noqa: E402
 import vendor_exports  # noqa: E402
-from erd.prepare import STEPS, Preparation, steps_of  # noqa: E402
+from erd.prepare import STEPS, Preparation  # noqa: E402
 
 # Exports as vendors write them: those of the examples, and three more.
 RAW = sorted(EXAMPLES.glob('*.raw.json'))

@@ -64,6 +64,16 @@ def test_numbers_that_are_written_in_another_way(monkeypatch):
             'changes': [{'line': 3, 'column': 12, 'before': '1.50', 'after': '1.5'}]}
 
 
+def test_numbers_that_the_library_writes_in_another_way():
+    data = b'{"@type":"ElectionResults.ElectionReport",\n "n":[1.50,2],\n "m":18446744073709551616,"Notes":null}'
+    copy, done = prepare.prepare(data, ['nulls'])
+    assert copy == b'{"@type":"ElectionResults.ElectionReport","m":1.8446744073709552e+19,"n":[1.5,2]}'
+    assert [step.name for step in done] == ['numbers', 'nulls']
+    assert done[0].made == [(2, 7, '1.50', '1.5'), (3, 6, '18446744073709551616', '1.8446744073709552e+19')]
+    assert prepare.prepare(MARK + b'{"a":1.0,"b":1E2,"Notes":null}', ['nulls'])[1][0].made == [(1, 14, '1E2', '100.0')]
+    assert prepare.prepare(data, ['outside']) == (data, [])
+
+
 def test_the_others_are_told():
     prepared, done = prepare.Preparation(NULLS).prepare([], tells_others=True)
     assert (prepared, [(step.name, step.done, step.count) for step in done]) == (NULLS, [('nulls', False, 2)])

@@ -44,7 +44,8 @@ class Change(NamedTuple):
 
 
 class ChangedNumber(NamedTuple):
-    """A number that is written in another way, by its line in the file and its column there, which counts bytes. Both begin with 1."""
+    """A number that is written in another way, by its line in the file and its column there, which counts bytes, but for those of a byte
+    order mark. Both begin with 1."""
 
     line: int
     column: int
