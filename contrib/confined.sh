@@ -24,7 +24,7 @@ most_bytes=67108864
 
 # stop WORDS: ends with these words and status 3
 stop() {
-    echo "$1" >&2
+    printf '%s\n' "$1" >&2
     exit 3
 }
 
@@ -69,7 +69,8 @@ if [ "${1-}" = --prefer ]; then
 fi
 [ $# -eq "$wanted" ] || usage
 for file; do
-    [ -r "$file" ] && [ ! -d "$file" ] || stop 'cannot open'
+    [ -r "$file" ] && [ ! -d "$file" ] || stop "cannot open
+$(printf %s "$file" | LC_ALL=C tr '\001-\037\177' '[?*]' | LC_ALL=C sed 's/\xc2[\x80-\x9f]/?/g')"
 done
 
 # regular NAME FILE: sets $regular to a regular file with the bytes of this file, as far as erd would read them

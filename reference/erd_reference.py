@@ -32,6 +32,7 @@ import itertools
 import json
 import os
 import sys
+import unicodedata
 from collections import namedtuple
 
 # ---------------------------------------------------------------------------------------------------------------
@@ -915,12 +916,13 @@ class Stop(Exception):
 
 
 def open_input(name):
-    """'A file cannot be opened: `cannot open`.' 'A folder given as a file opens, and its reading fails', so this does
+    """'A file cannot be opened: `cannot open`, and a line with its name, in which each control character is a `?`.' 'A folder given as a file opens, and its reading fails', so this does
     not use Python's `open`, which refuses a folder."""
     try:
         return os.open(name, os.O_RDONLY)
     except OSError:
-        raise Stop('cannot open') from None
+        shown = ''.join('?' if unicodedata.category(character) == 'Cc' else character for character in name)
+        raise Stop('cannot open\n' + shown) from None
 
 
 def read_input(handle):

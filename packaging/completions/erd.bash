@@ -5,11 +5,13 @@ _erd_options() {
     case $1 in
     check | compare | differences) options='--json --prefer' ;;
     canon) options='--prefer' ;;
+    prepare) options='--list --report --steps --prefer' ;;
     esac
 }
 _erd_values() {
     case $1 in
     --prefer) values='fips local-level national-level ocd-id other state-level' ;;
+    --steps) values='removed filled-in visible' ;;
     *) return 1 ;;
     esac
 }
@@ -21,10 +23,10 @@ _erd() {
     local subcommand=${COMP_WORDS[1]} files=0 offered='' options='' values='' i
     COMPREPLY=()
     if [ "$COMP_CWORD" -eq 1 ]; then
-        offered='check canon compare differences help --help'
+        offered='check canon compare differences prepare help --help'
     elif [ "$subcommand" = help ]; then
-        [ "$COMP_CWORD" -eq 2 ] && offered='check canon compare differences help'
-    elif [[ $subcommand == @(check|canon|compare|differences) ]]; then
+        [ "$COMP_CWORD" -eq 2 ] && offered='check canon compare differences prepare help'
+    elif [[ $subcommand == @(check|canon|compare|differences|prepare) ]]; then
         # bash makes three words of --prefer=TYPE
         [ "$word" = = ] && word=''
         [ "$before" = = ] && before=${COMP_WORDS[COMP_CWORD - 2]}

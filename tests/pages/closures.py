@@ -31,6 +31,9 @@ PROMISES = [
         'erd_canon/EngineTexts.IsComparison', 'erd_canon/ByteLaws.TellsWhatIsSaid', 'erd_canon/ByteLaws.AgreesUnderEach', 'erd_canon/Refused.RefusedSide']),
     ('Answers as data (`check_data`, `compare_data`, `differences_data`)', [
         'erd_canon/DataAnswers.IsCheckedData', 'erd_canon/DataAnswers.IsComparedData', 'erd_canon/DataAnswers.IsListedData']),
+    ('The steps that prepare a report (`prepare`)', ['erd_prepare/Laws.UntoldStays', 'erd_prepare/Laws.UntoldIsUnchanged', 'erd_prepare/Steps.IsStepDone']),
+    ('A file that is prepared (`prepare_bytes`)', ['erd_prepare/Steps.IsNamedStepDone', 'erd_prepare/Preparations.IsPrepared',
+                                                   'erd_prepare/Preparations.IsUnprepared']),
     ('What the whole program does (`run_program`)', ['erd_program/Program.IsProgramRun']),
     ('Pieces of lists (`check_data_piece`, `check_text_piece` and their neighbours)', [
         'erd_canon/Pieces.IsPieceText', 'erd_canon/Pieces.IsCheckPiece', 'erd_canon/Pieces.IsFormPiece', 'erd_canon/Pieces.IsComparePiece',
@@ -45,9 +48,6 @@ PROMISES = [
         'erd_normal/MeansTheSame.SayingTheSameMeansTheSame', 'erd_normal/SameLaws.SameIsAccepted', 'erd_normal/SameForms.CanonicalSaysTheSame',
         'erd_normal/SameForms.SayingAndMeaningAgree', 'erd_canon/ByteLaws.OneFormForOneMeaning', 'erd_canon/ByteLaws.IsItsOwnForm',
         'erd_canon/ByteLaws.SameFormWhenRearranged']),
-    ('The steps that prepare a report (`prepare`)', ['erd_prepare/Laws.UntoldStays', 'erd_prepare/Laws.UntoldIsUnchanged', 'erd_prepare/Steps.IsStepDone']),
-    ('A file that is prepared (`prepare_bytes`)', ['erd_prepare/Steps.IsNamedStepDone', 'erd_prepare/Preparations.IsPrepared',
-                                                   'erd_prepare/Preparations.IsUnprepared']),
     ('What `erd_tell_prepared` tells', ['erd_c/Prepared.IsPrepareCall']),
     ('What is shown of objects and ballots (`members_tell`, `rows_of`)', [
         'erd_shown/Laws.MembersTell', 'erd_shown/Laws.ObjectsTell', 'erd_shown/Rows.AreRows']),

@@ -5,7 +5,7 @@ import re
 ROOT = pathlib.Path(__file__).resolve().parents[2]
 COMMANDS = ROOT / 'crates' / 'erd_canon' / 'src' / 'commands'
 # The usual texts of a value, by its name.
-USUAL = {'TYPE': ['fips', 'local-level', 'national-level', 'ocd-id', 'other', 'state-level']}
+USUAL = {'TYPE': ['fips', 'local-level', 'national-level', 'ocd-id', 'other', 'state-level'], 'STEPS': ['removed', 'filled-in', 'visible']}
 
 
 def help_texts():
@@ -33,7 +33,13 @@ def commands():
         if name.endswith('_command'):
             body += ''.join(bodies[one] for one in re.findall(r'\b(with_\w+)\(alloc, command\)', body))
             yield name.removesuffix('_command'), [options[one] for one in re.findall(r'\.arg\((\w+)\(alloc\)\)', body) if one in options], \
-                re.findall(r'file_argument\(alloc, "(\w+)"', body)
+                list(files_of(body, bodies))
+
+
+def files_of(body, bodies):
+    """The names of the files of a subcommand, each with whether it is required."""
+    for function, name in re.findall(r'\.arg\((file_argument|right_file)\(alloc(?:, "(\w+)")?', body):
+        yield name or re.search(r'Arg::new\(alloc, "(\w+)"\)', bodies[function])[1], bool(name)
 
 
 def each_option():
@@ -93,7 +99,8 @@ def synopsis():
         yield f'.B erd {name}'
         for option in options:
             yield from [f'.RB [ {in_roff(option.word)}', f'.IR {option.value} ]'] if option.value else [f'.RB [ {in_roff(option.word)} ]']
-        yield from [f".I {' '.join(files)}", '.br']
+        yield f".I {' '.join(file for file, required in files if required)}"
+        yield from [*(f'.RI [ {file} ]' for file, required in files if not required), '.br']
 
 
 def manual():

@@ -15,7 +15,7 @@ for name in check canon left right; do
     esac
     "${bare[@]}" "$erd" "${words[@]}" < /dev/null > "$work/out" 2> "$work/err"
     status=$?
-    expect_text "a file without leave to read: $name" 3 '' $'cannot open\n'
+    expect_text "a file without leave to read: $name" 3 '' $'cannot open\n'"$work/closed"$'\n'
 done
 rm -f "$work/closed"
 

@@ -63,16 +63,16 @@ for jobs in 1 2 3 7; do
         "$folder/d.json"$'\n  /Odd^[/@id: carried identity\n  /Status: not pre-election\n'"$folder/e.json"$'\n  not JSON'
 done
 run contrib/check-folder.sh "$folder/a.json" "$folder/nosuch.json"
-expect_text 'a file that is not there' 3 "$folder/nosuch.json"$'\n  cannot open'
+expect_text 'a file that is not there' 3 "$folder/nosuch.json"$'\n  cannot open\n  '"$folder/nosuch.json"
 mkdir "$work/broken"
 ln -s nosuch "$work/broken/a.json"
 cp "$folder/d.json" "$work/broken"
 run contrib/check-folder.sh "$work/broken"
 expect_text 'a folder that begins with a broken link' 3 \
-    "$work/broken/a.json"$'\n  cannot open\n'"$work/broken/d.json"$'\n  /Odd^[/@id: carried identity\n  /Status: not pre-election'
+    "$work/broken/a.json"$'\n  cannot open\n  '"$work/broken/a.json"$'\n'"$work/broken/d.json"$'\n  /Odd^[/@id: carried identity\n  /Status: not pre-election'
 rm "$work/broken/d.json"
 run contrib/check-folder.sh "$work/broken"
-expect_text 'a folder with a broken link alone' 3 "$work/broken/a.json"$'\n  cannot open'
+expect_text 'a folder with a broken link alone' 3 "$work/broken/a.json"$'\n  cannot open\n  '"$work/broken/a.json"
 run contrib/check-folder.sh "$work/none"
 expect_text 'a folder without definitions' 3 ''
 for words in '' -- '--prefer' '--prefer local-level' '--prefer=' '--prefer= '"$folder" '-x' '--prefr local-level '"$folder"; do

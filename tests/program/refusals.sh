@@ -68,7 +68,7 @@ program 'a refused report' "$work/twins" 1 "$work/empty" $'/GpUnit/1: identifier
 program 'no JSON' tests/shared/refuse.c 2 "$work/empty" $'not JSON\n'
 printf 'accepted\n' > "$work/accepted"
 program 'a check' "$work/empty" 0 "$work/accepted" '' check examples/small-ballot.json
-program 'a file that is not there' "$work/empty" 3 "$work/empty" $'cannot open\n' canon nosuch
+program 'a file that is not there' "$work/empty" 3 "$work/empty" $'cannot open\nnosuch\n' canon nosuch
 printf 'same\n' > "$work/same"
 program 'a comparison' "$work/empty" 0 "$work/same" '' compare examples/one-unit.json examples/one-unit.canonical.json
 program 'a comparison of a report with itself' "$work/empty" 0 "$work/same" '' compare examples/one-unit.json examples/one-unit.json

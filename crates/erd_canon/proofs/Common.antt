@@ -12,7 +12,7 @@ unfoldable pub use Rattle.clap.proofs.OnLiterals.{clap_on_literals}
 pub use Rattle.clap.specs.Simple.{Shape, app_of_fields}
 pub use Rattle.clap.specs.Takes.{settle_passes, word_passes, step_passes, turn_passes, default_passes, is_valid, level_passes}
 unfoldable pub use Rattle.clap.specs.Takes.{walk_passes}
-pub use Rattle.clap.specs.Walk.{Rule, arg_by_id, arg_by_index, Held, option, idle, next, value, option_word, word_met, Walk, to_positional, after_step, walk_from, walk, finished, nothing_held, rows_after}
+pub use Rattle.clap.specs.Walk.{Rule, arg_by_id, arg_by_index, Held, settled, option, idle, next, value, option_word, word_met, Walk, to_positional, after_step, walk_from, walk, finished, nothing_held, rows_after}
 unfoldable pub use Rattle.clap.specs.Walk.{walked}
 pub use Rattle.clap.specs.Words.{kind_of, found_of, built, Row, Text, first_of, rows_of, App, app_of, is_simple, new_app, subcommand_of, subcommand_rows_of, with_subcommand, takes, IsAmong, Kinds, fault_of, is_simple_and_free}
 pub use Rattle.clap.specs.declared.error.kind.ErrorKind.TheVariants.{DisplayHelp, MissingRequiredArgument, OutOfMemory, UnknownArgument}
@@ -22,10 +22,10 @@ pub use Rattle.erd_compare.specs.declared.difference.Difference.{Difference}
 pub use Rattle.erd_canon.specs.Bytes.{IsTreeOf, IsNotJson, IsAcceptedReport, IsCanonicalBytes}
 pub use Rattle.erd_canon.specs.DataValues.{step_data, fault_data, faults_data, refused_data, comparison_data}
 pub use Rattle.erd_canon.specs.EngineTexts.{text_of_lines, IsRefusal, IsCheckText, IsCanonicalOutput, IsCanonicalErrors, comparison_line, lines_of_side, IsCompareText, IsComparison, IsRefusedReport}
-pub use Rattle.erd_canon.specs.ExactLines.{words_of, IsFileName, IsPreferenceWord, HasPlainWords}
+pub use Rattle.erd_canon.specs.ExactLines.{words_of, IsFileName, IsOptionText, HasPlainWords}
 pub use Rattle.erd_canon.specs.Limits.{most_bytes}
-pub use Rattle.erd_canon.specs.ReadLines.{check_request, compare_request, differences_request, subcommand_request, request_in, IsLineRead, IsFaultFor}
-pub use Rattle.erd_canon.specs.Options.{preference_words, asks_json, preference_in}
+pub use Rattle.erd_canon.specs.ReadLines.{check_request, compare_request, differences_request, request_in, IsLineRead, IsFaultFor}
+pub use Rattle.erd_canon.specs.Options.{has_flag, option_words, preference_words, preference_in, steps_words}
 pub use Rattle.erd_canon.specs.Reading.{Exceeds, IsReadWhole}
 pub use Rattle.erd_canon.specs.Refused.{IsSomeReport, RefusedAs, refusal_for, RefusedSide}
 pub use Rattle.erd_canon.specs.Run.{IsChecked, IsAnswered, IsSideRefused, IsCompared, IsAnswerWritten, IsCheckWritten, IsCompareWritten, IsToldCheck, IsToldCompare, IsToldRun}

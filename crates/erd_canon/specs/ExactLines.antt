@@ -1,8 +1,8 @@
 -- The exact command lines.
 use Rattle.std.specs.Prelude.{◌≢◌, ◌++◌, ℕ, List, [], ◌∷◌, Option, Some, None, codes}
-use Rattle.erd_canon.specs.Options.{preference_words}
+use Rattle.erd_canon.specs.Options.{preference_words, steps_words}
 use Rattle.erd_canon.specs.declared.commands.request.Request.{Request}
-use Rattle.erd_canon.specs.declared.commands.request.Request.TheVariants.{Filter, Check, Canon, Compare, CheckData, CompareData, Differences, DifferencesData}
+use Rattle.erd_canon.specs.declared.commands.request.Request.TheVariants.{Filter, Check, Canon, Compare, CheckData, CompareData, Differences, DifferencesData, Prepare, PrepareList, PrepareReport}
 
 -- The words after the program's name that make this request.
 abbrev pub words_of : Request → List (List ℕ)
@@ -14,24 +14,30 @@ words_of (CheckData file prefer) = codes "check" ∷ codes "--json" ∷ (prefere
 words_of (CompareData left right prefer) = codes "compare" ∷ codes "--json" ∷ (preference_words prefer ++ left ∷ right ∷ [])
 words_of (Differences left right prefer) = codes "differences" ∷ (preference_words prefer ++ left ∷ right ∷ [])
 words_of (DifferencesData left right prefer) = codes "differences" ∷ codes "--json" ∷ (preference_words prefer ++ left ∷ right ∷ [])
+words_of (Prepare file steps prefer) = codes "prepare" ∷ ((steps_words steps ++ preference_words prefer) ++ file ∷ [])
+words_of (PrepareList file) = codes "prepare" ∷ codes "--list" ∷ file ∷ []
+words_of (PrepareReport file steps) = codes "prepare" ∷ codes "--report" ∷ (steps_words steps ++ file ∷ [])
 
 -- The file name is not empty and does not begin with a hyphen.
 abbrev pub IsFileName : List ℕ → Type 0
 IsFileName [] = ⊥
 IsFileName (first ∷ rest) = first ≢ 45
 
--- The preferred type, if there is one, is not empty and does not begin with a hyphen.
-abbrev pub IsPreferenceWord : Option (List ℕ) → Type 0
-IsPreferenceWord None = Unit {0}
-IsPreferenceWord (Some type) = IsFileName type
+-- The text of an option, if the option is there, is not empty and does not begin with a hyphen.
+abbrev pub IsOptionText : Option (List ℕ) → Type 0
+IsOptionText None = Unit {0}
+IsOptionText (Some text) = IsFileName text
 
--- No file name and no preferred type in the request is empty or begins with a hyphen.
+-- No file name, no preferred type and no names of steps in the request are empty or begin with a hyphen.
 abbrev pub HasPlainWords : Request → Type 0
 HasPlainWords Filter = Unit {0}
-HasPlainWords (Check file prefer) = IsFileName file × IsPreferenceWord prefer
-HasPlainWords (Canon file prefer) = IsFileName file × IsPreferenceWord prefer
-HasPlainWords (Compare left right prefer) = IsFileName left × IsFileName right × IsPreferenceWord prefer
-HasPlainWords (CheckData file prefer) = IsFileName file × IsPreferenceWord prefer
-HasPlainWords (CompareData left right prefer) = IsFileName left × IsFileName right × IsPreferenceWord prefer
-HasPlainWords (Differences left right prefer) = IsFileName left × IsFileName right × IsPreferenceWord prefer
-HasPlainWords (DifferencesData left right prefer) = IsFileName left × IsFileName right × IsPreferenceWord prefer
+HasPlainWords (Check file prefer) = IsFileName file × IsOptionText prefer
+HasPlainWords (Canon file prefer) = IsFileName file × IsOptionText prefer
+HasPlainWords (Compare left right prefer) = IsFileName left × IsFileName right × IsOptionText prefer
+HasPlainWords (CheckData file prefer) = IsFileName file × IsOptionText prefer
+HasPlainWords (CompareData left right prefer) = IsFileName left × IsFileName right × IsOptionText prefer
+HasPlainWords (Differences left right prefer) = IsFileName left × IsFileName right × IsOptionText prefer
+HasPlainWords (DifferencesData left right prefer) = IsFileName left × IsFileName right × IsOptionText prefer
+HasPlainWords (Prepare file steps prefer) = IsFileName file × IsOptionText steps × IsOptionText prefer
+HasPlainWords (PrepareList file) = IsFileName file
+HasPlainWords (PrepareReport file steps) = IsFileName file × IsOptionText steps

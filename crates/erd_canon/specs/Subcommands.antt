@@ -8,13 +8,33 @@ use Rattle.clap.specs.declared.builder.value_parser.ValueParser.TheVariants.{Non
 abbrev pub file_rule : List ℕ → Rule
 file_rule id = record (new_rule id) { required = true }
 
--- The option `--json`, which may be left out.
-abbrev pub json_rule : Rule
-json_rule = record (new_rule (codes "json")) { long = Some (codes "json"); action = Some SetTrue }
+-- A flag with this name, which may be left out, as `--json`.
+abbrev pub flag_rule : List ℕ → Rule
+flag_rule name = record (new_rule name) { long = Some name; action = Some SetTrue }
 
--- The option `--prefer TYPE`, which may be left out. The type must not be empty.
+-- An option with this name that takes a text, as `--prefer TYPE`, and may be left out. The text must not be empty.
+abbrev pub text_rule : List ℕ → List ℕ → Rule
+text_rule id name = record (new_rule id) { long = Some name; parser = Some NonEmptyString }
+
+-- The option `--json`.
+abbrev pub json_rule : Rule
+json_rule = flag_rule (codes "json")
+
+-- The option `--list`.
+abbrev pub list_rule : Rule
+list_rule = flag_rule (codes "list")
+
+-- The option `--report`.
+abbrev pub report_rule : Rule
+report_rule = flag_rule (codes "report")
+
+-- The option `--prefer TYPE`.
 abbrev pub prefer_rule : Rule
-prefer_rule = record (new_rule (codes "TYPE")) { long = Some (codes "prefer"); parser = Some NonEmptyString }
+prefer_rule = text_rule (codes "TYPE") (codes "prefer")
+
+-- The option `--steps STEPS`.
+abbrev pub steps_rule : Rule
+steps_rule = text_rule (codes "STEPS") (codes "steps")
 
 -- A subcommand with this name that takes `--prefer TYPE`.
 abbrev pub preferring : List ℕ → App
@@ -40,6 +60,11 @@ compare_subcommand = with_rule (with_rule (answering (codes "compare")) (file_ru
 abbrev pub differences_subcommand : App
 differences_subcommand = with_rule (with_rule (answering (codes "differences")) (file_rule (codes "LEFT"))) (file_rule (codes "RIGHT"))
 
--- The program and its four subcommands.
+-- `prepare FILE`
+abbrev pub prepare_subcommand : App
+prepare_subcommand = with_rule (with_rule (with_rule (with_rule (with_rule (new_app (codes "prepare")) list_rule) report_rule) steps_rule) prefer_rule) (file_rule (codes "FILE"))
+
+-- The program and its five subcommands.
 abbrev pub program : App
-program = with_subcommand (with_subcommand (with_subcommand (with_subcommand (new_app (codes "erd")) check_subcommand.top) canon_subcommand.top) compare_subcommand.top) differences_subcommand.top
+program = with_subcommand (with_subcommand (with_subcommand (with_subcommand (with_subcommand (new_app (codes "erd"))
+    check_subcommand.top) canon_subcommand.top) compare_subcommand.top) differences_subcommand.top) prepare_subcommand.top

@@ -32,8 +32,8 @@ pub use Rattle.erd_canon.specs.Engines.{IsCanonRun, IsCheckRun, IsCompareRun}
 pub use Rattle.erd_canon.specs.Answering.{listing_lines, IsCheckLine, IsCompareLine, IsListed, IsListLine, IsPairPartWritten, IsPairRun, IsPairWritten, IsReportPartWritten, IsReportRun, IsReportWritten}
 pub use Rattle.erd_canon.specs.Preparing.{asked_steps, count_lines, done_lines, file_lines, grouped_text, tried_lines, AreFileTexts, AreNotJsonTexts, AreStepsListed, AreStepsTried, AreTextsPartWritten, AreTextsWith, AreTextsWritten, AreToldTexts, AreTriedTexts, IsJudged, IsPreparationTold, IsPreparedAs, IsTextsRun}
 pub use Rattle.erd_canon.specs.Statuses.{fault_status, fault_words, outcome_status}
-pub use Rattle.erd_canon.specs.Options.{asks_json, preference_in, preference_data}
+pub use Rattle.erd_canon.specs.Options.{has_flag, option_data, preference_in, steps_in}
 pub use Rattle.erd_canon.specs.ExactLines.{words_of, HasPlainWords}
-pub use Rattle.erd_canon.specs.Subcommands.{canon_subcommand, check_subcommand, compare_subcommand, differences_subcommand, file_rule, json_rule, prefer_rule, program}
-pub use Rattle.erd_canon.specs.ReadLines.{check_request, compare_request, differences_request, pair_request, request_in, subcommand_request, word_for, IsFaultFor, IsLineRead}
-pub use Rattle.erd_canon.specs.LineAnswers.{command_data, request_data, IsAnswerTo, IsLineData}
+pub use Rattle.erd_canon.specs.Subcommands.{canon_subcommand, check_subcommand, compare_subcommand, differences_subcommand, file_rule, json_rule, list_rule, prefer_rule, prepare_subcommand, program, report_rule, steps_rule}
+pub use Rattle.erd_canon.specs.ReadLines.{check_request, compare_request, differences_request, pair_request, preparation_in, prepare_request, request_in, subcommand_request, word_for, IsFaultFor, IsLineRead}
+pub use Rattle.erd_canon.specs.LineAnswers.{command_data, preparation_data, request_data, IsAnswerTo, IsLineData}

@@ -4,4 +4,5 @@ pub(crate) mod builder;
 pub(crate) mod help;
 pub(crate) mod prefer;
 pub(crate) mod request;
+pub(crate) mod steps;
 pub(crate) mod words;

@@ -17,6 +17,7 @@ pub use bytes::laws::{is_its_own_form, one_form_for_one_meaning, same_form_when_
 pub use bytes::refusal::{Refusal, Side};
 pub use commands::prefer::Prefer;
 pub use commands::request::{FileName, LineFault, Request};
+pub use commands::steps::Steps;
 pub use commands::words::command_line;
 pub use data::ballots::{BallotsAsked, ballots_data_with};
 pub use data::check::{Answer, check_data, check_data_with};

@@ -1,2 +1,4 @@
 -- The lemmas of this crate.
+pub mod Asked
 pub mod Closing
+pub mod Shown

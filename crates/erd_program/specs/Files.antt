@@ -1,13 +1,16 @@
 -- What is done with standard input, or with the files that a request names.
-use Rattle.std.specs.Prelude.{◌≡◌, ◌++◌, ◌∷◌, [], ℕ, List, None, Result, Ok, Err, codes}
+use Rattle.std.specs.Prelude.{◌≡◌, ◌⊎◌, ◌++◌, ◌∷◌, [], ℕ, List, None, Result, Ok, Err}
 use Rattle.erd_canon.specs.Answering.{IsCheckLine, IsCompareLine, IsListed, IsListLine, IsPairRun, IsReportRun}
+use Rattle.erd_canon.specs.Preparing.{AreStepsListed, IsPreparationTold, IsPreparedAs, IsTextsRun}
+use Rattle.erd_prepare.specs.declared.step_name.StepName.{StepName}
 use Rattle.erd_canon.specs.Devices.{BeforeAfter, Writer, between}
 use Rattle.erd_canon.specs.Engines.{IsCanonRun, IsCheckRun, IsCompareRun}
 use Rattle.erd_meaning.specs.Keys.{Preference}
 use Rattle.erd_canon.specs.declared.engines.outcome.Outcome.{Outcome}
 use Rattle.erd_canon.specs.declared.engines.outcome.RunFault.{RunFault}
 use Rattle.erd_program.specs.declared.files.WorldFault.{WorldFault}
-use Rattle.erd_program.specs.Messages.{IsSaid, IsTold, run_status, world_status, world_text}
+use Rattle.erd_program.specs.declared.files.WorldFault.TheVariants.{Memory}
+use Rattle.erd_program.specs.Messages.{IsSaid, IsTold, run_status, unopened_words, world_status, world_text}
 use Rattle.erd_program.specs.World.{Outside}
 
 -- The outside did not give something. The program wrote nothing but these words, or that it is out of memory, to standard
@@ -16,6 +19,12 @@ pub record IsRefused {O E : Type 0} (errors : Writer E) (words : List ℕ) (faul
   pub status_is : status ≡ world_status fault
   pub said : IsSaid errors (world_text words fault) err
   pub quiet : out.after ≡ out.before
+
+-- The file with this name could not be opened. The program wrote nothing but the words for that, or that it is out of memory, to
+-- standard error.
+abbrev pub IsUnopened : {O E : Type 0} → Writer E → List ℕ → WorldFault → ℕ → BeforeAfter O → BeforeAfter E → Type 0
+IsUnopened errors name fault status out err =
+    IsRefused errors (unopened_words name) fault status out err ⊎ IsRefused errors (unopened_words name) Memory status out err
 
 -- Standard input was canonicalised with no preference, and the program ended with the answer.
 pub record IsInputCanonicalised {F File I O E : Type 0} (known : Outside F File I O E) (status : ℕ) (input : BeforeAfter I) (out : BeforeAfter O) (err : BeforeAfter E) : Type 0 where
@@ -37,6 +46,18 @@ IsFileCanonicalised prefer known answer file out err = IsCanonRun known.file kno
 -- The engine checked the file under the preference, with JSON as the answer.
 abbrev pub IsFileCheckedAsData : {F File I O E : Type 0} → Preference → Outside F File I O E → Result Outcome RunFault → BeforeAfter File → BeforeAfter O → BeforeAfter E → Type 0
 IsFileCheckedAsData prefer known answer file out err = IsReportRun known.file known.out (IsCheckLine prefer) answer file out × (err.after ≡ err.before)
+
+-- The engine prepared the file by the chosen steps, and judged what came of it under the preference.
+abbrev pub IsFilePrepared : {F File I O E : Type 0} → Preference → List StepName → Outside F File I O E → Result Outcome RunFault → BeforeAfter File → BeforeAfter O → BeforeAfter E → Type 0
+IsFilePrepared prefer chosen known answer file out err = IsTextsRun known.file known.out known.err (IsPreparedAs prefer chosen) answer file out err
+
+-- The engine tried each step on the file.
+abbrev pub IsEachStepTried : {F File I O E : Type 0} → Outside F File I O E → Result Outcome RunFault → BeforeAfter File → BeforeAfter O → BeforeAfter E → Type 0
+IsEachStepTried known answer file out err = IsTextsRun known.file known.out known.err AreStepsListed answer file out err
+
+-- The engine prepared the file by the chosen steps, with what they did as the answer.
+abbrev pub IsPreparationReported : {F File I O E : Type 0} → List StepName → Outside F File I O E → Result Outcome RunFault → BeforeAfter File → BeforeAfter O → BeforeAfter E → Type 0
+IsPreparationReported chosen known answer file out err = IsTextsRun known.file known.out known.err (IsPreparationTold chosen) answer file out err
 
 -- The engine ran on the file, and the file was closed as the engine left it. The program ended with the answer.
 pub record IsFileDone {F File I O E : Type 0} (known : Outside F File I O E) (Run : Outside F File I O E → Result Outcome RunFault → BeforeAfter File → BeforeAfter O → BeforeAfter E → Type 0) (name : List ℕ) (file : File) (status : ℕ) (closed : BeforeAfter (List (List ℕ × File))) (out : BeforeAfter O) (err : BeforeAfter E) : Type 0 where
@@ -78,15 +99,15 @@ pub record AreFilesDone {F File I O E : Type 0} (known : Outside F File I O E) (
 abbrev pub IsFileAnswer : {F File I O E : Type 0} → Outside F File I O E → (Outside F File I O E → Result Outcome RunFault → BeforeAfter File → BeforeAfter O → BeforeAfter E → Type 0) → List ℕ → Result File WorldFault → ℕ → BeforeAfter (List (List ℕ × File)) → BeforeAfter O → BeforeAfter E → Type 0
 IsFileAnswer known Run name (Ok file) status closed out err = IsFileDone known Run name file status closed out err
 IsFileAnswer known Run name (Err fault) status closed out err =
-    (closed.after ≡ closed.before) × IsRefused known.err (codes "cannot open") fault status out err
+    (closed.after ≡ closed.before) × IsUnopened known.err name fault status out err
 
 -- What is done for a command on two files, by what opening the left file and then the right one gave. If one of them could not be
 -- opened, the other one was closed as it was.
 abbrev pub IsPairAnswer : {F File I O E : Type 0} → Outside F File I O E → (Outside F File I O E → Result Outcome RunFault → BeforeAfter File → BeforeAfter File → BeforeAfter O → Type 0) → List ℕ → List ℕ → Result File WorldFault → Result File WorldFault → ℕ → BeforeAfter (List (List ℕ × File)) → BeforeAfter O → BeforeAfter E → Type 0
 IsPairAnswer known Run left right (Ok a) (Ok b) status closed out err = AreFilesDone known Run left right a b status closed out err
 IsPairAnswer known Run left right (Ok a) (Err fault) status closed out err =
-    (closed.after ≡ closed.before ++ (left, a) ∷ []) × IsRefused known.err (codes "cannot open") fault status out err
+    (closed.after ≡ closed.before ++ (left, a) ∷ []) × IsUnopened known.err right fault status out err
 IsPairAnswer known Run left right (Err fault) (Ok b) status closed out err =
-    (closed.after ≡ closed.before ++ (right, b) ∷ []) × IsRefused known.err (codes "cannot open") fault status out err
+    (closed.after ≡ closed.before ++ (right, b) ∷ []) × IsUnopened known.err left fault status out err
 IsPairAnswer known Run left right (Err fault) (Err other) status closed out err =
-    (closed.after ≡ closed.before) × IsRefused known.err (codes "cannot open") fault status out err
+    (closed.after ≡ closed.before) × IsUnopened known.err left fault status out err

@@ -1,5 +1,8 @@
 -- What the program says on a stream, and with which status it ends.
-use Rattle.std.specs.Prelude.{◌≡◌, ◌++◌, ◌∷◌, [], ℕ, true, false, List, Result, Ok, Err}
+use Rattle.std.specs.Prelude.{◌≡◌, ◌++◌, ◌∷◌, [], ℕ, true, false, List, Result, Ok, Err, codes, encode_utf8, if◌then◌else◌}
+use Rattle.std.specs.Char.{is_control}
+use Rattle.std.specs.List.{flat_map}
+use Rattle.std.specs.Str.{chars}
 use Rattle.std.specs.Io.KnownBytes.{Appends}
 use Rattle.erd_canon.specs.Devices.{BeforeAfter, Writer}
 use Rattle.erd_canon.specs.declared.engines.outcome.Outcome.{Outcome}
@@ -30,6 +33,18 @@ run_status (Err fault) = fault_status fault
 abbrev pub IsTold : {W : Type 0} → Writer W → Result Outcome RunFault → BeforeAfter W → Type 0
 IsTold known (Ok outcome) stream = stream.after ≡ stream.before
 IsTold known (Err fault) stream = IsSaid known (fault_text fault) stream
+
+-- A character as a line shows it: a question mark (63) in the place of a control character.
+abbrev pub character_in_line : ℕ → ℕ
+character_in_line character = if is_control character then 63 else character
+
+-- The name of a file as a line shows it.
+abbrev pub name_in_line : List ℕ → List ℕ
+name_in_line name = flat_map (λ character. encode_utf8 (character_in_line character)) (chars name)
+
+-- The words for a file that cannot be opened, and the line with its name.
+abbrev pub unopened_words : List ℕ → List ℕ
+unopened_words name = codes "cannot open" ++ 10 ∷ name_in_line name
 
 -- The exit status for what the outside did not give: 3 if the system refused it, 4 if out of memory.
 abbrev pub world_status : WorldFault → ℕ

@@ -1,20 +1,22 @@
 -- What the program does for the words of its command line.
-use Rattle.std.specs.Prelude.{◌≡◌, ◌⊎◌, ◌++◌, ◌∷◌, [], ℕ, true, false, List, Result, Ok, Err, codes}
+use Rattle.std.specs.Prelude.{◌≡◌, ◌⊎◌, ◌++◌, ◌∷◌, [], ℕ, true, false, List, Option, Some, None, Result, Ok, Err, codes}
 use Rattle.std.specs.Io.KnownBytes.{Appends}
 use Rattle.erd_canon.specs.Devices.{BeforeAfter, Writer, between}
 use Rattle.erd_canon.specs.declared.commands.request.Request.{Request}
-use Rattle.erd_canon.specs.declared.commands.request.Request.TheVariants.{Filter, Check, Canon, Compare, CheckData, CompareData, Differences, DifferencesData}
+use Rattle.erd_canon.specs.declared.commands.request.Request.TheVariants.{Filter, Check, Canon, Compare, CheckData, CompareData, Differences, DifferencesData, Prepare, PrepareList, PrepareReport}
 use Rattle.erd_canon.specs.declared.commands.request.LineFault.{LineFault}
 use Rattle.erd_canon.specs.declared.commands.request.LineFault.TheVariants as line
 use Rattle.erd_canon.specs.declared.engines.outcome.Outcome.{Outcome}
 use Rattle.erd_canon.specs.declared.engines.outcome.RunFault.{RunFault}
 use Rattle.erd_canon.specs.declared.engines.outcome.RunFault.TheVariants as run
+use Rattle.erd_canon.specs.Preparing.{asked_steps}
 use Rattle.erd_canon.specs.ReadLines.{IsLineRead, IsReadExactly}
 use Rattle.erd_canon.specs.Writing.{IsPartWritten}
 use Rattle.erd_program.specs.declared.files.WorldFault.{WorldFault}
-use Rattle.erd_program.specs.declared.files.WorldFault.TheVariants.{Memory}
+use Rattle.erd_program.specs.declared.files.WorldFault.TheVariants.{Memory, Refused}
 use Rattle.erd_program.specs.declared.world.World.{World}
-use Rattle.erd_program.specs.Files.{AreFilesCompared, AreFilesComparedAsData, AreFilesListed, AreFilesListedAsData, IsFileAnswer, IsFileCanonicalised, IsFileChecked, IsFileCheckedAsData, IsInputCanonicalised, IsPairAnswer, IsRefused}
+use Rattle.erd_prepare.specs.declared.step_name.StepName.{StepName}
+use Rattle.erd_program.specs.Files.{AreFilesCompared, AreFilesComparedAsData, AreFilesListed, AreFilesListedAsData, IsEachStepTried, IsFileAnswer, IsFileCanonicalised, IsFileChecked, IsFileCheckedAsData, IsFilePrepared, IsInputCanonicalised, IsPairAnswer, IsPreparationReported, IsRefused}
 use Rattle.erd_program.specs.Messages.{IsSaid, fault_text}
 use Rattle.erd_program.specs.World.{Outside}
 
@@ -45,6 +47,17 @@ pub record AreFilesOpened {F File I O E : Type 0} (known : Outside F File I O E)
   pub answer : IsPairAnswer known Run left right left_given right_given status (between (known.closed world.before.files) (known.closed world.after.files))
       (between world.before.out world.after.out) (between world.before.err world.after.err)
 
+-- No file was opened. A word names nothing, which was said, or memory ran out.
+abbrev pub AreStepsUnknown : {F File I O E : Type 0} → Outside F File I O E → Option (List ℕ) → ℕ → BeforeAfter (World F I O E) → Type 0
+AreStepsUnknown known words status world =
+    LeavesFiles world × (LeavesInput world × ((fault : WorldFault) × ((fault ≡ Refused → asked_steps words ≡ None)
+    × IsRefused known.err (codes "unknown step") fault status (between world.before.out world.after.out) (between world.before.err world.after.err))))
+
+-- The words name steps, and the engine ran on the file with them. Or else no file was opened.
+abbrev pub IsDoneBySteps : {F File I O E : Type 0} → Outside F File I O E → Option (List ℕ) → (List StepName → Outside F File I O E → Result Outcome RunFault → BeforeAfter File → BeforeAfter O → BeforeAfter E → Type 0) → List ℕ → ℕ → BeforeAfter (World F I O E) → Type 0
+IsDoneBySteps known words Run name status world =
+    ((chosen : List StepName) × ((asked_steps words ≡ Some chosen) × IsFileOpened known (Run chosen) name status world)) ⊎ AreStepsUnknown known words status world
+
 -- The program did what the request asks for.
 abbrev pub IsDone : {F File I O E : Type 0} → Outside F File I O E → Request → ℕ → BeforeAfter (World F I O E) → Type 0
 IsDone known Filter status world =
@@ -57,6 +70,9 @@ IsDone known (CheckData name prefer) status world = IsFileOpened known (IsFileCh
 IsDone known (CompareData left right prefer) status world = AreFilesOpened known (AreFilesComparedAsData prefer) left right status world
 IsDone known (Differences left right prefer) status world = AreFilesOpened known (AreFilesListed prefer) left right status world
 IsDone known (DifferencesData left right prefer) status world = AreFilesOpened known (AreFilesListedAsData prefer) left right status world
+IsDone known (Prepare name words prefer) status world = IsDoneBySteps known words (IsFilePrepared prefer) name status world
+IsDone known (PrepareList name) status world = IsFileOpened known IsEachStepTried name status world
+IsDone known (PrepareReport name words) status world = IsDoneBySteps known words IsPreparationReported name status world
 
 -- The text of the help was written and flushed, with status 0. Or else that failed: a first part of it was written, and
 -- `write failed` to standard error, with status 3.

@@ -1,4 +1,4 @@
-ghost use Rattle.std.specs.Prelude.{◌≡◌, ◌++◌, ◌∷◌, [], IfOk, false};
+ghost use Rattle.std.specs.Prelude.{◌≡◌, ◌++◌, ◌∷◌, [], IfOk, false, option_copied};
 ghost use Rattle.erd_canon.specs.Devices.{between};
 ghost use Rattle.erd_program.specs.Files.{AreFilesDone, IsFileDone, IsInputCanonicalised};
 ghost use Rattle.erd_program.specs.Program.{AreFilesOpened, IsFileOpened};
@@ -6,24 +6,25 @@ ghost use Rattle.erd_program.specs.World.{outside};
 ghost use Rattle.erd_program.specs.code.Commands.{StreamsWork, pair_run, pair_run_of, run_of};
 
 use crate::files::{Files, WorldFault};
-use crate::messages::{ended, refused};
+use crate::messages::{ended, not_opened};
 use crate::world::World;
 use erd_canon::{
-    Disposal, FileName, Outcome, Prefer, RunFault, Sink, Source, run_canon_disposing,
-    run_check_data, run_check_disposing, run_compare_data, run_compare_disposing, run_differences,
-    run_differences_data,
+    Disposal, FileName, Outcome, RunFault, Sink, Source, run_canon_disposing, run_check_data,
+    run_check_disposing, run_compare_data, run_compare_disposing, run_differences,
+    run_differences_data, run_prepare, run_prepare_list, run_prepare_report,
 };
+use erd_prepare::StepName;
 use std::alloc::Global;
 
-// The line for a file that cannot be opened.
-const CANNOT_OPEN: &str = "cannot open\n";
-
-/// A command that names one file.
+/// A command that names one file. One that prepares it has the steps.
 #[derive(Clone, Copy)]
-pub(crate) enum FileCommand {
+pub(crate) enum FileCommand<'a> {
     Check,
     Canon,
     CheckData,
+    Prepare(&'a [StepName]),
+    PrepareList,
+    PrepareReport(&'a [StepName]),
 }
 
 /// A command that names two files.
@@ -63,17 +64,17 @@ pub(crate) fn one_file<F: Files, I: Source, O: Sink, E: Sink, D: Disposal>(
     alloc: Global,
     world: &mut World<F, I, O, E>,
     name: &FileName,
-    command: FileCommand,
-    prefer: &Prefer,
+    command: FileCommand<'_>,
+    prefer: Option<&str>,
     disposal: &D,
 ) -> u8
     requires works { StreamsWork I.reader O.writer E.writer world.old.input world.old.out world.old.err }
     ensures { IsFileOpened (outside F.opened F.beside F.closed F.File.reader I.reader O.writer E.writer)
-        (run_of command prefer.now) name.now result (between world.old world.new) }
+        (run_of command.entry (option_copied prefer.entry)) name.now result (between world.old world.new) }
 {
     match world.files.open(name) {
         Ok(file) => open_file(alloc, world, (name, file), command, prefer, disposal),
-        Err(fault) => refused(fault, CANNOT_OPEN, &mut world.err),
+        Err(fault) => not_opened(alloc, fault, name, &mut world.err),
     }
 }
 
@@ -82,8 +83,8 @@ fn open_file<F: Files, I: Source, O: Sink, E: Sink, D: Disposal>(
     alloc: Global,
     world: &mut World<F, I, O, E>,
     named: (&FileName, F::File),
-    command: FileCommand,
-    prefer: &Prefer,
+    command: FileCommand<'_>,
+    prefer: Option<&str>,
     disposal: &D,
 ) -> u8
     requires file_works { F.File.reader.has_failed named.1 ≡ false }
@@ -91,7 +92,7 @@ fn open_file<F: Files, I: Source, O: Sink, E: Sink, D: Disposal>(
     ensures input { world.new.input ≡ world.old.input }
     ensures opened { F.opened world.new.files ≡ F.opened world.old.files }
     ensures done { IsFileDone (outside F.opened F.beside F.closed F.File.reader I.reader O.writer E.writer)
-        (run_of command prefer.now) named.entry.0.now named.entry.1 result (between (F.closed world.old.files) (F.closed world.new.files))
+        (run_of command.entry (option_copied prefer.entry)) named.entry.0.now named.entry.1 result (between (F.closed world.old.files) (F.closed world.new.files))
         (between world.old.out world.new.out) (between world.old.err world.new.err) }
 {
     let (name, mut file) = named;
@@ -105,31 +106,25 @@ fn run<F: Files, I: Source, O: Sink, E: Sink, D: Disposal>(
     alloc: Global,
     world: &mut World<F, I, O, E>,
     file: &mut F::File,
-    command: FileCommand,
-    prefer: &Prefer,
+    command: FileCommand<'_>,
+    prefer: Option<&str>,
     disposal: &D,
 ) -> Result<Outcome, RunFault>
     requires file_works { F.File.reader.has_failed file.old ≡ false }
     requires works { StreamsWork I.reader O.writer E.writer world.old.input world.old.out world.old.err }
     ensures input { world.new.input ≡ world.old.input }
     ensures files { world.new.files ≡ world.old.files }
-    ensures done { run_of command prefer.now (outside F.opened F.beside F.closed F.File.reader I.reader O.writer E.writer)
+    ensures done { run_of command.entry (option_copied prefer.entry) (outside F.opened F.beside F.closed F.File.reader I.reader O.writer E.writer)
         result (between file.old file.new) (between world.old.out world.new.out) (between world.old.err world.new.err) }
 {
-    let prefer = prefer.text();
+    let (out, err) = (&mut world.out, &mut world.err);
     match command {
-        FileCommand::Check => run_check_disposing(alloc, file, &mut world.out, prefer, disposal),
-        FileCommand::Canon => {
-            run_canon_disposing(
-                alloc,
-                file,
-                &mut world.out,
-                &mut world.err,
-                prefer,
-                disposal,
-            )
-        }
-        FileCommand::CheckData => run_check_data(alloc, file, &mut world.out, prefer),
+        FileCommand::Check => run_check_disposing(alloc, file, out, prefer, disposal),
+        FileCommand::Canon => run_canon_disposing(alloc, file, out, err, prefer, disposal),
+        FileCommand::CheckData => run_check_data(alloc, file, out, prefer),
+        FileCommand::Prepare(chosen) => run_prepare(alloc, file, out, err, chosen, prefer),
+        FileCommand::PrepareList => run_prepare_list(alloc, file, out, err),
+        FileCommand::PrepareReport(chosen) => run_prepare_report(alloc, file, out, err, chosen),
     }
 }
 
@@ -139,12 +134,12 @@ pub(crate) fn two_files<F: Files, I: Source, O: Sink, E: Sink, D: Disposal>(
     world: &mut World<F, I, O, E>,
     names: (&FileName, &FileName),
     command: PairCommand,
-    prefer: &Prefer,
+    prefer: Option<&str>,
     disposal: &D,
 ) -> u8
     requires works { StreamsWork I.reader O.writer E.writer world.old.input world.old.out world.old.err }
     ensures { AreFilesOpened (outside F.opened F.beside F.closed F.File.reader I.reader O.writer E.writer)
-        (pair_run_of command prefer.now) names.entry.0.now names.entry.1.now result (between world.old world.new) }
+        (pair_run_of command (option_copied prefer.entry)) names.entry.0.now names.entry.1.now result (between world.old world.new) }
 {
     let (left, right) = names;
     let (left_file, right_file) = open_both(&mut world.files, left, right);
@@ -155,13 +150,13 @@ pub(crate) fn two_files<F: Files, I: Source, O: Sink, E: Sink, D: Disposal>(
         }
         (Ok(left_file), Err(fault)) => {
             world.files.close(left, left_file);
-            refused(fault, CANNOT_OPEN, &mut world.err)
+            not_opened(alloc, fault, right, &mut world.err)
         }
         (Err(fault), Ok(right_file)) => {
             world.files.close(right, right_file);
-            refused(fault, CANNOT_OPEN, &mut world.err)
+            not_opened(alloc, fault, left, &mut world.err)
         }
-        (Err(fault), Err(_)) => refused(fault, CANNOT_OPEN, &mut world.err),
+        (Err(fault), Err(_)) => not_opened(alloc, fault, left, &mut world.err),
     }
 }
 
@@ -188,7 +183,7 @@ fn open_files<F: Files, I: Source, O: Sink, E: Sink, D: Disposal>(
     world: &mut World<F, I, O, E>,
     named: ((&FileName, F::File), (&FileName, F::File)),
     command: PairCommand,
-    prefer: &Prefer,
+    prefer: Option<&str>,
     disposal: &D,
 ) -> u8
     requires left_works { F.File.reader.has_failed named.0.1 ≡ false }
@@ -198,7 +193,7 @@ fn open_files<F: Files, I: Source, O: Sink, E: Sink, D: Disposal>(
     ensures opened { F.opened world.new.files ≡ F.opened world.old.files }
     ensures beside { F.beside world.new.files ≡ F.beside world.old.files }
     ensures done { AreFilesDone (outside F.opened F.beside F.closed F.File.reader I.reader O.writer E.writer)
-        (pair_run_of command prefer.now) named.entry.0.0.now named.entry.1.0.now named.entry.0.1 named.entry.1.1
+        (pair_run_of command (option_copied prefer.entry)) named.entry.0.0.now named.entry.1.0.now named.entry.0.1 named.entry.1.1
         result (between (F.closed world.old.files) (F.closed world.new.files)) (between world.old.out world.new.out)
         (between world.old.err world.new.err) }
 {
@@ -222,17 +217,16 @@ fn run_pair<S: Source, O: Sink, D: Disposal>(
     left: &mut S,
     right: &mut S,
     out: &mut O,
-    asked: (PairCommand, &Prefer),
+    asked: (PairCommand, Option<&str>),
     disposal: &D,
 ) -> Result<Outcome, RunFault>
     requires left_works { S.reader.has_failed left.old ≡ false }
     requires right_works { S.reader.has_failed right.old ≡ false }
     requires out_works { O.writer.has_failed out.old ≡ false }
-    ensures { pair_run asked.entry.0 asked.entry.1.now S.reader O.writer result (between left.old left.new) (between right.old right.new)
+    ensures { pair_run asked.entry.0 (option_copied asked.entry.1) S.reader O.writer result (between left.old left.new) (between right.old right.new)
         (between out.old out.new) }
 {
     let (command, prefer) = asked;
-    let prefer = prefer.text();
     match command {
         PairCommand::Compare => run_compare_disposing(alloc, left, right, out, prefer, disposal),
         PairCommand::CompareData => run_compare_data(alloc, left, right, out, prefer),

@@ -6,6 +6,8 @@ mod files;
 mod messages;
 mod open_in;
 mod program;
+mod steps;
+mod tasks;
 mod world;
 
 pub use files::{Files, WorldFault};

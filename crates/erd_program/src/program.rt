@@ -7,9 +7,11 @@ ghost use Rattle.erd_program.specs.Program.{AreWordsAnswered, IsDone, IsHelped, 
 ghost use Rattle.erd_program.specs.World.{outside};
 ghost use Rattle.erd_program.specs.code.Commands.{StreamsWork};
 
-use crate::commands::{FileCommand, PairCommand, filter, one_file, two_files};
+use crate::commands::{filter, one_file, two_files};
 use crate::files::{Files, WorldFault};
 use crate::messages::{ended, refused, say};
+use crate::steps::by_steps;
+use crate::tasks::{Task, task_of};
 use crate::world::World;
 use erd_canon::{
     Disposal, Failed, LineFault, Request, RunFault, Sink, Source, command_line, write_out,
@@ -71,56 +73,16 @@ fn done<F: Files, I: Source, O: Sink, E: Sink, D: Disposal>(
     ensures { IsDone (outside F.opened F.beside F.closed F.File.reader I.reader O.writer E.writer)
         request.now result (between world.old world.new) }
 {
-    match request {
-        Request::Filter => filter(alloc, world, disposal),
-        Request::Check(name, prefer) => {
-            one_file(alloc, world, name, FileCommand::Check, prefer, disposal)
+    match task_of(request) {
+        Task::Filter => filter(alloc, world, disposal),
+        Task::OneFile(name, command, prefer) => {
+            one_file(alloc, world, name, command, prefer, disposal)
         }
-        Request::Canon(name, prefer) => {
-            one_file(alloc, world, name, FileCommand::Canon, prefer, disposal)
+        Task::TwoFiles(left, right, command, prefer) => {
+            two_files(alloc, world, (left, right), command, prefer, disposal)
         }
-        Request::Compare(left, right, prefer) => {
-            two_files(
-                alloc,
-                world,
-                (left, right),
-                PairCommand::Compare,
-                prefer,
-                disposal,
-            )
-        }
-        Request::CheckData(name, prefer) => {
-            one_file(alloc, world, name, FileCommand::CheckData, prefer, disposal)
-        }
-        Request::CompareData(left, right, prefer) => {
-            two_files(
-                alloc,
-                world,
-                (left, right),
-                PairCommand::CompareData,
-                prefer,
-                disposal,
-            )
-        }
-        Request::Differences(left, right, prefer) => {
-            two_files(
-                alloc,
-                world,
-                (left, right),
-                PairCommand::Differences,
-                prefer,
-                disposal,
-            )
-        }
-        Request::DifferencesData(left, right, prefer) => {
-            two_files(
-                alloc,
-                world,
-                (left, right),
-                PairCommand::DifferencesData,
-                prefer,
-                disposal,
-            )
+        Task::BySteps(name, command, words, prefer) => {
+            by_steps(alloc, world, name, (command, words), prefer, disposal)
         }
     }
 }

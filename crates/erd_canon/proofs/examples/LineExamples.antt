@@ -1,7 +1,7 @@
 -- The exact lines, and what `clap` makes of others, on examples.
 use Rattle.erd_canon.proofs.Common.{◌≡◌, ℕ, Bool, true, false, List, [], ◌∷◌, map, Option, Some, None, codes, refl, arith, clap_on_literals, subcommand_of, takes, Kinds, fault_of, DisplayHelp, MissingRequiredArgument, UnknownArgument, words_of, HasPlainWords, request_in, program}
 use Rattle.erd_canon.specs.declared.commands.request.Request.{Request}
-use Rattle.erd_canon.specs.declared.commands.request.Request.TheVariants.{Filter, Check, Canon, Compare, CheckData, CompareData, Differences, DifferencesData}
+use Rattle.erd_canon.specs.declared.commands.request.Request.TheVariants.{Filter, Check, Canon, Compare, CheckData, CompareData, Differences, DifferencesData, Prepare, PrepareList, PrepareReport}
 
 -- the rows of the program's table; a type stands between the subcommand and the first file
 words : map words_of (Filter ∷ Check (codes "a") None ∷ Canon (codes "a") None ∷ Compare (codes "a") (codes "b") None
@@ -17,6 +17,14 @@ words_for_json : map words_of (CheckData (codes "a") None ∷ CompareData (codes
     ∷ (codes "differences" ∷ codes "--prefer" ∷ codes "fips" ∷ codes "a" ∷ codes "b" ∷ [])
     ∷ (codes "differences" ∷ codes "--json" ∷ codes "--prefer" ∷ codes "fips" ∷ codes "a" ∷ codes "b" ∷ []) ∷ []
 words_for_json = refl
+
+-- steps stand before a type, and behind `--report`
+words_for_steps : map words_of (Prepare (codes "a") None None ∷ Prepare (codes "a") (Some (codes "nulls,codes")) (Some (codes "fips")) ∷ PrepareList (codes "a")
+    ∷ PrepareReport (codes "a") None ∷ PrepareReport (codes "a") (Some (codes "visible")) ∷ [])
+    ≡ (codes "prepare" ∷ codes "a" ∷ []) ∷ (codes "prepare" ∷ codes "--steps" ∷ codes "nulls,codes" ∷ codes "--prefer" ∷ codes "fips" ∷ codes "a" ∷ [])
+    ∷ (codes "prepare" ∷ codes "--list" ∷ codes "a" ∷ []) ∷ (codes "prepare" ∷ codes "--report" ∷ codes "a" ∷ [])
+    ∷ (codes "prepare" ∷ codes "--report" ∷ codes "--steps" ∷ codes "visible" ∷ codes "a" ∷ []) ∷ []
+words_for_steps = refl
 
 -- a name may have blanks and hyphens inside, and so may a type
 names : HasPlainWords (Compare (codes "a -b") (codes " -") (Some (codes " -c")))
@@ -52,6 +60,13 @@ other_json : map is_line ((codes "--json" ∷ []) ∷ (codes "canon" ∷ codes "
 unfolding clap_on_literals
 other_json = refl
 
+-- `--json` of a preparation, an option of one where it isn't known, no steps, too few names, and too many
+other_options : map is_line ((codes "prepare" ∷ codes "--json" ∷ codes "a" ∷ []) ∷ (codes "check" ∷ codes "--list" ∷ codes "a" ∷ [])
+    ∷ (codes "prepare" ∷ codes "--steps" ∷ [] ∷ codes "a" ∷ []) ∷ (codes "prepare" ∷ codes "--list" ∷ []) ∷ (codes "prepare" ∷ codes "a" ∷ codes "b" ∷ []) ∷ [])
+    ≡ false ∷ false ∷ false ∷ false ∷ false ∷ []
+unfolding clap_on_literals
+other_options = refl
+
 -- ---- what other words are read as
 
 abbrev read_as : List (List ℕ) → Request
@@ -77,6 +92,13 @@ json_read : map read_as ((codes "compare" ∷ codes "--prefer" ∷ codes "fips" 
     ≡ CompareData (codes "a") (codes "b") (Some (codes "fips")) ∷ CheckData (codes "a") None ∷ DifferencesData (codes "a") (codes "b") None ∷ []
 unfolding clap_on_literals
 json_read = refl
+
+-- the list goes before the report, the steps and the type; options in another order
+steps_read : map read_as ((codes "prepare" ∷ codes "--report" ∷ codes "--list" ∷ codes "--steps" ∷ codes "b" ∷ codes "a" ∷ []) ∷ (codes "prepare" ∷ codes "--prefer" ∷ codes "fips" ∷ codes "--report" ∷ codes "a" ∷ [])
+    ∷ (codes "prepare" ∷ codes "a" ∷ codes "--prefer=fips" ∷ codes "--steps=b" ∷ []) ∷ [])
+    ≡ PrepareList (codes "a") ∷ PrepareReport (codes "a") None ∷ Prepare (codes "a") (Some (codes "b")) (Some (codes "fips")) ∷ []
+unfolding clap_on_literals
+steps_read = refl
 
 -- help, and words that are none of the program's
 faults : map faults_of ((codes "--help" ∷ []) ∷ (codes "check" ∷ codes "-h" ∷ []) ∷ (codes "check" ∷ []) ∷ (codes "check" ∷ codes "--nosuch" ∷ codes "a" ∷ []) ∷ [])

@@ -1,34 +1,32 @@
 -- What `clap` makes of the exact lines.
-use Rattle.erd_canon.proofs.Common.{◌≡◌, ℕ, Bool, true, false, ◌&&◌, ◌⊎◌, List, [], ◌∷◌, ◌++◌, length, nat_lt, Some, None, Ok, Err, codes, Option, Result, MatchResult, unwrap_or, sym, refl, ap, ◌∙◌, subst, ap₂, inl, inr, arith, lt-ltb, clap_on_literals, Shape, step_passes, turn_passes, level_passes, arg_by_index, Held, value, Walk, to_positional, walked, finished, nothing_held, rows_after, Row, Text, first_of, is_simple, subcommand_of, takes, IsAmong, fault_of, is_simple_and_free, OutOfMemory, words_of, IsPreferenceWord, HasPlainWords, asks_json, preference_in, check_request, compare_request, differences_request, subcommand_request, request_in, IsLineRead, IsFaultFor, program}
+use Rattle.erd_canon.proofs.Common.{◌≡◌, ℕ, Bool, true, false, ◌&&◌, ◌⊎◌, List, [], ◌∷◌, ◌++◌, length, nat_lt, Some, None, Ok, Err, codes, Option, Result, MatchResult, sym, refl, ap, ◌∙◌, subst, ap₂, inl, inr, arith, lt-ltb, clap_on_literals, Shape, settle_passes, step_passes, turn_passes, level_passes, arg_by_index, Held, value, Walk, to_positional, walked, finished, nothing_held, rows_after, Row, Text, is_simple, subcommand_of, takes, IsAmong, fault_of, is_simple_and_free, OutOfMemory, words_of, IsOptionText, HasPlainWords, preference_words, steps_words, check_request, compare_request, differences_request, request_in, IsLineRead, IsFaultFor, program}
 use Rattle.clap.specs.declared.error.kind.ErrorKind.{ErrorKind}
 use Rattle.erd_canon.proofs.lines.PlainWords.{IsPlainWord, at, walked_plain, turn_plain}
-use Rattle.erd_canon.proofs.lines.OptionWords.{Knows, canon_knows, check_knows, compare_knows, differences_knows, ends, file_plain, held_first, level_options, option_words, rows_options, subcommand}
+use Rattle.erd_canon.proofs.lines.OptionWords.{Leads, canon_prefers, check_prefers, compare_prefers, differences_prefers, ends, file_plain, flagged, given, held_first, json_words, leads_flag, leads_json, leads_on, leads_option, level_behind, prepare_chooses, prepare_prefers, rows_behind, subcommand}
 use Rattle.erd_canon.specs.declared.commands.request.Request.{Request}
-use Rattle.erd_canon.specs.declared.commands.request.Request.TheVariants.{Filter, Check, Canon, Compare, CheckData, CompareData, Differences, DifferencesData}
+use Rattle.erd_canon.specs.declared.commands.request.Request.TheVariants.{Filter, Check, Canon, Compare, CheckData, CompareData, Differences, DifferencesData, Prepare, PrepareList, PrepareReport}
 use Rattle.erd_canon.specs.declared.commands.request.LineFault.{LineFault}
 use Rattle.erd_canon.specs.declared.commands.request.LineFault.TheVariants.{Help, Usage, Memory}
 
--- the names of a subcommand, what was given for its file or files, the preference, and whether JSON is asked for
-abbrev pub HasFile : List ℕ → Bool → List ℕ → Option Text → List ℕ × List Row → Type 0
-HasFile name json file prefer met = (met.0 ≡ name)
-    × ((first_of (codes "FILE") met.1 ≡ Some file) × ((first_of (codes "TYPE") met.1 ≡ prefer) × (asks_json met.1 ≡ json)))
+-- the words are taken, and they make this request
+abbrev pub IsTaken : List Text → Request → Type 0
+IsTaken words request = (takes program words ≡ true) × (request_in (subcommand_of program words) ≡ request)
 
-abbrev pub HasPair : List ℕ → Bool → List ℕ → List ℕ → Option Text → List ℕ × List Row → Type 0
-HasPair name json left right prefer met = (met.0 ≡ name)
-    × ((first_of (codes "LEFT") met.1 ≡ Some left) × ((first_of (codes "RIGHT") met.1 ≡ Some right)
-    × ((first_of (codes "TYPE") met.1 ≡ prefer) × (asks_json met.1 ≡ json))))
+-- ---- no word
 
--- the result of the parse, a subcommand and its matches or neither, makes this request.
-abbrev pub IsAskedBy : Option (List ℕ × List Row) → Request → Type 0
-IsAskedBy None Filter = Unit {0}
-IsAskedBy (Some met) (Check file prefer) = HasFile (codes "check") false file prefer met
-IsAskedBy (Some met) (CheckData file prefer) = HasFile (codes "check") true file prefer met
-IsAskedBy (Some met) (Canon file prefer) = HasFile (codes "canon") false file prefer met
-IsAskedBy (Some met) (Compare left right prefer) = HasPair (codes "compare") false left right prefer met
-IsAskedBy (Some met) (CompareData left right prefer) = HasPair (codes "compare") true left right prefer met
-IsAskedBy (Some met) (Differences left right prefer) = HasPair (codes "differences") false left right prefer met
-IsAskedBy (Some met) (DifferencesData left right prefer) = HasPair (codes "differences") true left right prefer met
-IsAskedBy _ _ = ⊥
+none_taken : (name : Text) → IsTaken (name ∷ []) Filter
+unfolding clap_on_literals
+none_taken name = (refl, refl)
+
+-- a text that is there passes the parser of an option
+text_passes : (x : ℕ) (xs : Text) → (nat_lt 0 (length (x ∷ xs)) && true) ≡ true
+text_passes x xs = ap (λ (b : Bool). b && true) (lt-ltb 0 (length (x ∷ xs)) (omega arith))
+
+-- and so it is before the first file
+then_passes : (x : ℕ) (xs : Text) → (((nat_lt 0 (length (x ∷ xs)) && true) && true) && true) ≡ true
+then_passes x xs = ap (λ (b : Bool). (b && true) && true) (text_passes x xs)
+
+-- ---- one file
 
 -- the walk after one word
 abbrev first : Shape → Held → Text → Walk
@@ -41,71 +39,86 @@ unfolding clap_on_literals
 level_one s h word plain =
     ap₂ (λ (b : Bool) (w : Walk). (b && true) && ends s w.held) (turn_plain s h 1 word plain) (walked_plain s.rules h 1 word plain)
 
--- the rows after the options and one file
-abbrev rows_one : ℕ → Bool → Option Text → Text → List Row
-rows_one i json prefer word = finished (subcommand i).rules (first (subcommand i) (held_first json prefer) word).held
+-- the subcommand of this place and name takes one file after the options, behind which this is held, and then makes this request
+record TakesFile (i : ℕ) (name : Text) (options : List Text) (k : Held) (request : Text → Request) : Type 0 where
+  leads : Leads (subcommand i) options nothing_held k
+  passes : (word : Text) → ((step_passes (subcommand i) 1 k value && true) && ends (subcommand i) (first (subcommand i) k word).held) ≡ true
+  enters : (program_name word : Text) → takes program (program_name ∷ name ∷ (options ++ word ∷ []))
+      ≡ (level_passes (subcommand i) [] nothing_held (options ++ word ∷ []) false && true)
+  named : (program_name word : Text) → subcommand_of program (program_name ∷ name ∷ (options ++ word ∷ []))
+      ≡ Some (name, rows_after (subcommand i).rules [] (options ++ word ∷ []))
+  makes : (word : Text) → request_in (Some (name, finished (subcommand i).rules (first (subcommand i) k word).held)) ≡ request word
 
--- what a level finds in them
-one_found : (i : ℕ) (json : Bool) (prefer : Option Text) (word : Text) → Knows (subcommand i) json → IsPreferenceWord prefer → IsPlainWord word
-    → rows_after (subcommand i).rules [] (option_words json prefer ++ word ∷ []) ≡ rows_one i json prefer word
-one_found i json prefer word knows h plain =
-    rows_options (subcommand i) json prefer (word ∷ []) knows h
-    ∙ ap (λ (w : Walk). finished (subcommand i).rules w.held) (walked_plain (subcommand i).rules (held_first json prefer) 1 word plain)
+file_taken : {i : ℕ} {name : Text} {options : List Text} {k : Held} {request : Text → Request} → TakesFile i name options k request
+    → (program_name word : Text) → IsPlainWord word → IsTaken (program_name ∷ name ∷ (options ++ word ∷ [])) (request word)
+file_taken {i = i} {name} {options} {k} file program_name word plain =
+    let s = subcommand i in
+    let passes = level_behind s options k (word ∷ []) file.leads ∙ (level_one s k word plain ∙ file.passes word) in
+    let found = rows_behind s options k (word ∷ []) file.leads ∙ ap (λ (w : Walk). finished s.rules w.held) (walked_plain s.rules k 1 word plain) in (
+      file.enters program_name word ∙ ap (λ b. b && true) passes,
+      ap request_in (file.named program_name word ∙ ap (λ (r : List Row). Some (name, r)) found) ∙ file.makes word,
+    )
 
--- ---- no word
-
--- the words are taken, and no subcommand is met
-pub takes-none : (name : Text) → takes program (name ∷ []) ≡ true
+check_leads : (json : Bool) (prefer : Option Text) → IsOptionText prefer → Leads (subcommand 0) (json_words json prefer) nothing_held (held_first 0 json prefer)
 unfolding clap_on_literals
-takes-none name = refl
+check_leads json prefer is = leads_json 0 (leads_flag {s = subcommand 0} {word = codes "--json"} {h = nothing_held} {k = flagged 0 (codes "--json")} refl refl) refl check_prefers json prefer is
 
-pub none_found : (name : Text) → subcommand_of program (name ∷ []) ≡ None
+check_takes : (json : Bool) (prefer : Option Text) → IsOptionText prefer → TakesFile 0 (codes "check") (json_words json prefer) (held_first 0 json prefer) (λ file. check_request json file prefer)
 unfolding clap_on_literals
-none_found name = refl
+check_takes false None is = record { leads = check_leads false None is; passes = λ word. refl; enters = λ name word. refl; named = λ name word. refl; makes = λ word. refl }
+check_takes false (Some []) is = absurd is
+check_takes false (Some (x ∷ xs)) is = record { leads = check_leads false (Some (x ∷ xs)) is; passes = λ word. then_passes x xs; enters = λ name word. refl; named = λ name word. refl; makes = λ word. refl }
+check_takes true None is = record { leads = check_leads true None is; passes = λ word. refl; enters = λ name word. refl; named = λ name word. refl; makes = λ word. refl }
+check_takes true (Some []) is = absurd is
+check_takes true (Some (x ∷ xs)) is = record { leads = check_leads true (Some (x ∷ xs)) is; passes = λ word. then_passes x xs; enters = λ name word. refl; named = λ name word. refl; makes = λ word. refl }
 
--- a type that is there passes the parser of the option
-type_passes : (x : ℕ) (xs : Text) → (((nat_lt 0 (length (x ∷ xs)) && true) && true) && true) ≡ true
-type_passes x xs = ap (λ (b : Bool). ((b && true) && true) && true) (lt-ltb 0 (length (x ∷ xs)) (omega arith))
-
--- ---- one file
-
--- the subcommand of this place and name takes one file after the options
-record TakesFile (i : ℕ) (name : Text) (json : Bool) (prefer : Option Text) : Type 0 where
-  passes : (word : Text) → IsPreferenceWord prefer
-      → ((step_passes (subcommand i) 1 (held_first json prefer) value && true) && ends (subcommand i) (first (subcommand i) (held_first json prefer) word).held) ≡ true
-  enters : (program_name word : Text) → takes program (program_name ∷ name ∷ (option_words json prefer ++ word ∷ []))
-      ≡ (level_passes (subcommand i) [] nothing_held (option_words json prefer ++ word ∷ []) false && true)
-  named : (program_name word : Text) → subcommand_of program (program_name ∷ name ∷ (option_words json prefer ++ word ∷ []))
-      ≡ Some (name, rows_after (subcommand i).rules [] (option_words json prefer ++ word ∷ []))
-  words : (word : Text) → (first_of (codes "FILE") (rows_one i json prefer word) ≡ Some word)
-      × ((first_of (codes "TYPE") (rows_one i json prefer word) ≡ prefer) × (asks_json (rows_one i json prefer word) ≡ json))
-
-check_takes : (json : Bool) (prefer : Option Text) → TakesFile 0 (codes "check") json prefer
+canon_takes : (prefer : Option Text) → IsOptionText prefer → TakesFile 1 (codes "canon") (preference_words prefer) (held_first 1 false prefer) (λ file. Canon file prefer)
 unfolding clap_on_literals
-check_takes false None = record { passes = λ word h. refl; enters = λ name word. refl; named = λ name word. refl; words = λ word. (refl, (refl, refl)) }
-check_takes false (Some []) = record { passes = λ word h. absurd h; enters = λ name word. refl; named = λ name word. refl; words = λ word. (refl, (refl, refl)) }
-check_takes false (Some (x ∷ xs)) = record { passes = λ word h. type_passes x xs; enters = λ name word. refl; named = λ name word. refl; words = λ word. (refl, (refl, refl)) }
-check_takes true None = record { passes = λ word h. refl; enters = λ name word. refl; named = λ name word. refl; words = λ word. (refl, (refl, refl)) }
-check_takes true (Some []) = record { passes = λ word h. absurd h; enters = λ name word. refl; named = λ name word. refl; words = λ word. (refl, (refl, refl)) }
-check_takes true (Some (x ∷ xs)) = record { passes = λ word h. type_passes x xs; enters = λ name word. refl; named = λ name word. refl; words = λ word. (refl, (refl, refl)) }
+canon_takes None is = record { leads = leads_option canon_prefers None nothing_held is refl; passes = λ word. refl; enters = λ name word. refl; named = λ name word. refl; makes = λ word. refl }
+canon_takes (Some []) is = absurd is
+canon_takes (Some (x ∷ xs)) is = record { leads = leads_option canon_prefers (Some (x ∷ xs)) nothing_held is refl; passes = λ word. then_passes x xs; enters = λ name word. refl; named = λ name word. refl; makes = λ word. refl }
 
-canon_takes : (prefer : Option Text) → TakesFile 1 (codes "canon") false prefer
+-- what is held behind the steps, and behind the preference
+abbrev held_steps : Held → Option Text → Held
+held_steps h steps = given (subcommand 4).rules (codes "STEPS") steps h
+
+abbrev held_both : Option Text → Option Text → Held
+held_both steps prefer = given (subcommand 4).rules (codes "TYPE") prefer (held_steps nothing_held steps)
+
+-- the steps are settled before the preference
+steps_settle : (steps : Option Text) → IsOptionText steps → settle_passes (subcommand 4).rules (subcommand 4).args_override_self (held_steps nothing_held steps) ≡ true
 unfolding clap_on_literals
-canon_takes None = record { passes = λ word h. refl; enters = λ name word. refl; named = λ name word. refl; words = λ word. (refl, (refl, refl)) }
-canon_takes (Some []) = record { passes = λ word h. absurd h; enters = λ name word. refl; named = λ name word. refl; words = λ word. (refl, (refl, refl)) }
-canon_takes (Some (x ∷ xs)) = record { passes = λ word h. type_passes x xs; enters = λ name word. refl; named = λ name word. refl; words = λ word. (refl, (refl, refl)) }
+steps_settle None is = refl
+steps_settle (Some []) is = absurd is
+steps_settle (Some (x ∷ xs)) is = text_passes x xs
 
-module _ (i : ℕ) (name : Text) (json : Bool) (knows : Knows (subcommand i) json) (prefer : Option Text) (file : TakesFile i name json prefer) (program_name word : Text) (plain : IsPlainWord word) (h : IsPreferenceWord prefer) where
-  takes-file : takes program (program_name ∷ name ∷ (option_words json prefer ++ word ∷ [])) ≡ true
-  takes-file =
-      file.enters program_name word
-      ∙ ap (λ b. b && true) (level_options (subcommand i) json prefer (word ∷ []) knows h ∙ (level_one (subcommand i) (held_first json prefer) word plain ∙ file.passes word h))
+prepare_leads : (steps prefer : Option Text) → IsOptionText steps → IsOptionText prefer → Leads (subcommand 4) (steps_words steps ++ preference_words prefer) nothing_held (held_both steps prefer)
+prepare_leads steps prefer is is2 =
+    leads_on (leads_option prepare_chooses steps nothing_held is refl) (leads_option prepare_prefers prefer (held_steps nothing_held steps) is2 (steps_settle steps is))
 
-  file_found : HasFile name json word prefer (name, rows_one i json prefer word)
-  file_found = (refl, file.words word)
+prepare_takes : (steps prefer : Option Text) → IsOptionText steps → IsOptionText prefer → TakesFile 4 (codes "prepare") (steps_words steps ++ preference_words prefer) (held_both steps prefer) (λ file. Prepare file steps prefer)
+unfolding clap_on_literals
+prepare_takes None None is is2 = record { leads = prepare_leads None None is is2; passes = λ word. refl; enters = λ name word. refl; named = λ name word. refl; makes = λ word. refl }
+prepare_takes None (Some []) is is2 = absurd is2
+prepare_takes None (Some (y ∷ ys)) is is2 = record { leads = prepare_leads None (Some (y ∷ ys)) is is2; passes = λ word. then_passes y ys; enters = λ name word. refl; named = λ name word. refl; makes = λ word. refl }
+prepare_takes (Some []) prefer is is2 = absurd is
+prepare_takes (Some (x ∷ xs)) None is is2 = record { leads = prepare_leads (Some (x ∷ xs)) None is is2; passes = λ word. then_passes x xs; enters = λ name word. refl; named = λ name word. refl; makes = λ word. refl }
+prepare_takes (Some (x ∷ xs)) (Some []) is is2 = absurd is2
+prepare_takes (Some (x ∷ xs)) (Some (y ∷ ys)) is is2 = record { leads = prepare_leads (Some (x ∷ xs)) (Some (y ∷ ys)) is is2; passes = λ word. then_passes y ys; enters = λ name word. refl; named = λ name word. refl; makes = λ word. refl }
 
-  file_met : subcommand_of program (program_name ∷ name ∷ (option_words json prefer ++ word ∷ [])) ≡ Some (name, rows_one i json prefer word)
-  file_met = file.named program_name word ∙ ap (λ (r : List Row). Some (name, r)) (one_found i json prefer word knows h plain)
+report_leads : (steps : Option Text) → IsOptionText steps → Leads (subcommand 4) (codes "--report" ∷ steps_words steps) nothing_held (held_steps (flagged 4 (codes "--report")) steps)
+unfolding clap_on_literals
+report_leads steps is = leads_on (leads_flag {s = subcommand 4} {word = codes "--report"} {h = nothing_held} {k = flagged 4 (codes "--report")} refl refl) (leads_option prepare_chooses steps (flagged 4 (codes "--report")) is refl)
+
+report_takes : (steps : Option Text) → IsOptionText steps → TakesFile 4 (codes "prepare") (codes "--report" ∷ steps_words steps) (held_steps (flagged 4 (codes "--report")) steps) (λ file. PrepareReport file steps)
+unfolding clap_on_literals
+report_takes None is = record { leads = report_leads None is; passes = λ word. refl; enters = λ name word. refl; named = λ name word. refl; makes = λ word. refl }
+report_takes (Some []) is = absurd is
+report_takes (Some (x ∷ xs)) is = record { leads = report_leads (Some (x ∷ xs)) is; passes = λ word. then_passes x xs; enters = λ name word. refl; named = λ name word. refl; makes = λ word. refl }
+
+list_takes : TakesFile 4 (codes "prepare") (codes "--list" ∷ []) (flagged 4 (codes "--list")) (λ file. PrepareList file)
+unfolding clap_on_literals
+list_takes = record { leads = leads_flag {s = subcommand 4} {word = codes "--list"} {h = nothing_held} {k = flagged 4 (codes "--list")} refl refl; passes = λ word. refl; enters = λ name word. refl; named = λ name word. refl; makes = λ word. refl }
 
 -- ---- two files
 
@@ -136,91 +149,70 @@ level_two s h left right goes_on plain plain2 =
     (ap₂ (λ (b : Bool) (d : Bool). b && (d && true)) (turn_plain s h 1 left plain) (turn_two s h left right goes_on plain plain2))
     (walked_two s h left right goes_on plain plain2)
 
--- the rows after the options and two files
-abbrev rows_two : ℕ → Bool → Option Text → Text → Text → List Row
-rows_two i json prefer left right = finished (subcommand i).rules (second (subcommand i) (held_first json prefer) left right).held
+-- the subcommand of this place and name takes two files after the options, behind which this is held, and then makes this request
+record TakesPair (i : ℕ) (name : Text) (options : List Text) (k : Held) (request : Text → Text → Request) : Type 0 where
+  leads : Leads (subcommand i) options nothing_held k
+  goes_on : (left : Text) → GoesOn (subcommand i) k left
+  passes : (left right : Text)
+      → ((step_passes (subcommand i) 1 k value && (step_passes (subcommand i) 2 (first (subcommand i) k left).held value && true))
+      && ends (subcommand i) (second (subcommand i) k left right).held) ≡ true
+  enters : (program_name left right : Text) → takes program (program_name ∷ name ∷ (options ++ left ∷ right ∷ []))
+      ≡ (level_passes (subcommand i) [] nothing_held (options ++ left ∷ right ∷ []) false && true)
+  named : (program_name left right : Text) → subcommand_of program (program_name ∷ name ∷ (options ++ left ∷ right ∷ []))
+      ≡ Some (name, rows_after (subcommand i).rules [] (options ++ left ∷ right ∷ []))
+  makes : (left right : Text) → request_in (Some (name, finished (subcommand i).rules (second (subcommand i) k left right).held)) ≡ request left right
 
--- the subcommand of this place and name takes two files after the options
-record TakesPair (i : ℕ) (name : Text) (json : Bool) (prefer : Option Text) : Type 0 where
-  goes_on : (left : Text) → GoesOn (subcommand i) (held_first json prefer) left
-  passes : (left right : Text) → IsPreferenceWord prefer
-      → ((step_passes (subcommand i) 1 (held_first json prefer) value && (step_passes (subcommand i) 2 (first (subcommand i) (held_first json prefer) left).held value && true))
-      && ends (subcommand i) (second (subcommand i) (held_first json prefer) left right).held) ≡ true
-  enters : (program_name left right : Text) → takes program (program_name ∷ name ∷ (option_words json prefer ++ left ∷ right ∷ []))
-      ≡ (level_passes (subcommand i) [] nothing_held (option_words json prefer ++ left ∷ right ∷ []) false && true)
-  named : (program_name left right : Text) → subcommand_of program (program_name ∷ name ∷ (option_words json prefer ++ left ∷ right ∷ []))
-      ≡ Some (name, rows_after (subcommand i).rules [] (option_words json prefer ++ left ∷ right ∷ []))
-  words : (left right : Text) → (first_of (codes "LEFT") (rows_two i json prefer left right) ≡ Some left)
-      × ((first_of (codes "RIGHT") (rows_two i json prefer left right) ≡ Some right)
-      × ((first_of (codes "TYPE") (rows_two i json prefer left right) ≡ prefer) × (asks_json (rows_two i json prefer left right) ≡ json)))
+pair_taken : {i : ℕ} {name : Text} {options : List Text} {k : Held} {request : Text → Text → Request} → TakesPair i name options k request
+    → (program_name left right : Text) → IsPlainWord left → IsPlainWord right → IsTaken (program_name ∷ name ∷ (options ++ left ∷ right ∷ [])) (request left right)
+pair_taken {i = i} {name} {options} {k} pair program_name left right plain plain2 =
+    let s = subcommand i in
+    let passes = level_behind s options k (left ∷ right ∷ []) pair.leads ∙ (level_two s k left right (pair.goes_on left) plain plain2 ∙ pair.passes left right) in
+    let found = rows_behind s options k (left ∷ right ∷ []) pair.leads
+    ∙ ap (λ (w : Walk). finished s.rules w.held) (walked_two s k left right (pair.goes_on left) plain plain2) in (
+      pair.enters program_name left right ∙ ap (λ b. b && true) passes,
+      ap request_in (pair.named program_name left right ∙ ap (λ (r : List Row). Some (name, r)) found) ∙ pair.makes left right,
+    )
 
-compare_takes : (json : Bool) (prefer : Option Text) → TakesPair 2 (codes "compare") json prefer
+compare_leads : (json : Bool) (prefer : Option Text) → IsOptionText prefer → Leads (subcommand 2) (json_words json prefer) nothing_held (held_first 2 json prefer)
 unfolding clap_on_literals
-compare_takes false None = record { goes_on = λ left. refl; passes = λ left right h. refl; enters = λ name left right. refl; named = λ name left right. refl; words = λ left right. (refl, (refl, (refl, refl))) }
-compare_takes false (Some []) = record { goes_on = λ left. refl; passes = λ left right h. absurd h; enters = λ name left right. refl; named = λ name left right. refl; words = λ left right. (refl, (refl, (refl, refl))) }
-compare_takes false (Some (x ∷ xs)) = record { goes_on = λ left. refl; passes = λ left right h. type_passes x xs; enters = λ name left right. refl; named = λ name left right. refl; words = λ left right. (refl, (refl, (refl, refl))) }
-compare_takes true None = record { goes_on = λ left. refl; passes = λ left right h. refl; enters = λ name left right. refl; named = λ name left right. refl; words = λ left right. (refl, (refl, (refl, refl))) }
-compare_takes true (Some []) = record { goes_on = λ left. refl; passes = λ left right h. absurd h; enters = λ name left right. refl; named = λ name left right. refl; words = λ left right. (refl, (refl, (refl, refl))) }
-compare_takes true (Some (x ∷ xs)) = record { goes_on = λ left. refl; passes = λ left right h. type_passes x xs; enters = λ name left right. refl; named = λ name left right. refl; words = λ left right. (refl, (refl, (refl, refl))) }
+compare_leads json prefer is = leads_json 2 (leads_flag {s = subcommand 2} {word = codes "--json"} {h = nothing_held} {k = flagged 2 (codes "--json")} refl refl) refl compare_prefers json prefer is
 
-differences_takes : (json : Bool) (prefer : Option Text) → TakesPair 3 (codes "differences") json prefer
+compare_takes : (json : Bool) (prefer : Option Text) → IsOptionText prefer → TakesPair 2 (codes "compare") (json_words json prefer) (held_first 2 json prefer) (λ left right. compare_request json left right prefer)
 unfolding clap_on_literals
-differences_takes false None = record { goes_on = λ left. refl; passes = λ left right h. refl; enters = λ name left right. refl; named = λ name left right. refl; words = λ left right. (refl, (refl, (refl, refl))) }
-differences_takes false (Some []) = record { goes_on = λ left. refl; passes = λ left right h. absurd h; enters = λ name left right. refl; named = λ name left right. refl; words = λ left right. (refl, (refl, (refl, refl))) }
-differences_takes false (Some (x ∷ xs)) = record { goes_on = λ left. refl; passes = λ left right h. type_passes x xs; enters = λ name left right. refl; named = λ name left right. refl; words = λ left right. (refl, (refl, (refl, refl))) }
-differences_takes true None = record { goes_on = λ left. refl; passes = λ left right h. refl; enters = λ name left right. refl; named = λ name left right. refl; words = λ left right. (refl, (refl, (refl, refl))) }
-differences_takes true (Some []) = record { goes_on = λ left. refl; passes = λ left right h. absurd h; enters = λ name left right. refl; named = λ name left right. refl; words = λ left right. (refl, (refl, (refl, refl))) }
-differences_takes true (Some (x ∷ xs)) = record { goes_on = λ left. refl; passes = λ left right h. type_passes x xs; enters = λ name left right. refl; named = λ name left right. refl; words = λ left right. (refl, (refl, (refl, refl))) }
+compare_takes false None is = record { leads = compare_leads false None is; goes_on = λ left. refl; passes = λ left right. refl; enters = λ name left right. refl; named = λ name left right. refl; makes = λ left right. refl }
+compare_takes false (Some []) is = absurd is
+compare_takes false (Some (x ∷ xs)) is = record { leads = compare_leads false (Some (x ∷ xs)) is; goes_on = λ left. refl; passes = λ left right. then_passes x xs; enters = λ name left right. refl; named = λ name left right. refl; makes = λ left right. refl }
+compare_takes true None is = record { leads = compare_leads true None is; goes_on = λ left. refl; passes = λ left right. refl; enters = λ name left right. refl; named = λ name left right. refl; makes = λ left right. refl }
+compare_takes true (Some []) is = absurd is
+compare_takes true (Some (x ∷ xs)) is = record { leads = compare_leads true (Some (x ∷ xs)) is; goes_on = λ left. refl; passes = λ left right. then_passes x xs; enters = λ name left right. refl; named = λ name left right. refl; makes = λ left right. refl }
 
-module _ (i : ℕ) (name : Text) (json : Bool) (knows : Knows (subcommand i) json) (prefer : Option Text) (pair : TakesPair i name json prefer) (program_name left right : Text) (left_plain : IsPlainWord left) (right_plain : IsPlainWord right) (h : IsPreferenceWord prefer) where
-  takes-pair : takes program (program_name ∷ name ∷ (option_words json prefer ++ left ∷ right ∷ [])) ≡ true
-  takes-pair =
-      let held = held_first json prefer in
-      pair.enters program_name left right
-      ∙ ap (λ b. b && true) (level_options (subcommand i) json prefer (left ∷ right ∷ []) knows h
-      ∙ (level_two (subcommand i) held left right (pair.goes_on left) left_plain right_plain ∙ pair.passes left right h))
+differences_leads : (json : Bool) (prefer : Option Text) → IsOptionText prefer → Leads (subcommand 3) (json_words json prefer) nothing_held (held_first 3 json prefer)
+unfolding clap_on_literals
+differences_leads json prefer is = leads_json 3 (leads_flag {s = subcommand 3} {word = codes "--json"} {h = nothing_held} {k = flagged 3 (codes "--json")} refl refl) refl differences_prefers json prefer is
 
-  pair_found : HasPair name json left right prefer (name, rows_two i json prefer left right)
-  pair_found = (refl, pair.words left right)
-
-  pair_met : subcommand_of program (program_name ∷ name ∷ (option_words json prefer ++ left ∷ right ∷ [])) ≡ Some (name, rows_two i json prefer left right)
-  pair_met =
-      let found = rows_options (subcommand i) json prefer (left ∷ right ∷ []) knows h
-      ∙ ap (λ (w : Walk). finished (subcommand i).rules w.held) (walked_two (subcommand i) (held_first json prefer) left right (pair.goes_on left) left_plain right_plain) in
-      pair.named program_name left right ∙ ap (λ (r : List Row). Some (name, r)) found
+differences_takes : (json : Bool) (prefer : Option Text) → IsOptionText prefer → TakesPair 3 (codes "differences") (json_words json prefer) (held_first 3 json prefer) (λ left right. differences_request json left right prefer)
+unfolding clap_on_literals
+differences_takes false None is = record { leads = differences_leads false None is; goes_on = λ left. refl; passes = λ left right. refl; enters = λ name left right. refl; named = λ name left right. refl; makes = λ left right. refl }
+differences_takes false (Some []) is = absurd is
+differences_takes false (Some (x ∷ xs)) is = record { leads = differences_leads false (Some (x ∷ xs)) is; goes_on = λ left. refl; passes = λ left right. then_passes x xs; enters = λ name left right. refl; named = λ name left right. refl; makes = λ left right. refl }
+differences_takes true None is = record { leads = differences_leads true None is; goes_on = λ left. refl; passes = λ left right. refl; enters = λ name left right. refl; named = λ name left right. refl; makes = λ left right. refl }
+differences_takes true (Some []) is = absurd is
+differences_takes true (Some (x ∷ xs)) is = record { leads = differences_leads true (Some (x ∷ xs)) is; goes_on = λ left. refl; passes = λ left right. then_passes x xs; enters = λ name left right. refl; named = λ name left right. refl; makes = λ left right. refl }
 
 -- ---- each exact line
 
-pub takes-line : (request : Request) (name : Text) → HasPlainWords request → takes program (name ∷ words_of request) ≡ true
-takes-line Filter name h = takes-none name
-takes-line (Check file prefer) name h = takes-file 0 (codes "check") false (check_knows false) prefer (check_takes false prefer) name file (file_plain file h.0) h.1
-takes-line (CheckData file prefer) name h = takes-file 0 (codes "check") true (check_knows true) prefer (check_takes true prefer) name file (file_plain file h.0) h.1
-takes-line (Canon file prefer) name h = takes-file 1 (codes "canon") false canon_knows prefer (canon_takes prefer) name file (file_plain file h.0) h.1
-takes-line (Compare left right prefer) name h =
-    takes-pair 2 (codes "compare") false (compare_knows false) prefer (compare_takes false prefer) name left right (file_plain left h.0) (file_plain right h.1) h.2
-takes-line (CompareData left right prefer) name h =
-    takes-pair 2 (codes "compare") true (compare_knows true) prefer (compare_takes true prefer) name left right (file_plain left h.0) (file_plain right h.1) h.2
-takes-line (Differences left right prefer) name h =
-    takes-pair 3 (codes "differences") false (differences_knows false) prefer (differences_takes false prefer) name left right (file_plain left h.0) (file_plain right h.1) h.2
-takes-line (DifferencesData left right prefer) name h =
-    takes-pair 3 (codes "differences") true (differences_knows true) prefer (differences_takes true prefer) name left right (file_plain left h.0) (file_plain right h.1) h.2
-
-pub line_found : (request : Request) (name : Text) → HasPlainWords request → IsAskedBy (subcommand_of program (name ∷ words_of request)) request
-line_found Filter name h = subst (λ (o : Option (Text × List Row)). IsAskedBy o Filter) (sym (none_found name)) tt
-line_found (Check file prefer) name h =
-    subst (λ (o : Option (Text × List Row)). IsAskedBy o (Check file prefer)) (sym (file_met 0 (codes "check") false (check_knows false) prefer (check_takes false prefer) name file (file_plain file h.0) h.1)) (file_found 0 (codes "check") false (check_knows false) prefer (check_takes false prefer) name file (file_plain file h.0) h.1)
-line_found (CheckData file prefer) name h =
-    subst (λ (o : Option (Text × List Row)). IsAskedBy o (CheckData file prefer)) (sym (file_met 0 (codes "check") true (check_knows true) prefer (check_takes true prefer) name file (file_plain file h.0) h.1)) (file_found 0 (codes "check") true (check_knows true) prefer (check_takes true prefer) name file (file_plain file h.0) h.1)
-line_found (Canon file prefer) name h =
-    subst (λ (o : Option (Text × List Row)). IsAskedBy o (Canon file prefer)) (sym (file_met 1 (codes "canon") false canon_knows prefer (canon_takes prefer) name file (file_plain file h.0) h.1)) (file_found 1 (codes "canon") false canon_knows prefer (canon_takes prefer) name file (file_plain file h.0) h.1)
-line_found (Compare left right prefer) name h =
-    subst (λ (o : Option (Text × List Row)). IsAskedBy o (Compare left right prefer)) (sym (pair_met 2 (codes "compare") false (compare_knows false) prefer (compare_takes false prefer) name left right (file_plain left h.0) (file_plain right h.1) h.2)) (pair_found 2 (codes "compare") false (compare_knows false) prefer (compare_takes false prefer) name left right (file_plain left h.0) (file_plain right h.1) h.2)
-line_found (CompareData left right prefer) name h =
-    subst (λ (o : Option (Text × List Row)). IsAskedBy o (CompareData left right prefer)) (sym (pair_met 2 (codes "compare") true (compare_knows true) prefer (compare_takes true prefer) name left right (file_plain left h.0) (file_plain right h.1) h.2)) (pair_found 2 (codes "compare") true (compare_knows true) prefer (compare_takes true prefer) name left right (file_plain left h.0) (file_plain right h.1) h.2)
-line_found (Differences left right prefer) name h =
-    subst (λ (o : Option (Text × List Row)). IsAskedBy o (Differences left right prefer)) (sym (pair_met 3 (codes "differences") false (differences_knows false) prefer (differences_takes false prefer) name left right (file_plain left h.0) (file_plain right h.1) h.2)) (pair_found 3 (codes "differences") false (differences_knows false) prefer (differences_takes false prefer) name left right (file_plain left h.0) (file_plain right h.1) h.2)
-line_found (DifferencesData left right prefer) name h =
-    subst (λ (o : Option (Text × List Row)). IsAskedBy o (DifferencesData left right prefer)) (sym (pair_met 3 (codes "differences") true (differences_knows true) prefer (differences_takes true prefer) name left right (file_plain left h.0) (file_plain right h.1) h.2)) (pair_found 3 (codes "differences") true (differences_knows true) prefer (differences_takes true prefer) name left right (file_plain left h.0) (file_plain right h.1) h.2)
+pub line_taken : (request : Request) (name : Text) → HasPlainWords request → IsTaken (name ∷ words_of request) request
+line_taken Filter name h = none_taken name
+line_taken (Check file prefer) name h = file_taken (check_takes false prefer h.1) name file (file_plain file h.0)
+line_taken (CheckData file prefer) name h = file_taken (check_takes true prefer h.1) name file (file_plain file h.0)
+line_taken (Canon file prefer) name h = file_taken (canon_takes prefer h.1) name file (file_plain file h.0)
+line_taken (Compare left right prefer) name h = pair_taken (compare_takes false prefer h.2) name left right (file_plain left h.0) (file_plain right h.1)
+line_taken (CompareData left right prefer) name h = pair_taken (compare_takes true prefer h.2) name left right (file_plain left h.0) (file_plain right h.1)
+line_taken (Differences left right prefer) name h = pair_taken (differences_takes false prefer h.2) name left right (file_plain left h.0) (file_plain right h.1)
+line_taken (DifferencesData left right prefer) name h = pair_taken (differences_takes true prefer h.2) name left right (file_plain left h.0) (file_plain right h.1)
+line_taken (Prepare file steps prefer) name h = file_taken (prepare_takes steps prefer h.1 h.2) name file (file_plain file h.0)
+line_taken (PrepareList file) name h = file_taken list_takes name file (file_plain file h)
+line_taken (PrepareReport file steps) name h = file_taken (report_takes steps h.1) name file (file_plain file h.0)
 
 pub program_simple : is_simple program ≡ true
 unfolding clap_on_literals
@@ -231,45 +223,6 @@ unfolding clap_on_literals
 program_free = refl
 
 -- ---- the request that a parse makes, and the fault that its error is passed on as
-
-abbrev word : Option (List ℕ) → List ℕ
-word found = unwrap_or found []
-
--- the request that is asked for is the one that the parse makes
-file_request : (request : Bool → List ℕ → Option (List ℕ) → Request) (json : Bool) (file : List ℕ) (prefer : Option (List ℕ)) (rows : List Row)
-    → first_of (codes "FILE") rows ≡ Some file → first_of (codes "TYPE") rows ≡ prefer → asks_json rows ≡ json
-    → request (asks_json rows) (word (first_of (codes "FILE") rows)) (preference_in rows) ≡ request json file prefer
-file_request request json file prefer rows file_is type_is json_is =
-    ap (λ (b : Bool). request b (word (first_of (codes "FILE") rows)) (preference_in rows)) json_is ∙ ap₂ (request json) (ap word file_is) type_is
-
-pair_request_is : (request : Bool → List ℕ → List ℕ → Option (List ℕ) → Request) (json : Bool) (left right : List ℕ) (prefer : Option (List ℕ)) (rows : List Row)
-    → first_of (codes "LEFT") rows ≡ Some left → first_of (codes "RIGHT") rows ≡ Some right → first_of (codes "TYPE") rows ≡ prefer → asks_json rows ≡ json
-    → request (asks_json rows) (word (first_of (codes "LEFT") rows)) (word (first_of (codes "RIGHT") rows)) (preference_in rows) ≡ request json left right prefer
-pair_request_is request json left right prefer rows left_is right_is type_is json_is =
-    ap (λ (b : Bool). request b (word (first_of (codes "LEFT") rows)) (word (first_of (codes "RIGHT") rows)) (preference_in rows)) json_is
-    ∙ (ap₂ (λ (a : List ℕ) (b : List ℕ). request json a b (preference_in rows)) (ap word left_is) (ap word right_is) ∙ ap (request json left right) type_is)
-
--- and its name leads there
-named : (found : List ℕ × List Row) (name : List ℕ) → found.0 ≡ name → request_in (Some found) ≡ subcommand_request name found.1
-named found name is = ap (λ (n : List ℕ). subcommand_request n found.1) is
-
-pub asked_is : (found : Option (List ℕ × List Row)) (request : Request) → IsAskedBy found request → request_in found ≡ request
-asked_is None Filter h = refl
-asked_is (Some found) (Check file prefer) (is, (file_is, (type_is, json_is))) =
-    named found (codes "check") is ∙ file_request check_request false file prefer found.1 file_is type_is json_is
-asked_is (Some found) (CheckData file prefer) (is, (file_is, (type_is, json_is))) =
-    named found (codes "check") is ∙ file_request check_request true file prefer found.1 file_is type_is json_is
-asked_is (Some found) (Canon file prefer) (is, (file_is, (type_is, json_is))) =
-    named found (codes "canon") is ∙ ap₂ Canon (ap word file_is) type_is
-asked_is (Some found) (Compare left right prefer) (is, (left_is, (right_is, (type_is, json_is)))) =
-    named found (codes "compare") is ∙ pair_request_is compare_request false left right prefer found.1 left_is right_is type_is json_is
-asked_is (Some found) (CompareData left right prefer) (is, (left_is, (right_is, (type_is, json_is)))) =
-    named found (codes "compare") is ∙ pair_request_is compare_request true left right prefer found.1 left_is right_is type_is json_is
-asked_is (Some found) (Differences left right prefer) (is, (left_is, (right_is, (type_is, json_is)))) =
-    named found (codes "differences") is ∙ pair_request_is differences_request false left right prefer found.1 left_is right_is type_is json_is
-asked_is (Some found) (DifferencesData left right prefer) (is, (left_is, (right_is, (type_is, json_is)))) =
-    named found (codes "differences") is ∙ pair_request_is differences_request true left right prefer found.1 left_is right_is type_is json_is
-asked_is _ _ h = absurd h
 
 -- where the answer is a request, or else out of memory
 pub exact_of : (r : Result Request LineFault) (found request : Request) → MatchResult r (λ answer. answer ≡ found) (λ fault. fault ≡ Memory) → found ≡ request

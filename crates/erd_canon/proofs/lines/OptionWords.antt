@@ -1,5 +1,5 @@
 -- What `clap` makes of the words that are options, before the other words of a subcommand.
-use Rattle.erd_canon.proofs.Common.{◌≡◌, ℕ, Bool, true, false, ◌&&◌, List, [], ◌∷◌, ◌++◌, slice_get, Some, None, codes, fold, Option, unwrap_or, refl, ap, ◌∙◌, ap₂, clap_on_literals, Shape, settle_passes, turn_passes, walk_passes, default_passes, is_valid, level_passes, Held, Walk, walked, walk_from, walk, finished, nothing_held, rows_after, built, Text, preference_words, IsFileName, IsPreferenceWord, program}
+use Rattle.erd_canon.proofs.Common.{◌≡◌, ℕ, Bool, true, false, ◌&&◌, List, [], ◌∷◌, ◌++◌, slice_get, Some, None, codes, fold, Option, unwrap_or, refl, ap, ◌∙◌, ap₂, append_assoc, clap_on_literals, Rule, Shape, settle_passes, turn_passes, walk_passes, default_passes, is_valid, level_passes, Held, Walk, walked, walk_from, walk, finished, nothing_held, rows_after, settled, built, Text, option_words, preference_words, IsFileName, IsOptionText, program}
 use Rattle.std.specs.List.{list_all}
 use Rattle.erd_canon.proofs.lines.PlainWords.{IsPlainWord, at, plain_word, turn_waited, waits_for, walked_waited}
 
@@ -7,113 +7,123 @@ use Rattle.erd_canon.proofs.lines.PlainWords.{IsPlainWord, at, plain_word, turn_
 abbrev pub subcommand : ℕ → Shape
 subcommand i = unwrap_or (slice_get (built program).subs i) program.top
 
--- the words of the options: `--json` or not, and the preference
-abbrev pub option_words : Bool → Option Text → List Text
-option_words false prefer = preference_words prefer
-option_words true prefer = codes "--json" ∷ preference_words prefer
-
--- what is held behind `--json`, if it is there
-abbrev pub held_json : Bool → Held
-held_json false = nothing_held
-held_json true = (walked (subcommand 0).rules [] (at nothing_held 1) (codes "--json")).held
-
--- what is held before the first file
-abbrev pub held_first : Bool → Option Text → Held
-held_first json None = held_json json
-held_first json (Some type) = record (held_json json) { pending = Some (codes "TYPE", type ∷ []) }
-
--- the option waits for a type
-abbrev asked : Bool → Walk
-asked json = waits_for (codes "TYPE") (record (held_json json) { pending = Some (codes "TYPE", []) }) 1
-
 pub file_plain : (file : Text) → IsFileName file → IsPlainWord file
 file_plain [] h = absurd h
 file_plain (x ∷ xs) h = plain_word x xs h
 
--- a subcommand that knows the option `--prefer`, behind `--json` or not
-pub record Prefers (s : Shape) (json : Bool) : Type 0 where
-  pub walks : walked s.rules [] (at (held_json json) 1) (codes "--prefer") ≡ asked json
-  pub passes : turn_passes s [] (at (held_json json) 1) (codes "--prefer") ≡ true
-  pub takes : (type : Text) → IsPlainWord type → walked s.rules [] (asked json) type ≡ at (held_first json (Some type)) 1
+-- ---- words that lead from what is held before them to what is held after them
 
--- a subcommand that knows the flag `--json`, if that is there
-abbrev pub KnowsJson : Shape → Bool → Type 0
-KnowsJson s false = Unit {0}
-KnowsJson s true = (walked s.rules [] (at nothing_held 1) (codes "--json") ≡ at (held_json true) 1) × (turn_passes s [] (at nothing_held 1) (codes "--json") ≡ true)
+pub record Leads (s : Shape) (words : List Text) (h k : Held) : Type 0 where
+  pub walks : (rest : List Text) → walk s.rules [] h (words ++ rest) ≡ walk s.rules [] k rest
+  pub passes : (rest : List Text) → walk_passes s [] (walk_from h) (words ++ rest) ≡ walk_passes s [] (walk_from k) rest
 
--- a subcommand that knows both
-pub record Knows (s : Shape) (json : Bool) : Type 0 where
-  pub flag : KnowsJson s json
-  pub prefers : Prefers s json
+pub leads_on : {s : Shape} {xs ys : List Text} {h k l : Held} → Leads s xs h k → Leads s ys k l → Leads s (xs ++ ys) h l
+leads_on {s = s} {xs} {ys} {h = h} a b = record {
+  walks = λ rest. ap (walk s.rules [] h) (append_assoc xs ys rest) ∙ (a.walks (ys ++ rest) ∙ b.walks rest);
+  passes = λ rest. ap (walk_passes s [] (walk_from h)) (append_assoc xs ys rest) ∙ (a.passes (ys ++ rest) ∙ b.passes rest);
+}
 
-pub check_knows : (json : Bool) → Knows (subcommand 0) json
-unfolding clap_on_literals
-check_knows false = record { flag = tt; prefers = record { walks = refl; passes = refl; takes = λ type plain. walked_waited (subcommand 0).rules (codes "TYPE") (asked false).held 1 type plain } }
-check_knows true = record { flag = (refl, refl); prefers = record { walks = refl; passes = refl; takes = λ type plain. walked_waited (subcommand 0).rules (codes "TYPE") (asked true).held 1 type plain } }
+pub leads_nowhere : {s : Shape} {h : Held} → Leads s [] h h
+leads_nowhere = record { walks = λ rest. refl; passes = λ rest. refl }
 
-pub canon_knows : Knows (subcommand 1) false
-unfolding clap_on_literals
-canon_knows = record { flag = tt; prefers = record { walks = refl; passes = refl; takes = λ type plain. walked_waited (subcommand 1).rules (codes "TYPE") (asked false).held 1 type plain } }
-
-pub compare_knows : (json : Bool) → Knows (subcommand 2) json
-unfolding clap_on_literals
-compare_knows false = record { flag = tt; prefers = record { walks = refl; passes = refl; takes = λ type plain. walked_waited (subcommand 2).rules (codes "TYPE") (asked false).held 1 type plain } }
-compare_knows true = record { flag = (refl, refl); prefers = record { walks = refl; passes = refl; takes = λ type plain. walked_waited (subcommand 2).rules (codes "TYPE") (asked true).held 1 type plain } }
-
-pub differences_knows : (json : Bool) → Knows (subcommand 3) json
-unfolding clap_on_literals
-differences_knows false = record { flag = tt; prefers = record { walks = refl; passes = refl; takes = λ type plain. walked_waited (subcommand 3).rules (codes "TYPE") (asked false).held 1 type plain } }
-differences_knows true = record { flag = (refl, refl); prefers = record { walks = refl; passes = refl; takes = λ type plain. walked_waited (subcommand 3).rules (codes "TYPE") (asked true).held 1 type plain } }
-
--- the walk over both words of a preference
-both_walked : (s : Shape) (json : Bool) (type : Text) → Prefers s json → IsPlainWord type
-    → walked s.rules [] (walked s.rules [] (at (held_json json) 1) (codes "--prefer")) type ≡ at (held_first json (Some type)) 1
-both_walked s json type knows plain = ap (λ (w : Walk). walked s.rules [] w type) knows.walks ∙ knows.takes type plain
-
--- the walk over the words goes on from what is held
-walk_preferring : (s : Shape) (json : Bool) (prefer : Option Text) (words : List Text) → Prefers s json → IsPreferenceWord prefer
-    → walk s.rules [] (held_json json) (preference_words prefer ++ words) ≡ walk s.rules [] (held_first json prefer) words
-walk_preferring s json None words knows h = refl
-walk_preferring s json (Some type) words knows h =
-    ap (λ (w : Walk). fold (walked s.rules []) w words) (both_walked s json type knows (file_plain type h))
-
-walk_options : (s : Shape) (json : Bool) (prefer : Option Text) (words : List Text) → Knows s json → IsPreferenceWord prefer
-    → walk s.rules [] nothing_held (option_words json prefer ++ words) ≡ walk s.rules [] (held_first json prefer) words
-walk_options s false prefer words knows h = walk_preferring s false prefer words knows.prefers h
-walk_options s true prefer words knows h =
-    ap (λ (w : Walk). fold (walked s.rules []) w (preference_words prefer ++ words)) knows.flag.0 ∙ walk_preferring s true prefer words knows.prefers h
-
--- and so does whether they are taken
-passes_preferring : (s : Shape) (json : Bool) (prefer : Option Text) (words : List Text) → Prefers s json → IsPreferenceWord prefer
-    → walk_passes s [] (walk_from (held_json json)) (preference_words prefer ++ words) ≡ walk_passes s [] (walk_from (held_first json prefer)) words
+-- a flag
+pub leads_flag : {s : Shape} {word : Text} {h k : Held} → walked s.rules [] (at h 1) word ≡ at k 1 → turn_passes s [] (at h 1) word ≡ true → Leads s (word ∷ []) h k
 unfolding walk_passes
-passes_preferring s json None words knows h = refl
-passes_preferring s json (Some type) words knows h =
-    let plain = file_plain type h in
-    ap₂ (λ (b : Bool) (d : Bool). b && d) knows.passes
-    (ap₂ (λ (b : Bool) (w : Walk). b && walk_passes s [] w words)
-    (ap (λ (w : Walk). turn_passes s [] w type) knows.walks ∙ turn_waited s (codes "TYPE") (asked json).held 1 type plain)
-    (both_walked s json type knows plain))
+leads_flag {s = s} e p = record {
+  walks = λ rest. ap (λ (w : Walk). fold (walked s.rules []) w rest) e;
+  passes = λ rest. ap₂ (λ (b : Bool) (w : Walk). b && walk_passes s [] w rest) p e;
+}
 
-passes_options : (s : Shape) (json : Bool) (prefer : Option Text) (words : List Text) → Knows s json → IsPreferenceWord prefer
-    → walk_passes s [] (walk_from nothing_held) (option_words json prefer ++ words) ≡ walk_passes s [] (walk_from (held_first json prefer)) words
+-- what is held while an option waits for its text, and behind the option, if it is there
+abbrev pub waiting : List Rule → Text → Held → Held
+waiting c id h = record (settled c h) { pending = Some (id, []) }
+
+abbrev pub given : List Rule → Text → Option Text → Held → Held
+given c id None h = h
+given c id (Some text) h = record (settled c h) { pending = Some (id, text ∷ []) }
+
+-- the subcommand knows the option that this word names
+pub record Knows (s : Shape) (word id : Text) : Type 0 where
+  pub walks : (h : Held) → walked s.rules [] (at h 1) word ≡ waits_for id (waiting s.rules id h) 1
+  pub passes : (h : Held) → settle_passes s.rules s.args_override_self h ≡ true → turn_passes s [] (at h 1) word ≡ true
+  pub takes : (h : Held) (text : Text) → IsPlainWord text → walked s.rules [] (waits_for id (waiting s.rules id h) 1) text ≡ at (given s.rules id (Some text) h) 1
+
+pub leads_option : {s : Shape} {word id : Text} → Knows s word id → (text : Option Text) (h : Held) → IsOptionText text → settle_passes s.rules s.args_override_self h ≡ true
+    → Leads s (option_words word text) h (given s.rules id text h)
 unfolding walk_passes
-passes_options s false prefer words knows h = passes_preferring s false prefer words knows.prefers h
-passes_options s true prefer words knows h =
-    ap₂ (λ (b : Bool) (w : Walk). b && walk_passes s [] w (preference_words prefer ++ words)) knows.flag.1 knows.flag.0
-    ∙ passes_preferring s true prefer words knows.prefers h
+leads_option knows None h is e = leads_nowhere
+leads_option {s = s} {word} {id} knows (Some text) h is e =
+    let plain = file_plain text is in
+    let both : walked s.rules [] (walked s.rules [] (at h 1) word) text ≡ at (given s.rules id (Some text) h) 1 =
+    ap (λ (w : Walk). walked s.rules [] w text) (knows.walks h) ∙ knows.takes h text plain in
+    record {
+      walks = λ rest. ap (λ (w : Walk). fold (walked s.rules []) w rest) both;
+      passes = λ rest. ap₂ (λ (b : Bool) (d : Bool). b && d) (knows.passes h e)
+          (ap₂ (λ (b : Bool) (w : Walk). b && walk_passes s [] w rest)
+          (ap (λ (w : Walk). turn_passes s [] w text) (knows.walks h) ∙ turn_waited s id (waiting s.rules id h) 1 text plain) both);
+    }
+
+-- ---- the options of the subcommands
+
+-- `--prefer` of each, and `--steps`
+pub check_prefers : Knows (subcommand 0) (codes "--prefer") (codes "TYPE")
+unfolding clap_on_literals
+check_prefers = record { walks = λ h. refl; passes = λ h e. ap (λ b. b && true) e; takes = λ h text plain. walked_waited (subcommand 0).rules (codes "TYPE") (waiting (subcommand 0).rules (codes "TYPE") h) 1 text plain }
+
+pub canon_prefers : Knows (subcommand 1) (codes "--prefer") (codes "TYPE")
+unfolding clap_on_literals
+canon_prefers = record { walks = λ h. refl; passes = λ h e. ap (λ b. b && true) e; takes = λ h text plain. walked_waited (subcommand 1).rules (codes "TYPE") (waiting (subcommand 1).rules (codes "TYPE") h) 1 text plain }
+
+pub compare_prefers : Knows (subcommand 2) (codes "--prefer") (codes "TYPE")
+unfolding clap_on_literals
+compare_prefers = record { walks = λ h. refl; passes = λ h e. ap (λ b. b && true) e; takes = λ h text plain. walked_waited (subcommand 2).rules (codes "TYPE") (waiting (subcommand 2).rules (codes "TYPE") h) 1 text plain }
+
+pub differences_prefers : Knows (subcommand 3) (codes "--prefer") (codes "TYPE")
+unfolding clap_on_literals
+differences_prefers = record { walks = λ h. refl; passes = λ h e. ap (λ b. b && true) e; takes = λ h text plain. walked_waited (subcommand 3).rules (codes "TYPE") (waiting (subcommand 3).rules (codes "TYPE") h) 1 text plain }
+
+pub prepare_prefers : Knows (subcommand 4) (codes "--prefer") (codes "TYPE")
+unfolding clap_on_literals
+prepare_prefers = record { walks = λ h. refl; passes = λ h e. ap (λ b. b && true) e; takes = λ h text plain. walked_waited (subcommand 4).rules (codes "TYPE") (waiting (subcommand 4).rules (codes "TYPE") h) 1 text plain }
+
+pub prepare_chooses : Knows (subcommand 4) (codes "--steps") (codes "STEPS")
+unfolding clap_on_literals
+prepare_chooses = record { walks = λ h. refl; passes = λ h e. ap (λ b. b && true) e; takes = λ h text plain. walked_waited (subcommand 4).rules (codes "STEPS") (waiting (subcommand 4).rules (codes "STEPS") h) 1 text plain }
+
+-- what is held behind a flag that is the first word
+abbrev pub flagged : ℕ → Text → Held
+flagged i word = (walked (subcommand i).rules [] (at nothing_held 1) word).held
+
+-- `--json` or not, and then the preference
+abbrev pub json_words : Bool → Option Text → List Text
+json_words false prefer = preference_words prefer
+json_words true prefer = codes "--json" ∷ preference_words prefer
+
+abbrev pub held_json : ℕ → Bool → Held
+held_json i false = nothing_held
+held_json i true = flagged i (codes "--json")
+
+abbrev pub held_first : ℕ → Bool → Option Text → Held
+held_first i json prefer = given (subcommand i).rules (codes "TYPE") prefer (held_json i json)
+
+pub leads_json : (i : ℕ) → Leads (subcommand i) (codes "--json" ∷ []) nothing_held (flagged i (codes "--json")) → settle_passes (subcommand i).rules (subcommand i).args_override_self (flagged i (codes "--json")) ≡ true
+    → Knows (subcommand i) (codes "--prefer") (codes "TYPE") → (json : Bool) (prefer : Option Text) → IsOptionText prefer
+    → Leads (subcommand i) (json_words json prefer) nothing_held (held_first i json prefer)
+leads_json i flag settles knows false prefer is = leads_option knows prefer nothing_held is refl
+leads_json i flag settles knows true prefer is = leads_on flag (leads_option knows prefer (flagged i (codes "--json")) is settles)
+
+-- ---- a level behind the options
 
 -- what is asked at the end of a level
 abbrev pub ends : Shape → Held → Bool
 ends s h = settle_passes s.rules s.args_override_self h && (list_all default_passes s.rules && is_valid s (finished s.rules h) false)
 
 -- a level takes the words as it takes those behind the options
-pub level_options : (s : Shape) (json : Bool) (prefer : Option Text) (words : List Text) → Knows s json → IsPreferenceWord prefer
-    → level_passes s [] nothing_held (option_words json prefer ++ words) false ≡ level_passes s [] (held_first json prefer) words false
-level_options s json prefer words knows h =
-    ap₂ (λ (b : Bool) (w : Walk). b && ends s w.held) (passes_options s json prefer words knows h) (walk_options s json prefer words knows h)
+pub level_behind : (s : Shape) (options : List Text) (k : Held) (words : List Text) → Leads s options nothing_held k
+    → level_passes s [] nothing_held (options ++ words) false ≡ level_passes s [] k words false
+level_behind s options k words leads = ap₂ (λ (b : Bool) (w : Walk). b && ends s w.held) (leads.passes words) (leads.walks words)
 
 -- what a level finds
-pub rows_options : (s : Shape) (json : Bool) (prefer : Option Text) (words : List Text) → Knows s json → IsPreferenceWord prefer
-    → rows_after s.rules [] (option_words json prefer ++ words) ≡ finished s.rules (walk s.rules [] (held_first json prefer) words).held
-rows_options s json prefer words knows h = ap (λ (w : Walk). finished s.rules w.held) (walk_options s json prefer words knows h)
+pub rows_behind : (s : Shape) (options : List Text) (k : Held) (words : List Text) → Leads s options nothing_held k
+    → rows_after s.rules [] (options ++ words) ≡ finished s.rules (walk s.rules [] k words).held
+rows_behind s options k words leads = ap (λ (w : Walk). finished s.rules w.held) (leads.walks words)

@@ -1,5 +1,5 @@
 ghost use Rattle.std.specs.Prelude.{◌≡◌, IfOk, codes, false, map};
-ghost use Rattle.erd_canon.specs.Words.{canon_subcommand, check_subcommand, compare_subcommand, differences_subcommand, file_rule, json_rule, prefer_rule, program, app_of, rule_of, with_rule};
+ghost use Rattle.erd_canon.specs.Words.{canon_subcommand, check_subcommand, compare_subcommand, differences_subcommand, file_rule, json_rule, list_rule, prefer_rule, prepare_subcommand, program, report_rule, steps_rule, app_of, rule_of, with_rule};
 ghost use Rattle.clap.specs.declared.builder.command.Command.TheViews.{out-Command};
 
 use crate::commands::help;
@@ -7,7 +7,7 @@ use clap::builder::ValueParser;
 use clap::{Arg, ArgAction, Command};
 use std::alloc::{AllocError, Global};
 
-/// Returns the command of the program, with its four subcommands.
+/// Returns the command of the program, with its five subcommands.
 pub(crate) fn program_command<'a>(alloc: Global) -> Result<Command<'a>, AllocError>
     ensures { IfOk result (λ command. app_of command ≡ program) }
 {
@@ -18,7 +18,8 @@ pub(crate) fn program_command<'a>(alloc: Global) -> Result<Command<'a>, AllocErr
         .subcommand(check_command(alloc)?)?
         .subcommand(canon_command(alloc)?)?
         .subcommand(compare_command(alloc)?)?
-        .subcommand(differences_command(alloc)?)
+        .subcommand(differences_command(alloc)?)?
+        .subcommand(prepare_command(alloc)?)
 }
 
 // The subcommand `check [--json] [--prefer TYPE] FILE`.
@@ -76,6 +77,31 @@ fn differences_command<'a>(alloc: Global) -> Result<Command<'a>, AllocError>
     with_two_files(alloc, command)
 }
 
+// The subcommand `prepare [--list] [--report] [--steps STEPS] [--prefer TYPE] FILE`.
+fn prepare_command<'a>(alloc: Global) -> Result<Command<'a>, AllocError>
+    ensures app { IfOk result (λ command. app_of command ≡ prepare_subcommand) }
+    ensures local { IfOk result (λ command. (out-Command command).has_globals ≡ false) }
+{
+    let command = Command::new(alloc, "prepare")
+        .about(help::PREPARE)
+        .long_about(help::PREPARE_AT_LENGTH)
+        .after_help(help::PREPARE_ENDS)
+        .arg(list_argument(alloc))?
+        .arg(report_argument(alloc))?;
+    with_steps(alloc, command)
+}
+
+// Adds the options `--steps STEPS` and `--prefer TYPE`, and the argument `FILE`.
+fn with_steps<'a>(alloc: Global, command: Command<'a>) -> Result<Command<'a>, AllocError>
+    ensures app { IfOk result (λ r. app_of r ≡ with_rule (with_rule (with_rule (app_of command.entry) steps_rule) prefer_rule) (file_rule (codes "FILE"))) }
+    ensures local { (out-Command command.entry).has_globals ≡ false → IfOk result (λ r. (out-Command r).has_globals ≡ false) }
+{
+    command
+        .arg(steps_argument(alloc))?
+        .arg(prefer_argument(alloc))?
+        .arg(file_argument(alloc, "FILE", help::FILE))
+}
+
 // Adds the arguments `LEFT` and `RIGHT`.
 fn with_two_files<'a>(alloc: Global, command: Command<'a>) -> Result<Command<'a>, AllocError>
     ensures app { IfOk result (λ r. app_of r ≡ with_rule (with_rule (app_of command.entry) (file_rule (codes "LEFT"))) (file_rule (codes "RIGHT"))) }
@@ -106,6 +132,30 @@ fn json_argument<'a>(alloc: Global) -> Arg<'a>
         .long_help(help::JSON_AT_LENGTH)
 }
 
+// The option `--list`.
+fn list_argument<'a>(alloc: Global) -> Arg<'a>
+    ensures rule { rule_of result ≡ list_rule }
+    ensures local { result.global ≡ false }
+{
+    Arg::new(alloc, "list")
+        .long("list")
+        .action(ArgAction::SetTrue)
+        .help(help::LIST)
+        .long_help(help::LIST_AT_LENGTH)
+}
+
+// The option `--report`.
+fn report_argument<'a>(alloc: Global) -> Arg<'a>
+    ensures rule { rule_of result ≡ report_rule }
+    ensures local { result.global ≡ false }
+{
+    Arg::new(alloc, "report")
+        .long("report")
+        .action(ArgAction::SetTrue)
+        .help(help::REPORT)
+        .long_help(help::REPORT_AT_LENGTH)
+}
+
 // The option `--prefer TYPE`. It rejects an empty type.
 fn prefer_argument<'a>(alloc: Global) -> Arg<'a>
     ensures rule { rule_of result ≡ prefer_rule }
@@ -116,4 +166,16 @@ fn prefer_argument<'a>(alloc: Global) -> Arg<'a>
         .value_parser(ValueParser::NonEmptyString)
         .help(help::PREFER)
         .long_help(help::PREFER_AT_LENGTH)
+}
+
+// The option `--steps STEPS`. It rejects an empty text.
+fn steps_argument<'a>(alloc: Global) -> Arg<'a>
+    ensures rule { rule_of result ≡ steps_rule }
+    ensures local { result.global ≡ false }
+{
+    Arg::new(alloc, "STEPS")
+        .long("steps")
+        .value_parser(ValueParser::NonEmptyString)
+        .help(help::STEPS)
+        .long_help(help::STEPS_AT_LENGTH)
 }

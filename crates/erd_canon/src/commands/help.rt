@@ -8,10 +8,11 @@ pub const PROGRAM: &str =
 pub const PROGRAM_AT_LENGTH: &str =
     "Puts a pre-election ballot definition (NIST SP 1500-100, version 2, JSON) into one canonical form: two
 files have the same canonical form if and only if they mean the same. Take `check` to learn whether a
-file is accepted and what is wrong with it, `compare` to learn whether two files mean the same,
-`differences` for all that differs, and `canon` for the canonical form. The names of `@id`, the order
-of members and sets, and the envelope (who made the file, when and how, and its notes) do not count.
-Without a command it reads a report from standard input and writes its canonical form.";
+file is accepted and what is wrong with it, and `prepare` to make an export ready for that. Take
+`compare` to learn whether two files mean the same, `differences` for all that differs, and `canon` for
+the canonical form. The names of `@id`, the order of members and sets, and the envelope (who made the
+file, when and how, and its notes) do not count. Without a command it reads a report from standard
+input and writes its canonical form.";
 
 /// The exit statuses of the program, and an example.
 pub const PROGRAM_ENDS: &str = "Exit status:
@@ -119,7 +120,32 @@ pub const DIFFERENCES_ENDS: &str = "Exit status:
 Example:
   erd differences vendor-a.json vendor-b.json";
 
-/// The argument of `check` and `canon`.
+/// What `prepare` does.
+pub const PREPARE: &str = "Makes an export ready by steps, and writes the prepared report";
+
+/// What `prepare` reads and writes.
+pub const PREPARE_AT_LENGTH: &str =
+    "Reads the report in FILE, does the chosen steps, and writes the prepared report to standard output, with
+no line end. FILE stays as it is. To standard error it writes a line for each step that changed or left
+something, and then the faults of the prepared report, as `erd check` does:
+
+  nulls: 3 changed
+
+Without `--steps` it does those of the group `removed`. `erd prepare --list FILE` names the steps that
+would do something.";
+
+/// The exit statuses of `prepare`, and an example.
+pub const PREPARE_ENDS: &str = "Exit status:
+  0  written and accepted, or a list or a report
+  1  written, but refused: the faults are on standard error
+  2  not JSON
+  3  wrong arguments, a file that cannot be opened, more than 67,108,864 bytes, a failed read or write
+  4  no memory
+
+Example:
+  erd prepare export.json > prepared.json";
+
+/// The argument of `check`, `canon` and `prepare`.
 pub const FILE: &str = "The file that has the report";
 
 /// The first argument of `compare` and `differences`.
@@ -135,6 +161,34 @@ pub const JSON: &str = "Answer with JSON on one line, in place of lines of text"
 pub const JSON_AT_LENGTH: &str =
     "Answer with JSON on one line, in place of lines of text. The line has the places of faults and the keys
 of objects as values of their own; the exit status is the same";
+
+/// The option `--list`, in short.
+pub const LIST: &str = "List what each step would do, and write no report";
+
+/// The option `--list`, and what its answer has.
+pub const LIST_AT_LENGTH: &str =
+    "List what each step would do, and write no report. The list is on standard output, with a line for each
+step that would change or leave something, its group, and how much it is. No step is done, whatever
+other options there are";
+
+/// The option `--report`, in short.
+pub const REPORT: &str =
+    "Answer with each change as JSON on one line, in place of the prepared report";
+
+/// The option `--report`, and what its answer has.
+pub const REPORT_AT_LENGTH: &str =
+    "Answer with each change as JSON on one line, in place of the prepared report. For each step that changed
+or left something, the line has the places, and what stood there before and after; for other steps, what
+they would do";
+
+/// The option `--steps`, in short.
+pub const STEPS: &str = "The steps to do: names of steps or groups, with commas between them";
+
+/// The option `--steps`, and the groups.
+pub const STEPS_AT_LENGTH: &str =
+    "The steps to do: names of steps or groups, with commas between them. The groups are removed (no ballot
+has it), filled-in (what a voter sees stays as it is) and visible (a voter sees another ballot). Without
+this option, it is removed";
 
 /// The option `--prefer`, in short.
 pub const PREFER: &str =

@@ -1,4 +1,5 @@
 use crate::commands::prefer::Prefer;
+use crate::commands::steps::Steps;
 use erd_tables::Text;
 use std::alloc::AllocError;
 use thiserror::Error;
@@ -7,7 +8,7 @@ use thiserror::Error;
 pub type FileName = Text;
 
 /// What a command line asks for. The preference is the type of identifier that keys follow, if the words name one
-/// (`--prefer`).
+/// (`--prefer`). The steps are those that the words choose (`--steps`), if they do.
 #[derive(Debug, Drop)]
 pub enum Request {
     /// Write the canonical form of the report on standard input.
@@ -26,6 +27,12 @@ pub enum Request {
     Differences(FileName, FileName, Prefer),
     /// List all differences between the reports in the left file and the right file under the preference, as JSON (`--json`).
     DifferencesData(FileName, FileName, Prefer),
+    /// Do the steps on the report in this file, write the prepared report, and judge it under the preference.
+    Prepare(FileName, Steps, Prefer),
+    /// List what each step would do to the report in this file (`--list`).
+    PrepareList(FileName),
+    /// Do the steps on the report in this file, and answer with what each of them did, as JSON (`--report`).
+    PrepareReport(FileName, Steps),
 }
 
 /// Why a command line gives no request.

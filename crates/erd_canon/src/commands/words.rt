@@ -1,9 +1,10 @@
 ghost use Rattle.std.specs.Prelude.{◌≡◌, ℕ, List, ◌∷◌, map, MatchResult, codes, string_bytes};
-ghost use Rattle.erd_canon.specs.Words.{HasPlainWords, words_of, asks_json, preference_in, IsFaultFor, IsLineRead, check_request, compare_request, differences_request, pair_request, request_in, subcommand_request, word_for, first_of, found_of, kind_of, rows_of, subcommand_rows_of};
+ghost use Rattle.erd_canon.specs.Words.{HasPlainWords, words_of, has_flag, preference_in, IsFaultFor, IsLineRead, check_request, compare_request, differences_request, pair_request, preparation_in, prepare_request, request_in, subcommand_request, word_for, first_of, found_of, kind_of, rows_of, subcommand_rows_of};
 
 use crate::commands::builder::program_command;
 use crate::commands::prefer::Prefer;
 use crate::commands::request::{FileName, LineFault, Request};
+use crate::commands::steps::Steps;
 use clap::error::ErrorKind;
 use clap::{ArgMatches, Error};
 use erd_tables::Text;
@@ -11,12 +12,15 @@ use std::alloc::Global;
 
 /// Parses the words of a command line. The first word is the program's name.
 ///
-/// If no other word follows, returns `Request::Filter`. For `check FILE`, `canon FILE`, `compare LEFT RIGHT` and `differences
-/// LEFT RIGHT`, returns the request of the same name without a preference. With `--json` behind the subcommand, returns the
-/// request of that name for JSON, but for `canon`. With `--prefer TYPE` before the first file name, and behind `--json` if that
-/// is there, returns it with the preference TYPE. This holds if no file name and no TYPE is empty or begins with `-`. Then the
-/// only error is `LineFault::Memory`. All other words are parsed by the grammar of `clap` too, and the result is the one that
-/// it states for the subcommands of the program and these words.
+/// If no other word follows, returns `Request::Filter`. For `check FILE`, `canon FILE`, `prepare FILE`,
+/// `compare LEFT RIGHT` and `differences LEFT RIGHT`, returns the request of the same name without a
+/// preference. With `--json` behind the subcommand, returns the request of that name for JSON, but for `canon` and `prepare`.
+/// With `--list` or `--report` behind `prepare`, returns the request for a list or a report. With `--steps STEPS` behind
+/// `prepare` or `--report`, returns it with these steps. With `--prefer TYPE` before the first file name, and behind `--json` or
+/// `--steps STEPS` if these are there, returns it with the preference TYPE, but for a list and a report. This holds if no file
+/// name, no STEPS and no TYPE is empty or begins with `-`. Then the only error is `LineFault::Memory`. All other words are
+/// parsed by the grammar of `clap` too, and the result is the one that it states for the subcommands of the program and these
+/// words.
 ///
 /// # Errors
 ///
@@ -64,14 +68,15 @@ fn subcommand_request(
     ensures { MatchResult result (λ answer. answer ≡ subcommand_request name.now (rows_of (found_of matches.now)))
         (λ fault. fault ≡ LineFault.Memory) }
 {
-    let prefer = preference(alloc, matches)?;
-    let json = asks_json(matches);
+    let prefer = Prefer::of(option_text(alloc, matches, "TYPE")?);
+    let json = has_flag(matches, "json");
     match name {
         "check" => {
             let file = file_name(alloc, matches, "FILE")?;
             Ok(check_request(json, file, prefer))
         }
         "canon" => Ok(Request::Canon(file_name(alloc, matches, "FILE")?, prefer)),
+        "prepare" => preparation(alloc, matches, prefer),
         _ => {
             let left = file_name(alloc, matches, "LEFT")?;
             let right = file_name(alloc, matches, "RIGHT")?;
@@ -123,11 +128,46 @@ fn differences_request(json: bool, left: FileName, right: FileName, prefer: Pref
     }
 }
 
-// Whether the option `--json` was given.
-fn asks_json(matches: &ArgMatches<'_>) -> bool
-    ensures { result ≡ asks_json (rows_of (found_of matches.now)) }
+// The request that the matches of the subcommand `prepare` give, under the preference.
+fn preparation(
+    alloc: Global,
+    matches: &ArgMatches<'_>,
+    prefer: Prefer,
+) -> Result<Request, LineFault>
+    ensures { prefer ≡ preference_in (rows_of (found_of matches.now)) → MatchResult result
+        (λ answer. answer ≡ preparation_in (rows_of (found_of matches.now))) (λ fault. fault ≡ LineFault.Memory) }
 {
-    matches.get_str("json").unwrap_or("") == "true"
+    let file = file_name(alloc, matches, "FILE")?;
+    let steps = Steps::of(option_text(alloc, matches, "STEPS")?);
+    let list = has_flag(matches, "list");
+    let report = has_flag(matches, "report");
+    Ok(prepare_request(list, report, file, steps, prefer))
+}
+
+// The request to prepare a file, with a list, a report or the prepared file as the answer.
+fn prepare_request(
+    list: bool,
+    report: bool,
+    file: FileName,
+    steps: Steps,
+    prefer: Prefer,
+) -> Request
+    ensures { result ≡ prepare_request list report file steps prefer }
+{
+    if list {
+        Request::PrepareList(file)
+    } else if report {
+        Request::PrepareReport(file, steps)
+    } else {
+        Request::Prepare(file, steps, prefer)
+    }
+}
+
+// Whether the flag was given.
+fn has_flag(matches: &ArgMatches<'_>, id: &str) -> bool
+    ensures { result ≡ has_flag id.now (rows_of (found_of matches.now)) }
+{
+    matches.get_str(id).unwrap_or("") == "true"
 }
 
 // The word that was given for the argument.
@@ -139,14 +179,14 @@ fn file_name(alloc: Global, matches: &ArgMatches<'_>, id: &str) -> Result<FileNa
     Ok(Text::of(name))
 }
 
-// The type that was given for the option `--prefer`, if any.
-fn preference(alloc: Global, matches: &ArgMatches<'_>) -> Result<Prefer, LineFault>
-    ensures { MatchResult result (λ answer. answer ≡ preference_in (rows_of (found_of matches.now)))
+// The word that was given for the argument, if any.
+fn option_text(alloc: Global, matches: &ArgMatches<'_>, id: &str) -> Result<Option<Text>, LineFault>
+    ensures { MatchResult result (λ answer. answer ≡ first_of id.now (rows_of (found_of matches.now)))
         (λ fault. fault ≡ LineFault.Memory) }
 {
-    match matches.get_str("TYPE") {
-        Some(kind) => Ok(Prefer::of(Some(Text::of(String::from_str(alloc, kind)?)))),
-        None => Ok(Prefer::of(None)),
+    match matches.get_str(id) {
+        Some(word) => Ok(Some(Text::of(String::from_str(alloc, word)?))),
+        None => Ok(None),
     }
 }
 

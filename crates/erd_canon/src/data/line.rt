@@ -1,5 +1,5 @@
-ghost use Rattle.std.specs.Prelude.{◌≡◌, ◌∷◌, [], map, string_bytes, codes, Some, Ok, Err, IfOk};
-ghost use Rattle.erd_canon.specs.Words.{view, IsAnswerTo, IsLineData, command_data, request_data, preference_data};
+ghost use Rattle.std.specs.Prelude.{◌≡◌, ◌∷◌, [], map, string_bytes, codes, option_copied, Some, Ok, Err, IfOk};
+ghost use Rattle.erd_canon.specs.Words.{view, IsAnswerTo, IsLineData, command_data, option_data, preparation_data, request_data};
 
 use crate::commands::prefer::Prefer;
 use crate::commands::request::{FileName, LineFault, Request};
@@ -22,8 +22,9 @@ pub struct LineAnswer {
 /// Parses the words of a command line, as `command_line` does, and answers with a text. The first word is the program's name.
 ///
 /// For a request, the text is a JSON object with the command, the names of the files, whether JSON is asked for, and the
-/// preferred type of identifier. For words that ask for help, it is the help text. For words that are not a command line of the
-/// program, the text says why, and how the program is called.
+/// preferred type of identifier. For a preparation it has the steps too, and whether a list or a report is asked for. For words
+/// that ask for help, it is the help text. For words that are not a command line of the program, the text says why, and how the
+/// program is called.
 ///
 /// # Errors
 ///
@@ -101,7 +102,33 @@ fn request_value(alloc: Global, request: &Request) -> Result<Value, AllocError>
         Request::DifferencesData(left, right, prefer) => {
             on_two_files(alloc, "differences", (left, right), true, prefer)
         }
+        Request::Prepare(file, steps, prefer) => {
+            preparing(alloc, (false, false), file, steps.text(), prefer.text())
+        }
+        Request::PrepareList(file) => preparing(alloc, (true, false), file, None, None),
+        Request::PrepareReport(file, steps) => {
+            preparing(alloc, (false, true), file, steps.text(), None)
+        }
     }
+}
+
+// The JSON object of a preparation. The flags are whether a list or a report is asked for.
+fn preparing(
+    alloc: Global,
+    flags: (bool, bool),
+    file: &FileName,
+    steps: Option<&str>,
+    prefer: Option<&str>,
+) -> Result<Value, AllocError>
+    ensures { IfOk result (λ value. view value ≡ preparation_data flags.0 flags.1 file.now (option_copied steps.entry) (option_copied prefer.entry)) }
+{
+    let (list, report) = flags;
+    let file = file.as_str();
+    let steps = option_value(alloc, steps)?;
+    let prefer = option_value(alloc, prefer)?;
+    json!(in alloc; {
+        "command": "prepare", "files": [file], "json": false, "list": list, "prefer": prefer, "report": report, "steps": steps
+    })
 }
 
 // The JSON object of a command for one file.
@@ -115,7 +142,7 @@ fn on_one_file(
     ensures { IfOk result (λ value. view value ≡ command_data command.now (file.now ∷ []) json prefer.now) }
 {
     let file = file.as_str();
-    let prefer = preference_value(alloc, prefer)?;
+    let prefer = option_value(alloc, prefer.text())?;
     json!(in alloc; {"command": command, "files": [file], "json": json, "prefer": prefer})
 }
 
@@ -131,16 +158,16 @@ fn on_two_files(
 {
     let left = files.0.as_str();
     let right = files.1.as_str();
-    let prefer = preference_value(alloc, prefer)?;
+    let prefer = option_value(alloc, prefer.text())?;
     json!(in alloc; {"command": command, "files": [left, right], "json": json, "prefer": prefer})
 }
 
-// The JSON value of a preference: its type as a string, or null.
-fn preference_value(alloc: Global, prefer: &Prefer) -> Result<Value, AllocError>
-    ensures { IfOk result (λ value. view value ≡ preference_data prefer.now) }
+// The JSON value of the text of an option: a string, or null if the option is not there.
+fn option_value(alloc: Global, text: Option<&str>) -> Result<Value, AllocError>
+    ensures { IfOk result (λ value. view value ≡ option_data (option_copied text.entry)) }
 {
-    match prefer.text() {
-        Some(kind) => Value::try_from_str(alloc, kind),
+    match text {
+        Some(text) => Value::try_from_str(alloc, text),
         None => Ok(Value::Null),
     }
 }

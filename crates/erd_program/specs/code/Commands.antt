@@ -1,5 +1,5 @@
 -- What a command does with its one file or its two files, and what a command needs of the streams.
-use Rattle.std.specs.Prelude.{◌≡◌, false, Result}
+use Rattle.std.specs.Prelude.{◌≡◌, false, List, Result}
 use Rattle.erd_canon.specs.Answering.{IsCompareLine, IsListed, IsListLine, IsPairRun}
 use Rattle.erd_canon.specs.Devices.{BeforeAfter, Reader, Writer}
 use Rattle.erd_canon.specs.Engines.{IsCompareRun}
@@ -7,10 +7,13 @@ use Rattle.erd_meaning.specs.Keys.{Preference}
 use Rattle.erd_canon.specs.declared.engines.outcome.Outcome.{Outcome}
 use Rattle.erd_canon.specs.declared.engines.outcome.RunFault.{RunFault}
 use Rattle.erd_program.specs.declared.commands.FileCommand.{FileCommand}
-use Rattle.erd_program.specs.declared.commands.FileCommand.TheVariants.{Canon, Check, CheckData}
+use Rattle.erd_program.specs.declared.commands.FileCommand.TheVariants.{Canon, Check, CheckData, Prepare, PrepareList, PrepareReport}
 use Rattle.erd_program.specs.declared.commands.PairCommand.{PairCommand}
 use Rattle.erd_program.specs.declared.commands.PairCommand.TheVariants as pair
-use Rattle.erd_program.specs.Files.{IsFileCanonicalised, IsFileChecked, IsFileCheckedAsData}
+use Rattle.erd_program.specs.declared.steps.StepsCommand.{StepsCommand}
+use Rattle.erd_program.specs.declared.steps.StepsCommand.TheVariants as steps
+use Rattle.erd_prepare.specs.declared.step_name.StepName.{StepName}
+use Rattle.erd_program.specs.Files.{IsEachStepTried, IsFileCanonicalised, IsFileChecked, IsFileCheckedAsData, IsFilePrepared, IsPreparationReported}
 use Rattle.erd_program.specs.World.{Outside}
 
 -- No stream has failed.
@@ -24,6 +27,14 @@ abbrev pub run_of : {F File I O E : Type 0} → FileCommand → Preference → O
 run_of Check prefer = λ known answer file out err. IsFileChecked prefer known answer file out err
 run_of Canon prefer = λ known answer file out err. IsFileCanonicalised prefer known answer file out err
 run_of CheckData prefer = λ known answer file out err. IsFileCheckedAsData prefer known answer file out err
+run_of (Prepare chosen) prefer = λ known answer file out err. IsFilePrepared prefer chosen.now known answer file out err
+run_of PrepareList prefer = λ known answer file out err. IsEachStepTried known answer file out err
+run_of (PrepareReport chosen) prefer = λ known answer file out err. IsPreparationReported chosen.now known answer file out err
+
+-- What the engine did for the command by the chosen steps.
+abbrev pub steps_run : {F File I O E : Type 0} → StepsCommand → Preference → List StepName → Outside F File I O E → Result Outcome RunFault → BeforeAfter File → BeforeAfter O → BeforeAfter E → Type 0
+steps_run steps.Prepare prefer chosen = λ known answer file out err. IsFilePrepared prefer chosen known answer file out err
+steps_run steps.Report prefer chosen = λ known answer file out err. IsPreparationReported chosen known answer file out err
 
 -- What the engine did for the command on two files, over what is known of their readers and of the writer.
 abbrev pub pair_run : {File O : Type 0} → PairCommand → Preference → Reader File → Writer O → Result Outcome RunFault → BeforeAfter File → BeforeAfter File → BeforeAfter O → Type 0

@@ -1,12 +1,12 @@
 //! The requests that command lines give, with each request for memory refused in turn.
 use crate::tests::answers::{Answer, right_if};
 use crate::tests::refusing::each_refused;
-use erd_canon::{FileName, LineFault, Prefer, Request, command_line};
+use erd_canon::{FileName, LineFault, Prefer, Request, Steps, command_line};
 use std::alloc::{AllocError, Global};
 use std::test::Fail;
 
 // The words of a line with `|` between them, and the request or the kind of text that they give. A request has the names of
-// files in brackets, and then the preference.
+// files in brackets, then the steps, and then the preference.
 type Line = (&'static str, &'static str);
 
 const REQUESTS: &[Line] = &[
@@ -113,6 +113,48 @@ const FOR_DATA: &[Line] = &[
     ("erd|help|differences", "help"),
 ];
 
+// The steps are any text that is not empty and does not begin with a hyphen. The list goes before the report.
+const PREPARING: &[Line] = &[
+    ("erd|prepare|a", "prepare [a]"),
+    ("erd|prepare|--steps|removed|a", "prepare [a] by [removed]"),
+    (
+        "erd|prepare|--steps|nulls,codes|--prefer|fips|a",
+        "prepare [a] by [nulls,codes] under [fips]",
+    ),
+    ("erd|prepare|--prefer|fips|a", "prepare [a] under [fips]"),
+    (
+        "erd|prepare|a|--prefer=fips|--steps=b",
+        "prepare [a] by [b] under [fips]",
+    ),
+    ("erd|prepare|--steps|no step|a", "prepare [a] by [no step]"),
+    ("erd|prepare|--list|a", "list for [a]"),
+    ("erd|prepare|a|--list", "list for [a]"),
+    ("erd|prepare|--list|--report|a", "list for [a]"),
+    ("erd|prepare|--report|--list|--steps|b|a", "list for [a]"),
+    ("erd|prepare|--report|a", "report on [a]"),
+    (
+        "erd|prepare|--report|--steps|visible|a",
+        "report on [a] by [visible]",
+    ),
+    ("erd|prepare|--report|--prefer|fips|a", "report on [a]"),
+    ("erd|prepare|prepare", "prepare [prepare]"),
+    ("erd|prepare|--|--list", "prepare [--list]"),
+    ("erd|prepare", "usage"),
+    ("erd|prepare|--list", "usage"),
+    ("erd|prepare|a|b", "usage"),
+    ("erd|prepare|--json|a", "usage"),
+    ("erd|prepare|--steps|a", "usage"),
+    ("erd|prepare|--steps||a", "usage"),
+    ("erd|prepare|--steps|a|--steps|b|c", "usage"),
+    ("erd|prepare|--list|--list|a", "usage"),
+    ("erd|prepare|--list=true|a", "usage"),
+    ("erd|check|--steps|a|b", "usage"),
+    ("erd|check|--list|a", "usage"),
+    ("erd|canon|--report|a", "usage"),
+    ("erd|prepare|--help", "help"),
+    ("erd|help|prepare", "help"),
+];
+
 // A type is any text that is not empty and does not begin with a hyphen. In the place of a file name or a type, the words of
 // the option are ordinary names, except for a word that begins with hyphens.
 const PREFERENCES: &[Line] = &[
@@ -195,7 +237,15 @@ fn under(alloc: Global, prefer: &Prefer) -> Result<String, AllocError> {
     }
 }
 
-// The request with the names of files and the preference in brackets.
+// The steps in brackets, or the empty text if there are none.
+fn by(alloc: Global, steps: &Steps) -> Result<String, AllocError> {
+    match steps.text() {
+        Some(names) => format!(in alloc; " by [{names}]"),
+        None => String::from_str(alloc, ""),
+    }
+}
+
+// The request with the names of files, the steps and the preference in brackets.
 fn told(alloc: Global, request: &Request) -> Result<String, AllocError> {
     match request {
         Request::Filter => String::from_str(alloc, "filter"),
@@ -212,7 +262,27 @@ fn told(alloc: Global, request: &Request) -> Result<String, AllocError> {
         Request::DifferencesData(left, right, prefer) => {
             of_files(alloc, "differences as data", left, right, prefer)
         }
+        Request::Prepare(file, steps, prefer) => {
+            let prefer = under(alloc, prefer)?;
+            by_steps(alloc, "prepare", file, steps, prefer.as_str())
+        }
+        Request::PrepareList(file) => {
+            let file = file.as_str();
+            format!(in alloc; "list for [{file}]")
+        }
+        Request::PrepareReport(file, steps) => by_steps(alloc, "report on", file, steps, ""),
     }
+}
+
+fn by_steps(
+    alloc: Global,
+    command: &str,
+    file: &FileName,
+    steps: &Steps,
+    prefer: &str,
+) -> Result<String, AllocError> {
+    let (file, steps) = (file.as_str(), by(alloc, steps)?);
+    format!(in alloc; "{command} [{file}]{steps}{prefer}")
 }
 
 fn of_file(
@@ -289,6 +359,10 @@ fn of_data(alloc: Global) -> Result<(), Fail> {
     all_are(alloc, FOR_DATA)
 }
 
+fn of_preparing(alloc: Global) -> Result<(), Fail> {
+    all_are(alloc, PREPARING)
+}
+
 #[test]
 fn refused_lines(rt: HostRuntime) -> Result<(), Fail> {
     of_requests(rt.alloc())
@@ -301,5 +375,6 @@ fn command_lines(rt: HostRuntime) -> Result<(), Fail> {
     of_names_of_files(alloc)?;
     of_help_and_usage(alloc)?;
     of_preferences(alloc)?;
+    of_preparing(alloc)?;
     of_data(alloc)
 }

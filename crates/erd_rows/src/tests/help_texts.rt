@@ -17,6 +17,7 @@ const TEXTS: &[Parts] = &[
     ("erd|help|canon", OF_CANON),
     ("erd|help|compare", OF_COMPARE),
     ("erd|help|differences", OF_DIFFERENCES),
+    ("erd|help|prepare", OF_PREPARE),
     (
         "erd|nosuch",
         &["error: ", "'nosuch'", "Usage: erd [COMMAND]\n"],
@@ -42,6 +43,7 @@ const OF_THE_PROGRAM: &[&str] = &[
     "canon        Writes",
     "compare      Reports",
     "differences  Lists",
+    "prepare      Makes",
     "Exit status:\n  0  ",
     "Example:\n  erd < report.json > canonical.json\n",
 ];
@@ -77,6 +79,17 @@ const OF_DIFFERENCES: &[&str] = &[
     "standard output `same`",
     "Exit status:\n  0  same\n",
     "Example:\n  erd differences vendor-a.json vendor-b.json\n",
+];
+
+const OF_PREPARE: &[&str] = &[
+    "Usage: erd prepare [OPTIONS] <FILE>\n",
+    "--list",
+    "--report",
+    "--steps <STEPS>",
+    "--prefer <TYPE>",
+    "prepared report to standard output",
+    "Exit status:\n  0  written and accepted",
+    "Example:\n  erd prepare export.json > prepared.json\n",
 ];
 
 // Whether the text has all parts, and ends with one line feed.

@@ -44,10 +44,45 @@ const ROWS: &[Row] = &[
         NOTHING,
     ),
     ("erd compare text empty", 2, "left: not JSON\n", NOTHING),
-    ("erd check none", 3, NOTHING, "cannot open\n"),
-    ("erd canon none", 3, NOTHING, "cannot open\n"),
-    ("erd compare one none", 3, NOTHING, "cannot open\n"),
-    ("erd compare none one", 3, NOTHING, "cannot open\n"),
+    ("erd check none", 3, NOTHING, "cannot open\nnone\n"),
+    (
+        "erd check n\none\u{7f}\u{9b}31m",
+        3,
+        NOTHING,
+        "cannot open\nn?one??31m\n",
+    ),
+    ("erd canon Wähler", 3, NOTHING, "cannot open\nWähler\n"),
+    ("erd compare one none", 3, NOTHING, "cannot open\nnone\n"),
+    ("erd compare none one", 3, NOTHING, "cannot open\nnone\n"),
+    ("erd compare left right", 3, NOTHING, "cannot open\nleft\n"),
+];
+
+const LATER_ROWS: &[Row] = &[
+    ("erd prepare one", 0, REPORT, NOTHING),
+    (
+        "erd prepare --steps nulls,removed --prefer fips one",
+        0,
+        REPORT,
+        NOTHING,
+    ),
+    ("erd prepare empty", 1, "{}", ": missing member @type\n"),
+    ("erd prepare text", 2, NOTHING, "not JSON\n"),
+    ("erd prepare --list text", 2, NOTHING, "not JSON\n"),
+    ("erd prepare --report text", 2, NOTHING, "not JSON\n"),
+    (
+        "erd prepare --steps nulls,nosuch none",
+        3,
+        NOTHING,
+        "unknown step\n",
+    ),
+    (
+        "erd prepare --report --steps nosuch one",
+        3,
+        NOTHING,
+        "unknown step\n",
+    ),
+    ("erd prepare none", 3, NOTHING, "cannot open\nnone\n"),
+    ("erd prepare --list none", 3, NOTHING, "cannot open\nnone\n"),
 ];
 
 const DIFFERENCE: &str = "unit [\"local-level\",\"\",\"U1\"]: member \"Type\"\n";
@@ -90,6 +125,11 @@ fn refused_rows(rt: HostRuntime) -> Result<(), Fail> {
     all_are(rt.alloc(), ROWS, is)
 }
 
+#[test]
+fn refused_later_rows(rt: HostRuntime) -> Result<(), Fail> {
+    all_are(rt.alloc(), LATER_ROWS, is)
+}
+
 // A line that asks for help or is wrong, the status that it ends with, and how what it writes to standard output and to standard
 // error begins.
 const HELP_AND_USAGE: &[Row] = &[
@@ -124,25 +164,29 @@ fn no_words(rt: HostRuntime) -> Result<(), Fail> {
     Ok(())
 }
 
-// A line, and how many files it opens and how often it reads each of its inputs.
-const LINES: [(&str, usize, usize); 5] = [
-    ("erd", 0, 2),
-    ("erd canon one", 1, 2),
-    ("erd check one", 1, 2),
-    ("erd compare one other", 2, 2),
-    ("erd --help", 0, 0),
+// A line, what it writes if a file cannot be opened, for each file that it opens, and how often it reads each of its inputs.
+const LINES: [(&str, &[&str], usize); 6] = [
+    ("erd", &[], 2),
+    ("erd canon one", &["cannot open\none\n"], 2),
+    ("erd check one", &["cannot open\none\n"], 2),
+    (
+        "erd compare one other",
+        &["cannot open\none\n", "cannot open\nother\n"],
+        2,
+    ),
+    ("erd prepare one", &["cannot open\none\n"], 2),
+    ("erd --help", &[], 0),
 ];
 
 // Each opening, each read, each write and each flush fails in turn.
 #[test]
 fn each_call_fails(rt: HostRuntime) -> Result<(), Fail> {
-    for (line, opens, reads) in LINES {
-        for opens in 0..opens {
+    for (line, unopened, reads) in LINES {
+        let mut opens = 0;
+        for told in unopened {
             let found = run(rt.alloc(), Ok(line), Good { opens, ..GOOD });
-            assert!(rt;
-                is(&found, 3, NOTHING, "cannot open\n"),
-                "at {line}, {opens}"
-            );
+            assert!(rt; is(&found, 3, NOTHING, told), "at {line}, {opens}");
+            opens += 1;
         }
         for reads in 0..reads {
             let found = run(rt.alloc(), Ok(line), Good { reads, ..GOOD });

@@ -225,6 +225,26 @@ fn lines(rt: HostRuntime) -> Result<(), Fail> {
     Ok(())
 }
 
+// The words of a command line that prepares a report.
+fn line_with_steps(alloc: Global) -> Result<Vec<String>, AllocError> {
+    let mut words = Vec::new(alloc);
+    for word in ["erd", "prepare", "--steps", "removed,codes", "export.json"] {
+        words.push(String::from_str(alloc, word)?)?;
+    }
+    Ok(words)
+}
+
+#[test]
+fn lines_with_steps(rt: HostRuntime) -> Result<(), Fail> {
+    let alloc = rt.alloc();
+    let words = line_with_steps(alloc)?;
+    let Request::Prepare(_, steps, _) = command_line(alloc, &words)? else {
+        return Err(Fail::from("another request"));
+    };
+    assert!(rt; steps.text() == Some("removed,codes"));
+    Ok(())
+}
+
 #[test]
 fn lines_as_data(rt: HostRuntime) -> Result<(), Fail> {
     let alloc = rt.alloc();

@@ -1,5 +1,5 @@
 use Rattle.std.proofs.Common.{◌∙◌, Err, Ok, refl}
-use Rattle.erd_program.proofs.Closing.{done_from, not_opened}
+use Rattle.erd_program.proofs.Closing.{done_from, unopened}
 use Rattle.erd_program.proofs.commands.one_file.Goals as goal
 
 pub returns-in-Ok : goal.returns-in-Ok
@@ -15,5 +15,5 @@ returns-in-Err g c = record {
   given = Err c.in-Err.fault;
   input = refl;
   opened = c.in-Err.ensures.opened;
-  answer = (c.in-Err.ensures.closed, not_opened c.refused.ensures.status c.refused.ensures.said);
+  answer = (c.in-Err.ensures.closed, unopened c.not_opened.ensures);
 }

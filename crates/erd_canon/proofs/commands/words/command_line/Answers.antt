@@ -1,5 +1,5 @@
 use Rattle.erd_canon.proofs.Common.{◌≡◌, true, ◌⊎◌, [], ◌∷◌, map, string_bytes, sym, ap, ◌∙◌, subst, kind_of, App, is_simple, subcommand_of, subcommand_rows_of, takes, IsAmong, fault_of, is_simple_and_free, OutOfMemory, words_of, request_in, program}
-use Rattle.erd_canon.proofs.lines.LineReadings.{line_found, program_free, program_simple, takes-line, asked_is, exact_of, fault_read, read_of}
+use Rattle.erd_canon.proofs.lines.LineReadings.{line_taken, program_free, program_simple, exact_of, fault_read, read_of}
 use Rattle.erd_canon.proofs.commands.words.command_line.Goals as goal
 
 pub returns-in-Ok : goal.returns-in-Ok
@@ -14,7 +14,7 @@ returns-in-Ok c =
     record {
       exact = λ request name names e.
           exact_of c.request_of.result (request_in (subcommand_rows_of matches)) request c.request_of.ensures
-          (ap request_in (found ∙ ap (subcommand_of program) e) ∙ asked_is (subcommand_of program (name ∷ words_of request)) request (line_found request name names));
+          (ap request_in (found ∙ ap (subcommand_of program) e) ∙ (line_taken request name names).1);
       read = read_of words c.request_of.result (request_in (subcommand_rows_of matches)) c.request_of.ensures (ap request_in found) none;
     }
 
@@ -28,6 +28,6 @@ returns-in-Err c =
     subst (λ (a : App). (kind_of c.in-Err.error ≡ OutOfMemory) ⊎ IsAmong (kind_of c.in-Err.error) (fault_of a words)) is
     (c.in-Err.ensures.kinds (ap is_simple_and_free is ∙ program_free)) in
     record {
-      exact = λ request name names e. c.fault_of.ensures.memory (passes (ap (takes program) e ∙ takes-line request name names));
+      exact = λ request name names e. c.fault_of.ensures.memory (passes (ap (takes program) e ∙ (line_taken request name names).0));
       read = fault_read words (kind_of c.in-Err.error) c.fault_of.result c.fault_of.ensures.kind passes c.fault_of.ensures.memory among;
     }
