@@ -36,8 +36,8 @@ EXPORT = re.compile(r'^export (?=(?:async )?(?:function\*?|class|const) (\w+))',
 # there: embedded.mjs has the line too.
 FIRST, WORKER = 'page.mjs', 'worker.mjs'
 SHARED = '// the worker has what stands above\n'
-# The digits of base 85 that mean something in HTML, and those in their place.
-PLAIN = str.maketrans('&<>', ',.:')
+# The digits of base 85 that mean something in HTML or in a script, and those in their place.
+PLAIN = str.maketrans('&<>`', ',.:/')
 
 
 class BuildError(Exception):
@@ -79,9 +79,11 @@ def scoped(path, text):
     imports = ''.join('const {%s} = %s;\n' % (names.replace(' as ', ': '), constant(path.parent / place))
                       for names, place in IMPORT.findall(text))
     names = EXPORT.findall(text)
-    text = without_comments(EXPORT.sub('', IMPORT.sub('', text)))
+    text = shorter(EXPORT.sub('', IMPORT.sub('', text)))
     if re.search(r'^(import|export)\b', text, re.M):
         raise BuildError('%s has an import or export of another form' % path.name)
+    if any(line.count('`') % 2 for line in text.split('\n')):
+        raise BuildError('%s has a text of several lines, of which the blanks would be lost' % path.name)
     return 'const %s = (() => {\n%s%sreturn {%s};\n})();\n' % (constant(path), imports, text, ', '.join(names))
 
 
@@ -90,10 +92,10 @@ def constant(path):
     return re.sub(r'\W', '_', str(path.resolve().relative_to(ROOT).with_suffix(''))) + '_module'
 
 
-def without_comments(text):
-    """The text without the lines that are comments alone."""
+def shorter(text):
+    """The text without the lines that are comments alone, and without the blanks before each line."""
     text = re.sub(r'^ */\*\*.*?\*/\n', '', text, flags=re.M | re.S)
-    return re.sub(r'^ *//.*\n', '', text, flags=re.M).strip() + '\n'
+    return re.sub(r'^ +', '', re.sub(r'^ *//.*\n', '', text, flags=re.M), flags=re.M).strip() + '\n'
 
 
 def packed(data):

@@ -30,6 +30,7 @@ def run(session):
         accepted(session, name, data)
     unticked(session)
     two_copies(session)
+    numbers(session)
     not_prepared(session)
     cancelled(session)
 
@@ -94,7 +95,7 @@ def accepted(session, name, data):
     prepared, done = Preparation(data).prepare(chosen)
     for step in TICKED.get(name, []):
         clicks.step(f'#step-0-{step}')
-    session.becomes(f'{name}: the steps that are ticked', lambda: sorted(ticked(session)), sorted(it.name for it in done))
+    session.becomes(f'{name}: the steps that are ticked', lambda: sorted(ticked(session)), sorted(chosen_steps(done)))
     session.equal(f'{name}: no step that a voter sees is ticked by itself', [step for step in ticked(session) if step in steps_of('visible')],
                   TICKED.get(name, []))
     previewed(session, name, done)
@@ -112,6 +113,11 @@ def accepted(session, name, data):
     session.equal(f'{name}: the file stays', path.read_bytes(), data)
 
 
+def chosen_steps(done):
+    """The names of what was done but for the numbers that are written in another way, which no step does."""
+    return [it.name for it in done if it.name != 'numbers']
+
+
 def told(done):
     """What the page writes of the steps that were done."""
     return [f'{WORDS["step." + it.name]} ({it.count:,})' for it in done]
@@ -126,7 +132,7 @@ def saved(session, name, clicks):
 def previewed(session, name, done):
     """Each step shows its first changes, with the value before and after."""
     counts = session.browser.script("return [...document.querySelectorAll('.prepare details[data-preview]')].map((one) => one.dataset.preview)")
-    session.equal(f'{name}: what can be looked at', sorted(it.name for it in done), sorted(set(counts) & {it.name for it in done}))
+    session.equal(f'{name}: what can be looked at', sorted(chosen_steps(done)), sorted(set(counts) & {it.name for it in done}))
     first = done[-1]
     told = first.told()['changes'][0]
     session.browser.script("document.querySelectorAll('.prepare details').forEach((one) => { one.open = true; })")
@@ -164,6 +170,22 @@ def two_copies(session):
         clicks.on(f'#prepare-check-{index}')
         session.becomes(f'after copy {index + 1}', session.verdict, verdict)
     session.equal('both are told', len(session.texts('.prepared-copy')), 2)
+
+
+def numbers(session):
+    """Numbers that the copy has in another form are told by their lines, and so is in the record that there are some."""
+    session.judged(session.file('numbers.json', '{"@type":"ElectionResults.ElectionReport",\n "X": 1.50, "Y": null}'))
+    clicks = Clicks(session)
+    clicks.step('#prepare-begin-0')
+    session.equal('numbers: how many', session.text('.prepare .numbers summary'), WORDS['prepare.numbers']['one'].replace('{count}', '1'))
+    session.browser.script("document.querySelector('.prepare .numbers').open = true")
+    where = WORDS['prepare.numbers.where'].replace('{line}', '2').replace('{column}', '7')
+    session.equal('numbers: where', session.texts('.prepare .numbers li'), [f'{where} 1.50 → 1.5'])
+    session.equal('numbers: no step does it', ticked(session), ['nulls'])
+    session.browser.script("document.getElementById('verdict').remove()")
+    clicks.on('#prepare-check-0')
+    session.becomes('numbers: in the record', lambda: session.texts('.record .steps-done li'),
+                    [f'{WORDS["step.numbers"]} (1)', f'{WORDS["step.nulls"]} (1)'])
 
 
 def not_prepared(session):

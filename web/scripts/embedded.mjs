@@ -38,7 +38,7 @@ async function unpacked(id) {
 }
 
 // The digits of base 85: five of them stand for four bytes, and fewer at the end for one byte less than there are digits.
-const DIGITS = '0123456789ABCDEFGHIJKLMNOPQRSTUVWXYZabcdefghijklmnopqrstuvwxyz!#$%,()*+-;.=:?@^_`{|}~';
+const DIGITS = '0123456789ABCDEFGHIJKLMNOPQRSTUVWXYZabcdefghijklmnopqrstuvwxyz!#$%,()*+-;.=:?@^_/{|}~';
 
 function bytesIn(text) {
     const values = new Uint8Array(128);

@@ -4,7 +4,7 @@ import { LIKE_LATIN, LIKE_PLAIN } from './confusables.mjs';
 const LATIN = new Map(pairsOf(LIKE_LATIN));
 const SHAPES = new Map(pairsOf(LIKE_PLAIN));
 const IGNORED = /[\p{Default_Ignorable_Code_Point}\p{Cf}]/gu;
-const QUOTES = /[‘’‚‛′`´]/g;
+const QUOTES = /[‘’‚‛′\x60´]/g;
 const DOUBLE_QUOTES = /[“”„‟″]/g;
 const DASHES = /[‐‑‒–—−]/g;
 
