@@ -96,12 +96,12 @@ done
 
 lane 'proved: erd_canon' 'tests/library/c_library.sh' 'python3 tests/library/lists_agree.py 300' 'tests/fuzz/fuzz.sh' 'program:' 'tests/forms/other_machines.sh' 'tests/forms/other_programs.sh' \
     'tests/forms/language_examples.sh' 'tests/forms/javascript_package.sh' 'tests/forms/python_package.sh' 'python3 tests/prepare/steps.py' \
-    'python3 tests/pages/examples.py' 'tests/forms/program_packages.sh' 'tests/forms/release_files.sh' 'tests/forms/installed_alone.sh'
+    'tests/forms/program_packages.sh' 'tests/forms/release_files.sh' 'tests/forms/installed_alone.sh'
 
 # The page needs erd.wasm alone, and the wrong lines need what the other forms have made, so they run beside the packages.
 lane 'ended: tests/forms/other_machines.sh' 'tests/page/page.sh' 'ended: tests/forms/other_programs.sh' 'tests/bodies/try_wrong.py --gate lines'
 
-lane 'program:' 'tests/program/command.sh' 'tests/pages/manual.sh' 'tests/program/contrib.sh' \
+lane 'program:' 'tests/program/command.sh' 'tests/pages/manual.sh' 'python3 tests/pages/examples.py' 'tests/program/contrib.sh' \
     'python3 tests/program/agrees_with_reference.py 500' 'python3 tests/program/same_meaning.py' \
     'python3 tests/program/agrees_on_preferences.py' 'conformance/run ./erd' 'tests/program/limits.sh' 'tests/program/confined.sh' \
     'tests/forms/make_install.sh' 'python3 tests/measures/crowding.py' 'python3 tests/measures/orders.py' 'ended: tests/library/c_library.sh' \

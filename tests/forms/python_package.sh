@@ -37,10 +37,8 @@ else
     echo 'skipped the program beside the command: make erd has not been run'
 fi
 
-for command in prepare many; do
-    python3 tests/forms/command_lines.py --command $command "erd-$command" package,python "$work/venv/bin/erd-$command" > "$work/lines.log"
-    counted "the table of statuses: erd-$command" "$work/lines.log"
-done
+python3 tests/forms/command_lines.py --command many erd-many package,python "$work/venv/bin/erd-many" > "$work/lines.log"
+counted 'the table of statuses: erd-many' "$work/lines.log"
 
 # The program of its page writes what stands beside it.
 mkdir "$work/page"

@@ -4,7 +4,7 @@ erd.h, and compares what they give with what the pages show. `ERD=..` names anot
 
 An example is the words `**Example.** .. at `PLACE`..` with its blocks: two fragments of JSON and the lines that `erd` writes. A
 fragment is the object at the place, or some of its members. A session is a block with the commands after `$ ` and their output. What
-a command `erd-prepare` writes has to mean the same where the export is rearranged.
+a command `erd prepare` writes has to mean the same where the export is rearranged.
 """
 
 import copy
@@ -12,7 +12,6 @@ import itertools
 import json
 import os
 import pathlib
-import platform
 import random
 import re
 import shlex
@@ -43,7 +42,7 @@ def run(command, folder):
 
 
 def workshop(folder):
-    """Makes a folder with the examples, and the programs `erd` and `erd-prepare` on the path."""
+    """Makes a folder with the examples, and the program `erd` on the path."""
     for name in ('examples', 'contrib'):
         shutil.copytree(ROOT / name, folder / name)
     (folder / 'reference').mkdir()
@@ -51,12 +50,8 @@ def workshop(folder):
     program = shlex.split(os.environ.get('ERD', str(ROOT / 'erd')))
     program = [str(ROOT / word) if (ROOT / word).exists() else word for word in program]
     (folder / 'bin').mkdir()
-    package = shlex.quote(str(ROOT / 'bindings' / 'python' / 'src'))
-    library = shlex.quote(os.environ.get('ERD_LIBRARY', str(ROOT / f'out/portable/linux-{platform.machine()}/liberd.so.0')))
-    for name, words in (('erd', f'exec {shlex.join(program)}'),
-                        ('erd-prepare', f'ERD_LIBRARY={library} PYTHONPATH={package} exec python3 -B -m erd.prepare')):
-        (folder / 'bin' / name).write_text(f'#!/bin/sh\n{words} "$@"\n', encoding='utf-8')
-        (folder / 'bin' / name).chmod(0o755)
+    (folder / 'bin' / 'erd').write_text(f'#!/bin/sh\nexec {shlex.join(program)} "$@"\n', encoding='utf-8')
+    (folder / 'bin' / 'erd').chmod(0o755)
     os.environ['PATH'] = f'{folder / "bin"}:{os.environ["PATH"]}'
 
 
@@ -90,14 +85,13 @@ def sessions(folder):
 def rearranged_recipe(page, command, folder):
     """What a recipe prepares is the same if the export lists its objects in another order and has other system names. A recipe
     is a command that prepares a copy which is accepted."""
-    recipe = re.fullmatch(r'(erd-prepare (?:.* )?)(\S+\.json) > (\S+)(?: 2> \S+)?\n', command)
+    recipe = re.fullmatch(r'(erd prepare (?:.* )?)(\S+\.json) > (\S+)(?: 2> \S+)?\n', command)
     if recipe is None or run(f'erd check {recipe[3]}', folder) != 'accepted\n':
         return
     report = json.loads((folder / recipe[2]).read_text(encoding='utf-8-sig'))
     for number in range(3):
         written(folder, 'other.json', rearranged(report, random.Random(number)))
-        words = re.sub(r'--report \S+ ', '', recipe[1])
-        run(f'{words} other.json > other-prepared.json', folder)
+        run(f'{recipe[1]} other.json > other-prepared.json', folder)
         said = run(f'erd compare {recipe[3]} other-prepared.json', folder)
         yield f'{page}: $ {command.strip()} after rearrangement {number + 1}', 'same\n', said
 

@@ -144,26 +144,65 @@ def test_the_library_has_each_step():
 
 
 def run(*words):
-    return subprocess.run([sys.executable, '-m', 'erd.prepare', *map(str, words)], capture_output=True, stdin=subprocess.DEVNULL)
+    return subprocess.run([sys.executable, '-m', 'erd', 'prepare', *map(str, words)], capture_output=True, stdin=subprocess.DEVNULL)
 
 
-@pytest.mark.parametrize('name', ['county-general', 'municipal', 'state-primary'])
+@pytest.mark.parametrize('name', ['municipal', 'state-primary'])
 @pytest.mark.parametrize('groups', [('removed',), ('removed', 'filled-in'), ('removed', 'filled-in', 'visible')])
 def test_command(top, name, groups):
-    """It writes the copy, says which faults are left, and ends as the copy is judged."""
+    """It writes the copy, says what each step did and which faults are left, and ends as the copy is judged."""
     path = top / 'examples' / f'{name}.raw.json'
     ran = run('--steps', ','.join(groups), path)
     prepared, done = prepare.prepare(path.read_bytes(), prepare.steps_of(*groups))
-    left = erd.check(prepared, most_faults=10)
+    left = erd.check(prepared, most_faults=None)
     assert (ran.returncode, ran.stdout) == (left.status, prepared)
-    told = ran.stderr.decode('utf-8').splitlines()
-    assert told[0].startswith(f'{done[0].name}: {done[0].count}, first ')
-    if left.accepted:
-        assert not any(line.startswith('faults left') for line in told)
-    else:
-        more = [f'and {left.all_faults - 10} more: `erd check` lists them'] if left.more else []
-        wanted = [f'faults left: {left.all_faults}', *left.lines, *more]
-        assert told[-len(wanted):] == wanted
+    assert ran.stderr.decode('utf-8').splitlines() == [f'{step.name}: {step.count} changed' for step in done] + [
+        line for line in left.lines if not left.accepted]
+
+
+def test_the_steps_of_a_plain_command(top):
+    path = top / 'examples' / 'municipal.raw.json'
+    assert run(path).stdout == prepare.prepare(path.read_bytes())[0]
+
+
+TWO = report('"Notes":null,"Party":[{"@type":"ElectionResults.Party","@id":"p"},{"@type":"ElectionResults.Party","@id":"q","Name":"Q"}]')
+
+
+def test_what_the_command_tells(tmp_path):
+    path = tmp_path / 'two.json'
+    path.write_bytes(TWO)
+    ran = run('--steps', 'names,nulls', path)
+    assert ran.stderr.decode().splitlines()[:2] == ['nulls: 1 changed', 'names: 1 changed, 1 left']
+    assert (ran.returncode, json.loads(ran.stdout)['Party'][1]['ExternalIdentifier'][0]['Value']) == (1, 'Q')
+    ran = run('--list', path)
+    assert (ran.returncode, ran.stdout, ran.stderr) == (0, b'nulls (removed): 1 changed\nnames (filled-in): 1 changed, 1 left\n', b'')
+    ran = run('--report', '--steps', 'nulls', path)
+    assert (ran.returncode, ran.stderr, ran.stdout[-1:]) == (0, b'', b'\n')
+    assert [(step['step'], step['done'], step['count'], step['left_count']) for step in json.loads(ran.stdout)] == [
+        ('nulls', True, 1, 0), ('names', False, 1, 1)]
+
+
+def test_a_command_that_does_nothing(tmp_path):
+    path = tmp_path / 'file.json'
+    path.write_bytes(b'{"b": 1, "a": 2}')
+    for words, out in (((), b'{"a":2,"b":1}'), (('--steps', ''), None), (('--list',), b''), (('--report',), b'[]\n')):
+        if out is not None:
+            assert run(*words, path).stdout == out
+    assert run(path).returncode == 1
+
+
+def test_commands_that_are_refused(tmp_path):
+    path = tmp_path / 'file.json'
+    path.write_bytes(b'{')
+    for words in ((), ('--list',), ('--report',)):
+        ran = run(*words, path)
+        assert (ran.returncode, ran.stdout, ran.stderr) == (2, b'', b'not JSON\n')
+    for words in (('--steps', 'nosuch'), ('--steps', 'nulls,'), ('--report', '--steps', 'Nulls'), ('--steps', 'byte-order-mark')):
+        for name in (path, tmp_path / 'nosuch'):
+            ran = run(*words, name)
+            assert (ran.returncode, ran.stdout, ran.stderr) == (3, b'', b'unknown step\n')
+    ran = run(tmp_path / 'nosuch')
+    assert (ran.returncode, ran.stdout, ran.stderr.splitlines()[0]) == (3, b'', b'cannot open')
 
 
 def test_command_with_a_preferred_type(tmp_path):
@@ -176,7 +215,7 @@ def test_command_with_a_preferred_type(tmp_path):
     path = tmp_path / 'units.json'
     path.write_text(json.dumps({'@type': 'ElectionResults.ElectionReport', 'Status': 'pre-election', 'GpUnit': units, 'Election': [election]}))
     for words, status, left in (([], 0, b''), (['--prefer', 'local-level'], 0, b''),
-                                (['--prefer=state-level'], 1, b'faults left: 1\n/GpUnit/1: identifier used twice\n')):
+                                (['--prefer=state-level'], 1, b'/GpUnit/1: identifier used twice\n')):
         ran = run(*words, path)
         assert (ran.returncode, ran.stderr.split(b'\n', 1)[1]) == (status, left)
 

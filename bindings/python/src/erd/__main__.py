@@ -12,6 +12,7 @@ from typing import List, Optional, Tuple
 
 from .library import ALL, GOOD, LINE_REQUEST, LINE_WRONG, Request, command_line, pieces, version, whole
 from .listing import bytes_of_type
+from .preparing import prepare_file
 from .streams import STANDARD_ERROR, STANDARD_INPUT, STANDARD_OUTPUT, Input, read, status_of, write
 
 # The call of each command.
@@ -55,6 +56,8 @@ def answer(request: Request) -> int:
     """Does what the command line asks for, and returns the exit status."""
     if request.command == 'filter':
         return write_each('canon', (read(STANDARD_INPUT),), None)
+    if request.command == 'prepare':
+        return prepare_file(request)
     with contextlib.ExitStack() as opened:
         files = [opened.enter_context(Input(name)) for name in request.files]
         reports = tuple(read(file.handle) for file in files)

@@ -147,7 +147,7 @@ def parser() -> argparse.ArgumentParser:
     form.add_argument('--csv', dest='text_of', action='store_const', const=csv_of, help='write CSV')
     words.add_argument('--prefer', metavar='TYPE', type=not_empty, help='the type of identifier that keys follow')
     words.add_argument('--prepare', metavar='STEPS', type=names_of_steps, default=[], help='judge a copy of each file on which these steps '
-                       'of erd-prepare were done: names of steps or of groups, with commas between them; the files stay as they are')
+                       'of erd prepare were done: names of steps or of groups, with commas between them; the files stay as they are')
     words.add_argument('--pattern', default='*.json', type=pattern_of, help='which files of a folder are judged (default: %(default)s)')
     words.add_argument('--jobs', type=above_zero, default=os.cpu_count() or 1, metavar='N', help='how many processes (default: one a core)')
     words.add_argument('--scheduler', metavar='ADDRESS', help='run on the Dask cluster with this scheduler; its workers open the '

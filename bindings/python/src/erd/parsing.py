@@ -1,4 +1,4 @@
-"""What the commands `erd-many` and `erd-prepare` share to parse their words. `erd` itself asks the library."""
+"""What the commands `erd-many` and `erd.from_xml` share to parse their words. `erd` itself asks the library."""
 
 from __future__ import annotations
 
@@ -6,7 +6,6 @@ import argparse
 from typing import List, NoReturn, Optional
 
 from .library import version
-from .listing import utf_8
 from .prepare import names_of
 from .streams import STANDARD_OUTPUT, Stop, write_text
 
@@ -43,15 +42,6 @@ def not_empty(text: str) -> str:
     """Returns the text, or refuses it if it is empty."""
     if not text:
         raise argparse.ArgumentTypeError('a value is required')
-    return text
-
-
-def type_of_identifier(text: str) -> str:
-    """Returns the text, or refuses it if it is empty or has no form in UTF-8."""
-    try:
-        utf_8(not_empty(text), 'it')
-    except ValueError as error:
-        raise argparse.ArgumentTypeError(str(error)) from None
     return text
 
 

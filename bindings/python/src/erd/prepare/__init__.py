@@ -15,8 +15,9 @@ from typing import Iterable, List, Tuple
 
 from ..tree import NotJson
 from .prepared import STEPS, Change, ChangedNumber, Done, Left, Preparation, Step, names_of, steps_of
+from .step_words import LEFT_WORDS
 
-__all__ = ['STEPS', 'Change', 'ChangedNumber', 'Done', 'Left', 'NotJson', 'Preparation', 'Step', 'names_of', 'prepare', 'steps_of']
+__all__ = ['LEFT_WORDS', 'STEPS', 'Change', 'ChangedNumber', 'Done', 'Left', 'NotJson', 'Preparation', 'Step', 'names_of', 'prepare', 'steps_of']
 
 
 def prepare(data: bytes, names: Iterable[str] = tuple(steps_of('removed'))) -> Tuple[bytes, List[Done]]:
