@@ -249,7 +249,7 @@ def test_command(tmp_path):
     with open('/dev/full', 'wb') as full:
         ran = subprocess.run([sys.executable, '-m', 'erd.from_xml', str(path)], stdout=full, stderr=subprocess.PIPE, check=False)
     assert (ran.returncode, ran.stderr.splitlines()[-1]) == (3, b'write failed')
-    assert run(tmp_path / 'none')[:3] == (3, b'', 'cannot open\n')
+    assert run(tmp_path / 'none')[:3] == (3, b'', f'cannot open\n{tmp_path / "none"}\n')
     assert run(path, '--nosuch')[0] == 3
 
 

@@ -202,7 +202,7 @@ def test_commands_that_are_refused(tmp_path):
             ran = run(*words, name)
             assert (ran.returncode, ran.stdout, ran.stderr) == (3, b'', b'unknown step\n')
     ran = run(tmp_path / 'nosuch')
-    assert (ran.returncode, ran.stdout, ran.stderr.splitlines()[0]) == (3, b'', b'cannot open')
+    assert (ran.returncode, ran.stdout, ran.stderr) == (3, b'', f'cannot open\n{tmp_path / "nosuch"}\n'.encode())
 
 
 def test_command_with_a_preferred_type(tmp_path):

@@ -72,9 +72,9 @@ def test_commands(top, name):
 
 
 @pytest.mark.parametrize('words, status, told', [
-    (['check', 'no such file'], 3, b'cannot open\n'),
+    (['check', 'no such file'], 3, b'cannot open\nno such file\n'),
     (['check', '.'], 3, b'read failed\n'),
-    (['compare', '.', 'no such file'], 3, b'cannot open\n'),
+    (['compare', '.', 'no such\x1b[1m\x7f\u009b \u00e9'], 3, b'cannot open\nno such?[1m?? \xc3\xa9\n'),
     (['check'], 3, None),
     (['check', '--prefer', '', 'x'], 3, None),
     (['chek', 'x'], 3, None),

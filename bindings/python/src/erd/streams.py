@@ -8,7 +8,8 @@ from __future__ import annotations
 
 import errno
 import os
-from typing import Callable, List, Union
+import re
+from typing import Callable, List, Optional, Union
 
 from .library import NO_MEMORY, WRONG, TooLong
 from .repeats import visible
@@ -18,12 +19,17 @@ MOST_BYTES = 67108864
 INTERRUPTED = 130
 
 
-class Stop(Exception):
-    """An end with a sentence on standard error and an exit status."""
+CONTROLS = re.compile('[\x00-\x1f\x7f-\x9f]')
 
-    def __init__(self, words: str, status: int = WRONG) -> None:
+
+class Stop(Exception):
+    """An end with a sentence on standard error and an exit status. A second line may name a file, with a question mark for each control
+    character."""
+
+    def __init__(self, words: str, status: int = WRONG, name: Optional[str] = None) -> None:
         super().__init__(words)
         self.status = status
+        self.lines = words if name is None else f'{words}\n{CONTROLS.sub("?", name)}'
 
 
 class ReaderGone(Stop):
@@ -40,7 +46,7 @@ class Input:
         try:
             self.handle = os.open(name, os.O_RDONLY | getattr(os, 'O_BINARY', 0))
         except (OSError, ValueError):
-            raise Stop('cannot open') from None
+            raise Stop('cannot open', name=name) from None
 
     def __enter__(self) -> Input:
         return self
@@ -85,7 +91,7 @@ def write_text(handle: int, text: str) -> None:
 
 
 def tell(words: str) -> None:
-    """Writes a line to standard error, as far as it can be written."""
+    """Writes words to standard error, as far as they can be written, and a line feed."""
     try:
         write(STANDARD_ERROR, f'{words}\n'.encode('utf-8', 'backslashreplace'))
     except Stop:
@@ -118,7 +124,7 @@ def status_of(run: Callable[[], int]) -> int:
         return INTERRUPTED
     except Exception as error:  # whatever it is, no file was judged by it
         stop = Stop(f'erd failed: {visible(sentence_of(error))}')
-    tell(str(stop))
+    tell(stop.lines)
     return stop.status
 
 
