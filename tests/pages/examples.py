@@ -171,6 +171,14 @@ def lines_of_request(folder, answer):
     return {'check': 'accepted\n', 'compare': 'same\n'}[answer['command']], said
 
 
+def told_of_number(folder, answer):
+    """What is told of a file that has the number at this place."""
+    text = '[' + '\n' * (answer['line'] - 1) + ' ' * (answer['column'] - 1) + answer['before'] + ']'
+    (folder / 'number.json').write_text(text, encoding='utf-8')
+    told = json.loads(run('erd prepare --report --steps nulls number.json', folder))
+    return [answer], [change for step in told if step['step'] == 'numbers' for change in step['changes']]
+
+
 def examples_of_data(folder):
     """Each answer that a page shows is compact, and one that a report or a command line can have. `..` stands for what is left
     out."""
@@ -183,6 +191,9 @@ def examples_of_data(folder):
             yield f'{page}: {text} is compact', compact, text
             if 'command' in answer:
                 yield f'{page}: {text}', *lines_of_request(folder, answer)
+                continue
+            if 'column' in answer:
+                yield f'{page}: {text}', *told_of_number(folder, answer)
                 continue
             if isinstance(answer, list) and 'how' in answer[0]:
                 yield f'{page}: {text}', *lines_of_differences(folder, answer)
