@@ -39,7 +39,6 @@ else
     cp -R bindings/js/. "$work/fresh/node_modules/erd"
     cp "$wasm" "$work/fresh/node_modules/erd"
     erd="$work/fresh/node_modules/erd/erd.mjs"
-    prepare=prepare.mjs
 fi
 equal 'its version' "$(sed -n 's/.*"version": "\(.*\)".*/\1/p' bindings/js/package.json)" "$(cat VERSION)"
 cat > "$work/fresh/first.mjs" <<'END'
@@ -55,8 +54,8 @@ run in_fresh node first.mjs "$PWD/examples/county.vendor-a.json" "$PWD/examples/
 expect_text 'a first program: two that mean the same' 0 'accepted true '
 run in_fresh node first.mjs "$PWD/examples/county.vendor-a.json" "$work/typo.json"
 expect_text 'a first program: two that differ' 0 'accepted false candidate ["local-level","","K-12"]: member "BallotName"'
-run in_fresh "$(dirname "$erd")/${prepare:-erd-prepare}" --steps removed,filled-in,visible "$PWD/examples/municipal.raw.json"
-expect 'the command erd-prepare' 0
+run in_fresh "$erd" prepare --steps removed,filled-in,visible "$PWD/examples/municipal.raw.json"
+expect 'the command that prepares' 0
 cp "$work/out" "$work/prepared.json"
 run in_fresh node first.mjs "$work/prepared.json" "$work/prepared.json"
 expect_text 'what it has prepared' 0 'accepted true '
@@ -136,9 +135,6 @@ if [ -x erd ]; then
 else
     echo 'skipped the program beside the command: make erd has not been run'
 fi
-python3 tests/forms/command_lines.py --command prepare 'erd-prepare' package,javascript "$(dirname "$erd")/${prepare:-erd-prepare}" \
-    > "$work/lines.log"
-counted 'the table of statuses: erd-prepare' "$work/lines.log"
 # A package that is not whole.
 for missing in erd.wasm lib/engine.mjs; do
     mkdir "$work/part"

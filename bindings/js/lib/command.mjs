@@ -2,6 +2,7 @@
 import { readFileSync } from 'node:fs';
 import { load } from '../index.mjs';
 import { bytesOfFile, checkThere, opened, STANDARD_ERROR, STANDARD_OUTPUT, Stop, versionOfPackage, write } from './files.mjs';
+import { prepared } from './prepare/command.mjs';
 import { tellOfXml } from './xml.mjs';
 
 const NOT_JSON = 2;
@@ -19,7 +20,7 @@ export async function run(words) {
         write(status === 0 ? STANDARD_OUTPUT : STANDARD_ERROR, bytes);
         return status;
     }
-    return answered(erd, request);
+    return request.command === 'prepare' ? prepared(erd, request) : answered(erd, request);
 }
 
 /** Does what a command asks for, and returns the status. */

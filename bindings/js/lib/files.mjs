@@ -26,7 +26,7 @@ function openedFile(name) {
     try {
         return openSync(name, 'r');
     } catch {
-        throw new Stop('cannot open');
+        throw new Stop(`cannot open\n${name.replace(/\p{Cc}/gu, '?')}`);
     }
 }
 
@@ -88,18 +88,6 @@ function canBeRead(handle) {
 /** The version of this package. */
 export function versionOfPackage() {
     return JSON.parse(readFileSync(new URL('../package.json', import.meta.url), 'utf8')).version;
-}
-
-/** Writes a text to a file of this name. */
-export function writeFile(name, text) {
-    let handle;
-    try {
-        handle = openSync(name, 'w');
-    } catch {
-        throw new Stop('cannot open');
-    }
-    write(handle, text);
-    closeSync(handle);
 }
 
 /** Writes all bytes of a text or of an array. */
