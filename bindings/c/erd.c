@@ -21,6 +21,13 @@ struct told erd_tell_check_data(const uint8_t *bytes, size_t size, bool prefers,
                                 uint8_t *room, size_t room_size);
 struct told erd_tell_compare_data(const uint8_t *left, size_t left_size, const uint8_t *right, size_t right_size,
                                   bool prefers, const uint8_t *prefer, size_t prefer_size, uint8_t *room, size_t room_size);
+struct told erd_tell_ballots(const uint8_t *bytes, size_t size, bool prefers, const uint8_t *prefer, size_t prefer_size,
+                             uint8_t *room, size_t room_size);
+struct told erd_tell_ballot(const uint8_t *bytes, size_t size, size_t position, bool prefers, const uint8_t *prefer,
+                            size_t prefer_size, uint8_t *room, size_t room_size);
+struct told erd_tell_ballot_differences(const uint8_t *left, size_t left_size, const uint8_t *right, size_t right_size,
+                                        bool prefers, const uint8_t *prefer, size_t prefer_size, uint8_t *room,
+                                        size_t room_size);
 struct wanted {
     size_t first, most, enough_bytes, told, all;
     bool prefers;
@@ -59,7 +66,10 @@ enum call {
     COMPARE_DATA_PIECE,
     DIFFERENCES_DATA,
     COMMAND_LINE,
-    PREPARED
+    PREPARED,
+    BALLOTS,
+    BALLOT,
+    BALLOT_DIFFERENCES
 };
 
 struct question {
@@ -67,6 +77,7 @@ struct question {
     struct bytes left, right, prefer;
     struct wanted wanted;
     bool others;
+    size_t position;
 };
 
 static struct bytes bytes_of(const void *at, size_t size) {
@@ -76,7 +87,7 @@ static struct bytes bytes_of(const void *at, size_t size) {
 
 static struct question question_of(enum call call, struct bytes left, struct bytes right, const char *prefer) {
     struct wanted all = {0, SIZE_MAX, SIZE_MAX, 0, 0, prefer != NULL};
-    return (struct question){call, left, right, bytes_of(prefer, prefer ? strlen(prefer) : 0), all, false};
+    return (struct question){call, left, right, bytes_of(prefer, prefer ? strlen(prefer) : 0), all, false, 0};
 }
 
 static struct told ask_of_report(piece_of_report *call, struct question *it, uint8_t *room, size_t room_size) {
@@ -109,6 +120,20 @@ static struct told ask_for_piece(struct question *it, uint8_t *room, size_t room
     }
 }
 
+static struct told ask_for_ballots(const struct question *it, uint8_t *room, size_t room_size) {
+    bool prefers = it->wanted.prefers;
+    switch (it->call) {
+    case BALLOTS:
+        return erd_tell_ballots(it->left.at, it->left.size, prefers, it->prefer.at, it->prefer.size, room, room_size);
+    case BALLOT:
+        return erd_tell_ballot(it->left.at, it->left.size, it->position, prefers, it->prefer.at, it->prefer.size, room,
+                               room_size);
+    default:
+        return erd_tell_ballot_differences(it->left.at, it->left.size, it->right.at, it->right.size, prefers,
+                                           it->prefer.at, it->prefer.size, room, room_size);
+    }
+}
+
 static struct told ask(struct question *it, uint8_t *room, size_t room_size) {
     bool prefers = it->wanted.prefers;
     switch (it->call) {
@@ -129,6 +154,10 @@ static struct told ask(struct question *it, uint8_t *room, size_t room_size) {
         return erd_tell_command_line(it->left.at, it->left.size, room, room_size);
     case PREPARED:
         return erd_tell_prepared(it->left.at, it->left.size, it->right.at, it->right.size, it->others, room, room_size);
+    case BALLOTS:
+    case BALLOT:
+    case BALLOT_DIFFERENCES:
+        return ask_for_ballots(it, room, room_size);
     default:
         return ask_for_piece(it, room, room_size);
     }
@@ -227,6 +256,24 @@ enum erd_outcome erd_prepare(const void *bytes, size_t size, const char *steps, 
     it.others = others != 0;
     /* most reports are no longer when they are prepared, and what was done is short */
     return call(&it, size + ROOM_FOR_PIECE, text, length);
+}
+
+enum erd_outcome erd_ballots(const void *bytes, size_t size, const char *prefer, char **text, size_t *length) {
+    struct question it = question_of(BALLOTS, bytes_of(bytes, size), bytes_of(NULL, 0), prefer);
+    return call(&it, ROOM_FOR_PIECE, text, length);
+}
+
+enum erd_outcome erd_ballot(const void *bytes, size_t size, const char *prefer, size_t position, char **text,
+                            size_t *length) {
+    struct question it = question_of(BALLOT, bytes_of(bytes, size), bytes_of(NULL, 0), prefer);
+    it.position = position;
+    return call(&it, ROOM_FOR_PIECE, text, length);
+}
+
+enum erd_outcome erd_ballot_differences(const void *left, size_t left_size, const void *right, size_t right_size,
+                                        const char *prefer, char **text, size_t *length) {
+    struct question it = question_of(BALLOT_DIFFERENCES, bytes_of(left, left_size), bytes_of(right, right_size), prefer);
+    return call(&it, ROOM_FOR_PIECE, text, length);
 }
 
 /* Room for the text of a list, so that most lists are made at once: as many bytes as are enough, at most a mebibyte, the commas

@@ -1,7 +1,7 @@
 /* erd: canonical form, check and comparison of pre-election ballot definitions.
  *
- * Each call but erd_command_line takes the bytes of one report, or of two, and all but it and erd_prepare do what a command of
- * `erd` does. The manual page erd(1) describes the commands, their texts and the preferred type of identifier. A call keeps no
+ * Each call but erd_command_line takes the bytes of one report, or of two, and all but it, erd_ballot and erd_prepare do what a
+ * command of `erd` does. The manual page erd(1) describes the commands, their texts and the preferred type of identifier. A call keeps no
  * state but that of the list that it is given: its result does not depend on other calls, and several threads may call at once,
  * each with lists of its own. It reads only the bytes that it is given, and never ends the program. */
 #ifndef ERD_H
@@ -221,6 +221,39 @@ enum erd_line erd_command_line(const void *words, size_t size, char **text, size
  * The outcome is ERD_NOT_JSON if the bytes are not JSON, and ERD_WRONG if the report is too long or `steps` has a name that no
  * step and no group has; there is then no text. A prepared report may still be refused: check it. */
 enum erd_outcome erd_prepare(const void *bytes, size_t size, const char *steps, int others, char **text, size_t *length);
+
+/* Lists the ballots of a report. The text is compact JSON in UTF-8, with no line end: an array with an object for each BallotStyle,
+ * in the rising order of their keys. It looks like
+ *
+ *     {"at":0,"key":["local-level","","B1"],"lines":12,"parties":[],"units":[["fips","","20"]]}
+ *
+ * `at` is the position of the style in the report, counted from 0, `lines` says how many headers and contests the ballot has, and
+ * `parties` and `units` have the keys of those whose voters get it. If the report is refused, the text is that of
+ * erd_check_data. */
+enum erd_outcome erd_ballots(const void *bytes, size_t size, const char *prefer, char **text, size_t *length);
+
+/* Tells one ballot of a report: that of the style at this position, as erd_ballots tells it. The text is compact JSON in UTF-8, with
+ * no line end: `null` if there is no such style, or an object with `key`, `parties` and `units`, and in `lines` the headers and
+ * contests in the order of the ballot. A line looks like
+ *
+ *     {"depth":1,"listed":true,"selections":[..],"what":["contest",["local-level","","C1"]]}
+ *
+ * `depth` says how many headers stand around it, `what` is the word "contest" or "header" with the key, and `selections` has the
+ * names of the selections: as the ballot lists them, or in rising order, with `listed` false, if it lists none. If the report is
+ * refused, the text is that of erd_check_data. */
+enum erd_outcome erd_ballot(const void *bytes, size_t size, const char *prefer, size_t position, char **text,
+                            size_t *length);
+
+/* Tells which ballots are not the same in two reports. The text is compact JSON in UTF-8, with no line end: an array with an object
+ * for each BallotStyle whose texts of erd_ballot are not the same, or which only one report has. It looks like
+ *
+ *     {"key":["local-level","","B1"],"left":0,"right":null}
+ *
+ * `left` and `right` are the positions of the style, or null. The outcome is ERD_GOOD if the array is empty, and ERD_BAD if it is
+ * not. If a report is refused, the text is that of erd_compare_data. The words of contests, headers, candidates and parties are not
+ * compared: erd_differences tells of them. */
+enum erd_outcome erd_ballot_differences(const void *left, size_t left_size, const void *right, size_t right_size,
+                                        const char *prefer, char **text, size_t *length);
 
 /* Frees a text that one of these calls returned. Null is allowed, and does nothing. */
 void erd_free(char *text);

@@ -12,12 +12,12 @@ static const uint8_t *last_prefer;
 static int last_call;
 static const char *why;
 
-enum { SIZE = 1000, CALLS = 13, LINE = CALLS, PREPARE, FIRST_OF_PIECES = 5, MEBIBYTE = 1048576,
-       ROOM_OF_MEBIBYTE = MEBIBYTE + MEBIBYTE / 16 + 4096 };
+enum { SIZE = 1000, FIRST_OF_PIECES = 5, BALLOTS_CALL = 13, BALLOT_CALL, BALLOT_DIFFERENCES_CALL, CALLS, LINE = CALLS, PREPARE,
+       POSITION = 23, MEBIBYTE = 1048576, ROOM_OF_MEBIBYTE = MEBIBYTE + MEBIBYTE / 16 + 4096 };
 static const char *const names[CALLS + 2] = {"check",      "canonical",        "compare",            "check_data",
                                              "compare_data", "check_data_piece", "compare_data_piece", "canonical_data_piece",
                                              "differences_data", "check_piece", "compare_piece", "canonical_piece",
-                                             "differences", "command_line", "prepare"};
+                                             "differences", "ballots", "ballot", "ballot_differences", "command_line", "prepare"};
 static const char report[SIZE];
 
 static uint8_t letter(size_t at) {
@@ -108,6 +108,28 @@ OF_PAIR(erd_tell_compare_piece, 10)
 OF_REPORT(erd_tell_canonical_piece, 11)
 OF_PAIR(erd_tell_differences, 12)
 
+static size_t last_position;
+
+struct told erd_tell_ballots(const uint8_t *bytes, size_t size, bool prefers, const uint8_t *prefer, size_t prefer_size,
+                             uint8_t *room, size_t room_size) {
+    (void)size;
+    return told_report(BALLOTS_CALL, bytes, prefers, prefer, prefer_size, room, room_size);
+}
+
+struct told erd_tell_ballot(const uint8_t *bytes, size_t size, size_t position, bool prefers, const uint8_t *prefer,
+                            size_t prefer_size, uint8_t *room, size_t room_size) {
+    (void)size;
+    last_position = position;
+    return told_report(BALLOT_CALL, bytes, prefers, prefer, prefer_size, room, room_size);
+}
+
+struct told erd_tell_ballot_differences(const uint8_t *left, size_t left_size, const uint8_t *right, size_t right_size,
+                                        bool prefers, const uint8_t *prefer, size_t prefer_size, uint8_t *room,
+                                        size_t room_size) {
+    (void)left_size, (void)right_size;
+    return told_report(BALLOT_DIFFERENCES_CALL, left == NULL ? left : right, prefers, prefer, prefer_size, room, room_size);
+}
+
 struct told erd_tell_command_line(const uint8_t *words, size_t size, uint8_t *room, size_t room_size) {
     last_size = size;
     return told_report(LINE, words, false, words, 0, room, room_size);
@@ -158,6 +180,12 @@ static enum erd_outcome asked(int call, const void *bytes, size_t size, const ch
         return erd_check_data(bytes, size, prefer, text, length);
     case 4:
         return erd_compare_data(bytes, size, bytes, size, prefer, text, length);
+    case BALLOTS_CALL:
+        return erd_ballots(bytes, size, prefer, text, length);
+    case BALLOT_CALL:
+        return erd_ballot(bytes, size, prefer, POSITION, text, length);
+    case BALLOT_DIFFERENCES_CALL:
+        return erd_ballot_differences(bytes, size, bytes, size, prefer, text, length);
     default:
         return asked_for_piece(call, (struct bytes){bytes, size}, prefer, NULL, text, length);
     }
@@ -176,12 +204,12 @@ static void said(int call, const char *what, size_t number) {
 /* A text of this length comes whole, with a zero byte behind it, after one call if it fits and after two if it does not. */
 static void text_of_length(int call, size_t wanted) {
     char *text = NULL;
-    size_t length = 7, room = call >= FIRST_OF_PIECES ? ROOM_OF_MEBIBYTE : call == 1 ? 2 * SIZE + 4096 : 4096;
+    size_t length = 7, room = call >= BALLOTS_CALL ? MEBIBYTE : call >= FIRST_OF_PIECES ? ROOM_OF_MEBIBYTE : call == 1 ? 2 * SIZE + 4096 : 4096;
     next = (struct told){ERD_BAD, wanted};
     calls = 0;
     if (asked(call, report, SIZE, NULL, &text, &length) != ERD_BAD || text == NULL || length != wanted)
         why = "another answer";
-    else if (last_call != call)
+    else if (last_call != call || (call == BALLOT_CALL && last_position != POSITION))
         why = "another call";
     else if (calls != (wanted > room ? 2 : 1))
         why = "another number of calls";
@@ -245,7 +273,7 @@ static void one_too_long(int call, size_t left_size, size_t right_size) {
     char *text = (char *)"";
     next = (struct told){ERD_GOOD, 3};
     calls = 0;
-    if ((call == 2 ? erd_compare : erd_compare_data)(report, left_size, report, right_size, NULL, &text, NULL) != ERD_WRONG
+    if ((call == 2 ? erd_compare : call == 4 ? erd_compare_data : erd_ballot_differences)(report, left_size, report, right_size, NULL, &text, NULL) != ERD_WRONG
         || text != NULL || calls != 0)
         why = "another answer";
     said(call, "reports, of which one has the size", left_size > right_size ? left_size : right_size);
@@ -366,8 +394,8 @@ static void prepared(size_t wanted_length, const char *steps, int others) {
 
 int main(void) {
     static char long_preference[60002];
-    static const size_t lengths[] = {0, 1, 15, 4095, 4096, 4097, 6095, 6096, 6097, 6098, 60001, 1118207,
-                                     1118208, 1118209, 3000000};
+    static const size_t lengths[] = {0, 1, 15, 4095, 4096, 4097, 6095, 6096, 6097, 6098, 60001, MEBIBYTE - 1,
+                                     MEBIBYTE, MEBIBYTE + 1, 1118207, 1118208, 1118209, 3000000};
     memset(long_preference, 'p', sizeof long_preference - 1);
     for (int call = 0; call < CALLS; call++) {
         for (size_t at = 0; at < sizeof lengths / sizeof *lengths; at++)
@@ -389,7 +417,7 @@ int main(void) {
         too_long(call, SIZE_MAX / 2 + 1);
         too_long(call, SIZE_MAX / 2 - 2000);
     }
-    for (int call = FIRST_OF_PIECES; call < CALLS; call++) {
+    for (int call = FIRST_OF_PIECES; call < BALLOTS_CALL; call++) {
         piece(call);
         room_of_piece(call, 10000, 14721);
         room_of_piece(call, 2 * MEBIBYTE, 1118208);
@@ -407,6 +435,8 @@ int main(void) {
         one_too_long(call, SIZE, (size_t)67108864 + 1);
         one_too_long(call, (size_t)67108864 + 1, SIZE);
     }
+    one_too_long(BALLOT_DIFFERENCES_CALL, SIZE, (size_t)67108864 + 1);
+    one_too_long(BALLOT_DIFFERENCES_CALL, (size_t)67108864 + 1, SIZE);
     printf("%d passed, %d failed\n", passed, failed);
     return failed != 0;
 }

@@ -224,6 +224,77 @@ static int odd_preparations(void) {
     return 0;
 }
 
+/* A report with a ballot: one contest, of which it lists a selection, or none. */
+#define BALLOTS(listed)                                                                                                        \
+    "{\"@type\":\"ElectionResults.ElectionReport\",\"Status\":\"pre-election\",\"GpUnit\":[{\"@id\":\"u7\","                   \
+    "\"@type\":\"ElectionResults.ReportingUnit\",\"Type\":\"county\","                                                         \
+    "\"ExternalIdentifier\":[{\"@type\":\"ElectionResults.ExternalIdentifier\",\"Type\":\"fips\","                             \
+    "\"Value\":\"20\"}]}],\"Election\":[{\"@type\":\"ElectionResults.Election\",\"Name\":\"Test\","                            \
+    "\"Type\":\"general\",\"StartDate\":\"2026-11-03\",\"EndDate\":\"2026-11-03\",\"ElectionScopeId\":\"u7\","                 \
+    "\"ExternalIdentifier\":[{\"@type\":\"ElectionResults.ExternalIdentifier\",\"Type\":\"local-level\","                      \
+    "\"Value\":\"E1\"}],\"Candidate\":[{\"@id\":\"k1\",\"@type\":\"ElectionResults.Candidate\","                               \
+    "\"BallotName\":\"Ann\",\"ExternalIdentifier\":[{\"@type\":\"ElectionResults.ExternalIdentifier\","                        \
+    "\"Type\":\"local-level\",\"Value\":\"K1\"}]}],\"Contest\":[{\"@id\":\"c1\","                                              \
+    "\"@type\":\"ElectionResults.CandidateContest\",\"Name\":\"Mayor\",\"ElectionDistrictId\":\"u7\","                         \
+    "\"VotesAllowed\":1,\"ExternalIdentifier\":[{\"@type\":\"ElectionResults.ExternalIdentifier\","                            \
+    "\"Type\":\"local-level\",\"Value\":\"C1\"}],\"ContestSelection\":[{\"@id\":\"s2\","                                       \
+    "\"@type\":\"ElectionResults.CandidateSelection\",\"IsWriteIn\":true},{\"@id\":\"s1\","                                    \
+    "\"@type\":\"ElectionResults.CandidateSelection\",\"CandidateIds\":[\"k1\"]}]}],"                                          \
+    "\"BallotStyle\":[{\"@type\":\"ElectionResults.BallotStyle\",\"GpUnitIds\":[\"u7\"],"                                      \
+    "\"ExternalIdentifier\":[{\"@type\":\"ElectionResults.ExternalIdentifier\",\"Type\":\"local-level\","                      \
+    "\"Value\":\"B1\"}],\"OrderedContent\":[{\"@type\":\"ElectionResults.OrderedContest\",\"ContestId\":\"c1\"" listed "}]}]}]}"
+#define LISTED BALLOTS(",\"OrderedContestSelectionIds\":[\"s1\"]")
+#define UNLISTED BALLOTS("")
+
+static enum erd_outcome ask_for_ballots(const char *left, const char *right, size_t position, const char *prefer, char **text,
+                                        size_t *length) {
+    if (right != NULL)
+        return erd_ballot_differences(left, strlen(left), right, strlen(right), prefer, text, length);
+    if (position < SIZE_MAX)
+        return erd_ballot(left, strlen(left), prefer, position, text, length);
+    return erd_ballots(left, strlen(left), prefer, text, length);
+}
+
+/* The number of the first question on ballots that is answered wrongly, or 0. */
+static int odd_ballots(void) {
+    static const char faults[] = "[{\"name\":\"Election\",\"place\":[],\"reason\":2},{\"name\":\"Status\",\"place\":[],\"reason\":2}]";
+    static const struct {
+        const char *left, *right;
+        size_t position;
+        enum erd_outcome outcome;
+        const char *text;
+    } rows[] = {
+        {LISTED, NULL, SIZE_MAX, ERD_GOOD,
+         "[{\"at\":0,\"key\":[\"local-level\",\"\",\"B1\"],\"lines\":1,\"parties\":[],\"units\":[[\"fips\",\"\","
+         "\"20\"]]}]"},
+        {LISTED, NULL, 0, ERD_GOOD,
+         "{\"key\":[\"local-level\",\"\",\"B1\"],\"lines\":[{\"depth\":0,\"listed\":true,"
+         "\"selections\":[[\"ElectionResults.CandidateSelection\",[[\"local-level\",\"\",\"K1\"]],false,null,null,"
+         "null]],\"what\":[\"contest\",[\"local-level\",\"\",\"C1\"]]}],\"parties\":[],\"units\":[[\"fips\",\"\","
+         "\"20\"]]}"},
+        {LISTED, NULL, 1, ERD_GOOD, "null"},
+        {LISTED, LISTED, 0, ERD_GOOD, "[]"},
+        {LISTED, UNLISTED, 0, ERD_BAD, "[{\"key\":[\"local-level\",\"\",\"B1\"],\"left\":0,\"right\":0}]"},
+        {"{", NULL, SIZE_MAX, ERD_NOT_JSON, "\"not JSON\""},
+        {"{", NULL, 0, ERD_NOT_JSON, "\"not JSON\""},
+        {REPORT "}", NULL, SIZE_MAX, ERD_BAD, faults},
+        {REPORT "}", NULL, 0, ERD_BAD, faults},
+        {LISTED, "{", 0, ERD_NOT_JSON, "{\"faults\":\"not JSON\",\"refused\":\"right\"}"},
+        {"{", LISTED, 0, ERD_NOT_JSON, "{\"faults\":\"not JSON\",\"refused\":\"left\"}"},
+    };
+    for (size_t at = 0; at < sizeof rows / sizeof *rows; at++) {
+        char *text = "";
+        size_t length = 1;
+        if (ask_for_ballots(rows[at].left, rows[at].right, rows[at].position, at % 2 ? "fips" : NULL, &text, &length) != rows[at].outcome
+            || !is_text(text, length, rows[at].text))
+            return 81 + (int)at;
+        erd_free(text);
+        if (ask_for_ballots(rows[at].left, rows[at].right, rows[at].position, "\xff", &text, &length) != ERD_WRONG || text != NULL)
+            return 81 + (int)at;
+    }
+    return 0;
+}
+
 /* A type of identifier of this many letters. */
 static int preferred(struct file file, size_t size) {
     char *prefer = malloc(size + 1);
@@ -272,6 +343,7 @@ static int odd(const char *name) {
     int wrong = odd_data(file);
     free(file.bytes);
     wrong = wrong ? wrong : odd_lines();
+    wrong = wrong ? wrong : odd_ballots();
     return wrong ? wrong : odd_preparations();
 }
 

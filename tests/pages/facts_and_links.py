@@ -176,7 +176,7 @@ def compare_preferring():
         handed_out = documented.names_at_root(crate)
         for path in (ROOT / 'crates' / crate / 'src').rglob('*.rt'):
             found.update(handed_out & set(functions.findall(path.read_text(encoding='utf-8'))))
-    listed = read('docs/PROFILE.md').split('library that take one are ')[1].split('.')[0]
+    listed = read('docs/PROFILE.md').split('library that take one are ')[1].split('\n\n')[0]
     yield 'the calls of docs/PROFILE.md that take a preference', sorted(found), sorted(re.findall(r'`(\w+)`', listed))
 
 

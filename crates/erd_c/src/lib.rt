@@ -13,12 +13,14 @@ ghost use Rattle.erd_canon.specs.Run.{IsChecked, IsCompared};
 ghost use Rattle.erd_c.specs.Told.{HasCanonicalText, IsCall, IsPieceCall};
 
 mod answers;
+mod ballots;
 mod line;
 mod prepared;
 mod questions;
 mod told;
 
 use answers::{canonical, checked, checked_data, compared, compared_data};
+pub use ballots::{erd_tell_ballot, erd_tell_ballot_differences, erd_tell_ballots};
 pub use line::erd_tell_command_line;
 pub use prepared::erd_tell_prepared;
 use questions::Question;

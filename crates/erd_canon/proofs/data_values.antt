@@ -1,6 +1,7 @@
 pub mod DataTrees
 pub mod DetailedTrees  -- the values of differences with what differs inside selections
 pub mod BallotTexts  -- what a call on ballots answers for bytes that are refused
+pub mod BallotPairs  -- what a call on the ballots of two reports answers
 pub mod DataTexts
 pub mod Fronts  -- the front of a list that a piece shows
 pub mod FrontLaws  -- that a list has one front and one piece

@@ -7,3 +7,4 @@ pub mod Moving
 pub mod Answering
 pub mod StepLines
 pub mod TextRuns
+pub mod BallotRuns  -- what is written of ballots

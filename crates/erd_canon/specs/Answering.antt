@@ -38,13 +38,22 @@ abbrev pub listing_lines : List Difference → List (List ℕ)
 listing_lines [] = codes "same" ∷ []
 listing_lines (d ∷ ds) = map difference_line (d ∷ ds)
 
--- Listing the differences of the two inputs ends with this outcome and writes this text: why the left input is refused, else
--- why the right one is refused, as a comparison has it, else a line for each difference.
-abbrev pub IsListed : Preference → List ℕ → List ℕ → Outcome → List ℕ → Type 0
-IsListed π left right outcome out =
+-- What is asked of two inputs ends with this outcome and writes this text: why the left input is refused, else why the right one
+-- is refused, as a comparison has it, else what `Both` says of two accepted reports.
+abbrev pub IsPairTold : Preference → (List ℕ → List ℕ → Outcome → List ℕ → Type 0) → List ℕ → List ℕ → Outcome → List ℕ → Type 0
+IsPairTold π Both left right outcome out =
     IsSideRefused π (codes "left: ") left outcome out
     ⊎ ((IsSomeReport π left × IsSideRefused π (codes "right: ") right outcome out)
-    ⊎ ((found : List Difference) × AreCompared π left right found × (outcome ≡ listing_outcome found) × (out ≡ text_of_lines (listing_lines found))))
+    ⊎ Both left right outcome out)
+
+-- The text has a line for each difference of two accepted reports.
+abbrev pub AreListed : Preference → List ℕ → List ℕ → Outcome → List ℕ → Type 0
+AreListed π left right outcome out = (found : List Difference) × AreCompared π left right found × (outcome ≡ listing_outcome found) × (out ≡ text_of_lines (listing_lines found))
+
+-- Listing the differences of the two inputs ends with this outcome and writes this text: why an input is refused, else a line for
+-- each difference.
+abbrev pub IsListed : Preference → List ℕ → List ℕ → Outcome → List ℕ → Type 0
+IsListed π = IsPairTold π (AreListed π)
 
 -- The run on the input ends with this outcome. If the bytes of the writer are known, its text was written, and nothing else.
 pub record IsReportWritten (Answers : List ℕ → Outcome → List ℕ → Type 0) (bytes : List ℕ) (outcome : Outcome) (before after : Option (List ℕ)) : Type 0 where

@@ -31,6 +31,7 @@ pub use Rattle.erd_canon.specs.Devices.{between, Reader, Writer}
 pub use Rattle.erd_canon.specs.Engines.{IsCanonRun, IsCheckRun, IsCompareRun}
 pub use Rattle.erd_canon.specs.Answering.{listing_lines, IsCheckLine, IsCompareLine, IsListed, IsListLine, IsPairPartWritten, IsPairRun, IsPairWritten, IsReportPartWritten, IsReportRun, IsReportWritten}
 pub use Rattle.erd_canon.specs.Preparing.{asked_steps, count_lines, done_lines, file_lines, grouped_text, tried_lines, AreFileTexts, AreNotJsonTexts, AreStepsListed, AreStepsTried, AreTextsPartWritten, AreTextsWith, AreTextsWritten, AreToldTexts, AreTriedTexts, IsJudged, IsPreparationTold, IsPreparedAs, IsTextsRun}
+pub use Rattle.erd_canon.specs.BallotAnswering.{IsBallotDifferenceLines, IsBallotDifferencesLine, IsBallotLines, IsBallotsLine}
 pub use Rattle.erd_canon.specs.Statuses.{fault_status, fault_words, outcome_status}
 pub use Rattle.erd_canon.specs.Options.{has_flag, option_data, preference_in, steps_in}
 pub use Rattle.erd_canon.specs.ExactLines.{words_of, HasPlainWords}

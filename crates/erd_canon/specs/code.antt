@@ -4,5 +4,6 @@ pub mod SideRefusals  -- what is written of a refusal on one of two sides
 pub mod RefusalData  -- the JSON value of a refusal
 pub mod Pending  -- what moves from a buffer to a writer
 pub mod Fronts  -- the front of a list that a piece shows
-pub mod PairCommands  -- what the engine for each command on two reports answers
 pub mod PrepareCommands  -- what the engine for each command that prepares a report answers
+pub mod AskedCommands  -- what the engine for each command on one report, and on two reports, answers
+pub mod BallotForms  -- in which form the ballots of reports are told

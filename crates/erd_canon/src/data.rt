@@ -1,5 +1,6 @@
 //! The calls that answer data: the outcome of a check, a comparison or a list of differences with a JSON text.
 
+pub(crate) mod ballot_pairs;
 pub(crate) mod ballots;
 pub(crate) mod check;
 pub(crate) mod compare;

@@ -1,6 +1,8 @@
 //! The engines behind the subcommands. Each reads its input, writes the result and returns an outcome.
 
 pub(crate) mod answers;
+pub(crate) mod asked;
+pub(crate) mod ballots;
 pub(crate) mod buffered;
 pub(crate) mod lines;
 pub(crate) mod outcome;

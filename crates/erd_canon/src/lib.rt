@@ -19,6 +19,7 @@ pub use commands::prefer::Prefer;
 pub use commands::request::{FileName, LineFault, Request};
 pub use commands::steps::Steps;
 pub use commands::words::command_line;
+pub use data::ballot_pairs::{ballot_differences_data_with, ballots_beside_data_with};
 pub use data::ballots::{BallotsAsked, ballots_data_with};
 pub use data::check::{Answer, check_data, check_data_with};
 pub use data::compare::{compare_data, compare_data_with, differences_data, differences_data_with};
@@ -37,6 +38,9 @@ pub use devices::source::{Failed, MOST_BYTES, Source};
 pub use devices::write_to::WriteTo;
 pub use engines::answers::{
     run_check_data, run_compare_data, run_differences, run_differences_data,
+};
+pub use engines::ballots::{
+    run_ballot_differences, run_ballot_differences_data, run_ballots, run_ballots_data,
 };
 pub use engines::outcome::{Outcome, RunFault};
 pub use engines::prepare::{run_prepare, run_prepare_list, run_prepare_report, steps_asked};

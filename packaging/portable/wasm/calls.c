@@ -104,8 +104,10 @@ static void tell_at(address place, const struct erd_piece *told) {
 ON_REPORT(erd_check)
 ON_REPORT(erd_canonical)
 ON_REPORT(erd_check_data)
+ON_REPORT(erd_ballots)
 ON_TWO_REPORTS(erd_compare)
 ON_TWO_REPORTS(erd_compare_data)
+ON_TWO_REPORTS(erd_ballot_differences)
 PIECE_OF_REPORT(erd_check_piece)
 PIECE_OF_REPORT(erd_canonical_piece)
 PIECE_OF_REPORT(erd_check_data_piece)
@@ -114,6 +116,15 @@ PIECE_OF_TWO_REPORTS(erd_compare_piece)
 PIECE_OF_TWO_REPORTS(erd_differences)
 PIECE_OF_TWO_REPORTS(erd_compare_data_piece)
 PIECE_OF_TWO_REPORTS(erd_differences_data)
+
+uint32_t exported_erd_ballot(address bytes, uint32_t size, address prefer, uint32_t position, address text, address length)
+    EXPORTED("erd_ballot");
+uint32_t exported_erd_ballot(address bytes, uint32_t size, address prefer, uint32_t position, address text, address length) {
+    struct answer answer = {NULL, 0};
+    enum erd_outcome outcome =
+        erd_ballot(at(bytes), size, at(prefer), position, text != 0 ? &answer.text : NULL, &answer.length);
+    return handed_on(outcome, answer, text, length);
+}
 
 uint32_t exported_erd_prepare(address bytes, uint32_t size, address steps, uint32_t others, address text, address length)
     EXPORTED("erd_prepare");

@@ -1,7 +1,7 @@
 -- What is written of an answer that is one text.
 use Rattle.erd_canon.proofs.Common.{◌≡◌, ℕ, Bool, false, List, ◌∷◌, [], ◌++◌, OnOk, Option, codes, sym, refl, ap, ◌∙◌, subst, inl, inr, IfOk, Ok, Err, Result, Preference, Appends, IsSomeReport, RefusedAs, IsReadWhole, IsPartWritten, Refusal, Outcome, RunFault, text_of_lines, map}
 use Rattle.std.proofs.Common.{◌==◌, length, true≢false}
-use Rattle.erd_canon.specs.Answering.{IsBrokenPair, IsBrokenReport, IsWholePair, IsWholeReport, IsListed, IsPairPartWritten, IsPairWritten, IsReportPartWritten, IsReportWritten, listing_lines}
+use Rattle.erd_canon.specs.Answering.{IsBrokenPair, IsBrokenReport, IsWholePair, IsWholeReport, IsListed, IsPairTold, IsPairPartWritten, IsPairWritten, IsReportPartWritten, IsReportWritten, listing_lines}
 use Rattle.erd_canon.specs.DataAnswers.{listing_outcome}
 use Rattle.erd_canon.specs.EngineTexts.{AreCompared, AreDetailed}
 use Rattle.erd_canon.specs.code.SideRefusals.{IsRefusalPartWritten, IsRefusalWritten}
@@ -47,15 +47,15 @@ pub broken_pair : {Answers : List ℕ → List ℕ → Outcome → List ℕ → 
 broken_pair {left = left} {right = right} left_whole right_whole written fails = record { left = left; right = right; left_whole = left_whole; right_whole = right_whole; written = written fails }
 
 -- what is written of the refusal of the left bytes, and a first part of it
-pub left_written : (π : Preference) (left right : List ℕ) (refused : Refusal) (r : Result Outcome RunFault) (before after : Option (List ℕ)) → RefusedAs π left refused
-    → IfOk r (λ outcome. IsRefusalWritten (codes "left: ") refused outcome before after) → IfOk r (λ outcome. IsPairWritten (IsListed π) left right outcome before after)
-left_written π left right refused (Ok outcome) before after is written =
+pub left_written : (π : Preference) (Both : List ℕ → List ℕ → Outcome → List ℕ → Type 0) (left right : List ℕ) (refused : Refusal) (r : Result Outcome RunFault) (before after : Option (List ℕ)) → RefusedAs π left refused
+    → IfOk r (λ outcome. IsRefusalWritten (codes "left: ") refused outcome before after) → IfOk r (λ outcome. IsPairWritten (IsPairTold π Both) left right outcome before after)
+left_written π Both left right refused (Ok outcome) before after is written =
     record { text = written.text; answers = inl (side_refused π (codes "left: ") left refused outcome written.text is written.tells); wrote = written.wrote }
-left_written π left right refused (Err fault) before after is written = tt
+left_written π Both left right refused (Err fault) before after is written = tt
 
-pub left_part : (π : Preference) (left right : List ℕ) (refused : Refusal) (before after : Option (List ℕ)) → RefusedAs π left refused
-    → IsRefusalPartWritten (codes "left: ") refused before after → IsPairPartWritten (IsListed π) left right before after
-left_part π left right refused before after is written = record {
+pub left_part : (π : Preference) (Both : List ℕ → List ℕ → Outcome → List ℕ → Type 0) (left right : List ℕ) (refused : Refusal) (before after : Option (List ℕ)) → RefusedAs π left refused
+    → IsRefusalPartWritten (codes "left: ") refused before after → IsPairPartWritten (IsPairTold π Both) left right before after
+left_part π Both left right refused before after is written = record {
   outcome = written.outcome;
   text = written.text;
   answers = inl (side_refused π (codes "left: ") left refused written.outcome written.text is written.tells);
@@ -63,15 +63,15 @@ left_part π left right refused before after is written = record {
 }
 
 -- the same of the right bytes
-pub right_written : (π : Preference) (left right : List ℕ) (refused : Refusal) (r : Result Outcome RunFault) (before after : Option (List ℕ)) → IsSomeReport π left → RefusedAs π right refused
-    → IfOk r (λ outcome. IsRefusalWritten (codes "right: ") refused outcome before after) → IfOk r (λ outcome. IsPairWritten (IsListed π) left right outcome before after)
-right_written π left right refused (Ok outcome) before after accepted is written =
+pub right_written : (π : Preference) (Both : List ℕ → List ℕ → Outcome → List ℕ → Type 0) (left right : List ℕ) (refused : Refusal) (r : Result Outcome RunFault) (before after : Option (List ℕ)) → IsSomeReport π left → RefusedAs π right refused
+    → IfOk r (λ outcome. IsRefusalWritten (codes "right: ") refused outcome before after) → IfOk r (λ outcome. IsPairWritten (IsPairTold π Both) left right outcome before after)
+right_written π Both left right refused (Ok outcome) before after accepted is written =
     record { text = written.text; answers = inr (inl (accepted, side_refused π (codes "right: ") right refused outcome written.text is written.tells)); wrote = written.wrote }
-right_written π left right refused (Err fault) before after accepted is written = tt
+right_written π Both left right refused (Err fault) before after accepted is written = tt
 
-pub right_part : (π : Preference) (left right : List ℕ) (refused : Refusal) (before after : Option (List ℕ)) → IsSomeReport π left → RefusedAs π right refused
-    → IsRefusalPartWritten (codes "right: ") refused before after → IsPairPartWritten (IsListed π) left right before after
-right_part π left right refused before after accepted is written = record {
+pub right_part : (π : Preference) (Both : List ℕ → List ℕ → Outcome → List ℕ → Type 0) (left right : List ℕ) (refused : Refusal) (before after : Option (List ℕ)) → IsSomeReport π left → RefusedAs π right refused
+    → IsRefusalPartWritten (codes "right: ") refused before after → IsPairPartWritten (IsPairTold π Both) left right before after
+right_part π Both left right refused before after accepted is written = record {
   outcome = written.outcome;
   text = written.text;
   answers = inr (inl (accepted, side_refused π (codes "right: ") right refused written.outcome written.text is written.tells));

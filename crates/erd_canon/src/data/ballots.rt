@@ -1,15 +1,15 @@
 //! The ballots of a report as data.
 ghost use Rattle.std.specs.Prelude.{ℕ, ◌≡◌, List, string_bytes, IfErr, IfOk, None, option_copied};
-ghost use Rattle.serde_json.specs.Written.{compact_text};
-ghost use Rattle.erd_canon.specs.BallotAnswers.{AreBallotsTold, IsBallotsData, ballots_told};
+ghost use Rattle.erd_canon.specs.BallotAnswers.{IsBallotsData, IsReportTold};
 ghost use Rattle.erd_canon.specs.Words.{view, IsShallow, IsTreeOf, RefusedAs};
+ghost use Rattle.erd_canon.specs.code.BallotForms.{form_text};
 
 use crate::bytes::acceptance::Input;
 use crate::bytes::refusal::Refusal;
 use crate::data::check::{Answer, refused};
 use crate::engines::outcome::Outcome;
 use erd_meaning::{Report, accept_with};
-use erd_shown::{ballot_text, ballots_text};
+use erd_shown::{ballot_text, ballots_lines, ballots_text};
 use serde_json::Value;
 use std::alloc::{AllocError, Global};
 
@@ -20,6 +20,15 @@ pub enum BallotsAsked {
     Heads,
     /// The ballot of the style at a position, as a head tells it.
     Ballot(usize),
+}
+
+/// In which form the ballots of a report are told.
+#[derive(Clone, Copy)]
+pub(crate) enum BallotForm {
+    /// What is asked of them, as JSON.
+    Json(BallotsAsked),
+    /// A line for each.
+    Lines,
 }
 
 /// Tells what is asked of the ballots of the bytes of a report under a preferred type of identifier, or under none, and answers
@@ -34,7 +43,7 @@ pub enum BallotsAsked {
 ///
 /// ```
 /// let answer = ballots_data_with(alloc, one, Some("fips"), BallotsAsked::Heads)?;
-/// assert_eq!(rt; answer.text.as_str(), "[]");
+/// assert_eq!(rt; answer.text.as_str(), HEADS);
 /// ```
 pub fn ballots_data_with(
     alloc: Global,
@@ -44,7 +53,7 @@ pub fn ballots_data_with(
 ) -> Result<Answer, AllocError>
     ensures { IfOk result (λ answer. IsBallotsData asked (option_copied prefer.entry) bytes.now answer.outcome (string_bytes answer.text)) }
 {
-    match ballots_of(alloc, bytes, prefer, asked) {
+    match ballots_of(alloc, bytes, prefer, BallotForm::Json(asked)) {
         Ok(text) => Ok(Answer {
             outcome: Outcome::Good,
             text,
@@ -53,44 +62,45 @@ pub fn ballots_data_with(
     }
 }
 
-/// Returns what is asked of the ballots, or why the bytes are refused.
-fn ballots_of(
+/// Returns the ballots of the bytes in a form, or why the bytes are refused.
+pub(crate) fn ballots_of(
     alloc: Global,
     bytes: &[u8],
     prefer: Option<&str>,
-    asked: BallotsAsked,
+    form: BallotForm,
 ) -> Result<String, Refusal>
-    ensures told { IfOk result (λ text. AreBallotsTold asked (option_copied prefer.entry) bytes.now (string_bytes text)) }
+    ensures told { IfOk result (λ text. IsReportTold (form_text form) (option_copied prefer.entry) bytes.now (string_bytes text)) }
     ensures refused { IfErr result (RefusedAs (option_copied prefer.entry) bytes.now) }
 {
     let tree = bytes.into_tree(alloc)?;
-    ballots_in(alloc, &tree, prefer, asked)
+    ballots_in(alloc, &tree, prefer, form)
 }
 
-/// Returns what is asked of the ballots of the tree of a report, or why it is refused.
+/// Returns the ballots of the tree of a report in a form, or why it is refused.
 fn ballots_in(
     alloc: Global,
     tree: &Value,
     prefer: Option<&str>,
-    asked: BallotsAsked,
+    form: BallotForm,
 ) -> Result<String, Refusal>
     requires nests { IsShallow (view tree.now) }
-    ensures told { IfOk result (λ text. (b : List ℕ) → IsTreeOf b (view tree.now) → AreBallotsTold asked (option_copied prefer.entry) b (string_bytes text)) }
+    ensures told { IfOk result (λ text. (b : List ℕ) → IsTreeOf b (view tree.now) → IsReportTold (form_text form) (option_copied prefer.entry) b (string_bytes text)) }
     ensures refused { IfErr result (λ refusal. (b : List ℕ) → IsTreeOf b (view tree.now) → RefusedAs (option_copied prefer.entry) b refusal) }
 {
     let report = accept_with(alloc, tree, prefer)?;
-    match text_asked(alloc, &report, asked) {
+    match text_in(alloc, &report, form) {
         Ok(text) => Ok(text),
         Err(_) => Err(Refusal::Memory),
     }
 }
 
-/// Returns what is asked of the ballots of an accepted report.
-fn text_asked(alloc: Global, report: &Report, asked: BallotsAsked) -> Result<String, AllocError>
-    ensures { IfOk result (λ text. string_bytes text ≡ compact_text (ballots_told asked report.now.prefer (view report.now.tree))) }
+/// Returns the ballots of an accepted report in a form.
+fn text_in(alloc: Global, report: &Report, form: BallotForm) -> Result<String, AllocError>
+    ensures { IfOk result (λ text. string_bytes text ≡ form_text form report.now.prefer (view report.now.tree)) }
 {
-    match asked {
-        BallotsAsked::Heads => ballots_text(alloc, report),
-        BallotsAsked::Ballot(position) => ballot_text(alloc, report, position),
+    match form {
+        BallotForm::Json(BallotsAsked::Heads) => ballots_text(alloc, report),
+        BallotForm::Json(BallotsAsked::Ballot(position)) => ballot_text(alloc, report, position),
+        BallotForm::Lines => ballots_lines(alloc, report),
     }
 }

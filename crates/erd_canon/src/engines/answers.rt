@@ -1,28 +1,20 @@
 //! The engines that answer with one text, which is in memory as a whole before it is written.
 
-ghost use Rattle.std.specs.Prelude.{◌≡◌, ◌⊎◌, ◌∷◌, ◌++◌, [], false, true, map, string_bytes, Err, IfErr, IfOk, OnOk, option_copied};
+ghost use Rattle.std.specs.Prelude.{◌≡◌, ◌⊎◌, false, true, map, string_bytes, Err, IfErr, IfOk, OnOk, option_copied};
 ghost use Rattle.erd_canon.specs.Words.{between, difference_line, listing_lines, listing_outcome, text_of_lines, Appends, IsCheckLine, IsCompareLine, IsListed, IsListLine, IsPairPartWritten, IsPairRun, IsPairWritten, IsPartWritten, IsReportPartWritten, IsReportRun, IsReportWritten};
-ghost use Rattle.erd_canon.specs.code.PairCommands.{pair_answers};
 
 use crate::bytes::differences::differences_of;
 use crate::bytes::refusal::Side;
-use crate::data::check::{Answer, check_data_with};
+use crate::data::check::check_data_with;
 use crate::data::compare::{compare_data_with, differences_data_with, outcome_of};
 use crate::data::listed::push_entry_line;
 use crate::devices::sink::Sink;
-use crate::devices::source::{Source, read_all};
+use crate::devices::source::Source;
+use crate::engines::asked::{PairCommand, ReportCommand, run_pair, run_report, write_line};
 use crate::engines::outcome::{Outcome, RunFault};
 use crate::engines::write_and_flush::{write_one, write_refusal};
 use erd_compare::DetailedDifference;
 use std::alloc::{AllocError, Global};
-
-/// A command on two reports that answers with one text.
-#[derive(Clone, Copy)]
-pub(crate) enum PairCommand {
-    CompareData,
-    Differences,
-    DifferencesData,
-}
 
 /// Reads a report to its end, checks it under a preferred type of identifier, or under none, writes the answer to `out` as
 /// JSON, and flushes `out`.
@@ -52,12 +44,11 @@ pub fn run_check_data<S: Source, O: Sink>(
     requires out_works { O.writer.has_failed out.old ≡ false }
     ensures { IsReportRun S.reader O.writer (IsCheckLine (option_copied prefer.entry)) result (between reader.old reader.new) (between out.old out.new) }
 {
-    let bytes = read_all(alloc, reader)?;
-    write_check_data(alloc, bytes.as_slice(), out, prefer)
+    run_report(alloc, reader, out, ReportCommand::CheckData, prefer)
 }
 
-// Checks the bytes and writes the answer as JSON.
-fn write_check_data<O: Sink>(
+/// Checks the bytes and writes the answer as JSON.
+pub(crate) fn write_check_data<O: Sink>(
     alloc: Global,
     bytes: &[u8],
     out: &mut O,
@@ -76,23 +67,6 @@ fn write_check_data<O: Sink>(
         Ok(answer) => write_line(answer, out),
         Err(_) => Err(RunFault::Memory),
     }
-}
-
-// Writes the text of the answer and a line feed, then flushes, and returns the outcome.
-fn write_line<O: Sink>(answer: Answer, out: &mut O) -> Result<Outcome, RunFault>
-    requires { O.writer.has_failed out.old ≡ false }
-    ensures outcome { IfOk result (λ outcome. outcome ≡ answer.outcome) }
-    ensures wrote { OnOk result (Appends (O.writer.contents out.old) (O.writer.contents out.new) (string_bytes answer.text ++ 10 ∷ [])) }
-    ensures flushed { OnOk result (O.writer.is_flushed out.new ≡ true) }
-    ensures works { OnOk result (O.writer.has_failed out.new ≡ false) }
-    ensures memory { result ≡ Err RunFault.Memory → out.new ≡ out.old }
-    ensures broken { result ≡ Err RunFault.Write → IsPartWritten (O.writer.contents out.old) (O.writer.contents out.new) (string_bytes answer.text ++ 10 ∷ []) }
-    ensures write { result ≡ Err RunFault.Write → O.writer.has_failed out.new ≡ true }
-    ensures faults { IfErr result (λ fault. (fault ≡ RunFault.Memory) ⊎ (fault ≡ RunFault.Write)) }
-{
-    let Answer { outcome, mut text } = answer;
-    text.push('\n')?;
-    write_one(out, outcome, text.as_bytes())
 }
 
 /// Reads two reports to their ends, first the left report and then the right one, compares them under a preferred type of
@@ -196,61 +170,8 @@ pub fn run_differences_data<S: Source, T: Source, O: Sink>(
     )
 }
 
-// Reads both reports and writes what the command answers.
-fn run_pair<S: Source, T: Source, O: Sink>(
-    alloc: Global,
-    left: &mut S,
-    right: &mut T,
-    out: &mut O,
-    command: PairCommand,
-    prefer: Option<&str>,
-) -> Result<Outcome, RunFault>
-    requires left_works { S.reader.has_failed left.old ≡ false }
-    requires right_works { T.reader.has_failed right.old ≡ false }
-    requires out_works { O.writer.has_failed out.old ≡ false }
-    ensures { IsPairRun S.reader T.reader O.writer (pair_answers command (option_copied prefer.entry)) result
-        (between left.old left.new) (between right.old right.new) (between out.old out.new) }
-{
-    let left_bytes = read_all(alloc, left)?;
-    let right_bytes = read_all(alloc, right)?;
-    write_pair(
-        alloc,
-        left_bytes.as_slice(),
-        right_bytes.as_slice(),
-        out,
-        command,
-        prefer,
-    )
-}
-
-// Writes what the command answers for the bytes of two reports.
-fn write_pair<O: Sink>(
-    alloc: Global,
-    left: &[u8],
-    right: &[u8],
-    out: &mut O,
-    command: PairCommand,
-    prefer: Option<&str>,
-) -> Result<Outcome, RunFault>
-    requires { O.writer.has_failed out.old ≡ false }
-    ensures written { IfOk result (λ outcome. IsPairWritten (pair_answers command (option_copied prefer.entry)) left.now right.now outcome (O.writer.contents out.old) (O.writer.contents out.new)) }
-    ensures flushed { OnOk result (O.writer.is_flushed out.new ≡ true) }
-    ensures works { OnOk result (O.writer.has_failed out.new ≡ false) }
-    ensures memory { result ≡ Err RunFault.Memory → out.new ≡ out.old }
-    ensures broken { result ≡ Err RunFault.Write
-        → IsPairPartWritten (pair_answers command (option_copied prefer.entry)) left.now right.now (O.writer.contents out.old) (O.writer.contents out.new) }
-    ensures write { result ≡ Err RunFault.Write → O.writer.has_failed out.new ≡ true }
-    ensures faults { IfErr result (λ fault. (fault ≡ RunFault.Memory) ⊎ (fault ≡ RunFault.Write)) }
-{
-    match command {
-        PairCommand::CompareData => write_compare_data(alloc, left, right, out, prefer),
-        PairCommand::Differences => write_listed(alloc, left, right, out, prefer),
-        PairCommand::DifferencesData => write_differences_data(alloc, left, right, out, prefer),
-    }
-}
-
-// Compares the bytes of two reports and writes the answer as JSON.
-fn write_compare_data<O: Sink>(
+/// Compares the bytes of two reports and writes the answer as JSON.
+pub(crate) fn write_compare_data<O: Sink>(
     alloc: Global,
     left: &[u8],
     right: &[u8],
@@ -273,8 +194,8 @@ fn write_compare_data<O: Sink>(
     }
 }
 
-// Lists the differences of the bytes of two reports and writes the answer as JSON.
-fn write_differences_data<O: Sink>(
+/// Lists the differences of the bytes of two reports and writes the answer as JSON.
+pub(crate) fn write_differences_data<O: Sink>(
     alloc: Global,
     left: &[u8],
     right: &[u8],
@@ -297,8 +218,8 @@ fn write_differences_data<O: Sink>(
     }
 }
 
-// Lists the differences of the bytes of two reports, a line each.
-fn write_listed<O: Sink>(
+/// Lists the differences of the bytes of two reports, a line each.
+pub(crate) fn write_listed<O: Sink>(
     alloc: Global,
     left: &[u8],
     right: &[u8],

@@ -1,9 +1,9 @@
 use Rattle.erd_canon.proofs.Common.{option_copied, ap, sym, subst, Err, IsReadWhole, most_bytes, rules}
-use Rattle.erd_canon.specs.code.PairCommands.{pair_answers}
+use Rattle.erd_canon.specs.code.AskedCommands.{pair_answers}
 use Rattle.erd_canon.proofs.runs.Answering.{broken_pair, whole_pair}
 use Rattle.erd_canon.proofs.runs.CheckTexts.{not_of_fault}
 use Rattle.erd_canon.proofs.runs.KnownBytes.{read_whole}
-use Rattle.erd_canon.proofs.engines.answers.run_pair.Goals as goal
+use Rattle.erd_canon.proofs.engines.asked.run_pair.Goals as goal
 
 pub returns : goal.returns
 returns g c =

@@ -1,0 +1,15 @@
+use Rattle.erd_canon.proofs.Common.{◌∷◌, [], ◌++◌, option_copied, string_bytes, refl}
+use Rattle.erd_canon.specs.BallotAnswering.{IsBallotsLine}
+use Rattle.erd_canon.proofs.runs.Answering.{report_written}
+use Rattle.erd_canon.proofs.engines.ballots.write_ballots_data.Goals as goal
+
+pub returns-in-Ok-clause-written : goal.returns-in-Ok-clause-written
+returns-in-Ok-clause-written g c =
+    let answer = c.in-Ok.answer in
+    report_written (IsBallotsLine (option_copied c.args.prefer)) c.args.bytes.now (string_bytes answer.text ++ 10 ∷ []) answer.outcome c.write_line.result _ _
+    (string_bytes answer.text, c.in-Ok.ensures, refl) c.write_line.ensures.outcome c.write_line.ensures.wrote
+
+pub returns-in-Ok-clause-broken : goal.returns-in-Ok-clause-broken
+returns-in-Ok-clause-broken g c = λ fails.
+    let answer = c.in-Ok.answer in
+    record { outcome = answer.outcome; text = _; answers = (string_bytes answer.text, c.in-Ok.ensures, refl); part = c.write_line.ensures.broken fails }
