@@ -190,9 +190,10 @@ enum erd_line {
  *
  *     {"command":"check","files":["county.json"],"json":false,"prefer":"fips"}
  *
- * `command` is "check", "canon", "compare" or "differences", or "filter" if there is no word behind the name. `files` has the names
- * of the files, of two the left one first. `prefer` is null if the words state no preference. Words that are not UTF-8 are
- * wrong. */
+ * `command` is "check", "canon", "compare", "differences", "ballots" or "prepare", or "filter" if there is no word behind the name.
+ * `files` has the names of the files, of two the left one first. `prefer` is null if the words state no preference. With "prepare"
+ * the object has three more members: whether a `list` or a `report` is asked for, and the `steps` as in the words, or null. Words
+ * that are not UTF-8 are wrong. */
 enum erd_line erd_command_line(const void *words, size_t size, char **text, size_t *length);
 
 /* Prepares a report that is refused: does steps that fix what exports often have, each of which changes only what it tells.

@@ -3,7 +3,7 @@
 # The options, as tests/pages/tables.py --write writes them:
 _erd_options() {
     case $1 in
-    check | compare | differences) options='--json --prefer' ;;
+    check | compare | differences | ballots) options='--json --prefer' ;;
     canon) options='--prefer' ;;
     prepare) options='--list --report --steps --prefer' ;;
     esac
@@ -23,10 +23,10 @@ _erd() {
     local subcommand=${COMP_WORDS[1]} files=0 offered='' options='' values='' i
     COMPREPLY=()
     if [ "$COMP_CWORD" -eq 1 ]; then
-        offered='check canon compare differences prepare help --help'
+        offered='check canon compare differences ballots prepare help --help'
     elif [ "$subcommand" = help ]; then
-        [ "$COMP_CWORD" -eq 2 ] && offered='check canon compare differences prepare help'
-    elif [[ $subcommand == @(check|canon|compare|differences|prepare) ]]; then
+        [ "$COMP_CWORD" -eq 2 ] && offered='check canon compare differences ballots prepare help'
+    elif [[ $subcommand == @(check|canon|compare|differences|ballots|prepare) ]]; then
         # bash makes three words of --prefer=TYPE
         [ "$word" = = ] && word=''
         [ "$before" = = ] && before=${COMP_WORDS[COMP_CWORD - 2]}
@@ -42,7 +42,7 @@ _erd() {
             offered=$values
         elif [[ $word == -* && $files -eq 0 ]]; then
             offered="$options --help"
-        elif [ "$files" -lt "$([[ $subcommand == @(compare|differences) ]] && echo 2 || echo 1)" ]; then
+        elif [ "$files" -lt "$([[ $subcommand == @(compare|differences|ballots) ]] && echo 2 || echo 1)" ]; then
             compopt -o default
         fi
     fi

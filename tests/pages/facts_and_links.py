@@ -155,7 +155,7 @@ def compare_statuses():
     told = {text: int(number) for number, text in re.findall(r'^\| (\d) \| .* \| `([a-z ]+)` \|$', using, re.M)}
     yield 'the texts of faults in docs/GUIDE.md', words, {text: told.get(text) for text in words}
     help_texts = read('crates/erd_canon/src/commands/help.rt').split('Exit status:\n')[1:]
-    yield 'the lists of statuses in the help', 6, len(help_texts)
+    yield 'the lists of statuses in the help', 7, len(help_texts)
     for text in help_texts:
         yield 'the statuses of the help', statuses, numbers_of(r'^  (\d)  ', text.split('\n\n')[0])
     manual = read('docs/erd.1').split('.SH EXIT STATUS')[1].split('.SH ')[0]

@@ -88,6 +88,15 @@ program 'a check as JSON' "$work/empty" 0 "$work/none" '' check --json examples/
 printf 'null\n' > "$work/null"
 program 'a comparison as JSON' "$work/empty" 0 "$work/null" '' compare --json examples/one-unit.json examples/one-unit.canonical.json
 program 'no differences as JSON' "$work/empty" 0 "$work/none" '' differences --json examples/one-unit.json examples/one-unit.canonical.json
+sed 's/"Status"/"Notes":null,&/' examples/one-unit.canonical.json > "$work/nulled"
+program 'a prepared report' "$work/empty" 0 examples/one-unit.canonical.json $'nulls: 1 changed\n' prepare --steps nulls "$work/nulled"
+printf 'nulls (removed): 1 changed\n' > "$work/listed"
+program 'what each step would do' "$work/empty" 0 "$work/listed" '' prepare --list "$work/nulled"
+program 'an unknown step' "$work/empty" 3 "$work/empty" $'unknown step\n' prepare --steps nulls,nosuch "$work/nulled"
+printf 'ballot ["local-level","","S1"]: 3 lines\n' > "$work/ballots"
+program 'ballots' "$work/empty" 0 "$work/ballots" '' ballots examples/small-ballot.json
+printf 'same ballots\n' > "$work/same-ballots"
+program 'the same ballots' "$work/empty" 0 "$work/same-ballots" '' ballots examples/small-ballot.json "$work/changed"
 for name in \
     worked::refused_two_vendors \
     worked::refused_shape \
@@ -103,6 +112,7 @@ for name in \
     command_lines::refused_lines \
     help_texts::refused_help_and_usage \
     program::refused_rows \
+    program::refused_later_rows \
     program::refused_help_and_usage; do
     one_test "$name"
 done

@@ -24,7 +24,7 @@ pub use Rattle.erd_canon.specs.DataValues.{step_data, fault_data, faults_data, r
 pub use Rattle.erd_canon.specs.EngineTexts.{text_of_lines, IsRefusal, IsCheckText, IsCanonicalOutput, IsCanonicalErrors, comparison_line, lines_of_side, IsCompareText, IsComparison, IsRefusedReport}
 pub use Rattle.erd_canon.specs.ExactLines.{words_of, IsFileName, IsOptionText, HasPlainWords}
 pub use Rattle.erd_canon.specs.Limits.{most_bytes}
-pub use Rattle.erd_canon.specs.ReadLines.{check_request, compare_request, differences_request, request_in, IsLineRead, IsFaultFor}
+pub use Rattle.erd_canon.specs.ReadLines.{ballots_request, check_request, compare_request, differences_request, request_in, IsLineRead, IsFaultFor}
 pub use Rattle.erd_canon.specs.Options.{has_flag, option_words, preference_words, preference_in, steps_words}
 pub use Rattle.erd_canon.specs.Reading.{Exceeds, IsReadWhole}
 pub use Rattle.erd_canon.specs.Refused.{IsSomeReport, RefusedAs, refusal_for, RefusedSide}

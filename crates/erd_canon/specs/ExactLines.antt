@@ -2,7 +2,7 @@
 use Rattle.std.specs.Prelude.{◌≢◌, ◌++◌, ℕ, List, [], ◌∷◌, Option, Some, None, codes}
 use Rattle.erd_canon.specs.Options.{preference_words, steps_words}
 use Rattle.erd_canon.specs.declared.commands.request.Request.{Request}
-use Rattle.erd_canon.specs.declared.commands.request.Request.TheVariants.{Filter, Check, Canon, Compare, CheckData, CompareData, Differences, DifferencesData, Prepare, PrepareList, PrepareReport}
+use Rattle.erd_canon.specs.declared.commands.request.Request.TheVariants.{Filter, Check, Canon, Compare, CheckData, CompareData, Differences, DifferencesData, Prepare, PrepareList, PrepareReport, Ballots, BallotsData, BallotDifferences, BallotDifferencesData}
 
 -- The words after the program's name that make this request.
 abbrev pub words_of : Request → List (List ℕ)
@@ -17,6 +17,10 @@ words_of (DifferencesData left right prefer) = codes "differences" ∷ codes "--
 words_of (Prepare file steps prefer) = codes "prepare" ∷ ((steps_words steps ++ preference_words prefer) ++ file ∷ [])
 words_of (PrepareList file) = codes "prepare" ∷ codes "--list" ∷ file ∷ []
 words_of (PrepareReport file steps) = codes "prepare" ∷ codes "--report" ∷ (steps_words steps ++ file ∷ [])
+words_of (Ballots file prefer) = codes "ballots" ∷ (preference_words prefer ++ file ∷ [])
+words_of (BallotsData file prefer) = codes "ballots" ∷ codes "--json" ∷ (preference_words prefer ++ file ∷ [])
+words_of (BallotDifferences left right prefer) = codes "ballots" ∷ (preference_words prefer ++ left ∷ right ∷ [])
+words_of (BallotDifferencesData left right prefer) = codes "ballots" ∷ codes "--json" ∷ (preference_words prefer ++ left ∷ right ∷ [])
 
 -- The file name is not empty and does not begin with a hyphen.
 abbrev pub IsFileName : List ℕ → Type 0
@@ -41,3 +45,7 @@ HasPlainWords (DifferencesData left right prefer) = IsFileName left × IsFileNam
 HasPlainWords (Prepare file steps prefer) = IsFileName file × IsOptionText steps × IsOptionText prefer
 HasPlainWords (PrepareList file) = IsFileName file
 HasPlainWords (PrepareReport file steps) = IsFileName file × IsOptionText steps
+HasPlainWords (Ballots file prefer) = IsFileName file × IsOptionText prefer
+HasPlainWords (BallotsData file prefer) = IsFileName file × IsOptionText prefer
+HasPlainWords (BallotDifferences left right prefer) = IsFileName left × IsFileName right × IsOptionText prefer
+HasPlainWords (BallotDifferencesData left right prefer) = IsFileName left × IsFileName right × IsOptionText prefer

@@ -8,7 +8,7 @@ use Rattle.erd_canon.specs.ReadLines.{IsLineRead, IsReadExactly}
 use Rattle.erd_canon.specs.declared.commands.request.LineFault.{LineFault}
 use Rattle.erd_canon.specs.declared.commands.request.LineFault.TheVariants.{Help, Usage, Memory}
 use Rattle.erd_canon.specs.declared.commands.request.Request.{Request}
-use Rattle.erd_canon.specs.declared.commands.request.Request.TheVariants.{Filter, Check, Canon, Compare, CheckData, CompareData, Differences, DifferencesData, Prepare, PrepareList, PrepareReport}
+use Rattle.erd_canon.specs.declared.commands.request.Request.TheVariants.{Filter, Check, Canon, Compare, CheckData, CompareData, Differences, DifferencesData, Prepare, PrepareList, PrepareReport, Ballots, BallotsData, BallotDifferences, BallotDifferencesData}
 
 -- The JSON object of a command. Its members are `command`, `files` with the names of the files, and each option.
 abbrev pub command_data : List ℕ → List (List ℕ) → Bool → Option (List ℕ) → Data
@@ -33,6 +33,10 @@ request_data (DifferencesData left right prefer) = command_data (codes "differen
 request_data (Prepare file steps prefer) = preparation_data false false file steps prefer
 request_data (PrepareList file) = preparation_data true false file None None
 request_data (PrepareReport file steps) = preparation_data false true file steps None
+request_data (Ballots file prefer) = command_data (codes "ballots") (file ∷ []) false prefer
+request_data (BallotsData file prefer) = command_data (codes "ballots") (file ∷ []) true prefer
+request_data (BallotDifferences left right prefer) = command_data (codes "ballots") (left ∷ right ∷ []) false prefer
+request_data (BallotDifferencesData left right prefer) = command_data (codes "ballots") (left ∷ right ∷ []) true prefer
 
 -- A line that was read as this is answered with this exit status and this text: a request with no status and the text of its
 -- object, help with status 0 and the help text, wrong words with status 3 and the text that says why. Running out of memory is

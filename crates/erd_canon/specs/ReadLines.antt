@@ -6,7 +6,7 @@ use Rattle.clap.specs.declared.error.kind.ErrorKind.TheVariants.{DisplayHelp, Ou
 use Rattle.erd_canon.specs.declared.commands.request.LineFault.{LineFault}
 use Rattle.erd_canon.specs.declared.commands.request.LineFault.TheVariants.{Help, Usage, Memory}
 use Rattle.erd_canon.specs.declared.commands.request.Request.{Request}
-use Rattle.erd_canon.specs.declared.commands.request.Request.TheVariants.{Filter, Check, Canon, Compare, CheckData, CompareData, Differences, DifferencesData, Prepare, PrepareList, PrepareReport}
+use Rattle.erd_canon.specs.declared.commands.request.Request.TheVariants.{Filter, Check, Canon, Compare, CheckData, CompareData, Differences, DifferencesData, Prepare, PrepareList, PrepareReport, Ballots, BallotsData, BallotDifferences, BallotDifferencesData}
 use Rattle.erd_canon.specs.ExactLines.{HasPlainWords, words_of}
 use Rattle.erd_canon.specs.Options.{has_flag, preference_in, steps_in}
 use Rattle.erd_canon.specs.Subcommands.{program}
@@ -35,12 +35,24 @@ abbrev pub pair_request : List ℕ → Bool → List ℕ → List ℕ → Option
 pair_request name json left right prefer =
     if bytes_eq name (codes "compare") then compare_request json left right prefer else differences_request json left right prefer
 
+-- The request for the ballots of one file, or for those that differ if there is a second one, with JSON or with lines as the
+-- answer.
+abbrev pub ballots_request : Bool → List ℕ → Option (List ℕ) → Option (List ℕ) → Request
+ballots_request false file None prefer = Ballots file prefer
+ballots_request true file None prefer = BallotsData file prefer
+ballots_request false left (Some right) prefer = BallotDifferences left right prefer
+ballots_request true left (Some right) prefer = BallotDifferencesData left right prefer
+
 -- The request to prepare a file: with the list of what the steps would do as the answer, or else with a report on what they did,
 -- or else with the prepared file. The list goes before the report if both are asked for.
 abbrev pub prepare_request : Bool → Bool → List ℕ → Option (List ℕ) → Option (List ℕ) → Request
 prepare_request true report file steps prefer = PrepareList file
 prepare_request false true file steps prefer = PrepareReport file steps
 prepare_request false false file steps prefer = Prepare file steps prefer
+
+-- The request of the subcommand `ballots`, for what was given for its arguments.
+abbrev pub ballots_in : List Row → Request
+ballots_in rows = ballots_request (has_flag (codes "json") rows) (word_for (codes "FILE") rows) (first_of (codes "RIGHT") rows) (preference_in rows)
 
 -- The request of the subcommand `prepare`, for what was given for its arguments.
 abbrev pub preparation_in : List Row → Request
@@ -51,8 +63,9 @@ abbrev pub subcommand_request : List ℕ → List Row → Request
 subcommand_request name rows =
     if bytes_eq name (codes "check") then check_request (has_flag (codes "json") rows) (word_for (codes "FILE") rows) (preference_in rows)
     else (if bytes_eq name (codes "canon") then Canon (word_for (codes "FILE") rows) (preference_in rows)
+    else (if bytes_eq name (codes "ballots") then ballots_in rows
     else (if bytes_eq name (codes "prepare") then preparation_in rows
-    else pair_request name (has_flag (codes "json") rows) (word_for (codes "LEFT") rows) (word_for (codes "RIGHT") rows) (preference_in rows)))
+    else pair_request name (has_flag (codes "json") rows) (word_for (codes "LEFT") rows) (word_for (codes "RIGHT") rows) (preference_in rows))))
 
 -- The request of the subcommand that was found in the words, if any.
 abbrev pub request_in : Option (List ℕ × List Row) → Request

@@ -8,6 +8,10 @@ use Rattle.clap.specs.declared.builder.value_parser.ValueParser.TheVariants.{Non
 abbrev pub file_rule : List ℕ → Rule
 file_rule id = record (new_rule id) { required = true }
 
+-- An argument that may be left out.
+abbrev pub optional_file_rule : List ℕ → Rule
+optional_file_rule id = new_rule id
+
 -- A flag with this name, which may be left out, as `--json`.
 abbrev pub flag_rule : List ℕ → Rule
 flag_rule name = record (new_rule name) { long = Some name; action = Some SetTrue }
@@ -60,11 +64,15 @@ compare_subcommand = with_rule (with_rule (answering (codes "compare")) (file_ru
 abbrev pub differences_subcommand : App
 differences_subcommand = with_rule (with_rule (answering (codes "differences")) (file_rule (codes "LEFT"))) (file_rule (codes "RIGHT"))
 
+-- `ballots FILE` and `ballots FILE RIGHT`
+abbrev pub ballots_subcommand : App
+ballots_subcommand = with_rule (with_rule (answering (codes "ballots")) (file_rule (codes "FILE"))) (optional_file_rule (codes "RIGHT"))
+
 -- `prepare FILE`
 abbrev pub prepare_subcommand : App
 prepare_subcommand = with_rule (with_rule (with_rule (with_rule (with_rule (new_app (codes "prepare")) list_rule) report_rule) steps_rule) prefer_rule) (file_rule (codes "FILE"))
 
--- The program and its five subcommands.
+-- The program and its six subcommands.
 abbrev pub program : App
-program = with_subcommand (with_subcommand (with_subcommand (with_subcommand (with_subcommand (new_app (codes "erd"))
-    check_subcommand.top) canon_subcommand.top) compare_subcommand.top) differences_subcommand.top) prepare_subcommand.top
+program = with_subcommand (with_subcommand (with_subcommand (with_subcommand (with_subcommand (with_subcommand (new_app (codes "erd"))
+    check_subcommand.top) canon_subcommand.top) compare_subcommand.top) differences_subcommand.top) ballots_subcommand.top) prepare_subcommand.top

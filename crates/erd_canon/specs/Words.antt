@@ -35,6 +35,6 @@ pub use Rattle.erd_canon.specs.BallotAnswering.{IsBallotDifferenceLines, IsBallo
 pub use Rattle.erd_canon.specs.Statuses.{fault_status, fault_words, outcome_status}
 pub use Rattle.erd_canon.specs.Options.{has_flag, option_data, preference_in, steps_in}
 pub use Rattle.erd_canon.specs.ExactLines.{words_of, HasPlainWords}
-pub use Rattle.erd_canon.specs.Subcommands.{canon_subcommand, check_subcommand, compare_subcommand, differences_subcommand, file_rule, json_rule, list_rule, prefer_rule, prepare_subcommand, program, report_rule, steps_rule}
-pub use Rattle.erd_canon.specs.ReadLines.{check_request, compare_request, differences_request, pair_request, preparation_in, prepare_request, request_in, subcommand_request, word_for, IsFaultFor, IsLineRead}
+pub use Rattle.erd_canon.specs.Subcommands.{ballots_subcommand, canon_subcommand, check_subcommand, compare_subcommand, differences_subcommand, file_rule, json_rule, list_rule, optional_file_rule, prefer_rule, prepare_subcommand, program, report_rule, steps_rule}
+pub use Rattle.erd_canon.specs.ReadLines.{ballots_in, ballots_request, check_request, compare_request, differences_request, pair_request, preparation_in, prepare_request, request_in, subcommand_request, word_for, IsFaultFor, IsLineRead}
 pub use Rattle.erd_canon.specs.LineAnswers.{command_data, preparation_data, request_data, IsAnswerTo, IsLineData}

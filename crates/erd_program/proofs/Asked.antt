@@ -4,7 +4,7 @@ use Rattle.std.specs.Prelude.{option_copied}
 use Rattle.std.specs.Borrow.{Bor}
 use Rattle.erd_canon.specs.Devices.{BeforeAfter}
 use Rattle.erd_canon.specs.declared.commands.request.Request.{Request}
-use Rattle.erd_canon.specs.declared.commands.request.Request.TheVariants.{Filter, Check, Canon, Compare, CheckData, CompareData, Differences, DifferencesData, Prepare, PrepareList, PrepareReport}
+use Rattle.erd_canon.specs.declared.commands.request.Request.TheVariants.{Filter, Check, Canon, Compare, CheckData, CompareData, Differences, DifferencesData, Prepare, PrepareList, PrepareReport, Ballots, BallotsData, BallotDifferences, BallotDifferencesData}
 use Rattle.erd_program.specs.declared.commands.FileCommand.{FileCommand}
 use Rattle.erd_program.specs.declared.commands.FileCommand.TheVariants as file
 use Rattle.erd_program.specs.declared.commands.PairCommand.{PairCommand}
@@ -48,6 +48,8 @@ module _ {F File I O E : Type 0} (known : Outside F File I O E) (status : ℕ) (
   one_done (Check name prefer) n c p is h = one_file n.now name c file.Check (option_copied p) prefer is.0 is.1 is.2 h
   one_done (Canon name prefer) n c p is h = one_file n.now name c file.Canon (option_copied p) prefer is.0 is.1 is.2 h
   one_done (CheckData name prefer) n c p is h = one_file n.now name c file.CheckData (option_copied p) prefer is.0 is.1 is.2 h
+  one_done (Ballots name prefer) n c p is h = one_file n.now name c file.Ballots (option_copied p) prefer is.0 is.1 is.2 h
+  one_done (BallotsData name prefer) n c p is h = one_file n.now name c file.BallotsData (option_copied p) prefer is.0 is.1 is.2 h
   one_done (PrepareList name) n c p is h = one_file n.now name c file.PrepareList (option_copied p) None is.0 is.1 is.2 h
   one_done _ n c p is h = absurd is
 
@@ -57,6 +59,8 @@ module _ {F File I O E : Type 0} (known : Outside F File I O E) (status : ℕ) (
   two_done (CompareData left right prefer) l r c p is h = two_files l.now left r.now right c pair.CompareData (option_copied p) prefer is.0 is.1 is.2 is.3 h
   two_done (Differences left right prefer) l r c p is h = two_files l.now left r.now right c pair.Differences (option_copied p) prefer is.0 is.1 is.2 is.3 h
   two_done (DifferencesData left right prefer) l r c p is h = two_files l.now left r.now right c pair.DifferencesData (option_copied p) prefer is.0 is.1 is.2 is.3 h
+  two_done (BallotDifferences left right prefer) l r c p is h = two_files l.now left r.now right c pair.BallotDifferences (option_copied p) prefer is.0 is.1 is.2 is.3 h
+  two_done (BallotDifferencesData left right prefer) l r c p is h = two_files l.now left r.now right c pair.BallotDifferencesData (option_copied p) prefer is.0 is.1 is.2 is.3 h
   two_done _ l r c p is h = absurd is
 
   pub steps_done : (request : Request) (n : Bor (List ℕ)) (c : StepsCommand) (w p : Option (Bor (List ℕ))) → IsTaskOf request (task.BySteps n c w p)

@@ -3,7 +3,7 @@ use Rattle.std.specs.Prelude.{◌≡◌, ◌⊎◌, ◌++◌, ◌∷◌, [], ℕ
 use Rattle.std.specs.Io.KnownBytes.{Appends}
 use Rattle.erd_canon.specs.Devices.{BeforeAfter, Writer, between}
 use Rattle.erd_canon.specs.declared.commands.request.Request.{Request}
-use Rattle.erd_canon.specs.declared.commands.request.Request.TheVariants.{Filter, Check, Canon, Compare, CheckData, CompareData, Differences, DifferencesData, Prepare, PrepareList, PrepareReport}
+use Rattle.erd_canon.specs.declared.commands.request.Request.TheVariants.{Filter, Check, Canon, Compare, CheckData, CompareData, Differences, DifferencesData, Prepare, PrepareList, PrepareReport, Ballots, BallotsData, BallotDifferences, BallotDifferencesData}
 use Rattle.erd_canon.specs.declared.commands.request.LineFault.{LineFault}
 use Rattle.erd_canon.specs.declared.commands.request.LineFault.TheVariants as line
 use Rattle.erd_canon.specs.declared.engines.outcome.Outcome.{Outcome}
@@ -16,7 +16,7 @@ use Rattle.erd_program.specs.declared.files.WorldFault.{WorldFault}
 use Rattle.erd_program.specs.declared.files.WorldFault.TheVariants.{Memory, Refused}
 use Rattle.erd_program.specs.declared.world.World.{World}
 use Rattle.erd_prepare.specs.declared.step_name.StepName.{StepName}
-use Rattle.erd_program.specs.Files.{AreFilesCompared, AreFilesComparedAsData, AreFilesListed, AreFilesListedAsData, IsEachStepTried, IsFileAnswer, IsFileCanonicalised, IsFileChecked, IsFileCheckedAsData, IsFilePrepared, IsInputCanonicalised, IsPairAnswer, IsPreparationReported, IsRefused}
+use Rattle.erd_program.specs.Files.{AreBallotsCompared, AreBallotsComparedAsData, AreBallotsListed, AreBallotsListedAsData, AreFilesCompared, AreFilesComparedAsData, AreFilesListed, AreFilesListedAsData, IsEachStepTried, IsFileAnswer, IsFileCanonicalised, IsFileChecked, IsFileCheckedAsData, IsFilePrepared, IsInputCanonicalised, IsPairAnswer, IsPreparationReported, IsRefused}
 use Rattle.erd_program.specs.Messages.{IsSaid, fault_text}
 use Rattle.erd_program.specs.World.{Outside}
 
@@ -73,6 +73,10 @@ IsDone known (DifferencesData left right prefer) status world = AreFilesOpened k
 IsDone known (Prepare name words prefer) status world = IsDoneBySteps known words (IsFilePrepared prefer) name status world
 IsDone known (PrepareList name) status world = IsFileOpened known IsEachStepTried name status world
 IsDone known (PrepareReport name words) status world = IsDoneBySteps known words IsPreparationReported name status world
+IsDone known (Ballots name prefer) status world = IsFileOpened known (AreBallotsListed prefer) name status world
+IsDone known (BallotsData name prefer) status world = IsFileOpened known (AreBallotsListedAsData prefer) name status world
+IsDone known (BallotDifferences left right prefer) status world = AreFilesOpened known (AreBallotsCompared prefer) left right status world
+IsDone known (BallotDifferencesData left right prefer) status world = AreFilesOpened known (AreBallotsComparedAsData prefer) left right status world
 
 -- The text of the help was written and flushed, with status 0. Or else that failed: a first part of it was written, and
 -- `write failed` to standard error, with status 3.

@@ -9,8 +9,9 @@ use crate::files::{Files, WorldFault};
 use crate::messages::{ended, not_opened};
 use crate::world::World;
 use erd_canon::{
-    Disposal, FileName, Outcome, RunFault, Sink, Source, run_canon_disposing, run_check_data,
-    run_check_disposing, run_compare_data, run_compare_disposing, run_differences,
+    Disposal, FileName, Outcome, RunFault, Sink, Source, run_ballot_differences,
+    run_ballot_differences_data, run_ballots, run_ballots_data, run_canon_disposing,
+    run_check_data, run_check_disposing, run_compare_data, run_compare_disposing, run_differences,
     run_differences_data, run_prepare, run_prepare_list, run_prepare_report,
 };
 use erd_prepare::StepName;
@@ -22,6 +23,8 @@ pub(crate) enum FileCommand<'a> {
     Check,
     Canon,
     CheckData,
+    Ballots,
+    BallotsData,
     Prepare(&'a [StepName]),
     PrepareList,
     PrepareReport(&'a [StepName]),
@@ -34,6 +37,8 @@ pub(crate) enum PairCommand {
     CompareData,
     Differences,
     DifferencesData,
+    BallotDifferences,
+    BallotDifferencesData,
 }
 
 /// Writes the canonical form of standard input, with no preference.
@@ -122,6 +127,8 @@ fn run<F: Files, I: Source, O: Sink, E: Sink, D: Disposal>(
         FileCommand::Check => run_check_disposing(alloc, file, out, prefer, disposal),
         FileCommand::Canon => run_canon_disposing(alloc, file, out, err, prefer, disposal),
         FileCommand::CheckData => run_check_data(alloc, file, out, prefer),
+        FileCommand::Ballots => run_ballots(alloc, file, out, prefer),
+        FileCommand::BallotsData => run_ballots_data(alloc, file, out, prefer),
         FileCommand::Prepare(chosen) => run_prepare(alloc, file, out, err, chosen, prefer),
         FileCommand::PrepareList => run_prepare_list(alloc, file, out, err),
         FileCommand::PrepareReport(chosen) => run_prepare_report(alloc, file, out, err, chosen),
@@ -232,5 +239,9 @@ fn run_pair<S: Source, O: Sink, D: Disposal>(
         PairCommand::CompareData => run_compare_data(alloc, left, right, out, prefer),
         PairCommand::Differences => run_differences(alloc, left, right, out, prefer),
         PairCommand::DifferencesData => run_differences_data(alloc, left, right, out, prefer),
+        PairCommand::BallotDifferences => run_ballot_differences(alloc, left, right, out, prefer),
+        PairCommand::BallotDifferencesData => {
+            run_ballot_differences_data(alloc, left, right, out, prefer)
+        }
     }
 }

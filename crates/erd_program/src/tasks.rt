@@ -25,6 +25,8 @@ pub(crate) fn task_of(request: &Request) -> Task<'_>
         Request::Check(name, prefer) => one(name, FileCommand::Check, prefer),
         Request::Canon(name, prefer) => one(name, FileCommand::Canon, prefer),
         Request::CheckData(name, prefer) => one(name, FileCommand::CheckData, prefer),
+        Request::Ballots(name, prefer) => one(name, FileCommand::Ballots, prefer),
+        Request::BallotsData(name, prefer) => one(name, FileCommand::BallotsData, prefer),
         Request::PrepareList(name) => Task::OneFile(name, FileCommand::PrepareList, None),
         Request::Compare(left, right, prefer) => two((left, right), PairCommand::Compare, prefer),
         Request::CompareData(left, right, prefer) => {
@@ -35,6 +37,12 @@ pub(crate) fn task_of(request: &Request) -> Task<'_>
         }
         Request::DifferencesData(left, right, prefer) => {
             two((left, right), PairCommand::DifferencesData, prefer)
+        }
+        Request::BallotDifferences(left, right, prefer) => {
+            two((left, right), PairCommand::BallotDifferences, prefer)
+        }
+        Request::BallotDifferencesData(left, right, prefer) => {
+            two((left, right), PairCommand::BallotDifferencesData, prefer)
         }
         Request::Prepare(name, steps, prefer) => {
             Task::BySteps(name, StepsCommand::Prepare, steps.text(), prefer.text())

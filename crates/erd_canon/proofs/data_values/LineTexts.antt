@@ -5,7 +5,7 @@ use Rattle.erd_canon.specs.Options.{option_data}
 use Rattle.erd_canon.specs.ReadLines.{IsReadExactly}
 use Rattle.erd_canon.specs.declared.commands.request.LineFault.{LineFault}
 use Rattle.erd_canon.specs.declared.commands.request.Request.{Request}
-use Rattle.erd_canon.specs.declared.commands.request.Request.TheVariants.{Filter, Check, Canon, Compare, CheckData, CompareData, Differences, DifferencesData, Prepare, PrepareList, PrepareReport}
+use Rattle.erd_canon.specs.declared.commands.request.Request.TheVariants.{Filter, Check, Canon, Compare, CheckData, CompareData, Differences, DifferencesData, Prepare, PrepareList, PrepareReport, Ballots, BallotsData, BallotDifferences, BallotDifferencesData}
 
 -- an option does not nest, and has no number
 option_flat : (text : Option (List ℕ)) → (depth (option_data text) ≤ 0) × (has_float (option_data text) ≡ false)
@@ -36,6 +36,10 @@ request_value (DifferencesData left right prefer) = (omega (arith, (option_flat 
 request_value (Prepare file steps prefer) = preparation_value false false file steps prefer
 request_value (PrepareList file) = preparation_value true false file None None
 request_value (PrepareReport file steps) = preparation_value false true file steps None
+request_value (Ballots file prefer) = (omega (arith, (option_flat prefer).0), last_has_float prefer)
+request_value (BallotsData file prefer) = (omega (arith, (option_flat prefer).0), last_has_float prefer)
+request_value (BallotDifferences left right prefer) = (omega (arith, (option_flat prefer).0), last_has_float prefer)
+request_value (BallotDifferencesData left right prefer) = (omega (arith, (option_flat prefer).0), last_has_float prefer)
 
 -- the answer to what was read from the words
 pub line_data : (words : List (List ℕ)) (found line : Result Request LineFault) (status : Option ℕ) (text : List ℕ) → found ≡ line → IsReadExactly words found → IsLineRead words found

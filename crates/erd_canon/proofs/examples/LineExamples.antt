@@ -1,7 +1,7 @@
 -- The exact lines, and what `clap` makes of others, on examples.
 use Rattle.erd_canon.proofs.Common.{◌≡◌, ℕ, Bool, true, false, List, [], ◌∷◌, map, Option, Some, None, codes, refl, arith, clap_on_literals, subcommand_of, takes, Kinds, fault_of, DisplayHelp, MissingRequiredArgument, UnknownArgument, words_of, HasPlainWords, request_in, program}
 use Rattle.erd_canon.specs.declared.commands.request.Request.{Request}
-use Rattle.erd_canon.specs.declared.commands.request.Request.TheVariants.{Filter, Check, Canon, Compare, CheckData, CompareData, Differences, DifferencesData, Prepare, PrepareList, PrepareReport}
+use Rattle.erd_canon.specs.declared.commands.request.Request.TheVariants.{Filter, Check, Canon, Compare, CheckData, CompareData, Differences, DifferencesData, Prepare, PrepareList, PrepareReport, Ballots, BallotsData, BallotDifferences, BallotDifferencesData}
 
 -- the rows of the program's table; a type stands between the subcommand and the first file
 words : map words_of (Filter ∷ Check (codes "a") None ∷ Canon (codes "a") None ∷ Compare (codes "a") (codes "b") None
@@ -17,6 +17,13 @@ words_for_json : map words_of (CheckData (codes "a") None ∷ CompareData (codes
     ∷ (codes "differences" ∷ codes "--prefer" ∷ codes "fips" ∷ codes "a" ∷ codes "b" ∷ [])
     ∷ (codes "differences" ∷ codes "--json" ∷ codes "--prefer" ∷ codes "fips" ∷ codes "a" ∷ codes "b" ∷ []) ∷ []
 words_for_json = refl
+
+-- ballots of one file and of two, with the same options
+words_for_ballots : map words_of (Ballots (codes "a") None ∷ BallotsData (codes "a") (Some (codes "fips")) ∷ BallotDifferences (codes "a") (codes "b") (Some (codes "fips"))
+    ∷ BallotDifferencesData (codes "a") (codes "b") None ∷ [])
+    ≡ (codes "ballots" ∷ codes "a" ∷ []) ∷ (codes "ballots" ∷ codes "--json" ∷ codes "--prefer" ∷ codes "fips" ∷ codes "a" ∷ [])
+    ∷ (codes "ballots" ∷ codes "--prefer" ∷ codes "fips" ∷ codes "a" ∷ codes "b" ∷ []) ∷ (codes "ballots" ∷ codes "--json" ∷ codes "a" ∷ codes "b" ∷ []) ∷ []
+words_for_ballots = refl
 
 -- steps stand before a type, and behind `--report`
 words_for_steps : map words_of (Prepare (codes "a") None None ∷ Prepare (codes "a") (Some (codes "nulls,codes")) (Some (codes "fips")) ∷ PrepareList (codes "a")
@@ -61,9 +68,10 @@ unfolding clap_on_literals
 other_json = refl
 
 -- `--json` of a preparation, an option of one where it isn't known, no steps, too few names, and too many
-other_options : map is_line ((codes "prepare" ∷ codes "--json" ∷ codes "a" ∷ []) ∷ (codes "check" ∷ codes "--list" ∷ codes "a" ∷ [])
-    ∷ (codes "prepare" ∷ codes "--steps" ∷ [] ∷ codes "a" ∷ []) ∷ (codes "prepare" ∷ codes "--list" ∷ []) ∷ (codes "prepare" ∷ codes "a" ∷ codes "b" ∷ []) ∷ [])
-    ≡ false ∷ false ∷ false ∷ false ∷ false ∷ []
+other_options : map is_line ((codes "prepare" ∷ codes "--json" ∷ codes "a" ∷ []) ∷ (codes "check" ∷ codes "--list" ∷ codes "a" ∷ []) ∷ (codes "ballots" ∷ codes "--steps" ∷ codes "b" ∷ codes "a" ∷ [])
+    ∷ (codes "prepare" ∷ codes "--steps" ∷ [] ∷ codes "a" ∷ []) ∷ (codes "prepare" ∷ codes "--list" ∷ []) ∷ (codes "prepare" ∷ codes "a" ∷ codes "b" ∷ [])
+    ∷ (codes "ballots" ∷ []) ∷ (codes "ballots" ∷ codes "a" ∷ codes "b" ∷ codes "c" ∷ []) ∷ [])
+    ≡ false ∷ false ∷ false ∷ false ∷ false ∷ false ∷ false ∷ false ∷ []
 unfolding clap_on_literals
 other_options = refl
 
@@ -93,10 +101,10 @@ json_read : map read_as ((codes "compare" ∷ codes "--prefer" ∷ codes "fips" 
 unfolding clap_on_literals
 json_read = refl
 
--- the list goes before the report, the steps and the type; options in another order
+-- the list goes before the report, the steps and the type; options in another order, and a second file behind one
 steps_read : map read_as ((codes "prepare" ∷ codes "--report" ∷ codes "--list" ∷ codes "--steps" ∷ codes "b" ∷ codes "a" ∷ []) ∷ (codes "prepare" ∷ codes "--prefer" ∷ codes "fips" ∷ codes "--report" ∷ codes "a" ∷ [])
-    ∷ (codes "prepare" ∷ codes "a" ∷ codes "--prefer=fips" ∷ codes "--steps=b" ∷ []) ∷ [])
-    ≡ PrepareList (codes "a") ∷ PrepareReport (codes "a") None ∷ Prepare (codes "a") (Some (codes "b")) (Some (codes "fips")) ∷ []
+    ∷ (codes "prepare" ∷ codes "a" ∷ codes "--prefer=fips" ∷ codes "--steps=b" ∷ []) ∷ (codes "ballots" ∷ codes "a" ∷ codes "--json" ∷ codes "b" ∷ []) ∷ [])
+    ≡ PrepareList (codes "a") ∷ PrepareReport (codes "a") None ∷ Prepare (codes "a") (Some (codes "b")) (Some (codes "fips")) ∷ BallotDifferencesData (codes "a") (codes "b") None ∷ []
 unfolding clap_on_literals
 steps_read = refl
 

@@ -82,13 +82,17 @@ pub differences_prefers : Knows (subcommand 3) (codes "--prefer") (codes "TYPE")
 unfolding clap_on_literals
 differences_prefers = record { walks = λ h. refl; passes = λ h e. ap (λ b. b && true) e; takes = λ h text plain. walked_waited (subcommand 3).rules (codes "TYPE") (waiting (subcommand 3).rules (codes "TYPE") h) 1 text plain }
 
-pub prepare_prefers : Knows (subcommand 4) (codes "--prefer") (codes "TYPE")
+pub ballots_prefers : Knows (subcommand 4) (codes "--prefer") (codes "TYPE")
 unfolding clap_on_literals
-prepare_prefers = record { walks = λ h. refl; passes = λ h e. ap (λ b. b && true) e; takes = λ h text plain. walked_waited (subcommand 4).rules (codes "TYPE") (waiting (subcommand 4).rules (codes "TYPE") h) 1 text plain }
+ballots_prefers = record { walks = λ h. refl; passes = λ h e. ap (λ b. b && true) e; takes = λ h text plain. walked_waited (subcommand 4).rules (codes "TYPE") (waiting (subcommand 4).rules (codes "TYPE") h) 1 text plain }
 
-pub prepare_chooses : Knows (subcommand 4) (codes "--steps") (codes "STEPS")
+pub prepare_prefers : Knows (subcommand 5) (codes "--prefer") (codes "TYPE")
 unfolding clap_on_literals
-prepare_chooses = record { walks = λ h. refl; passes = λ h e. ap (λ b. b && true) e; takes = λ h text plain. walked_waited (subcommand 4).rules (codes "STEPS") (waiting (subcommand 4).rules (codes "STEPS") h) 1 text plain }
+prepare_prefers = record { walks = λ h. refl; passes = λ h e. ap (λ b. b && true) e; takes = λ h text plain. walked_waited (subcommand 5).rules (codes "TYPE") (waiting (subcommand 5).rules (codes "TYPE") h) 1 text plain }
+
+pub prepare_chooses : Knows (subcommand 5) (codes "--steps") (codes "STEPS")
+unfolding clap_on_literals
+prepare_chooses = record { walks = λ h. refl; passes = λ h e. ap (λ b. b && true) e; takes = λ h text plain. walked_waited (subcommand 5).rules (codes "STEPS") (waiting (subcommand 5).rules (codes "STEPS") h) 1 text plain }
 
 -- what is held behind a flag that is the first word
 abbrev pub flagged : ℕ → Text → Held

@@ -1,5 +1,5 @@
 ghost use Rattle.std.specs.Prelude.{◌≡◌, IfOk, codes, false, map};
-ghost use Rattle.erd_canon.specs.Words.{canon_subcommand, check_subcommand, compare_subcommand, differences_subcommand, file_rule, json_rule, list_rule, prefer_rule, prepare_subcommand, program, report_rule, steps_rule, app_of, rule_of, with_rule};
+ghost use Rattle.erd_canon.specs.Words.{ballots_subcommand, canon_subcommand, check_subcommand, compare_subcommand, differences_subcommand, file_rule, json_rule, list_rule, prefer_rule, prepare_subcommand, program, report_rule, optional_file_rule, steps_rule, app_of, rule_of, with_rule};
 ghost use Rattle.clap.specs.declared.builder.command.Command.TheViews.{out-Command};
 
 use crate::commands::help;
@@ -7,7 +7,7 @@ use clap::builder::ValueParser;
 use clap::{Arg, ArgAction, Command};
 use std::alloc::{AllocError, Global};
 
-/// Returns the command of the program, with its five subcommands.
+/// Returns the command of the program, with its six subcommands.
 pub(crate) fn program_command<'a>(alloc: Global) -> Result<Command<'a>, AllocError>
     ensures { IfOk result (λ command. app_of command ≡ program) }
 {
@@ -19,6 +19,7 @@ pub(crate) fn program_command<'a>(alloc: Global) -> Result<Command<'a>, AllocErr
         .subcommand(canon_command(alloc)?)?
         .subcommand(compare_command(alloc)?)?
         .subcommand(differences_command(alloc)?)?
+        .subcommand(ballots_command(alloc)?)?
         .subcommand(prepare_command(alloc)?)
 }
 
@@ -77,6 +78,20 @@ fn differences_command<'a>(alloc: Global) -> Result<Command<'a>, AllocError>
     with_two_files(alloc, command)
 }
 
+// The subcommand `ballots [--json] [--prefer TYPE] FILE [RIGHT]`.
+fn ballots_command<'a>(alloc: Global) -> Result<Command<'a>, AllocError>
+    ensures app { IfOk result (λ command. app_of command ≡ ballots_subcommand) }
+    ensures local { IfOk result (λ command. (out-Command command).has_globals ≡ false) }
+{
+    let command = Command::new(alloc, "ballots")
+        .about(help::BALLOTS)
+        .long_about(help::BALLOTS_AT_LENGTH)
+        .after_help(help::BALLOTS_ENDS)
+        .arg(json_argument(alloc))?
+        .arg(prefer_argument(alloc))?;
+    with_one_or_two_files(alloc, command)
+}
+
 // The subcommand `prepare [--list] [--report] [--steps STEPS] [--prefer TYPE] FILE`.
 fn prepare_command<'a>(alloc: Global) -> Result<Command<'a>, AllocError>
     ensures app { IfOk result (λ command. app_of command ≡ prepare_subcommand) }
@@ -112,12 +127,30 @@ fn with_two_files<'a>(alloc: Global, command: Command<'a>) -> Result<Command<'a>
         .arg(file_argument(alloc, "RIGHT", help::RIGHT))
 }
 
+// Adds the argument `FILE`, and `RIGHT`, which may be left out.
+fn with_one_or_two_files<'a>(alloc: Global, command: Command<'a>) -> Result<Command<'a>, AllocError>
+    ensures app { IfOk result (λ r. app_of r ≡ with_rule (with_rule (app_of command.entry) (file_rule (codes "FILE"))) (optional_file_rule (codes "RIGHT"))) }
+    ensures local { (out-Command command.entry).has_globals ≡ false → IfOk result (λ r. (out-Command r).has_globals ≡ false) }
+{
+    command
+        .arg(file_argument(alloc, "FILE", help::FILE_OR_LEFT))?
+        .arg(right_file(alloc))
+}
+
 // A required argument that names a file.
 fn file_argument<'a>(alloc: Global, id: &'a str, text: &'a str) -> Arg<'a>
     ensures rule { rule_of result ≡ file_rule id.entry.now }
     ensures local { result.global ≡ false }
 {
     Arg::new(alloc, id).required(true).help(text)
+}
+
+// The second file of two, which may be left out.
+fn right_file<'a>(alloc: Global) -> Arg<'a>
+    ensures rule { rule_of result ≡ optional_file_rule (codes "RIGHT") }
+    ensures local { result.global ≡ false }
+{
+    Arg::new(alloc, "RIGHT").help(help::RIGHT_IF_ANY)
 }
 
 // The option `--json`.

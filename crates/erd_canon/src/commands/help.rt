@@ -9,10 +9,11 @@ pub const PROGRAM_AT_LENGTH: &str =
     "Puts a pre-election ballot definition (NIST SP 1500-100, version 2, JSON) into one canonical form: two
 files have the same canonical form if and only if they mean the same. Take `check` to learn whether a
 file is accepted and what is wrong with it, and `prepare` to make an export ready for that. Take
-`compare` to learn whether two files mean the same, `differences` for all that differs, and `canon` for
-the canonical form. The names of `@id`, the order of members and sets, and the envelope (who made the
-file, when and how, and its notes) do not count. Without a command it reads a report from standard
-input and writes its canonical form.";
+`compare` to learn whether two files mean the same, `differences` for all that differs, and `ballots`
+for the ballots on which they differ, or for those of one file. Take `canon` for the canonical form.
+The names of `@id`, the order of members and sets, and the envelope (who made the file, when and how,
+and its notes) do not count. Without a command it reads a report from standard input and writes its
+canonical form.";
 
 /// The exit statuses of the program, and an example.
 pub const PROGRAM_ENDS: &str = "Exit status:
@@ -120,6 +121,35 @@ pub const DIFFERENCES_ENDS: &str = "Exit status:
 Example:
   erd differences vendor-a.json vendor-b.json";
 
+/// What `ballots` does.
+pub const BALLOTS: &str = "Lists the ballots of a report, or those on which two reports differ";
+
+/// What `ballots` reads and writes.
+pub const BALLOTS_AT_LENGTH: &str =
+    "Reads the report in FILE, and writes to standard output a line for each of its ballots, with the key of
+its style and how many lines a voter sees on it:
+
+  ballot [\"local-level\",\"\",\"S1\"]: 14 lines
+
+With a second file, it writes `same ballots`, or a line for each ballot that only one report has, or on
+which the two reports differ:
+
+  ballot [\"local-level\",\"\",\"S1\"]: differs
+
+If a report is refused, it writes what `erd check` writes for it, of two reports what `erd compare`
+writes.";
+
+/// The exit statuses of `ballots`, and an example.
+pub const BALLOTS_ENDS: &str = "Exit status:
+  0  written, or the same ballots
+  1  the ballots differ, or a report is refused: the lines are on standard output
+  2  a report is not JSON
+  3  wrong arguments, a file that cannot be opened, more than 67,108,864 bytes, a failed read or write
+  4  no memory
+
+Example:
+  erd ballots vendor-a.json vendor-b.json";
+
 /// What `prepare` does.
 pub const PREPARE: &str = "Makes an export ready by steps, and writes the prepared report";
 
@@ -147,6 +177,12 @@ Example:
 
 /// The argument of `check`, `canon` and `prepare`.
 pub const FILE: &str = "The file that has the report";
+
+/// The first argument of `ballots`.
+pub const FILE_OR_LEFT: &str = "The file that has the report, or the left one of two";
+
+/// The second argument of `ballots`.
+pub const RIGHT_IF_ANY: &str = "The file that has the right report, if there are two";
 
 /// The first argument of `compare` and `differences`.
 pub const LEFT: &str = "The file that has the left report";

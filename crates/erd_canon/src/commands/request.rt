@@ -33,6 +33,15 @@ pub enum Request {
     PrepareList(FileName),
     /// Do the steps on the report in this file, and answer with what each of them did, as JSON (`--report`).
     PrepareReport(FileName, Steps),
+    /// List the ballots of the report in this file, under the preference.
+    Ballots(FileName, Prefer),
+    /// List the ballots of the report in this file under the preference, as JSON (`--json`).
+    BallotsData(FileName, Prefer),
+    /// List the ballots on which the reports in the left file and the right file differ, under the preference.
+    BallotDifferences(FileName, FileName, Prefer),
+    /// List the ballots on which the reports in the left file and the right file differ under the preference, as JSON
+    /// (`--json`).
+    BallotDifferencesData(FileName, FileName, Prefer),
 }
 
 /// Why a command line gives no request.

@@ -1,5 +1,5 @@
 ghost use Rattle.std.specs.Prelude.{◌≡◌, ℕ, List, ◌∷◌, map, MatchResult, codes, string_bytes};
-ghost use Rattle.erd_canon.specs.Words.{HasPlainWords, words_of, has_flag, preference_in, IsFaultFor, IsLineRead, check_request, compare_request, differences_request, pair_request, preparation_in, prepare_request, request_in, subcommand_request, word_for, first_of, found_of, kind_of, rows_of, subcommand_rows_of};
+ghost use Rattle.erd_canon.specs.Words.{HasPlainWords, words_of, has_flag, preference_in, IsFaultFor, IsLineRead, ballots_in, ballots_request, check_request, compare_request, differences_request, pair_request, preparation_in, prepare_request, request_in, subcommand_request, word_for, first_of, found_of, kind_of, rows_of, subcommand_rows_of};
 
 use crate::commands::builder::program_command;
 use crate::commands::prefer::Prefer;
@@ -12,8 +12,8 @@ use std::alloc::Global;
 
 /// Parses the words of a command line. The first word is the program's name.
 ///
-/// If no other word follows, returns `Request::Filter`. For `check FILE`, `canon FILE`, `prepare FILE`,
-/// `compare LEFT RIGHT` and `differences LEFT RIGHT`, returns the request of the same name without a
+/// If no other word follows, returns `Request::Filter`. For `check FILE`, `canon FILE`, `ballots FILE`, `prepare FILE`,
+/// `compare LEFT RIGHT`, `differences LEFT RIGHT` and `ballots LEFT RIGHT`, returns the request of the same name without a
 /// preference. With `--json` behind the subcommand, returns the request of that name for JSON, but for `canon` and `prepare`.
 /// With `--list` or `--report` behind `prepare`, returns the request for a list or a report. With `--steps STEPS` behind
 /// `prepare` or `--report`, returns it with these steps. With `--prefer TYPE` before the first file name, and behind `--json` or
@@ -76,6 +76,7 @@ fn subcommand_request(
             Ok(check_request(json, file, prefer))
         }
         "canon" => Ok(Request::Canon(file_name(alloc, matches, "FILE")?, prefer)),
+        "ballots" => ballots(alloc, matches, prefer),
         "prepare" => preparation(alloc, matches, prefer),
         _ => {
             let left = file_name(alloc, matches, "LEFT")?;
@@ -125,6 +126,28 @@ fn differences_request(json: bool, left: FileName, right: FileName, prefer: Pref
         Request::DifferencesData(left, right, prefer)
     } else {
         Request::Differences(left, right, prefer)
+    }
+}
+
+// The request that the matches of the subcommand `ballots` give, under the preference.
+fn ballots(alloc: Global, matches: &ArgMatches<'_>, prefer: Prefer) -> Result<Request, LineFault>
+    ensures { prefer ≡ preference_in (rows_of (found_of matches.now)) → MatchResult result
+        (λ answer. answer ≡ ballots_in (rows_of (found_of matches.now))) (λ fault. fault ≡ LineFault.Memory) }
+{
+    let file = file_name(alloc, matches, "FILE")?;
+    let right = option_text(alloc, matches, "RIGHT")?;
+    Ok(ballots_request(has_flag(matches, "json"), file, right, prefer))
+}
+
+// The request for the ballots of a file, or for those that differ if there is a second one.
+fn ballots_request(json: bool, file: FileName, right: Option<FileName>, prefer: Prefer) -> Request
+    ensures { result ≡ ballots_request json file right prefer }
+{
+    match (right, json) {
+        (None, false) => Request::Ballots(file, prefer),
+        (None, true) => Request::BallotsData(file, prefer),
+        (Some(right), false) => Request::BallotDifferences(file, right, prefer),
+        (Some(right), true) => Request::BallotDifferencesData(file, right, prefer),
     }
 }
 

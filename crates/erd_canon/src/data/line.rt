@@ -102,6 +102,14 @@ fn request_value(alloc: Global, request: &Request) -> Result<Value, AllocError>
         Request::DifferencesData(left, right, prefer) => {
             on_two_files(alloc, "differences", (left, right), true, prefer)
         }
+        Request::Ballots(file, prefer) => on_one_file(alloc, "ballots", file, false, prefer),
+        Request::BallotsData(file, prefer) => on_one_file(alloc, "ballots", file, true, prefer),
+        Request::BallotDifferences(left, right, prefer) => {
+            on_two_files(alloc, "ballots", (left, right), false, prefer)
+        }
+        Request::BallotDifferencesData(left, right, prefer) => {
+            on_two_files(alloc, "ballots", (left, right), true, prefer)
+        }
         Request::Prepare(file, steps, prefer) => {
             preparing(alloc, (false, false), file, steps.text(), prefer.text())
         }

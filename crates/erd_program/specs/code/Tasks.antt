@@ -1,7 +1,7 @@
 -- The task of a request.
 use Rattle.std.specs.Prelude.{◌≡◌, ℕ, List, Option, None, option_copied}
 use Rattle.erd_canon.specs.declared.commands.request.Request.{Request}
-use Rattle.erd_canon.specs.declared.commands.request.Request.TheVariants.{Filter, Check, Canon, Compare, CheckData, CompareData, Differences, DifferencesData, Prepare, PrepareList, PrepareReport}
+use Rattle.erd_canon.specs.declared.commands.request.Request.TheVariants.{Filter, Check, Canon, Compare, CheckData, CompareData, Differences, DifferencesData, Prepare, PrepareList, PrepareReport, Ballots, BallotsData, BallotDifferences, BallotDifferencesData}
 use Rattle.erd_program.specs.declared.commands.FileCommand.{FileCommand}
 use Rattle.erd_program.specs.declared.commands.FileCommand.TheVariants as file
 use Rattle.erd_program.specs.declared.commands.PairCommand.{PairCommand}
@@ -37,10 +37,14 @@ IsTaskOf Filter found = IsFilter found
 IsTaskOf (Check name prefer) found = IsOneFile name file.Check prefer found
 IsTaskOf (Canon name prefer) found = IsOneFile name file.Canon prefer found
 IsTaskOf (CheckData name prefer) found = IsOneFile name file.CheckData prefer found
+IsTaskOf (Ballots name prefer) found = IsOneFile name file.Ballots prefer found
+IsTaskOf (BallotsData name prefer) found = IsOneFile name file.BallotsData prefer found
 IsTaskOf (PrepareList name) found = IsOneFile name file.PrepareList None found
 IsTaskOf (Compare left right prefer) found = AreTwoFiles left right pair.Compare prefer found
 IsTaskOf (CompareData left right prefer) found = AreTwoFiles left right pair.CompareData prefer found
 IsTaskOf (Differences left right prefer) found = AreTwoFiles left right pair.Differences prefer found
 IsTaskOf (DifferencesData left right prefer) found = AreTwoFiles left right pair.DifferencesData prefer found
+IsTaskOf (BallotDifferences left right prefer) found = AreTwoFiles left right pair.BallotDifferences prefer found
+IsTaskOf (BallotDifferencesData left right prefer) found = AreTwoFiles left right pair.BallotDifferencesData prefer found
 IsTaskOf (Prepare name words prefer) found = IsBySteps name steps.Prepare words prefer found
 IsTaskOf (PrepareReport name words) found = IsBySteps name steps.Report words None found

@@ -113,6 +113,31 @@ const FOR_DATA: &[Line] = &[
     ("erd|help|differences", "help"),
 ];
 
+// The ballots of one file, or of two. `--json` and `--prefer` stand where they stand behind other commands.
+const BALLOTS: &[Line] = &[
+    ("erd|ballots|a", "ballots [a]"),
+    ("erd|ballots|a|b", "ballots [a] [b]"),
+    ("erd|ballots|--json|a", "ballots as data [a]"),
+    ("erd|ballots|--json|a|b", "ballots as data [a] [b]"),
+    ("erd|ballots|--prefer|fips|a", "ballots [a] under [fips]"),
+    (
+        "erd|ballots|--prefer|fips|a|b",
+        "ballots [a] [b] under [fips]",
+    ),
+    (
+        "erd|ballots|--json|--prefer|fips|a|b",
+        "ballots as data [a] [b] under [fips]",
+    ),
+    ("erd|ballots|a|--json|b", "ballots as data [a] [b]"),
+    ("erd|ballots|ballots|prepare", "ballots [ballots] [prepare]"),
+    ("erd|ballots|a|--|-b", "ballots [a] [-b]"),
+    ("erd|ballots", "usage"),
+    ("erd|ballots|a|b|c", "usage"),
+    ("erd|ballots|--list|a", "usage"),
+    ("erd|ballots|--help", "help"),
+    ("erd|help|ballots", "help"),
+];
+
 // The steps are any text that is not empty and does not begin with a hyphen. The list goes before the report.
 const PREPARING: &[Line] = &[
     ("erd|prepare|a", "prepare [a]"),
@@ -262,6 +287,14 @@ fn told(alloc: Global, request: &Request) -> Result<String, AllocError> {
         Request::DifferencesData(left, right, prefer) => {
             of_files(alloc, "differences as data", left, right, prefer)
         }
+        Request::Ballots(file, prefer) => of_file(alloc, "ballots", file, prefer),
+        Request::BallotsData(file, prefer) => of_file(alloc, "ballots as data", file, prefer),
+        Request::BallotDifferences(left, right, prefer) => {
+            of_files(alloc, "ballots", left, right, prefer)
+        }
+        Request::BallotDifferencesData(left, right, prefer) => {
+            of_files(alloc, "ballots as data", left, right, prefer)
+        }
         Request::Prepare(file, steps, prefer) => {
             let prefer = under(alloc, prefer)?;
             by_steps(alloc, "prepare", file, steps, prefer.as_str())
@@ -359,6 +392,10 @@ fn of_data(alloc: Global) -> Result<(), Fail> {
     all_are(alloc, FOR_DATA)
 }
 
+fn of_ballots(alloc: Global) -> Result<(), Fail> {
+    all_are(alloc, BALLOTS)
+}
+
 fn of_preparing(alloc: Global) -> Result<(), Fail> {
     all_are(alloc, PREPARING)
 }
@@ -375,6 +412,7 @@ fn command_lines(rt: HostRuntime) -> Result<(), Fail> {
     of_names_of_files(alloc)?;
     of_help_and_usage(alloc)?;
     of_preferences(alloc)?;
+    of_ballots(alloc)?;
     of_preparing(alloc)?;
     of_data(alloc)
 }

@@ -17,6 +17,7 @@ const TEXTS: &[Parts] = &[
     ("erd|help|canon", OF_CANON),
     ("erd|help|compare", OF_COMPARE),
     ("erd|help|differences", OF_DIFFERENCES),
+    ("erd|help|ballots", OF_BALLOTS),
     ("erd|help|prepare", OF_PREPARE),
     (
         "erd|nosuch",
@@ -43,6 +44,7 @@ const OF_THE_PROGRAM: &[&str] = &[
     "canon        Writes",
     "compare      Reports",
     "differences  Lists",
+    "ballots      Lists",
     "prepare      Makes",
     "Exit status:\n  0  ",
     "Example:\n  erd < report.json > canonical.json\n",
@@ -79,6 +81,15 @@ const OF_DIFFERENCES: &[&str] = &[
     "standard output `same`",
     "Exit status:\n  0  same\n",
     "Example:\n  erd differences vendor-a.json vendor-b.json\n",
+];
+
+const OF_BALLOTS: &[&str] = &[
+    "Usage: erd ballots [OPTIONS] <FILE> [RIGHT]\n",
+    "--json",
+    "--prefer <TYPE>",
+    "`same ballots`",
+    "Exit status:\n  0  written, or the same ballots\n",
+    "Example:\n  erd ballots vendor-a.json vendor-b.json\n",
 ];
 
 const OF_PREPARE: &[&str] = &[

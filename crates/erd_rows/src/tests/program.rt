@@ -58,6 +58,19 @@ const ROWS: &[Row] = &[
 ];
 
 const LATER_ROWS: &[Row] = &[
+    ("erd ballots one", 0, NOTHING, NOTHING),
+    ("erd ballots --json one", 0, "[]\n", NOTHING),
+    ("erd ballots empty", 1, ": missing member @type\n", NOTHING),
+    ("erd ballots text", 2, "not JSON\n", NOTHING),
+    ("erd ballots one other", 0, "same ballots\n", NOTHING),
+    ("erd ballots --json one other", 0, "[]\n", NOTHING),
+    (
+        "erd ballots one empty",
+        1,
+        "right: : missing member @type\n",
+        NOTHING,
+    ),
+    ("erd ballots none one", 3, NOTHING, "cannot open\nnone\n"),
     ("erd prepare one", 0, REPORT, NOTHING),
     (
         "erd prepare --steps nulls,removed --prefer fips one",
@@ -165,7 +178,7 @@ fn no_words(rt: HostRuntime) -> Result<(), Fail> {
 }
 
 // A line, what it writes if a file cannot be opened, for each file that it opens, and how often it reads each of its inputs.
-const LINES: [(&str, &[&str], usize); 6] = [
+const LINES: [(&str, &[&str], usize); 8] = [
     ("erd", &[], 2),
     ("erd canon one", &["cannot open\none\n"], 2),
     ("erd check one", &["cannot open\none\n"], 2),
@@ -174,6 +187,12 @@ const LINES: [(&str, &[&str], usize); 6] = [
         &["cannot open\none\n", "cannot open\nother\n"],
         2,
     ),
+    (
+        "erd ballots --json one other",
+        &["cannot open\none\n", "cannot open\nother\n"],
+        2,
+    ),
+    ("erd ballots --json one", &["cannot open\none\n"], 2),
     ("erd prepare one", &["cannot open\none\n"], 2),
     ("erd --help", &[], 0),
 ];
