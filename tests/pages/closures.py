@@ -34,6 +34,10 @@ PROMISES = [
     ('The steps that prepare a report (`prepare`)', ['erd_prepare/Laws.UntoldStays', 'erd_prepare/Laws.UntoldIsUnchanged', 'erd_prepare/Steps.IsStepDone']),
     ('A file that is prepared (`prepare_bytes`)', ['erd_prepare/Steps.IsNamedStepDone', 'erd_prepare/Preparations.IsPrepared',
                                                    'erd_prepare/Preparations.IsUnprepared']),
+    ('What the engines for ballots and for steps write (`run_ballots`, `run_prepare`)', [
+        'erd_canon/BallotAnswering.IsBallotLines', 'erd_canon/BallotAnswering.IsBallotsLine', 'erd_canon/BallotAnswering.IsBallotDifferenceLines',
+        'erd_canon/BallotAnswering.IsBallotDifferencesLine', 'erd_canon/Preparing.IsPreparedAs', 'erd_canon/Preparing.AreStepsListed',
+        'erd_canon/Preparing.IsPreparationTold']),
     ('What the whole program does (`run_program`)', ['erd_program/Program.IsProgramRun']),
     ('Pieces of lists (`check_data_piece`, `check_text_piece` and their neighbours)', [
         'erd_canon/Pieces.IsPieceText', 'erd_canon/Pieces.IsCheckPiece', 'erd_canon/Pieces.IsFormPiece', 'erd_canon/Pieces.IsComparePiece',
