@@ -43,7 +43,7 @@ PARTS = [f'node tests/page/{name}.mjs' for name in ('parts', 'lines', 'words', '
 AREAS = {
     'bindings/python/src/erd/prepare/*.py': [PYTEST + 'test_prepare.py', *STEPS],
     'bindings/python/src/erd/from_xml/*.py': [PYTEST + 'test_from_xml.py'],
-    'bindings/python/src/erd/*.py': [*(PYTEST + f'test_{name}.py' for name in ('calls', 'prepare', 'resume', 'suite', 'commands', 'many')), LINES],
+    'bindings/python/src/erd/*.py': [*(PYTEST + f'test_{name}.py' for name in ('calls', 'ballots', 'prepare', 'resume', 'suite', 'commands', 'many')), LINES],
     'bindings/js/lib/prepare/*.mjs': [MODULE, *STEPS],
     'bindings/js/lib/*.mjs': [MODULE, COMMAND, *PARTS, 'tests/forms/javascript_package.sh'],
     'web/scripts/from_xml/*.mjs': ['tests/page/page.sh xml_form xml_agree'],

@@ -179,6 +179,12 @@ def told_of_number(folder, answer):
     return [answer], [change for step in told if step['step'] == 'numbers' for change in step['changes']]
 
 
+def members_of_ballots(folder, answer):
+    """The members of what a page shows of ballots, and of what the program tells of a report, or of two. No command tells of one ballot."""
+    files = 'examples/small-ballot.json' + ('' if 'at' in answer else ' examples/one-unit.json')
+    return sorted(answer), sorted(answer if 'depth' in answer else json.loads(run(f'erd ballots --json {files}', folder))[0])
+
+
 def examples_of_data(folder):
     """Each answer that a page shows is compact, and one that a report or a command line can have. `..` stands for what is left
     out."""
@@ -194,6 +200,10 @@ def examples_of_data(folder):
                 continue
             if 'column' in answer:
                 yield f'{page}: {text}', *told_of_number(folder, answer)
+                continue
+            first = answer[0] if isinstance(answer, list) else answer
+            if {'at', 'depth', 'left'} & set(first):
+                yield f'{page}: {text}', *members_of_ballots(folder, first)
                 continue
             if isinstance(answer, list) and 'how' in answer[0]:
                 yield f'{page}: {text}', *lines_of_differences(folder, answer)

@@ -44,7 +44,7 @@ def test_text_bytes_and_buffers_are_alike(top):
 
 
 @pytest.mark.parametrize('call', [erd.check, erd.canonical, lambda report: erd.compare('{}', report),
-                                  lambda report: erd.differences(report, '{}'), erd.repeated_names])
+                                  lambda report: erd.differences(report, '{}'), erd.repeated_names, erd.ballots, lambda report: erd.ballot(report, 0)])
 def test_half_a_surrogate_pair_is_an_error_of_the_caller(call):
     with pytest.raises(ValueError, match='surrogate'):
         call('"\ud800"')
@@ -70,7 +70,8 @@ def test_results(top):
     assert found == [(0, 'accepted'), (1, 'refused'), (2, 'not JSON')] * 2
 
 
-@pytest.mark.parametrize('call', [erd.check, erd.canonical, lambda report: erd.compare(report, '{'), lambda report: erd.differences(report, '{')])
+@pytest.mark.parametrize('call', [erd.check, erd.canonical, lambda report: erd.compare(report, '{'), lambda report: erd.differences(report, '{'),
+                                  erd.ballots, lambda report: erd.ballot(report, 0), lambda report: erd.ballot_differences(report, '{')])
 def test_a_text_that_names_a_file_gets_a_hint(tmp_path, monkeypatch, recwarn, call):
     monkeypatch.chdir(tmp_path)
     (tmp_path / 'county.json').write_text('{}')

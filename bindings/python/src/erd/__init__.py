@@ -26,19 +26,21 @@ neither bytes nor text. A text that has half a surrogate pair in it has no form 
 
 from __future__ import annotations
 
+import json
 import os
-import sys
 import warnings
 from typing import Optional, TypeVar, Union
 
-from .library import TooLong, version
-from .listing import MOST_LISTED, listed, utf_8
+from .ballots import (Ballot, BallotDifference, BallotDifferences, BallotHead, BallotLine, Ballots, OneBallot, ballot_difference_of,
+                      ballot_of, head_of)
+from .library import ALL, TooLong, ballots_told, version
+from .listing import MOST_LISTED, bytes_of_type, listed, utf_8
 from .repeats import RepeatedName, RepeatedNames, repeated_names
 from .results import (Canonical, Check, Comparison, Difference, Differences, Fault, SelectionDifference, SelectionName, check_of,
                       comparison_of, differences_of)
 
-__all__ = ['Canonical', 'Check', 'Comparison', 'Difference', 'Differences', 'Fault', 'MOST_LISTED', 'RepeatedName', 'RepeatedNames',
-           'SelectionDifference', 'SelectionName', 'TooLong', 'canonical', 'check', 'compare', 'differences', 'repeated_names', 'version']
+__all__ = ['Ballot', 'BallotDifference', 'BallotDifferences', 'BallotHead', 'BallotLine', 'Ballots', 'Canonical', 'Check', 'Comparison', 'Difference', 'Differences', 'Fault', 'MOST_LISTED', 'OneBallot', 'RepeatedName', 'RepeatedNames',
+           'SelectionDifference', 'SelectionName', 'TooLong', 'ballot', 'ballot_differences', 'ballots', 'canonical', 'check', 'compare', 'differences', 'repeated_names', 'version']
 
 Report = Union[bytes, bytearray, memoryview, str]
 OfPair = TypeVar('OfPair', Comparison, Differences)
@@ -92,18 +94,71 @@ def differences(left: Report, right: Report, *, prefer: Optional[str] = None,
     return hinted_pair(left, right, differences_of(data, count))
 
 
-def hinted(report: Report, found: Check) -> Check:
-    """Returns what was found. Where a text is no JSON and names a file, the caller is warned: a call takes what is in a file."""
+def ballots(report: Report, *, prefer: Optional[str] = None, most_faults: Optional[int] = MOST_LISTED) -> Ballots:
+    """Returns the ballots of the report, in the rising order of the keys of their styles, or its faults if it is refused.
+
+    >>> ballots('{').lines
+    ('not JSON',)
+    """
+    found = judged(report, prefer, most_faults)
+    if not found.accepted:
+        return Ballots(found)
+    told = json.loads(ballots_told('erd_ballots', (bytes_of(report),), bytes_of_type(prefer))[1])
+    return Ballots(found, tuple(map(head_of, told)))
+
+
+def ballot(report: Report, position: int, *, prefer: Optional[str] = None, most_faults: Optional[int] = MOST_LISTED) -> OneBallot:
+    """Returns the ballot of the style at a position of the report, as `ballots` tells it, or the faults of the report if it is
+    refused.
+
+    >>> ballot('{', 0).ballot is None
+    True
+    """
+    if not isinstance(position, int):
+        raise TypeError(f'a position is a whole number, and not {type(position).__name__}')
+    if not 0 <= position <= ALL:
+        raise ValueError('a position is below 0 or too large')
+    found = judged(report, prefer, most_faults)
+    if not found.accepted:
+        return OneBallot(found)
+    return OneBallot(found, ballot_of(json.loads(ballots_told('erd_ballot', (bytes_of(report),), bytes_of_type(prefer), position)[1])))
+
+
+def ballot_differences(left: Report, right: Report, *, prefer: Optional[str] = None,
+                       most_faults: Optional[int] = MOST_LISTED) -> BallotDifferences:
+    """Returns which ballots are not the same in the two reports, or the faults of the first report that is refused. The words of
+    contests, headers, candidates and parties are not compared: `differences` tells of them.
+
+    >>> ballot_differences('{', '{').lines
+    ('left: not JSON',)
+    """
+    for side, report in (('left', left), ('right', right)):
+        found = judged(report, prefer, most_faults)
+        if not found.accepted:
+            return BallotDifferences(refused=side, check=found)
+    _, told = ballots_told('erd_ballot_differences', (bytes_of(left), bytes_of(right)), bytes_of_type(prefer))
+    return BallotDifferences(tuple(map(ballot_difference_of, json.loads(told))))
+
+
+def judged(report: Report, prefer: Optional[str], most_faults: Optional[int]) -> Check:
+    """Checks a report for another call. So its faults are never in memory as a whole, as they would be in the answer of that call."""
+    data, count = listed('erd_check_data_piece', (bytes_of(report),), prefer, most_faults)
+    return hinted(report, check_of(data, count), calls=1)
+
+
+def hinted(report: Report, found: Check, calls: int = 0) -> Check:
+    """Returns what was found. Where a text is no JSON and names a file, the caller is warned: a call takes what is in a file. So many
+    calls stand between the caller's and that which found it."""
     if not found.is_json and isinstance(report, str) and len(report) <= LONGEST_NAME and '\0' not in report and os.path.isfile(report):
         warnings.warn(f'{report!r} is no JSON, and names a file: a call takes the bytes of a file or its text, and no name',
-                      stacklevel=3 + (sys._getframe(1).f_code is hinted_pair.__code__))
+                      stacklevel=3 + calls)
     return found
 
 
 def hinted_pair(left: Report, right: Report, found: OfPair) -> OfPair:
     """The same for the report that is refused, if one is."""
     if found.check is not None:
-        hinted(left if found.refused == 'left' else right, found.check)
+        hinted(left if found.refused == 'left' else right, found.check, calls=1)
     return found
 
 

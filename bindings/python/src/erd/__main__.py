@@ -7,10 +7,12 @@ package alone.
 from __future__ import annotations
 
 import contextlib
+import json
 import sys
 from typing import List, Optional, Tuple
 
-from .library import ALL, GOOD, LINE_REQUEST, LINE_WRONG, Request, command_line, pieces, version, whole
+from .ballots import BallotDifferences, ballot_difference_of, head_of
+from .library import (ALL, GOOD, LINE_REQUEST, LINE_WRONG, Request, ballots_told, command_line, first_piece, pieces, version, whole)
 from .listing import bytes_of_type
 from .preparing import prepare_file
 from .streams import STANDARD_ERROR, STANDARD_INPUT, STANDARD_OUTPUT, Input, read, status_of, write
@@ -52,6 +54,22 @@ def write_json(command: str, reports: Tuple[bytes, ...], prefer: Optional[str]) 
     return whole(CALLS_FOR_JSON[command], reports, bytes_of_type(prefer), written)
 
 
+def write_ballots(reports: Tuple[bytes, ...], prefer: Optional[str], is_json: bool) -> int:
+    """Writes the ballots of a report, or which ballots of two are not the same, and returns the exit status. Why a report is refused is
+    written as for another command, so that no list is in memory as a whole."""
+    kind = bytes_of_type(prefer)
+    if any(first_piece('erd_check_piece', (report,), kind, 1, lambda *_: None).outcome != GOOD for report in reports):
+        return (write_json if is_json else write_each)('check' if len(reports) == 1 else 'compare', reports, prefer)
+    outcome, text = ballots_told('erd_ballots' if len(reports) == 1 else 'erd_ballot_differences', reports, kind)
+    if is_json:
+        write(STANDARD_OUTPUT, text + b'\n')
+        return outcome
+    told = json.loads(text)
+    lines = [head_of(it).line for it in told] if len(reports) == 1 else BallotDifferences(tuple(map(ballot_difference_of, told))).lines
+    write(STANDARD_OUTPUT, ''.join(f'{line}\n' for line in lines).encode('utf-8'))
+    return outcome
+
+
 def answer(request: Request) -> int:
     """Does what the command line asks for, and returns the exit status."""
     if request.command == 'filter':
@@ -61,7 +79,10 @@ def answer(request: Request) -> int:
     with contextlib.ExitStack() as opened:
         files = [opened.enter_context(Input(name)) for name in request.files]
         reports = tuple(read(file.handle) for file in files)
-    return (write_json if request.options['json'] else write_each)(request.command, reports, request.options['prefer'])
+    prefer, is_json = request.options['prefer'], request.options['json']
+    if request.command == 'ballots':
+        return write_ballots(reports, prefer, is_json)
+    return (write_json if is_json else write_each)(request.command, reports, prefer)
 
 
 def run(words: List[str]) -> int:

@@ -71,6 +71,10 @@ def load(path: str) -> ctypes.CDLL:
         function = getattr(loaded, call)
         function.argtypes = report * reports + [ctypes.c_char_p, ctypes.POINTER(Piece)] + text
         function.restype = ctypes.c_int
+    for call, reports, more in (('erd_ballots', 1, []), ('erd_ballot', 1, [ctypes.c_size_t]), ('erd_ballot_differences', 2, [])):
+        function = getattr(loaded, call)
+        function.argtypes = report * reports + [ctypes.c_char_p, *more] + text
+        function.restype = ctypes.c_int
     loaded.erd_open.argtypes = [ctypes.c_int] + report * 2 + [ctypes.c_char_p, ctypes.c_size_t]
     loaded.erd_open.restype = ctypes.c_void_p
     loaded.erd_next.argtypes = [ctypes.c_void_p, ctypes.POINTER(Piece)] + text
@@ -138,6 +142,18 @@ def prepared(report: bytes, steps: bytes, others: bool) -> Tuple[int, bytes]:
         raise MemoryError('out of memory')
     try:
         return outcome, ctypes.string_at(text.value, length.value) if outcome == GOOD else b''
+    finally:
+        library().erd_free(text)
+
+
+def ballots_told(name: str, reports: Tuple[bytes, ...], prefer: Optional[bytes], *more: int) -> Tuple[int, bytes]:
+    """Returns the outcome of a call for ballots of reports that are accepted, and its text."""
+    text, length = ctypes.c_void_p(), ctypes.c_size_t()
+    outcome = getattr(library(), name)(*sized(reports), prefer, *more, ctypes.byref(text), ctypes.byref(length))
+    if outcome == NO_MEMORY:
+        raise MemoryError('out of memory')
+    try:
+        return outcome, ctypes.string_at(text.value, length.value)
     finally:
         library().erd_free(text)
 

@@ -341,9 +341,13 @@ def difference_of(data: dict) -> Difference:
 
 def selection_difference_of(data: dict) -> SelectionDifference:
     """Returns the difference inside selections that one object of the library's JSON describes."""
-    type_text, keys, is_write_in, order, label, identifier = data['name']
-    name = SelectionName(type_text, tuple(map(tuple, keys)), is_write_in, order, label, key_of(identifier))
-    return SelectionDifference(name, data['how'], data.get('member'))
+    return SelectionDifference(selection_name_of(data['name']), data['how'], data.get('member'))
+
+
+def selection_name_of(data: list) -> SelectionName:
+    """Returns the name of a selection that an array of the library's JSON describes."""
+    type_text, keys, is_write_in, order, label, identifier = data
+    return SelectionName(type_text, tuple(map(tuple, keys)), is_write_in, order, label, key_of(identifier))
 
 
 def key_of(data: Optional[list]) -> Optional[Key]:

@@ -1,0 +1,148 @@
+"""The ballots of a report, and which of them are not the same in two reports."""
+
+import json
+import subprocess
+import sys
+
+import pytest
+
+import erd
+
+NAMES = {'small-ballot', 'county.vendor-a', 'county-general', 'two-elections.vendor-a', 'one-unit'}
+
+
+@pytest.fixture(params=sorted(NAMES))
+def report(top, request):
+    return (top / 'examples' / f'{request.param}.json').read_bytes()
+
+
+def contents(entries, depth=0):
+    """The headers and contests of a ballot, each with how many headers stand around it."""
+    for entry in entries:
+        yield depth, entry
+        yield from contents(entry.get('OrderedContent', []), depth + 1)
+
+
+def styles_of(report):
+    return [style for election in json.loads(report)['Election'] for style in election.get('BallotStyle', [])]
+
+
+def ids_of(report, *names):
+    """The local numbers of the objects in these members of the report and of its elections, by their system names."""
+    whole = json.loads(report)
+    entries = [entry for holder in (whole, *whole['Election']) for name in names for entry in holder.get(name, [])]
+    return {entry['@id']: {it['Value'] for it in entry['ExternalIdentifier']} for entry in entries if '@id' in entry}
+
+
+def test_the_heads_of_all_ballots(report):
+    styles = styles_of(report)
+    units, parties = ids_of(report, 'GpUnit'), ids_of(report, 'Party')
+    found = erd.ballots(report)
+    assert found and found.check.accepted
+    assert sorted(head.position for head in found.ballots) == list(range(len(styles)))
+    assert [head.key for head in found.ballots] == sorted(head.key for head in found.ballots)
+    for head in found.ballots:
+        style = styles[head.position]
+        assert head.key[2] in {it['Value'] for it in style['ExternalIdentifier']}
+        assert head.all_lines == len(list(contents(style.get('OrderedContent', []))))
+        assert all(key[2] in units[name] for key, name in zip(head.units, style['GpUnitIds'])) or len(head.units) > 1
+        assert len(head.units) == len(style['GpUnitIds']) and len(head.parties) == len(style.get('PartyIds', []))
+        assert all(any(key[2] in values for values in parties.values()) for key in head.parties)
+    assert found.lines == tuple(f'ballot {erd.results.compact(list(head.key))}: {head.all_lines} lines' for head in found.ballots)
+
+
+def test_each_ballot(report):
+    contests, headers = ids_of(report, 'Contest'), ids_of(report, 'Header')
+    for head in erd.ballots(report).ballots:
+        style = styles_of(report)[head.position]
+        ballot = erd.ballot(report, head.position).ballot
+        assert (ballot.key, ballot.parties, ballot.units, len(ballot.lines)) == (head.key, head.parties, head.units, head.all_lines)
+        for line, (depth, entry) in zip(ballot.lines, contents(style.get('OrderedContent', []))):
+            is_header = entry['@type'].endswith('OrderedHeader')
+            names = headers if is_header else contests
+            assert (line.depth, line.what) == (depth, 'header' if is_header else 'contest')
+            assert line.key[2] in names[entry['HeaderId' if is_header else 'ContestId']]
+            listed = entry.get('OrderedContestSelectionIds')
+            assert line.is_listed == bool(listed)
+            assert not listed or len(line.selections) == len(listed)
+            assert all(isinstance(name, erd.SelectionName) for name in line.selections)
+    assert erd.ballot(report, len(styles_of(report))).ballot is None
+
+
+def test_the_same_ballots(report):
+    found = erd.ballot_differences(report, report)
+    assert found.same and found and found.lines == ('same ballots',)
+
+
+def test_ballots_that_differ(top):
+    """Two candidates change places on one style, another style is gone, and one is new."""
+    left = json.loads((top / 'examples' / 'county-general.json').read_text(encoding='utf-8'))
+    right = json.loads(json.dumps(left))
+    election = right['Election'][0]
+    moved, gone = election['BallotStyle'][0], election['BallotStyle'].pop(1)
+    content = next(entry for _, entry in contents(moved['OrderedContent']) if len(entry.get('OrderedContestSelectionIds', [])) > 1)
+    content['OrderedContestSelectionIds'].reverse()
+    new = json.loads(json.dumps(gone))
+    new['ExternalIdentifier'][0]['Value'] = 'ZZ'
+    election['BallotStyle'].append(new)
+    found = erd.ballot_differences(json.dumps(left), json.dumps(right))
+    keys = [style['ExternalIdentifier'][0]['Value'] for style in (moved, gone, new)]
+    assert {(difference.key[2], difference.how) for difference in found.differences} == set(zip(keys, ('differs', 'only left', 'only right')))
+    assert [(difference.left, difference.right) for difference in found.differences if difference.how == 'differs'] == [(0, 0)]
+    words = {'differs': 'differs', 'only left': 'only in the left report', 'only right': 'only in the right report'}
+    assert found.lines == tuple(f'ballot {erd.results.compact(list(it.key))}: {words[it.how]}' for it in found.differences)
+    assert not found.same and not found
+
+
+def test_what_is_refused():
+    assert (erd.ballots('{').check.outcome, erd.ballots('{').lines, erd.ballots('{').ballots) == ('not JSON', ('not JSON',), ())
+    assert not erd.ballots('{}') and erd.ballots('{}').lines == erd.check('{}').lines
+    assert erd.ballot('{}', 0) == erd.OneBallot(erd.check('{}'))
+    found = erd.ballot_differences('{}', '{')
+    assert (found.refused, found.check, found.same, found.lines) == ('left', erd.check('{}'), False, ('left: : missing member @type',))
+    for position, error in ((-1, ValueError), (2 ** 64, ValueError), ('0', TypeError)):
+        with pytest.raises(error):
+            erd.ballot('{}', position)
+
+
+def test_a_preferred_type(top):
+    report = json.loads((top / 'examples' / 'county-general.json').read_text(encoding='utf-8'))
+    for number, unit in enumerate(report['GpUnit']):
+        unit['ExternalIdentifier'].append({'@type': 'ElectionResults.ExternalIdentifier', 'Type': 'state-level', 'Value': f'S-{number}'})
+    data = json.dumps(report)
+    for prefer, wanted in (('state-level', {'state-level'}), ('local-level', {'local-level'})):
+        found = erd.ballots(data, prefer=prefer)
+        assert {key[0] for head in found.ballots for key in head.units} == wanted
+        assert erd.ballot(data, 0, prefer=prefer).ballot.units == next(head.units for head in found.ballots if head.position == 0)
+        assert erd.ballot_differences(data, data, prefer=prefer).same
+
+
+def run(*words):
+    done = subprocess.run([sys.executable, '-m', 'erd', 'ballots', *map(str, words)], capture_output=True, stdin=subprocess.DEVNULL)
+    return done.returncode, done.stdout.decode('utf-8'), done.stderr.decode('utf-8')
+
+
+def test_command(top, tmp_path, report):
+    left, right = tmp_path / 'left.json', top / 'examples' / 'small-ballot.json'
+    left.write_bytes(report)
+    other = right.read_bytes()
+    assert run(left) == (0, ''.join(f'{line}\n' for line in erd.ballots(report).lines), '')
+    differences = erd.ballot_differences(report, other)
+    assert run(left, right) == (0 if differences.same else 1, ''.join(f'{line}\n' for line in differences.lines), '')
+    status, out, _ = run('--json', left)
+    assert (status, [it['at'] for it in json.loads(out)]) == (0, [head.position for head in erd.ballots(report).ballots])
+    status, out, _ = run('--json', left, right)
+    assert (status, out[-1:], [it['left'] for it in json.loads(out)]) == (0 if differences.same else 1, '\n', [it.left for it in differences.differences])
+
+
+def test_command_for_what_is_refused(top, tmp_path):
+    good, bad, none = top / 'examples' / 'one-unit.json', tmp_path / 'bad', tmp_path / 'none'
+    bad.write_text('{}')
+    none.write_text('{')
+    assert run(bad) == (1, ': missing member @type\n', '')
+    assert run(none) == (2, 'not JSON\n', '')
+    assert run('--json', none) == (2, '"not JSON"\n', '')
+    assert run(good, bad) == (1, 'right: : missing member @type\n', '')
+    assert run(none, bad) == (2, 'left: not JSON\n', '')
+    status, out, _ = run('--json', good, bad)
+    assert (status, json.loads(out)['refused']) == (1, 'right')
