@@ -138,6 +138,53 @@ export class Differences {
     get text(): string;
 }
 
+/** A ballot of a report. */
+export interface BallotHead {
+    /** The position of its style among those of the report, counted from 0: what `ballot` takes. */
+    readonly position: number;
+    readonly key: Key | null;
+    /** How many headers and contests it has. */
+    readonly allLines: number;
+    /** The keys of the parties, and of the units, whose voters get it. */
+    readonly parties: Key[];
+    readonly units: Key[];
+    /** What `erd ballots` writes of it, without the line feed. */
+    readonly line: string;
+}
+
+/** The ballots of a report, or why it has none. */
+export class Ballots extends Checked {
+    readonly ballots: BallotHead[];
+}
+
+/** A line of a ballot: a header or a contest. */
+export interface BallotLine {
+    readonly what: 'header' | 'contest';
+    readonly key: Key | null;
+    /** How many headers stand around it. */
+    readonly depth: number;
+    /** Whether the ballot lists selections for it. If it lists none, `selections` has those of the contest in rising order. */
+    readonly isListed: boolean;
+    readonly selections: SelectionName[];
+}
+
+/** One ballot of a report; `ballot` is null if the report is refused, or has no style at the position. */
+export class OneBallot extends Checked {
+    readonly ballot: { readonly key: Key | null; readonly lines: BallotLine[]; readonly parties: Key[]; readonly units: Key[] } | null;
+}
+
+/** Which ballots are not the same in two reports. */
+export class BallotDifferences extends Compared {
+    readonly differences: {
+        readonly key: Key | null;
+        /** The positions of the style in the two reports; null where a report has none. */
+        readonly left: number | null;
+        readonly right: number | null;
+        readonly how: 'only left' | 'only right' | 'differs';
+        readonly line: string;
+    }[];
+}
+
 /** A command, by what it does. */
 export type Command = 'check' | 'canon' | 'compare' | 'differences';
 
@@ -180,8 +227,21 @@ export class Erd {
     written<T>(command: Command, reports: Report[], options: Preference | undefined, take: (bytes: Uint8Array, status: number) => T):
         Generator<{ status: number; bytes: T }>;
     /** What `check`, `compare` or `differences` answers as JSON: the exit status, and what `take` returns of the bytes of the text. */
-    writtenAsJson<T>(command: 'check' | 'compare' | 'differences', reports: Report[], options: Preference | undefined,
+    writtenAsJson<T>(command: 'check' | 'compare' | 'differences' | 'ballots', reports: Report[], options: Preference | undefined,
         take: (bytes: Uint8Array, status: number) => T): { status: number; bytes: T };
+    /**
+     * Lists the ballots of a report, in the rising order of the keys of their styles.
+     * @throws {TooLongError} if the report has more than 67,108,864 bytes
+     * @throws {NoMemoryError} if the call ran out of memory
+     */
+    ballots(report: Report, options?: Options): Ballots;
+    /** Tells the ballot of the style at a position of a report, as `ballots` tells it. It throws as `ballots` does. */
+    ballot(report: Report, position: number, options?: Options): OneBallot;
+    /**
+     * Tells which ballots are not the same in two reports. The words of contests, headers, candidates and parties are not compared:
+     * `differences` tells of them. It throws as `ballots` does.
+     */
+    ballotDifferences(left: Report, right: Report, options?: Options): BallotDifferences;
     /**
      * What steps make of a report: what they did, as `erd_prepare` of the C library tells it in JSON, and the bytes of the copy; null if
      * the report is not JSON. `Preparation` of `erd/prepare` reads it.
@@ -198,7 +258,7 @@ export class Erd {
 
 /** What the words of a command line ask for. */
 export interface CommandRequest {
-    readonly command: 'filter' | 'check' | 'canon' | 'compare' | 'differences' | 'prepare';
+    readonly command: 'filter' | 'check' | 'canon' | 'compare' | 'differences' | 'ballots' | 'prepare';
     /** The names of the files, in the order of the words. */
     readonly files: string[];
     /** Whether the answer is to be JSON. */

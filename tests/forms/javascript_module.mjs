@@ -296,6 +296,30 @@ throws('prepared: a zero character', RangeError, () => erd.prepared('{}', 'nulls
 equal('prepared: no JSON for the call', erd.prepared('{', 'nulls'), null);
 throws('prepared: a report that is too long', TooLongError, () => erd.prepared(new Uint8Array(MOST_BYTES + 1), ''));
 
+// The ballots: those of an example, and which differ where a style has one line less and another style is gone.
+const county = fileOf(EXAMPLES, 'county.vendor-a.json');
+const other = fileOf(EXAMPLES, 'county.vendor-b.json');
+const codeOf = ({ ExternalIdentifier: [{ Value }] }) => Value;
+const styles = JSON.parse(county).Election[0].BallotStyle;
+const heads = erd.ballots(county).ballots;
+equal('ballots: the keys', heads.map(({ key }) => key[2]).join(), 'BS-1,BS-2,BS-3,BS-4');
+equal('ballots: the positions', heads.map(({ position }) => codeOf(styles[position])).join(), 'BS-1,BS-2,BS-3,BS-4');
+equal('ballots: one of them', erd.ballot(county, heads[1].position).ballot.key.join(), heads[1].key.join());
+equal('ballots: its lines', erd.ballot(county, heads[1].position).ballot.lines.length, heads[1].allLines);
+equal('ballots: none there', erd.ballot(county, styles.length).ballot, null);
+equal('ballots: of a refused report', erd.ballots('{').text, 'not JSON\n');
+equal('ballots: the same', erd.ballotDifferences(county, other).text, 'same ballots\n');
+const cut = JSON.parse(other);
+cut.Election[0].BallotStyle = cut.Election[0].BallotStyle.filter((style) => codeOf(style) !== 'BS-1');
+cut.Election[0].BallotStyle.find((style) => codeOf(style) === 'BS-2').OrderedContent.pop();
+const shorter = JSON.stringify(cut);
+const notTheSame = erd.ballotDifferences(county, shorter);
+equal('ballots: not the same', notTheSame.differences.map(({ key, how }) => `${key[2]} ${how}`).join(), 'BS-1 only left,BS-2 differs');
+equal('ballots: their status', notTheSame.status, 1);
+equal('ballots: the other way round', erd.ballotDifferences(shorter, county).differences.some(({ how }) => how === 'only right'), true);
+equal('ballots: the right report is refused', erd.ballotDifferences(county, '{').text, 'right: not JSON\n');
+throws('ballots: no position', TypeError, () => erd.ballot(county, -1));
+
 equal('the code of TrapError', new TrapError(new Error('why')).code, 'TRAP');
 equal('the code of TooLongError', new TooLongError().code, 'TOO_LONG');
 equal('the code of NoMemoryError', new NoMemoryError().code, 'NO_MEMORY');

@@ -33,5 +33,8 @@ import { Preparation, stepsOf, told } from 'erd/prepare';
 
 const prepared = new Preparation(new Uint8Array(), erd).prepare(stepsOf('removed'), { tellsOthers: true });
 const lengths: number[] = [prepared.bytes.length, ...prepared.steps.map((step) => told(step).changes.length)];
+const positions: number[] = erd.ballots('').ballots.map((ballot) => ballot.position);
+const depths: number[] = erd.ballot('', 0)?.ballot?.lines.map((line) => line.depth) ?? [];
+const ways: ('only left' | 'only right' | 'differs')[] = erd.ballotDifferences('', '').differences.map((ballot) => ballot.how);
 // @ts-expect-error no such group
 stepsOf('none');

@@ -1,4 +1,5 @@
 // The calls, on top of the module.
+import { BallotDifferences, Ballots, OneBallot } from './ballots.mjs';
 import { Engine, LINE, OUTCOME } from './engine.mjs';
 import { readExactly } from './exact.mjs';
 import { checkedOf, comparedOf, differencesOf, withCanonical, withoutCanonical } from './results.mjs';
@@ -79,6 +80,41 @@ export class Erd {
         return differencesOf(taken, all);
     }
 
+    /** Lists the ballots of a report, in the rising order of the keys of their styles. */
+    ballots(report, options) {
+        const bytes = bytesOf(report, 'the report');
+        const checked = this.check(bytes, options);
+        return new Ballots(checked, checked.accepted ? this.#ballots('erd_ballots', [bytes], options) : null);
+    }
+
+    /** Tells the ballot of the style at a position of a report, as `ballots` tells it. */
+    ballot(report, position, options) {
+        if (!(Number.isInteger(position) && position >= 0 && position <= ALL)) {
+            throw new TypeError('the position is not a whole number from 0 on');
+        }
+        const bytes = bytesOf(report, 'the report');
+        const checked = this.check(bytes, options);
+        return new OneBallot(checked, checked.accepted ? this.#ballots('erd_ballot', [bytes], options, position) : null);
+    }
+
+    /** Tells which ballots are not the same in two reports. */
+    ballotDifferences(left, right, options) {
+        const reports = pairOf(left, right);
+        const both = [];
+        for (const [at, side] of ['left', 'right'].entries()) {
+            both.push(this.check(reports[at], options));
+            if (!both[at].accepted) {
+                return new BallotDifferences(side, both[at], []);
+            }
+        }
+        return new BallotDifferences(null, both[0], this.#ballots('erd_ballot_differences', reports, options));
+    }
+
+    // What a call answers on the ballots of reports that are accepted. So the faults of a refused one are never in memory as a whole.
+    #ballots(name, reports, options, ...more) {
+        return checked(this.#engine.ask(name, reports, askedFor(options, 'mostFaults').prefer, more, readExactly)).taken;
+    }
+
     /**
      * What steps make of a report: what they did, as the library tells it in JSON, and the bytes of the copy; null if the report is not
      * JSON. `erd/prepare` reads it.
@@ -127,14 +163,15 @@ export class Erd {
 
     /**
      * What a command answers as JSON: the exit status, and what `take` makes of the bytes of the whole text, as in `written`.
-     * @param {'check' | 'compare' | 'differences'} command
+     * @param {'check' | 'compare' | 'differences' | 'ballots'} command
      */
     writtenAsJson(command, reports, options, take = copied) {
         const { prefer } = askedFor(options, 'mostFaults');
         const bytesOfReports = reports.map((report) => bytesOf(report, 'a report'));
         checkLengths(bytesOfReports);
-        const whole = { first: 0, most: ALL, enoughBytes: ALL };
-        const { outcome, taken } = checked(this.#engine.call(JSON_COMMANDS[command], bytesOfReports, prefer, whole, take));
+        const { outcome, taken } = checked(command === 'ballots'
+            ? this.#engine.ask(reports.length === 1 ? 'erd_ballots' : 'erd_ballot_differences', bytesOfReports, prefer, [], take)
+            : this.#engine.call(JSON_COMMANDS[command], bytesOfReports, prefer, { first: 0, most: ALL, enoughBytes: ALL }, take));
         return { status: outcome, bytes: taken };
     }
 

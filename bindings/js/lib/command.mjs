@@ -26,16 +26,33 @@ export async function run(words) {
 /** Does what a command asks for, and returns the status. */
 function answered(erd, { command, files, json, prefer }) {
     const reports = opened(files).map(bytesOfFile);
-    const status = judged(erd, command === 'filter' ? 'canon' : command, { reports, prefer, json });
+    const status = judged(erd, callFor(erd, command, reports, prefer), { reports, prefer, json });
     if (status === NOT_JSON) {
         tellOfXml(reports);
     }
     return status;
 }
 
+// Which command answers. Why a report has no ballots is written as for another command, so that no list of faults is in memory as a whole.
+function callFor(erd, command, reports, prefer) {
+    if (command === 'filter') {
+        return 'canon';
+    }
+    const isAccepted = (report) => erd.check(report, { prefer, mostFaults: 0 }).accepted;
+    if (command !== 'ballots' || reports.every(isAccepted)) {
+        return command;
+    }
+    return reports.length === 1 ? 'check' : 'compare';
+}
+
 function judged(erd, name, { reports, prefer, json }) {
     if (json) {
         return erd.writtenAsJson(name, reports, { prefer }, writeLine).status;
+    }
+    if (name === 'ballots') {
+        const found = reports.length === 1 ? erd.ballots(...reports, { prefer }) : erd.ballotDifferences(...reports, { prefer });
+        write(STANDARD_OUTPUT, found.text);
+        return found.status;
     }
     let status = 0;
     for (const piece of erd.written(name, reports, { prefer }, writer(name))) {

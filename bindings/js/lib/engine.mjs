@@ -79,6 +79,17 @@ export class Engine {
         return this.#once((exports) => preparedOf(exports, report, steps, tellsOthers, take));
     }
 
+    /**
+     * Makes one call whose answer has no pieces.
+     * @param {string} name the call, such as `erd_ballots`
+     * @param {number[]} more the numbers that follow the preference
+     * @returns {{outcome: number, taken: T | undefined}}
+     * @template T
+     */
+    ask(name, reports, prefer, more, take) {
+        return this.#once((exports) => askedOf(exports, name, reports, prefer, more, take));
+    }
+
     #once(asked) {
         const instance = this.#taken();
         const answer = instance === null ? null : asked(instance.exports);
@@ -148,16 +159,32 @@ export class Engine {
     }
 }
 
+// What a call is handed first: the reports with their lengths, and the preferred type of identifier.
+function handed(room, reports, prefer) {
+    const words = reports.flatMap((report) => [room.filledWith(report), report.length]);
+    const preferred = prefer === null ? 0 : room.filledWith(prefer, 1);
+    return [...words, preferred];
+}
+
 // Makes one call; null if there is no memory for it.
 function answerOf(exports, name, reports, prefer, { first, most, enoughBytes }, take) {
     return withRoom(exports, (room) => {
-        const words = reports.flatMap((report) => [room.filledWith(report), report.length]);
-        const preferred = prefer === null ? 0 : room.filledWith(prefer, 1);
+        const words = handed(room, reports, prefer);
         const piece = room.filledWithNumbers(first, most, enoughBytes, 0, 0);
         const places = room.taken(8);
-        const outcome = exports[name](...words, preferred, piece, places, places + 4);
+        const outcome = exports[name](...words, piece, places, places + 4);
         const [told, all] = new Uint32Array(exports.memory.buffer.slice(piece + 12, piece + 20));
         return { outcome, taken: takenAt(exports, places, outcome, take), told, all };
+    });
+}
+
+// Makes one call whose answer has no pieces; null if there is no memory for it.
+function askedOf(exports, name, reports, prefer, more, take) {
+    return withRoom(exports, (room) => {
+        const words = handed(room, reports, prefer);
+        const places = room.taken(8);
+        const outcome = exports[name](...words, ...more, places, places + 4);
+        return { outcome, taken: takenAt(exports, places, outcome, take) };
     });
 }
 

@@ -173,6 +173,7 @@ function linesOfPair(result, differences) {
     return result.same ? ['same'] : differences.map((difference) => difference.line);
 }
 
-function ended(line) {
+/** A line with its end. */
+export function ended(line) {
     return line + '\n';
 }

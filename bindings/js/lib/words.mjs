@@ -68,6 +68,16 @@ export function lineOfDifference({ part, key, how, member }) {
     return how === 'member' ? `${object}: member ${compactText(member)}` : `${object}: ${how}`;
 }
 
+/**
+ * A line of `erd ballots`, without its line feed.
+ * @param {readonly string[] | null} key the key of the style
+ * @param {string} words
+ * @returns {string}
+ */
+export function lineOfBallot(key, words) {
+    return `${key === null ? 'ballot' : `ballot ${compactText(key)}`}: ${words}`;
+}
+
 // The compact JSON text of a text or of a list of texts. JSON.stringify writes what `serde_json` writes: the escapes for
 // quotes, backslashes and control characters below U+0020, and every other character as it is.
 function compactText(value) {

@@ -14,7 +14,8 @@ export function prepared(erd, { files, list, prefer, report, steps }) {
     const bytes = bytesOfFile(opened(files)[0]);
     const made = erd.prepared(bytes, names, { tellsOthers: list || report });
     if (made === null) {
-        throw new Stop(isXml(bytes) ? `not JSON; ${WHERE_CONVERTED}` : 'not JSON', NOT_JSON);
+        write(STANDARD_ERROR, isXml(bytes) ? `not JSON; ${WHERE_CONVERTED}\n` : 'not JSON\n');
+        return NOT_JSON;
     }
     if (report) {
         write(STANDARD_OUTPUT, made.told);
