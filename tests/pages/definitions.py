@@ -42,6 +42,8 @@ SECOND = {('position', 'erd_check'), ('part', 'erd_index'), ('part', 'erd_prepar
 
 # The words of a sentence that stands on the page as it is.
 MOST_WORDS = 13
+# A longer sentence than the second is cut at a comma behind so many words.
+LEAST_AT_COMMA, MOST_AT_COMMA = 5, 15
 
 # Where the definitions of a file come from, if their comments do not say: the file, or one of its definitions.
 PROFILE = 'profile'
@@ -180,7 +182,15 @@ def first_sentence(words):
     unless that is a condition."""
     sentence = re.split(r'(?<=\.) (?=[A-Z`])', words)[0].removesuffix('.')
     front = re.match(r'(?!If ).{20,}?(?=[:;] |, (?:which|such as|as|where|with) )', sentence)
-    return front[0] if front and len(sentence.split()) > MOST_WORDS else sentence
+    return front[0] if front and len(sentence.split()) > MOST_WORDS else cut_at_comma(sentence)
+
+
+def cut_at_comma(sentence):
+    """A long sentence up to its last comma that stands within the first words, with a mark where it was cut."""
+    words = sentence.split()
+    fronts = [' '.join(words[:count]) for count in range(LEAST_AT_COMMA, min(MOST_AT_COMMA + 1, len(words)))]
+    fronts = [front for front in fronts if front.endswith((',', ';')) and front.count('(') == front.count(')')]
+    return fronts[-1].rstrip(',;') + '…' if fronts and len(words) > MOST_AT_COMMA else sentence
 
 
 def is_source(words):
