@@ -205,7 +205,7 @@ fn each_call_fails(rt: HostRuntime) -> Result<(), Fail> {
         for told in unopened {
             let found = run(rt.alloc(), Ok(line), Good { opens, ..GOOD });
             assert!(rt; is(&found, 3, NOTHING, told), "at {line}, {opens}");
-            opens += 1;
+            opens = opens.saturating_add(1);
         }
         for reads in 0..reads {
             let found = run(rt.alloc(), Ok(line), Good { reads, ..GOOD });
