@@ -71,7 +71,7 @@ def test_each_ballot(report):
 
 def test_the_same_ballots(report):
     found = erd.ballot_differences(report, report)
-    assert found.same and found and found.lines == ('same ballots',)
+    assert found.same and found and found.lines == ('same lines',)
 
 
 def test_ballots_that_differ(top):

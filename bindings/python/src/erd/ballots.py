@@ -149,7 +149,7 @@ class BallotDifferences:
         """The lines that `erd ballots` writes, as far as the faults of a refused report are listed."""
         if self.check is not None:
             return tuple(f'{self.refused}: {line}' for line in self.check.lines)
-        return ('same ballots',) if self.same else tuple(difference.line for difference in self.differences)
+        return ('same lines',) if self.same else tuple(difference.line for difference in self.differences)
 
     def __bool__(self) -> bool:
         return self.same

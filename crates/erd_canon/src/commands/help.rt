@@ -122,7 +122,8 @@ Example:
   erd differences vendor-a.json vendor-b.json";
 
 /// What `ballots` does.
-pub const BALLOTS: &str = "Lists the ballots of a report, or those on which two reports differ";
+pub const BALLOTS: &str =
+    "Lists the ballots of a report, or those whose lines differ in two reports";
 
 /// What `ballots` reads and writes.
 pub const BALLOTS_AT_LENGTH: &str =
@@ -131,18 +132,22 @@ its style and how many lines a voter sees on it:
 
   ballot [\"local-level\",\"\",\"S1\"]: 14 lines
 
-With a second file, it writes `same ballots`, or a line for each ballot that only one report has, or on
-which the two reports differ:
+With a second file, it writes `same lines`, or a line for each ballot that only one report has, or whose
+lines differ:
 
   ballot [\"local-level\",\"\",\"S1\"]: differs
+
+A line is a contest or a header, and its choices, in their order. Other words, such as titles and how
+many votes are allowed, are not compared here: take `erd compare` to learn whether two reports mean the
+same.
 
 If a report is refused, it writes what `erd check` writes for it, of two reports what `erd compare`
 writes.";
 
 /// The exit statuses of `ballots`, and an example.
 pub const BALLOTS_ENDS: &str = "Exit status:
-  0  written, or the same ballots
-  1  the ballots differ, or a report is refused: the lines are on standard output
+  0  written, or the same lines
+  1  the lines differ, or a report is refused: the lines are on standard output
   2  a report is not JSON
   3  wrong arguments, a file that cannot be opened, more than 67,108,864 bytes, a failed read or write
   4  no memory

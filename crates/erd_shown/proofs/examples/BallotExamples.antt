@@ -52,7 +52,7 @@ one_alone : AreBallotDifferences None one None without (on_the_left ∷ [])
 unfolding serde_json_on_literals
 one_alone = record { rows = Removed 0 ∷ []; are_rows = record { left_lines = refl; right_lines = refl; so = (refl, tt) }; tells = refl }
 
-lines_told : found_lines [] ≡ codes "same ballots" ∷ []
+lines_told : found_lines [] ≡ codes "same lines" ∷ []
 lines_told = refl
 
 line_told : found_lines (on_the_left ∷ []) ≡ codes "ballot [\"local-level\",\"\",\"S1\"]: only in the left report" ∷ []
