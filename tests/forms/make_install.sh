@@ -73,7 +73,7 @@ bind '"\t": insert-completions'
 END
 types=(fips local-level national-level ocd-id other state-level)
 completed 'the subcommands' 'erd c\t' canon check compare
-completed 'all first words' 'erd \t' --help canon check compare differences help
+completed 'all first words' 'erd \t' --help ballots canon check compare differences help prepare
 completed 'the subcommands of help' 'erd help co\t' help compare
 completed 'nothing after help of a subcommand' 'erd help check \t' help check
 completed 'a file of check' 'erd check r\t' check right.json
