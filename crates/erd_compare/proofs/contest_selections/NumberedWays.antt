@@ -1,5 +1,6 @@
 -- The selections of two contests by the numbers of their names, number by number: what is found are the ways at all names.
-use Rattle.erd_compare.proofs.Common.{[], ◌≡◌, ◌⊎◌, ℕ, Bool, true, false, cond, List, IfSome, In-all, ObjectRecord, nat_cmp_total, not_below_itself, ◌∷◌, ◌++◌, map, find, Some, None, Option, option_and_then, option_map, Less, sym, refl, ap, ◌∙◌, subst, inl, inr, same_Some, Data, view, In, AllByRecursion, IsDistinct, IsStrictlySortedBy, eq_by_cmp, Equal-is, nat_cmp, map-append, find-Some, AgreeBut, Stands, AreWays, Judged, NameParts, name_cmp, name_of, selection_record, SelectionRecord, on_side, has_number, number_of_name, number_of_selection, numbered_map, ComparedReport, Left, Right, option_or}
+use Rattle.erd_compare.proofs.Common.{[], ◌≡◌, ◌⊎◌, ◌==◌, ℕ, Bool, true, false, cond, List, IfSome, In-all, ObjectRecord, nat_cmp_total, not_below_itself, ◌∷◌, ◌++◌, map, find, Some, None, Option, option_and_then, option_map, Less, sym, refl, ap, ◌∙◌, subst, inl, inr, same_Some, Data, view, In, AllByRecursion, IsDistinct, eq_by_cmp, Equal-is, nat_cmp, map-append, find-Some, AgreeBut, Stands, AreWays, Judged, NameParts, name_cmp, name_of, selection_record, SelectionRecord, on_side, has_number, number_of_name, number_of_selection, numbered_map, ComparedReport, Left, Right, option_or}
+use Rattle.std.specs.List.Sorted.{IsStrictlySortedBy}
 use Rattle.std.specs.Map.{keys_of}
 use Rattle.erd_check.proofs.Order.{In-append}
 use Rattle.erd_meaning.proofs.selections.ContestSelections.{all_both}
@@ -12,7 +13,7 @@ use Rattle.erd_compare.proofs.same_ranks.NumberedSelections.{name_tested, number
 use Rattle.erd_compare.proofs.same_selections.PlacedSelections.{contest_named}
 use Rattle.erd_compare.proofs.same_selections.SelectionWalks.{at_number, one_number, Numbered}
 use Rattle.erd_compare.specs.code.ContestSelections.{contest_map, has_name_in, selection_values, whole_record}
-use Rattle.erd_compare.specs.code.NamedSelections.{contest_values, named_cmp, names_of, record_named, value_of, AddsNumbers, AreAllWays, AreByNumber, IsNamedOn}
+use Rattle.erd_compare.specs.code.NamedSelections.{contest_values, named_cmp, names_of, record_named, value_of, AddsNumbers, AreAllWays, AreByNumber, IsNamedOn, TellsWays}
 use Rattle.erd_compare.specs.declared.inside.named.NamedSelection.{NamedSelection}
 use Rattle.erd_compare.specs.declared.inside.named.NamedWays.{NamedWays}
 
@@ -21,11 +22,11 @@ use Rattle.erd_compare.specs.declared.inside.named.NamedWays.{NamedWays}
 -- a number under which something stands is one of the numbers
 keyed : {V : Type 0} (es : Numbered V) (k : ℕ) (v : V) → at_number es k ≡ Some v → Stands k (keys_of es)
 keyed [] k v e = cc
-keyed (x ∷ xs) k v e = at (k == x.0) refl
+keyed (x ∷ xs) k v e = at (k == x.0) refl (keyed xs k v)
   where
-    at : (yes : Bool) → (k == x.0) ≡ yes → Stands k (keys_of (x ∷ xs))
-    at true is = inl (sym (one_number k x.0 is))
-    at false is = inr (keyed xs k v (sym (ap (λ b. cond b (Some x.1) (at_number xs k)) is) ∙ e))
+    at : (yes : Bool) → (k == x.0) ≡ yes → (at_number xs k ≡ Some v → Stands k (keys_of xs)) → Stands k (keys_of (x ∷ xs))
+    at true is later = inl (sym (one_number k x.0 is))
+    at false is later = inr (later (sym (ap (λ b. cond b (Some x.1) (at_number xs k)) is) ∙ e))
 
 -- one more, which is none of them
 distinct_more : {K : Type 0} (eq : K → K → Bool) (xs : List K) (y : K) → IsDistinct eq xs → ((x : K) → In x xs → eq x y ≡ false) → IsDistinct eq (xs ++ y ∷ [])
@@ -39,7 +40,7 @@ module _ (a b : Judged) where
   -- the selections of a contest are named
   values_named : (side : ComparedReport) (contest : Option ℕ) → AreNamed a b side (contest_values (on_side side a b) contest)
   values_named side None d inside = absurd inside
-  values_named side (Some c) = contest_named a b side c (selection_values (on_side side a b) c) (are_selections (on_side side a b) c)
+  values_named side (Some c) d inside = contest_named a b side c (selection_values (on_side side a b) c) (are_selections (on_side side a b) c) d inside
 
   map_there : (j : Judged) (contest : Option ℕ) (x : NameParts) → contest_map j contest x ≡ option_and_then (selection_record j.prefer (view j.tree)) (find (has_name_in j x) (contest_values j contest))
   map_there j None x = refl
@@ -133,13 +134,13 @@ module _ (a b : Judged) (one other : Option ℕ) where
       told : (r : ComparedReport) (x : NameParts) → IsNameOn a b r x → IsTold found x
       told r x on = elim (h.each r x on) [
         | inl stands ↦ absurd (subst (Stands (number_of_name a b x)) end stands)
-        | inr told ↦ told
+        | inr here ↦ here
       ]
 
       at : (x : NameParts) → (m x ≡ None) ⊎ IsNameOn a b Left x → (n x ≡ None) ⊎ IsNameOn a b Right x → IsTold found x
-      at x (inr on) its = told Left x on
-      at x mine (inr on) = told Right x on
-      at x (inl mine) (inl its) = inr (none_both x mine its)
+      at x (inr named) right = told Left x named
+      at x left (inr named) = told Right x named
+      at x (inl left) (inl right) = inr (none_both x left right)
 
   module _ (ls rs : Numbered NamedSelection) (mine : AreByNumber a b Left (contest_values a one) ls) (its : AreByNumber a b Right (contest_values b other) rs) where
     -- at first none was
@@ -172,7 +173,7 @@ module _ (a b : Judged) (one other : Option ℕ) where
           tells_as P (whole_record (m x)) (whole_record (n x)) (record_named a left) (record_named b right) (record_at a b Left one ls mine r x q on same) (record_at a b Right other rs its r x q on same) holds
 
       -- the two selections don't differ
-      pub passed : AgreeBut (λ how. ⊥) (record_named a left) (record_named b right) → AreFound found rest
+      passed : AgreeBut (λ how. ⊥) (record_named a left) (record_named b right) → AreFound found rest
       unfolding IsStrictlySortedBy
       passed agree = record {
         once = h.once;
@@ -191,15 +192,15 @@ module _ (a b : Judged) (one other : Option ℕ) where
       its_name x e = at left refl right refl e
         where
           at : (o : Option NamedSelection) → left ≡ o → (p : Option NamedSelection) → right ≡ p → Some x ≡ option_map (λ (s : NamedSelection). s.name.now) (option_or o p) → (r : ComparedReport) × IsNameOn a b r x × (number_of_name a b x ≡ q)
-          at (Some s) is p other e =
+          at (Some s) is p there e =
               let name : s.name.now ≡ x = same_Some s.name.now x (sym e) in
               let known = named_under a b Left one ls mine q s is in
               (Left, subst (λ y. IsNameOn a b Left y) name known.0, subst (λ y. number_of_name a b y ≡ q) name known.1)
-          at None is (Some s) other e =
+          at None is (Some s) there e =
               let name : s.name.now ≡ x = same_Some s.name.now x (sym e) in
-              let known = named_under a b Right other rs its q s other in
+              let known = named_under a b Right other rs its q s there in
               (Right, subst (λ y. IsNameOn a b Right y) name known.0, subst (λ y. number_of_name a b y ≡ q) name known.1)
-          at None is None other e = cc
+          at None is None there e = cc
 
       -- they do
       module _ (v : NamedWays) (name : Some v.name.now ≡ option_map (λ s. s.name.now) (option_or left right)) (ways : AreWays true (record_named a left) (record_named b right) v.ways) where
@@ -231,7 +232,7 @@ module _ (a b : Judged) (one other : Option ℕ) where
         named_last : Stands v.name.now (names_of after)
         named_last = subst (Stands v.name.now) (sym (map-append (λ (w : NamedWays). w.name.now) found (v ∷ []))) (stands_behind v.name.now (names_of found) (names_of (v ∷ [])) (inl refl))
 
-        pub added : AreFound after rest
+        added : AreFound after rest
         unfolding IsStrictlySortedBy
         added = record {
           once = distinct_more (eq_by_cmp named_cmp) found v h.once apart;
@@ -249,3 +250,19 @@ module _ (a b : Judged) (one other : Option ℕ) where
             | inr (inr agree) ↦ inr (inr agree)
           ];
         }
+
+    -- with what is told at the next number
+    abbrev with_told : List NamedWays → Option NamedWays → List NamedWays
+    with_told found None = found
+    with_told found (Some v) = found ++ v ∷ []
+
+    pub next_told : (found : List NamedWays) (q : ℕ) {numbers rest : List ℕ} → numbers ≡ q ∷ rest → AreFound found numbers → (o p : Option NamedSelection) → o ≡ at_number ls q → p ≡ at_number rs q → (told : Option NamedWays) → TellsWays a b o p told
+        → AreFound (with_told found told) rest
+    next_told found q {rest = rest} next h o p left right told tells = at told (subst (λ x. TellsWays a b x (at_number rs q) told) left (subst (λ y. TellsWays a b o y told) right tells))
+      where
+        here : AreFound found (q ∷ rest)
+        here = subst (AreFound found) next h
+
+        at : (told : Option NamedWays) → TellsWays a b (at_number ls q) (at_number rs q) told → AreFound (with_told found told) rest
+        at None agree = passed found q rest here agree
+        at (Some v) (name, ways) = added found q rest here v name ways
