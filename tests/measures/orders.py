@@ -2,7 +2,7 @@
 members, before long values that are the same. Each command takes at most 1.2 times the instructions of values that differ in the
 first entry of a list. An order that compares the values as well takes two to four times as many. Also `differences --json` on two
 contests whose names of selections are long, of which one differs: at most three times the instructions of `compare`. Names that are
-told apart by their texts take a hundred times as many. Needs valgrind and `./erd`. One line a case.
+told apart by their texts take 27 times as many. Needs valgrind and `./erd`. One line a case.
 """
 import json
 import os

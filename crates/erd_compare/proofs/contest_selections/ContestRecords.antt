@@ -1,20 +1,17 @@
 -- A selection means what an object with its members does, and the selections of a contest are those of its record.
-use Rattle.erd_compare.proofs.Common.{◌≡◌, ℕ, Bool, true, false, List, [], codes, Some, None, Option, option_map, option_and_then, sym, refl, ap, ◌∙◌, inl, inr, fun_ext, Data, array, no_items, item, get, view, entries_of, entries_at, role_of_class, kind_of_member, Class, family, role, MemberKind, kind, PlainValue, MemberValue, a_plain, a_selection_map, ObjectRecord, SelectionRecord, Preference, Judged, Placed, NameParts, key_in, plain_member, member_of_class, member_value, unless_empty, object_record, selection_record, selection_map, selection_role, name_of, name_in_class, key_named, meaning, record_at, How, Member, OnlyLeft, OnlyRight, OtherClass, DifferIn, AgreeBut, Key, HasKeyAt, IsComparable, holder_key_in, other_than_election, part, slice_get, same_Some, key_with_role, unwrap_or, contests, ◌+◌, cond, ◌⊎◌, ◌==◌, find, is_eq, option_cmp, ap₂, subst, slice_get-map, Decides-eqb, tied_itself, Equal-is, options_exact, In, In-map, In-all, any_at, selections_of_contest, objects, numbered_selections, option_map-Some, in_at, position_of, find-Some, find-any, AreSelectionsIn, selections_before, Stands, IsWholeTree, IsPlaced, AreWays, DifferInNames, Ways, ways}
+use Rattle.erd_compare.proofs.Common.{◌≡◌, ℕ, Bool, true, false, List, [], codes, Some, None, Option, option_map, option_and_then, sym, refl, ap, ◌∙◌, inl, inr, fun_ext, Data, array, no_items, item, get, view, entries_of, entries_at, role_of_class, kind_of_member, Class, family, role, MemberKind, kind, PlainValue, MemberValue, a_plain, a_selection_map, ObjectRecord, SelectionRecord, Preference, Judged, Placed, NameParts, key_in, plain_member, member_of_class, member_value, unless_empty, object_record, selection_record, selection_map, selection_role, name_of, name_in_class, key_named, meaning, record_at, How, Member, OnlyLeft, OnlyRight, OtherClass, DifferIn, AgreeBut, Key, HasKeyAt, IsComparable, holder_key_in, other_than_election, part, slice_get, same_Some, key_with_role, unwrap_or, contests, ◌+◌, cond, ◌==◌, ap₂, subst, slice_get-map, Decides-eqb, selections_of_contest, objects, numbered_selections, option_map-Some, in_at, AreSelectionsIn, selections_before, IsWholeTree, IsPlaced}
 use Rattle.erd_check.specs.Wants.{class_of_object}
 use Rattle.erd_check.proofs.Positions.{and_then-Some}
-use Rattle.erd_meaning.specs.Lookups.{FindsKey, selection_in, FindsSelection}
+use Rattle.erd_meaning.specs.Lookups.{FindsKey, selection_in}
 use Rattle.erd_meaning.proofs.accepted.Standing.{contest_selections, values-placed_entries}
 use Rattle.erd_meaning.proofs.meanings.SelectionKinds.{class_role, is_selections, selections_family, selections_name}
 use Rattle.erd_compare.specs.SelectionDifferences.{selections_in_member, selections_with_key}
 use Rattle.erd_compare.specs.code.ContestSelections.{contest_map, selection_values, whole_record}
-use Rattle.erd_compare.proofs.least_difference.RisingKeys.{record_here, records_at, tells_as}
+use Rattle.erd_compare.proofs.least_difference.RisingKeys.{record_here, records_at}
 use Rattle.erd_compare.proofs.same_selections.SelectionWalks.{one_plain}
-use Rattle.std.specs.Cmp.Lexicographic.{options_total}
 use Rattle.erd_meaning.proofs.selections.ContestSelections.{stand_from_start}
-use Rattle.erd_meaning.proofs.selections.NamesTold.{numbered_at, of_its_contest}
+use Rattle.erd_meaning.proofs.selections.NamesTold.{numbered_at}
 use Rattle.erd_meaning.specs.NameParts.{NameParts}
-use Rattle.erd_meaning.specs.SelectionNames.{name_cmp}
-use Rattle.erd_meaning.specs.code.Orders.{name_cmp_exact, name_cmp_total}
 use Rattle.erd_meaning.specs.code.SelectionWalk.{if_of_contest, selection_of}
 use Rattle.erd_compare.proofs.whole_trees.WholeTrees.{whole_object}
 

@@ -1,5 +1,5 @@
 -- The selections of two contests by the numbers of their names, number by number: what is found are the ways at all names.
-use Rattle.erd_compare.proofs.Common.{[], ◌≡◌, ◌⊎◌, ◌==◌, ℕ, Bool, true, false, cond, List, IfSome, In-all, ObjectRecord, nat_cmp_total, not_below_itself, ◌∷◌, ◌++◌, map, find, Some, None, Option, option_and_then, option_map, Less, sym, refl, ap, ◌∙◌, subst, inl, inr, same_Some, Data, view, In, AllByRecursion, IsDistinct, eq_by_cmp, Equal-is, nat_cmp, map-append, find-Some, AgreeBut, Stands, AreWays, Judged, NameParts, name_cmp, name_of, selection_record, SelectionRecord, on_side, has_number, number_of_name, number_of_selection, numbered_map, ComparedReport, Left, Right, option_or}
+use Rattle.erd_compare.proofs.Common.{[], ◌≡◌, ◌⊎◌, ◌==◌, ℕ, Bool, true, false, cond, List, IfSome, In-all, ObjectRecord, nat_cmp_total, not_below_itself, ◌∷◌, ◌++◌, find, Some, None, Option, option_and_then, option_map, Less, sym, refl, ap, ◌∙◌, subst, inl, inr, same_Some, Data, view, In, AllByRecursion, IsDistinct, eq_by_cmp, Equal-is, nat_cmp, map-append, find-Some, AgreeBut, Stands, AreWays, Judged, NameParts, name_cmp, name_of, selection_record, SelectionRecord, on_side, has_number, number_of_name, number_of_selection, numbered_map, ComparedReport, Left, Right, option_or}
 use Rattle.std.specs.List.Sorted.{IsStrictlySortedBy}
 use Rattle.std.specs.Map.{keys_of}
 use Rattle.erd_check.proofs.Order.{In-append}

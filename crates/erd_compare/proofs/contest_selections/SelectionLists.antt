@@ -1,6 +1,5 @@
 -- The differences at the names of selections, one name after another in rising order, are all differences of two contests.
-use Rattle.erd_compare.proofs.Common.{[], ◌≡◌, ◌⊎◌, ℕ, ◌+◌, Bool, true, List, ◌∷◌, ◌++◌, map, drop, Some, None, Option, Less, sym, refl, ap, ◌∙◌, subst, inl, inr, tied_itself, append-nil, Bor, AllByRecursion, In, In-map, In-map_from, In-all, ordering_then, SelectionRecord, How, Member, AgreeBut, DifferIn, Stands, hows_of, AreWays, Ways, Judged, NameParts, length, ◌≤◌, slice_get, map-append, drop_all, Data, Value, view}
-use Rattle.std.proofs.lemmas.Grind.{flat_map-append}
+use Rattle.erd_compare.proofs.Common.{[], ◌≡◌, ◌⊎◌, ℕ, ◌+◌, Bool, true, List, ◌∷◌, ◌++◌, map, drop, Some, Option, Less, sym, refl, ap, ◌∙◌, subst, inl, inr, tied_itself, append-nil, Bor, AllByRecursion, In, In-map, In-map_from, In-all, ordering_then, How, Member, AgreeBut, DifferIn, Stands, hows_of, AreWays, Ways, NameParts, length, ◌≤◌, slice_get, map-append, drop_all, Data, Value, view}
 use Rattle.std.specs.List.Sorted.{IsStrictlySortedBy}
 use Rattle.erd_check.proofs.Order.{In-append, all_from_In, sorted_append, sorted_map}
 use Rattle.erd_meaning.proofs.selections.ContestSelections.{all_both}

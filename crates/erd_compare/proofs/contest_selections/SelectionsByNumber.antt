@@ -1,5 +1,5 @@
 -- The selections of a contest are put under the numbers of their names, one position after another.
-use Rattle.erd_compare.proofs.Common.{◌≡◌, List, [], ◌∷◌, map, sym, refl, ℕ, ◌+◌, ◌<◌, ◌≤◌, length, drop_all, slice_get, Some, None, codes, Option, option_map, option_and_then, ap, ◌∙◌, subst, drop, Data, Value, view, selections_before, family, entries_at, Judged, Placed, objects, name_of, NameParts, Bor, length-map, slice_get_within, at_low, on_side, number_of_selection, number_of_name, numbered_selections, ComparedReport, IsComparable, same_Some, selection_role, is_some, cond, ◌==◌, Bool, true, false, ◌⊎◌, inl, inr, Stands, Ordering, Less, Equal, Greater, match_ordering, nat_cmp, exact_unsigned}
+use Rattle.erd_compare.proofs.Common.{◌≡◌, List, [], ◌∷◌, map, sym, refl, ℕ, ◌+◌, ◌<◌, ◌≤◌, length, drop_all, slice_get, Some, None, codes, Option, option_map, option_and_then, ap, ◌∙◌, subst, drop, Data, Value, view, selections_before, family, entries_at, Judged, Placed, objects, name_of, NameParts, Bor, length-map, slice_get_within, at_low, on_side, number_of_selection, number_of_name, numbered_selections, ComparedReport, IsComparable, same_Some, is_some, cond, ◌==◌, Bool, true, false, ◌⊎◌, inl, inr, Stands, Ordering, Less, Equal, Greater, match_ordering, nat_cmp, exact_unsigned}
 use Rattle.std.specs.BTreeSet.{insert_key}
 use Rattle.std.specs.Map.{keys_of}
 use Rattle.erd_check.proofs.Positions.{left_there}

@@ -1,5 +1,5 @@
 -- The selections of a contest are put under the numbers of their names one after another, the first of each name.
-use Rattle.erd_compare.proofs.Common.{◌≡◌, ℕ, Bool, true, false, cond, List, [], ◌∷◌, map, is_some, ◌==◌, Some, None, Option, option_map, find, sym, refl, ap, ◌∙◌, true≢false, Bor, Decides-eqb, option_eq, option_or, Data, view, Value, Judged, number_of_selection, has_number, IsByNumber, ComparedReport, suc, ◌⊎◌, length, option_and_then, subst, inl, inr, arith, fun_ext, AllByRecursion, Class, Preference, plain_member, selection_record, name_in_class, selection_role, ◌↔◌, IsDistinct, find-Some, SelectionRecord, number_of_name, Decides, IsWholeTree, on_side, numbered_map, Left, Right, In-all, key_named, not, IfSome, IfOk, Ok, Err, Result, array, no_items, item, kind_of_member, family, MemberKind, kind, entries_of, PlainValue, MemberValue, a_plain, NameParts, selection_map, member_value, a_selection_map, plain_found, member_found, is_selections, if_filled, selections_meant}
+use Rattle.erd_compare.proofs.Common.{◌≡◌, ℕ, Bool, true, false, cond, List, [], ◌∷◌, is_some, ◌==◌, Some, None, Option, option_map, find, sym, refl, ap, ◌∙◌, true≢false, Bor, Decides-eqb, option_eq, option_or, Data, view, Value, Judged, number_of_selection, has_number, IsByNumber, ComparedReport, suc, ◌⊎◌, length, option_and_then, subst, inl, inr, arith, fun_ext, AllByRecursion, Class, Preference, plain_member, selection_record, name_in_class, selection_role, ◌↔◌, IsDistinct, find-Some, SelectionRecord, number_of_name, Decides, IsWholeTree, on_side, numbered_map, Left, Right, In-all, key_named, not, IfSome, IfOk, Ok, Err, Result, array, no_items, item, kind_of_member, family, MemberKind, kind, entries_of, PlainValue, MemberValue, a_plain, NameParts, selection_map, member_value, a_selection_map, plain_found, member_found, is_selections, if_filled, selections_meant}
 use Rattle.std.specs.Cmp.{unsigned_tied}
 use Rattle.std.specs.Map.{lookup, keys_of}
 use Rattle.std.specs.Ordering.{eq_by_cmp, nat_cmp}

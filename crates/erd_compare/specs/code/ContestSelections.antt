@@ -1,6 +1,5 @@
 -- The selections of a contest that stands at a position of a report, by their names.
 use Rattle.std.specs.Prelude.{◌≡◌, ℕ, zero, suc, ◌+◌, ◌<◌, List, [], ◌∷◌, Bool, map, flat_map, length, sum_by, Option, Some, None, option_map, unwrap_or, codes, ⊤}
-use Rattle.std.specs.List.{AllByRecursion}
 use Rattle.std.specs.Option.{option_cmp}
 use Rattle.std.specs.Ordering.{is_eq}
 use Rattle.serde_json.specs.Data.{Data}
@@ -14,7 +13,6 @@ use Rattle.erd_meaning.specs.Objects.{contests}
 use Rattle.erd_meaning.specs.Records.{selection_map}
 use Rattle.erd_meaning.specs.SelectionNames.{name_cmp, name_of}
 use Rattle.std.specs.List.{slice_get}
-use Rattle.erd_compare.specs.Differences.{Stands}
 use Rattle.erd_compare.specs.SelectionData.{selection_data}
 use Rattle.erd_compare.specs.SelectionDifferences.{SelectionMap, AreSelectionDifferences, text_size, told_with, IsBare, TellsAll}
 use Rattle.erd_compare.specs.code.DifferingWays.{hows_of}

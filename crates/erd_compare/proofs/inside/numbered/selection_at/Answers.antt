@@ -1,4 +1,4 @@
-use Rattle.erd_compare.proofs.Common.{◌≡◌, None, Some, option_map, refl, sym, ap, ◌∙◌, subst, ℕ, Bor, NameParts, Judged, Placed, objects, family, slice_get, same_Some, view, on_side}
+use Rattle.erd_compare.proofs.Common.{◌≡◌, None, Some, option_map, refl, sym, ap, ◌∙◌, subst, ℕ, Bor, NameParts, Judged, Placed, objects, family, slice_get, same_Some, view}
 use Rattle.erd_meaning.specs.Lookups.{selection_in}
 use Rattle.erd_compare.proofs.contest_selections.SelectionsByNumber.{name_found, named_found, numbered_there, value_found}
 use Rattle.erd_compare.proofs.inside.numbered.selection_at.Goals as goal

@@ -1,4 +1,4 @@
-use Rattle.erd_compare.proofs.Common.{◌≡◌, ◌+◌, ◌≤◌, ℕ, length, Some, Option, option_map, is_some, sym, ap, ◌∙◌, subst, arith, IfSome, Data, Judged, Placed, Value, contests, family, objects, slice_get, selections_before, view, on_side}
+use Rattle.erd_compare.proofs.Common.{◌≡◌, ◌+◌, ℕ, Some, Option, option_map, is_some, sym, ap, ◌∙◌, subst, arith, IfSome, Data, Judged, Placed, family, objects, slice_get, selections_before, view, on_side}
 use Rattle.erd_compare.proofs.contest_selections.SelectionsByNumber.{at_first, at_last, count_there, next_position, one_before, one_first, one_nameless, AreNumberedUpTo}
 use Rattle.erd_compare.proofs.same_selections.SelectionWalks.{sorted_at, sorted_update}
 use Rattle.erd_compare.specs.code.NamedSelections.{contest_values, AreByNumber, IsNamedOn}
