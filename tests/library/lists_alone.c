@@ -86,6 +86,9 @@ NOT_CALLED(erd_tell_check_data, BYTES(a), bool b, BYTES(c), uint8_t *d, size_t e
 NOT_CALLED(erd_tell_compare_data, BYTES(a), BYTES(f), bool b, BYTES(c), uint8_t *d, size_t e)
 NOT_CALLED(erd_tell_command_line, BYTES(a), uint8_t *d, size_t e)
 NOT_CALLED(erd_tell_prepared, BYTES(a), BYTES(b), bool c, uint8_t *d, size_t e)
+NOT_CALLED(erd_tell_ballots, BYTES(a), bool b, BYTES(c), uint8_t *d, size_t e)
+NOT_CALLED(erd_tell_ballot, BYTES(a), size_t f, bool b, BYTES(c), uint8_t *d, size_t e)
+NOT_CALLED(erd_tell_ballot_differences, BYTES(a), BYTES(f), bool b, BYTES(c), uint8_t *d, size_t e)
 
 static void said(const char *why, enum erd_listing listing, const char *what) {
     passed += why == NULL;
