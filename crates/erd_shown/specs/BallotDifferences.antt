@@ -78,7 +78,7 @@ style_keys ps = map (λ p. p.0) ps
 abbrev pub AreStyleRows : List (Option Key × ℕ) → List (Option Key × ℕ) → List Row → Type 0
 AreStyleRows ls rs rows = AreRows (partners is_one_key (style_keys ls) (style_keys rs)) (partners is_one_key (style_keys rs) (style_keys ls)) rows
 
--- Told are the styles whose ballots differ: each style of either report stands in one row, and those of both are told if their
+-- The styles whose ballots differ are told: each style of either report stands in one row, and those of both are told if their
 -- ballots are not the same.
 pub record AreBallotDifferences (π : Preference) (t : Data) (ρ : Preference) (u : Data) (found : List StyleFound) : Type 0 where
   pub rows : List Row
