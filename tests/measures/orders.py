@@ -1,7 +1,8 @@
 """Holds `check` and `compare` against values that are put in order, and that differ where an order has to stop: in the names of their
 members, before long values that are the same. Each command takes at most 1.2 times the instructions of values that differ in the
-first entry of a list. An order that compares the values as well takes two to four times as many. Needs valgrind and `./erd`. One line
-a case.
+first entry of a list. An order that compares the values as well takes two to four times as many. Also `differences --json` on two
+contests whose names of selections are long, of which one differs: at most three times the instructions of `compare`. Names that are
+told apart by their texts take 27 times as many. Needs valgrind and `./erd`. One line a case.
 """
 import json
 import os
@@ -17,6 +18,8 @@ from reports import identifier, unit  # noqa: E402
 
 MOST = 1.2
 COUNT, LENGTH = 500, 300
+# Times a comparison, for a candidate whose key has ten times so many bytes, and a tenth as many selections that name this candidate.
+MOST_FOR_NAMES, LONG = 3, 3000
 
 
 def carrying(member_of):
@@ -49,12 +52,26 @@ def is_held(command, folder):
     return ratio <= MOST
 
 
+def are_names_held(folder):
+    """Whether names that are long and the same in both reports take no longer if all differences are listed."""
+    paths = [os.path.join(folder, name) for name in ("left", "right")]
+    for path, more in zip(paths, ({}, {"Carried": 1})):
+        made = hostile_shapes.long_key(LONG)
+        made["Election"][0]["Contest"][0]["ContestSelection"][0].update(more)
+        with open(path, "w", encoding="utf-8") as file:
+            json.dump(made, file)
+    listed, compared = (instructions(["./erd", *words, *paths], statuses=(1,)) for words in (["differences", "--json"], ["compare"]))
+    print("%s long names of selections, of which one differs: differences --json takes %.2f times the instructions of compare"
+          % ("ok     " if listed <= MOST_FOR_NAMES * compared else "FAILED ", listed / compared), flush=True)
+    return listed <= MOST_FOR_NAMES * compared
+
+
 def main():
     if not shutil.which("valgrind"):
-        print("skipped the values that differ in the names of members: install the package valgrind\n0 passed, 0 failed")
+        print("skipped the values that differ in the names of members, and the long names: install the package valgrind\n0 passed, 0 failed")
         return 0
     with tempfile.TemporaryDirectory() as folder:
-        results = [is_held(command, folder) for command in ("check", "compare")]
+        results = [is_held(command, folder) for command in ("check", "compare")] + [are_names_held(folder)]
     print("%d passed, %d failed" % (sum(results), len(results) - sum(results)))
     return 0 if all(results) else 1
 

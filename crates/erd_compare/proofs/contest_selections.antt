@@ -1,5 +1,6 @@
-pub mod AddedNames
 pub mod ContestRecords
+pub mod NumberedWays
 pub mod SelectionLists
+pub mod SelectionsByNumber
 pub mod SelectionTexts
 pub mod ToldLists

@@ -20,3 +20,4 @@ pub mod RisingParts  -- the first difference: what two reports have in a part, i
 pub mod Compared  -- the two reports, and what the code knows of them
 pub mod PlacedObjects  -- objects: where they stand in their reports
 pub mod ContestSelections  -- inside: the selections of a contest at a position of a report, by their names
+pub mod NamedSelections  -- inside: the selections of two contests by the numbers of their names, and the ways in which they differ

@@ -9,7 +9,7 @@ use crate::difference::{Difference, How, Part};
 use crate::first::all_differences;
 use crate::inside::room::{Room, left_after_text};
 use crate::inside::told::differences_at;
-use crate::inside::{SelectionDifference, selection_ways};
+use crate::inside::{SelectionDifference, by_name, selection_ways};
 use erd_meaning::{Key, Report};
 use erd_tables::Family;
 use std::alloc::{AllocError, Global};
@@ -121,7 +121,7 @@ fn selections_within(
     let ways = selection_ways(comparer, contest, other_contest)?;
     *room = left_after_text(comparer.alloc, &ways, bytes)?;
     match *room {
-        Some(_) => Ok(Some(differences_at(comparer.alloc, &ways)?)),
+        Some(_) => Ok(Some(differences_at(comparer.alloc, &by_name(ways)?)?)),
         None => Ok(None),
     }
 }

@@ -1,17 +1,19 @@
 //! What differs inside the selections of two contests.
-ghost use Rattle.std.specs.Prelude.{IfOk};
-ghost use Rattle.erd_compare.specs.Words.{AreSelectionDifferences};
-ghost use Rattle.erd_compare.specs.code.ContestSelections.{contest_map, differences_at};
+ghost use Rattle.std.specs.Prelude.{◌≡◌, IfOk};
+ghost use Rattle.erd_meaning.specs.Words.{rising_list};
+ghost use Rattle.erd_compare.specs.code.ContestSelections.{contest_map};
+ghost use Rattle.erd_compare.specs.code.NamedSelections.{named_cmp, AreAllWays};
 
 mod named;
-mod names;
+mod numbered;
 pub(crate) mod room;
 pub(crate) mod told;
 
 use crate::comparer::Comparer;
 use crate::difference::How;
-use crate::inside::named::{NamedWays, ways_of_name};
-use crate::inside::names::add_names;
+use crate::inside::named::{NamedWays, named_ways};
+use crate::inside::numbered::{add_numbers, selections_by_number};
+use crate::ranks::common_ranks::ComparedReport;
 use erd_meaning::SelectionName;
 use std::alloc::AllocError;
 use std::collections::BTreeSet;
@@ -26,22 +28,33 @@ pub struct SelectionDifference {
     pub how: How,
 }
 
-/// Returns the ways in which the selections of the contests at these positions differ, for one name after another in rising
-/// order. No position stands for a contest without selections. No name is copied.
+/// Returns the ways in which the selections of the contests at these positions differ, for each name at which they do, in no order of
+/// the names. No position stands for a contest without selections. Names are told apart by their numbers, and none is copied.
 pub(crate) fn selection_ways<'a>(
     comparer: &'a Comparer,
     contest: Option<usize>,
     other_contest: Option<usize>,
 ) -> Result<Vec<NamedWays<'a>>, AllocError>
-    ensures { IfOk result (λ found. AreSelectionDifferences (contest_map comparer.now.left contest) (contest_map comparer.now.right other_contest) (differences_at found.items)) }
+    ensures { IfOk result (λ found. AreAllWays (contest_map comparer.now.left contest) (contest_map comparer.now.right other_contest) found.items) }
 {
-    let mut names = BTreeSet::new(comparer.alloc);
-    add_names(comparer.left(), contest, &mut names)?;
-    add_names(comparer.right(), other_contest, &mut names)?;
+    let ones = selections_by_number(comparer, ComparedReport::Left, contest)?;
+    let others = selections_by_number(comparer, ComparedReport::Right, other_contest)?;
+    let mut numbers = BTreeSet::new(comparer.alloc);
+    add_numbers(&ones, &mut numbers)?;
+    add_numbers(&others, &mut numbers)?;
     let mut found = Vec::new(comparer.alloc);
-    for name in &names {
-        let ways = ways_of_name(comparer, contest, other_contest, name)?;
-        found.push(NamedWays { name: *name, ways })?;
+    for number in &numbers {
+        if let Some(named) = named_ways(comparer, ones.get(number), others.get(number))? {
+            found.push(named)?;
+        }
     }
     Ok(found)
+}
+
+/// Returns the same ways in the rising order of their names.
+pub(crate) fn by_name(mut ways: Vec<NamedWays>) -> Result<Vec<NamedWays>, AllocError>
+    ensures { IfOk result (λ rising. rising.items ≡ rising_list named_cmp ways.entry.items) }
+{
+    ways.sort_by(|one, other| one.name.cmp(other.name))?;
+    Ok(ways)
 }

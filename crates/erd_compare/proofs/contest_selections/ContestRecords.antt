@@ -1,20 +1,17 @@
 -- A selection means what an object with its members does, and the selections of a contest are those of its record.
-use Rattle.erd_compare.proofs.Common.{◌≡◌, ℕ, Bool, true, false, List, [], codes, Some, None, Option, option_map, option_and_then, sym, refl, ap, ◌∙◌, inl, inr, fun_ext, Data, array, no_items, item, get, view, entries_of, entries_at, role_of_class, kind_of_member, Class, family, role, MemberKind, kind, PlainValue, MemberValue, a_plain, a_selection_map, ObjectRecord, SelectionRecord, Preference, Judged, Placed, NameParts, key_in, plain_member, member_of_class, member_value, unless_empty, object_record, selection_record, selection_map, selection_role, name_of, name_in_class, key_named, meaning, record_at, How, Member, OnlyLeft, OnlyRight, OtherClass, DifferIn, AgreeBut, Key, HasKeyAt, IsComparable, holder_key_in, other_than_election, part, slice_get, same_Some, key_with_role, unwrap_or, contests, ◌+◌, cond, ◌⊎◌, ◌==◌, find, is_eq, option_cmp, ap₂, subst, slice_get-map, Decides-eqb, tied_itself, Equal-is, options_exact, In, In-map, In-all, any_at, selections_of_contest, objects, numbered_selections, option_map-Some, in_at, position_of, find-Some, find-any, AreSelectionsIn, selections_before, Stands, IsWholeTree, IsPlaced, AreWays, DifferInNames, Ways, ways}
+use Rattle.erd_compare.proofs.Common.{◌≡◌, ℕ, Bool, true, false, List, [], codes, Some, None, Option, option_map, option_and_then, sym, refl, ap, ◌∙◌, inl, inr, fun_ext, Data, array, no_items, item, get, view, entries_of, entries_at, role_of_class, kind_of_member, Class, family, role, MemberKind, kind, PlainValue, MemberValue, a_plain, a_selection_map, ObjectRecord, SelectionRecord, Preference, Judged, Placed, NameParts, key_in, plain_member, member_of_class, member_value, unless_empty, object_record, selection_record, selection_map, selection_role, name_of, name_in_class, key_named, meaning, record_at, How, Member, OnlyLeft, OnlyRight, OtherClass, DifferIn, AgreeBut, Key, HasKeyAt, IsComparable, holder_key_in, other_than_election, part, slice_get, same_Some, key_with_role, unwrap_or, contests, ◌+◌, cond, ◌==◌, ap₂, subst, slice_get-map, Decides-eqb, selections_of_contest, objects, numbered_selections, option_map-Some, in_at, AreSelectionsIn, selections_before, IsWholeTree, IsPlaced}
 use Rattle.erd_check.specs.Wants.{class_of_object}
 use Rattle.erd_check.proofs.Positions.{and_then-Some}
-use Rattle.erd_meaning.specs.Lookups.{FindsKey, selection_in, FindsSelection}
+use Rattle.erd_meaning.specs.Lookups.{FindsKey, selection_in}
 use Rattle.erd_meaning.proofs.accepted.Standing.{contest_selections, values-placed_entries}
 use Rattle.erd_meaning.proofs.meanings.SelectionKinds.{class_role, is_selections, selections_family, selections_name}
 use Rattle.erd_compare.specs.SelectionDifferences.{selections_in_member, selections_with_key}
-use Rattle.erd_compare.specs.code.ContestSelections.{contest_map, selection_values, whole_record, AreNamesAmong, has_name_in}
-use Rattle.erd_compare.proofs.least_difference.RisingKeys.{record_here, records_at, tells_as}
+use Rattle.erd_compare.specs.code.ContestSelections.{contest_map, selection_values, whole_record}
+use Rattle.erd_compare.proofs.least_difference.RisingKeys.{record_here, records_at}
 use Rattle.erd_compare.proofs.same_selections.SelectionWalks.{one_plain}
-use Rattle.std.specs.Cmp.Lexicographic.{options_total}
 use Rattle.erd_meaning.proofs.selections.ContestSelections.{stand_from_start}
-use Rattle.erd_meaning.proofs.selections.NamesTold.{numbered_at, of_its_contest}
+use Rattle.erd_meaning.proofs.selections.NamesTold.{numbered_at}
 use Rattle.erd_meaning.specs.NameParts.{NameParts}
-use Rattle.erd_meaning.specs.SelectionNames.{name_cmp}
-use Rattle.erd_meaning.specs.code.Orders.{name_cmp_exact, name_cmp_total}
 use Rattle.erd_meaning.specs.code.SelectionWalk.{if_of_contest, selection_of}
 use Rattle.erd_compare.proofs.whole_trees.WholeTrees.{whole_object}
 
@@ -214,138 +211,8 @@ module _ (a : Judged) (c : ℕ) where
         ap (option_and_then (λ (s : Numbered). option_map (λ n. (s.0, n)) (name_of a.prefer t s.1.value))) o.1
         ∙ ap (λ v. option_map (λ n. (c, n)) (name_of a.prefer t v)) o.2
 
-  -- ---- by name
-
-  module _ (n : NameParts) where
-    -- a selection of the contest that has the name
-    pub record HasNameAt (i : ℕ) : Type 0 where
-      object : Placed
-      stands : slice_get (objects family.Selection t) i ≡ Some object
-      inside : In object.value values
-      named : name_of a.prefer t object.value ≡ Some n
-
-    named_inside : (i : ℕ) → selection_in a.prefer t i ≡ Some (c, n) → HasNameAt i
-    named_inside i e = at (slice_get (numbered_selections t) i) refl e
-      where
-        by : (s : Numbered) → slice_get (numbered_selections t) i ≡ Some s → (o : Option NameParts) → name_of a.prefer t s.1.value ≡ o → option_map (in_contest s.0) o ≡ Some (c, n) → HasNameAt i
-        by s is None named e = cc
-        by s is (Some m) named e =
-            let pair : ◌≡◌ {A = ℕ × NameParts} (s.0, m) (c, n) = same_Some (in_contest s.0 m) (in_contest c n) e in
-            let number : s.0 ≡ c = ap (λ (p : ℕ × NameParts). p.0) pair in
-            let name : m ≡ n = ap (λ (p : ℕ × NameParts). p.1) pair in
-            let its = of_its_contest t s (in_at (numbered_selections t) i s is) in
-            let here : values ≡ entries_at (codes "ContestSelection") its.contest.value = ap values_of (ap (slice_get (contests t)) (sym number) ∙ its.at) in
-            record {
-              object = s.1;
-              stands = sym (numbered_at t i) ∙ ap (option_map (λ (x : Numbered). x.1)) is;
-              inside = subst (In s.1.value) (values-placed_entries (codes "ContestSelection") its.contest ∙ sym here) (In-map (λ (o : Placed). o.value) s.1 (selections_of_contest its.contest) its.inside);
-              named = named ∙ ap Some name;
-            }
-
-        at : (s : Option Numbered) → slice_get (numbered_selections t) i ≡ s → option_and_then (λ (s : Numbered). option_map (in_contest s.0) (name_of a.prefer t s.1.value)) s ≡ Some (c, n) → HasNameAt i
-        at None is e = cc
-        at (Some s) is e = by s is (name_of a.prefer t s.1.value) refl e
-
-    pub has_the_name : (d : Data) → has_name_in a n d ≡ true → name_of a.prefer t d ≡ Some n
-    has_the_name d is = options_exact name_cmp (λ x y e. name_cmp_exact x y ((Equal-is (name_cmp x y)).0 e)) (name_of a.prefer t d) (Some n) is
-
-    pub is_named : (d : Data) → name_of a.prefer t d ≡ Some n → has_name_in a n d ≡ true
-    is_named d e = ap (λ o. is_eq (option_cmp name_cmp o (Some n))) e ∙ ap is_eq (tied_itself (options_total name_cmp_total) (Some n))
-
-    abbrev first : Option Data
-    first = find (has_name_in a n) values
-
-    -- where no selection is found, none has the name
-    module _ (start : ℕ) (counted : start ≡ selections_before t c) (found : Option ℕ) (finds : FindsSelection a.prefer t c n found) where
-      -- the position of a selection with the name is the one that is found
-      its_position : (d : Data) → first ≡ Some d → (i : ℕ) × (found ≡ Some (start + i)) × (slice_get values i ≡ Some d)
-      its_position d e =
-          let h = find-Some (has_name_in a n) values d e in
-          let place = position_of values d h.0 in
-          (place.0, (finds (start + place.0)).1 (name_here start counted place.0 d place.1 ∙ ap (option_map (λ m. (c, m))) (has_the_name d h.1)), place.1)
-
-      pub found_first : option_and_then (λ i. option_map (λ (o : Placed). o.value) (slice_get (objects family.Selection t) i)) found ≡ first
-      found_first = at found refl first refl
-        where
-          at : (f : Option ℕ) → found ≡ f → (o : Option Data) → first ≡ o → option_and_then (λ i. option_map (λ (o : Placed). o.value) (slice_get (objects family.Selection t) i)) f ≡ o
-          at None is None e = refl
-          at None is (Some d) e = let clash : None ≡ Some (start + (its_position d e).0) = sym is ∙ (its_position d e).1 in cc
-          at (Some i) is None e =
-              let here = named_inside i ((finds i).0 is) in
-              let some = find-any (has_name_in a n) values (any_at (has_name_in a n) here.object.value values here.inside (is_named here.object.value here.named)) in
-              let clash : None ≡ Some some.0 = sym e ∙ some.1 in
-              cc
-          at (Some i) is (Some d) e =
-              let its = its_position d e in
-              let same : i ≡ start + its.0 = same_Some i (start + its.0) (sym is ∙ its.1) in
-              let o = object_here start counted its.0 d its.2 in
-              ap (option_map (λ (o : Placed). o.value)) (ap (slice_get (objects family.Selection t)) same ∙ o.1) ∙ ap Some o.2
-
--- what a contest has at a name that is not among those of its selections
-pub beside_names : (a : Judged) (c : ℕ) (names : List NameParts) → AreNamesAmong a names (selection_values a c) → (n : NameParts) → (contest_map a (Some c) n ≡ None) ⊎ Stands n names
-beside_names a c names among n = at (find (has_name_in a n) (selection_values a c)) refl
-  where
-    at : (o : Option Data) → find (has_name_in a n) (selection_values a c) ≡ o → (contest_map a (Some c) n ≡ None) ⊎ Stands n names
-    at None e = inl (ap (option_and_then (selection_record a.prefer (view a.tree))) e)
-    at (Some d) e =
-        let h = find-Some (has_name_in a n) (selection_values a c) d e in
-        inr (In-all (λ v. (name : NameParts) → name_of a.prefer (view a.tree) v ≡ Some name → Stands name names) d (selection_values a c) among h.0 n (has_the_name a c n d h.1))
-
--- ---- what is found in the contest at a position, if there is one
-
-pub found_in : (a : Judged) (n : NameParts) (contest : Option ℕ) (c : ℕ) → contest ≡ Some c → (found : Option ℕ) → FindsSelection a.prefer (view a.tree) c n found → (r : Option Data)
-    → r ≡ option_and_then (λ i. option_map (λ (o : Placed). o.value) (slice_get (objects family.Selection (view a.tree)) i)) found → r ≡ option_and_then (λ c. find (has_name_in a n) (selection_values a c)) contest
-found_in a n contest c there found finds r is = is ∙ (found_first a c n (selections_before (view a.tree) c) refl found finds ∙ sym (ap (option_and_then (λ c. find (has_name_in a n) (selection_values a c))) there))
-
--- ---- the selections with a name in two contests, and the ways in which they differ
-
 -- a selection is a whole tree
 pub whole_selection : (a : Judged) → IsComparable a.prefer (view a.tree) → (i : ℕ) (d : Data) → IsPlaced a selection_role i d → IsWholeTree d
 whole_selection a c i d placed =
     let o = option_map-Some (λ (o : Placed). o.value) (slice_get (objects family.Selection (view a.tree)) i) d placed in
     subst IsWholeTree o.2 (whole_object (view a.tree) family.Selection c.whole o.0 (in_at (objects family.Selection (view a.tree)) i o.0 o.1))
-
-module _ (a : Judged) (contest : Option ℕ) (n : NameParts) where
-  -- the first selection of the contest with the name
-  abbrev pub first_named : Option Data
-  first_named = option_and_then (λ c. find (has_name_in a n) (selection_values a c)) contest
-
--- what the contest has at the name
-map_found : (a : Judged) (contest : Option ℕ) (n : NameParts) (o : Option Data) → o ≡ first_named a contest n → contest_map a contest n ≡ option_and_then (selection_record a.prefer (view a.tree)) o
-map_found a None n o is = sym (ap (option_and_then (selection_record a.prefer (view a.tree))) is)
-map_found a (Some c) n o is = sym (ap (option_and_then (selection_record a.prefer (view a.tree))) is)
-
-record_found : (a : Judged) (contest : Option ℕ) (n : NameParts) (d : Data) → Some d ≡ first_named a contest n → whole_record (contest_map a contest n) ≡ object_record a.prefer (view a.tree) selection_role d
-record_found a contest n d is = ap whole_record (map_found a contest n (Some d) is) ∙ sym (record_whole a.prefer (view a.tree) d)
-
-some_found : (a : Judged) (contest : Option ℕ) (n : NameParts) (d : Data) → Some d ≡ first_named a contest n → (r : ObjectRecord) × (whole_record (contest_map a contest n) ≡ Some r)
-some_found a None n d is = cc
-some_found a (Some c) n d is =
-    let h = find-Some (has_name_in a n) (selection_values a c) d (sym is) in
-    let r = has_record a.prefer (view a.tree) d n (has_the_name a c n d h.1) in
-    let own = ap whole_record (map_found a (Some c) n (Some d) is ∙ r.1) in
-    (_, own)
-
-none_found : (a : Judged) (contest : Option ℕ) (n : NameParts) → None ≡ first_named a contest n → whole_record (contest_map a contest n) ≡ None
-none_found a contest n is = ap whole_record (map_found a contest n None is)
-
-module _ (a b : Judged) (contest other : Option ℕ) (n : NameParts) where
-  abbrev mine : Option ObjectRecord
-  mine = whole_record (contest_map a contest n)
-
-  abbrev its : Option ObjectRecord
-  its = whole_record (contest_map b other n)
-
-  pub ways_of_both : (d e : Data) → Some d ≡ first_named a contest n → Some e ≡ first_named b other n → (w : Ways) → AreWays true (object_record a.prefer (view a.tree) selection_role d) (object_record b.prefer (view b.tree) selection_role e) w
-      → AreWays true mine its w
-  ways_of_both d e left right w told =
-      tells_as (λ x y. AreWays true x y w) mine its (object_record a.prefer (view a.tree) selection_role d) (object_record b.prefer (view b.tree) selection_role e) (record_found a contest n d left) (record_found b other n e right) told
-
-  pub left_alone : (d : Data) → Some d ≡ first_named a contest n → None ≡ first_named b other n → AreWays true mine its ways.OnlyLeft
-  left_alone d left right = let r = some_found a contest n d left in tells_as (λ x y. AreWays true x y ways.OnlyLeft) mine its (Some r.0) None r.1 (none_found b other n right) refl
-
-  pub right_alone : (e : Data) → None ≡ first_named a contest n → Some e ≡ first_named b other n → AreWays true mine its ways.OnlyRight
-  right_alone e left right = let r = some_found b other n e right in tells_as (λ x y. AreWays true x y ways.OnlyRight) mine its None (Some r.0) (none_found a contest n left) r.1 refl
-
-  pub neither : None ≡ first_named a contest n → None ≡ first_named b other n → (names : List (List ℕ)) → names ≡ [] → DifferInNames true mine its names
-  neither left right names none = tells_as (λ x y. DifferInNames true x y names) mine its None None (none_found a contest n left) (none_found b other n right) none

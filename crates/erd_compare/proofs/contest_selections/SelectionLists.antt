@@ -1,17 +1,26 @@
 -- The differences at the names of selections, one name after another in rising order, are all differences of two contests.
-use Rattle.erd_compare.proofs.Common.{[], ◌≡◌, ◌⊎◌, ℕ, ◌+◌, true, List, ◌∷◌, ◌++◌, map, drop, Some, None, Option, Less, sym, refl, ap, ◌∙◌, subst, inl, inr, tied_itself, append-nil, Bor, AllByRecursion, In, In-map, In-map_from, In-all, ordering_then, SelectionRecord, How, Member, AgreeBut, DifferIn, Stands, hows_of, AreWays, Ways, Judged, NameParts, length, ◌≤◌, slice_get, map-append, drop_all, Data, Value, view}
-use Rattle.std.proofs.lemmas.Grind.{flat_map-append}
+use Rattle.erd_compare.proofs.Common.{[], ◌≡◌, ◌⊎◌, ℕ, ◌+◌, Bool, true, List, ◌∷◌, ◌++◌, map, drop, Some, Option, Less, sym, refl, ap, ◌∙◌, subst, inl, inr, tied_itself, append-nil, Bor, AllByRecursion, In, In-map, In-map_from, In-all, ordering_then, How, Member, AgreeBut, DifferIn, Stands, hows_of, AreWays, Ways, NameParts, length, ◌≤◌, slice_get, map-append, drop_all, Data, Value, view}
 use Rattle.std.specs.List.Sorted.{IsStrictlySortedBy}
 use Rattle.erd_check.proofs.Order.{In-append, all_from_In, sorted_append, sorted_map}
 use Rattle.erd_meaning.proofs.selections.ContestSelections.{all_both}
 use Rattle.erd_meaning.specs.SelectionNames.{name_cmp}
 use Rattle.erd_meaning.specs.code.Orders.{name_cmp_total}
-use Rattle.erd_compare.specs.SelectionDifferences.{selection_difference_cmp, AreSelectionDifferences, AreUnlikeSelections, SelectionMap}
-use Rattle.erd_compare.specs.code.ContestSelections.{contest_map, differences_at, differences_named, whole_record, AddsNames}
+use Rattle.erd_compare.specs.SelectionDifferences.{selection_difference_cmp, text_size, AreSelectionDifferences, AreUnlikeSelections, SelectionMap}
+use Rattle.erd_compare.specs.code.ContestSelections.{differences_at, differences_named, if_left, size_of_one, whole_record, Leaves, PassesInside}
+use Rattle.erd_compare.specs.code.NamedSelections.{named_cmp, names_of, AreAllWays}
 use Rattle.erd_compare.specs.declared.inside.SelectionDifference.{SelectionDifference}
 use Rattle.erd_compare.specs.declared.inside.named.NamedWays.{NamedWays}
-use Rattle.erd_compare.proofs.contest_selections.ContestRecords.{agree_plain, differ_plain, beside_names}
-use Rattle.erd_compare.proofs.contest_selections.AddedNames.{lent}
+use Rattle.erd_compare.proofs.contest_selections.ContestRecords.{agree_plain, differ_plain}
+use Rattle.erd_compare.proofs.contest_selections.SelectionTexts.{same_size}
+use denote.Param.Members.{Mut}
+use Rattle.std.proofs.Common.{IsSortedBy}
+use Rattle.erd_text.proofs.Common.{is_lt, on_total, ranks_by, rising_list, IsStrictWeakOrder, Ordering}
+use Rattle.std.proofs.lemmas.Fn.{always_returns_same}
+use Rattle.std.specs.Fn.{Called, ComparesAs}
+use Rattle.std.specs.List.Sorted.{IsStableBy}
+use Rattle.erd_text.proofs.RisingLists.{rising_from_sort}
+use Rattle.erd_text.proofs.RisingOrders.{all_rising, reordered_flat, reordered_rising, rising-In, rising_strictly}
+use Rattle.std.proofs.lemmas.List.Sorted.{sum_by-IsPermutation}
 use Rattle.erd_compare.proofs.differing.RecordWays.{agree_more, way_cmp, ways_all, ways_rise, ways_sound}
 use Rattle.erd_compare.proofs.differing.Walks.{stands_before, stands_behind, to_in, to_stands}
 use Rattle.std.proofs.lemmas.List.{append_assoc}
@@ -40,18 +49,9 @@ module _ (m n : SelectionMap) where
     pub each : (x : NameParts) → Stands x rest ⊎ AgreeBut (Told found x) (m x) (n x)
 
   -- at first none was
-  pub none_passed : (names : List NameParts) → IsStrictlySortedBy name_cmp names → ((x : NameParts) → ((m x ≡ None) × (n x ≡ None)) ⊎ Stands x names) → ArePassed [] names
+  none_passed : (names : List NameParts) → IsStrictlySortedBy name_cmp names → ((x : NameParts) → Stands x names ⊎ AgreeBut (λ how. ⊥) (m x) (n x)) → ArePassed [] names
   unfolding IsStrictlySortedBy
-  none_passed names rise beside = record {
-    rise = tt;
-    differ = tt;
-    left = rise;
-    below = λ d none. absurd none;
-    each = λ x. elim (beside x) [
-      | inl (mine, its) ↦ inr (subst (λ r. AgreeBut (Told [] x) r (n x)) (sym mine) (subst (λ (r : Option SelectionRecord). AgreeBut (Told [] x) None r) (sym its) tt))
-      | inr stands ↦ inl stands
-    ];
-  }
+  none_passed names rise each = record { rise = tt; differ = tt; left = rise; below = λ d none. absurd none; each = each }
 
   -- those at the next one are told
   module _ (found : List SelectionDifference) (x : NameParts) (rest : List NameParts) (w : Ways) (h : ArePassed found (x ∷ rest)) (ways : AreWays true (whole_record (m x)) (whole_record (n x)) w) where
@@ -73,7 +73,7 @@ module _ (m n : SelectionMap) where
         (λ how s. stands_behind (the_difference x how) found new (to_stands (the_difference x how) new (In-map (the_difference x) how (hows_of w) (to_in how (hows_of w) s)))) (m x) (n x)
         (agree_plain (λ how. Stands how (hows_of w)) (m x) (n x) (ways_all (whole_record (m x)) (whole_record (n x)) w ways))
 
-    pub one_passed : ArePassed (found ++ new) rest
+    one_passed : ArePassed (found ++ new) rest
     unfolding IsStrictlySortedBy
     one_passed = record {
       rise = sorted_append selection_difference_cmp found new h.rise (sorted_map (the_difference x) way_cmp selection_difference_cmp (at_one_name x) (hows_of w) (ways_rise true (whole_record (m x)) (whole_record (n x)) w ways))
@@ -96,7 +96,7 @@ module _ (m n : SelectionMap) where
     }
 
   -- at the end they are all
-  pub all_passed : (found : List SelectionDifference) (rest : List NameParts) → rest ≡ [] → ArePassed found rest → AreSelectionDifferences m n found
+  all_passed : (found : List SelectionDifference) (rest : List NameParts) → rest ≡ [] → ArePassed found rest → AreSelectionDifferences m n found
   all_passed found rest end h = record {
     rise = h.rise;
     differ = h.differ;
@@ -106,42 +106,63 @@ module _ (m n : SelectionMap) where
     ];
   }
 
--- the differences at one more name
-pub with_next : (found after : List NamedWays) (v : NamedWays) → after ≡ found ++ v ∷ [] → differences_at after ≡ differences_at found ++ differences_named v.name.now v.ways
-with_next found after v is =
-    ap differences_at is
-    ∙ (flat_map-append (λ (x : NamedWays). differences_named x.name.now x.ways) found (v ∷ []) ∙ ap (λ ds. differences_at found ++ ds) (append-nil (differences_named v.name.now v.ways)))
+  -- ---- the ways at all names, in their order
 
--- the same for the next name of those that are lent
-pub next_passed : (m n : SelectionMap) (found after : List NamedWays) (k : Bor NameParts) {all rest : List (Bor NameParts)} → all ≡ k ∷ rest → ArePassed m n (differences_at found) (lent all) → (w : Ways)
-    → AreWays true (whole_record (m k.now)) (whole_record (n k.now)) w → after ≡ found ++ record { name = k; ways = w } ∷ [] → ArePassed m n (differences_at after) (lent rest)
-next_passed m n found after k {all = all} {rest = rest} next h w ways is =
-    subst (λ ds. ArePassed m n ds (lent rest)) (sym (with_next found after (record { name = k; ways = w }) is))
-    (one_passed m n (differences_at found) k.now (lent rest) w (subst (λ ks. ArePassed m n (differences_at found) (lent ks)) next h) ways)
+  abbrev HaveWays : List NamedWays → Type 0
+  HaveWays vs = AllByRecursion (λ v. AreWays true (whole_record (m v.name.now)) (whole_record (n v.name.now)) v.ways) vs
 
--- ---- the names of two contests
+  passed_on : (found : List SelectionDifference) (vs : List NamedWays) → ArePassed found (names_of vs) → HaveWays vs → AreSelectionDifferences m n (found ++ differences_at vs)
+  passed_on found [] h ways = subst (AreSelectionDifferences m n) (sym (append-nil found)) (all_passed found [] refl h)
+  passed_on found (v ∷ vs) h ways =
+      let new = differences_named v.name.now v.ways in
+      subst (AreSelectionDifferences m n) (append_assoc found new (differences_at vs)) (passed_on (found ++ new) vs (one_passed found v.name.now (names_of vs) v.ways h ways.0) ways.1)
 
--- what the first set had is in the second
-pub both_names : (a b : Judged) (c d : Option ℕ) (start first second : List NameParts) → AddsNames a c start first → AddsNames b d first second → (x : NameParts)
-    → ((contest_map a c x ≡ None) × (contest_map b d x ≡ None)) ⊎ Stands x second
-both_names a b c d start first second mine its x = at (one c mine) (other d its)
-  where
-    kept : (d : Option ℕ) → AddsNames b d first second → Stands x first → Stands x second
-    kept None its s = its x s
-    kept (Some j) its s = its.0 x s
+  module _ (vs : List NamedWays) (h : AreAllWays m n vs) where
+    abbrev rising : List NamedWays
+    rising = rising_list named_cmp vs
 
-    one : (c : Option ℕ) → AddsNames a c start first → (contest_map a c x ≡ None) ⊎ Stands x first
-    one None mine = inl refl
-    one (Some i) mine = beside_names a i first mine.1 x
+    names_rise : IsStrictlySortedBy name_cmp (names_of rising)
+    names_rise = sorted_map (λ (v : NamedWays). v.name.now) named_cmp name_cmp (λ x y low. low) rising (rising_strictly (on_total (λ (v : NamedWays). v.name.now) name_cmp_total) vs h.once)
 
-    other : (d : Option ℕ) → AddsNames b d first second → (contest_map b d x ≡ None) ⊎ Stands x second
-    other None its = inl refl
-    other (Some j) its = beside_names b j second its.1 x
+    still_there : (x : NameParts) → Stands x (names_of vs) → Stands x (names_of rising)
+    still_there x s =
+        let v = In-map_from (λ (v : NamedWays). v.name.now) vs x (to_in x (names_of vs) s) in
+        subst (λ y. Stands y (names_of rising)) v.2 (to_stands v.0.name.now (names_of rising) (In-map (λ (v : NamedWays). v.name.now) v.0 rising (rising-In named_cmp v.0 vs v.1)))
 
-    at : (contest_map a c x ≡ None) ⊎ Stands x first → (contest_map b d x ≡ None) ⊎ Stands x second → ((contest_map a c x ≡ None) × (contest_map b d x ≡ None)) ⊎ Stands x second
-    at (inl mine) (inl none) = inl (mine, none)
-    at (inr s) more = inr (kept d its s)
-    at less (inr s) = inr s
+    -- the differences at the names in rising order are all of them
+    pub all_in_order : AreSelectionDifferences m n (differences_at rising)
+    all_in_order =
+        passed_on [] rising
+        (none_passed (names_of rising) names_rise (λ x. elim (h.each x) [
+          | inl stands ↦ inl (still_there x stands)
+          | inr agree ↦ inr agree
+        ]))
+        (all_rising (λ (v : NamedWays). AreWays true (whole_record (m v.name.now)) (whole_record (n v.name.now)) v.ways) named_cmp vs h.ways)
+
+-- their text has as many bytes as in any other order
+pub size_in_order : (vs : List NamedWays) → text_size (Some (differences_at vs)) ≡ text_size (Some (differences_at (rising_list named_cmp vs)))
+size_in_order vs =
+    let rising = rising_list named_cmp vs in
+    same_size (differences_at vs) (differences_at rising)
+    (sym (sum_by-IsPermutation size_of_one (differences_at vs) (differences_at rising) (reordered_flat (λ (v : NamedWays). differences_named v.name.now v.ways) (reordered_rising named_cmp vs))))
+
+-- the sort puts them into this order
+pub sorted_by_name : {F : Type 0} {g : Mut F (Bor NamedWays × (Bor NamedWays × Unit {0})) Ordering} {f : F} (old new : List NamedWays)
+    → ((lt : NamedWays → NamedWays → Bool) → IsStrictWeakOrder lt → ComparesAs g lt f → IsSortedBy lt new)
+    → ((lt : NamedWays → NamedWays → Bool) → IsStrictWeakOrder lt → ComparesAs g lt f → IsStableBy lt old new)
+    → ((a : Bor NamedWays × (Bor NamedWays × Unit {0})) (r : Ordering) (f' : F) → Called g f a r f' → (r ≡ named_cmp a.0.now a.1.0.now) × (f' ≡ f))
+    → new ≡ rising_list named_cmp old
+sorted_by_name {g = g} {f = f} old new sorted stable calls =
+    let is_below : NamedWays → NamedWays → Bool = λ v w. is_lt (named_cmp v w) in
+    let order = ranks_by name_cmp_total (λ (v : NamedWays). v.name.now) in
+    let compares = always_returns_same g (λ a r. is_lt r ≡ is_below a.0.now a.1.0.now) f (λ a r f' call. (ap is_lt (calls a r f' call).0, (calls a r f' call).1)) in
+    rising_from_sort named_cmp (on_total (λ (v : NamedWays). v.name.now) name_cmp_total) old new (sorted is_below order compares) (stable is_below order compares)
+
+-- what is told of two contests, if its text fits
+pub passes_inside : (m n : SelectionMap) (vs : List NamedWays) → AreAllWays m n vs → (before after : Option ℕ) (room : ℕ) → before ≡ Some room → Leaves (text_size (Some (differences_at vs))) room after → (told : Option (List SelectionDifference))
+    → told ≡ if_left after (Some (differences_at (rising_list named_cmp vs))) → PassesInside m n told before after
+passes_inside m n vs h before after room is leaves told shown =
+    subst (λ o. PassesInside m n told o after) (sym is) (differences_at (rising_list named_cmp vs), all_in_order m n vs h, subst (λ size. Leaves size room after) (size_in_order vs) leaves, shown)
 
 -- ---- the differences at one name
 

@@ -1,8 +1,9 @@
 -- How long the texts of differences of selections are: they have no float, so each is known byte for byte.
-use Rattle.erd_compare.proofs.Common.{[], ◌≡◌, ◌≢◌, ◌⊎◌, ℕ, zero, suc, ◌+◌, ◌<◌, Bool, true, false, List, ◌∷◌, ◌++◌, map, length, nat_lt, Some, None, Option, sym, refl, ap, ◌∙◌, inl, inr, arith, Bor, NameParts, Key, Data, null, number, array, unsigned, negative, pos, has_float, items_have_float, compact_text, How, Member, OnlyLeft, OnlyRight, OtherClass}
+use Rattle.erd_compare.proofs.Common.{[], ◌≡◌, ◌≢◌, ◌⊎◌, ℕ, zero, suc, ◌+◌, ◌<◌, Bool, true, false, List, ◌∷◌, ◌++◌, map, length, drop, drop_all, slice_get, ◌≤◌, nat_lt, Some, None, Option, sym, refl, ap, ◌∙◌, inl, inr, arith, Bor, NameParts, Key, Data, null, number, array, unsigned, negative, pos, has_float, items_have_float, compact_text, How, Member, OnlyLeft, OnlyRight, OtherClass}
 use Rattle.std.specs.Prelude.{ℤ, negsuc, ◌^◌, if◌then◌else◌, sum_by}
 use Rattle.std.proofs.lemmas.List.{length-append}
 use Rattle.std.proofs.lemmas.List.Sums.{sum_by-append, sum_by-cons}
+use Rattle.erd_check.proofs.Positions.{left_there}
 use Rattle.serde_json.specs.View.{items_of}
 use Rattle.serde_json.specs.Written.{items_text}
 use Rattle.erd_compare.specs.DifferenceData.{key_data}
@@ -116,6 +117,16 @@ pub whole_size : (ds : List SelectionDifference) → ((size_of_list ds ≡ 0) ×
 whole_size [] = inl (refl, refl)
 whole_size (d ∷ ds) = inr (joined_first (compact_text (selection_data d)) (items_text true (items_of (map selection_data ds))) (size_of_list ds) _ (later_size ds) (sum_by-cons size_of_one d ds))
 
+-- as many bytes in an array, as many in its text
+pub same_size : (ds es : List SelectionDifference) → size_of_list ds ≡ size_of_list es → text_size (Some ds) ≡ text_size (Some es)
+same_size ds es = at (size_of_list ds) (size_of_list es) (text_size (Some ds)) (text_size (Some es)) (whole_size ds) (whole_size es)
+  where
+    at : (d e x y : ℕ) → ((d ≡ 0) × (x ≡ 2)) ⊎ ((0 < d) × (x ≡ suc d)) → ((e ≡ 0) × (y ≡ 2)) ⊎ ((0 < e) × (y ≡ suc e)) → d ≡ e → x ≡ y
+    at d e x y (inl (none, two)) (inl (none', two')) same = two ∙ sym two'
+    at d e x y (inl (none, two)) (inr (some, more)) same = absurd (omega (arith, none, some, same))
+    at d e x y (inr (some, more)) (inl (none, two)) same = absurd (omega (arith, none, some, same))
+    at d e x y (inr (some, more)) (inr (some', more')) same = more ∙ (ap suc same ∙ sym more')
+
 -- ---- what they leave of a room
 
 -- a text and one byte behind it
@@ -158,3 +169,20 @@ module _ (ds : List SelectionDifference) (room : ℕ) where
       some : (list : ℕ) → left + list ≡ room → 0 < list
       some zero known = absurd (other (omega (arith, known)))
       some (suc list) known = omega arith
+
+-- ---- what is left of a room, as the sizes of the entries of a list are taken from it one after another
+
+module _ {A : Type 0} (size : A → ℕ) (xs : List A) (i total room left : ℕ) (known : left + total ≡ room + sum_by size (drop i xs)) where
+  -- the size of the next entry is one of those that are to be taken
+  next_counted : (x : A) → slice_get xs i ≡ Some x → sum_by size (drop i xs) ≡ size x + sum_by size (drop (i + 1) xs)
+  next_counted x here = ap (sum_by size) (left_there xs i x here) ∙ sum_by-cons size x (drop (i + 1) xs)
+
+  pub one_fits : (x : A) → slice_get xs i ≡ Some x → (after : ℕ) → Leaves (size x) left (Some after) → after + total ≡ room + sum_by size (drop (i + 1) xs)
+  one_fits x here after fits = let next = next_counted x here in omega (arith, next, fits, known)
+
+  pub one_does_not : (x : A) → slice_get xs i ≡ Some x → Leaves (size x) left None → room < total
+  one_does_not x here low = let next = next_counted x here in omega (arith, next, low, known)
+
+  -- at the end all are taken
+  pub all_fit : length xs ≤ i → left + total ≡ room
+  all_fit end = let none : sum_by size (drop i xs) ≡ 0 = ap (sum_by size) (drop_all i xs end) in omega (arith, none, known)

@@ -17,13 +17,13 @@ module _ (a b : Judged) where
   AreNamed side ds = (d : Data) → In d ds → (n : NameParts) → name_on side d ≡ Some n → IsNameOn a b side n
 
   -- a tested name is the name
-  name_tested : (o : Option NameParts) (k : NameParts) → is_eq (option_cmp name_cmp o (Some k)) ≡ true → o ≡ Some k
+  pub name_tested : (o : Option NameParts) (k : NameParts) → is_eq (option_cmp name_cmp o (Some k)) ≡ true → o ≡ Some k
   name_tested o k h = options_exact name_cmp equal_names o (Some k) h
 
   name_passes : (o : Option NameParts) (k : NameParts) → o ≡ Some k → is_eq (option_cmp name_cmp o (Some k)) ≡ true
   name_passes o k e = subst (λ x. is_eq (option_cmp name_cmp x (Some k)) ≡ true) (sym e) (ap is_eq (tied_itself name_cmp_total k))
 
-  number_tested : (o : Option ℕ) (k : ℕ) → option_eq ◌==◌ o (Some k) ≡ true → o ≡ Some k
+  pub number_tested : (o : Option ℕ) (k : ℕ) → option_eq ◌==◌ o (Some k) ≡ true → o ≡ Some k
   number_tested None k h = cc
   number_tested (Some n) k h = ap Some ((Decides-eqb n k).0 h)
 
@@ -53,7 +53,7 @@ module _ (a b : Judged) where
       at (Some n) is h = let same : number_of_name a b n ≡ number_of_name a b k = cc in is ∙ ap Some (one_name a b s r n k (mine n is) its same)
 
   -- so the maps are the same at it
-  same_maps : (s r : ComparedReport) (ds : List Data) → AreNamed s ds → (k : NameParts) → IsNameOn a b r k → map_on s ds k ≡ numbered_map a b s ds (number_of_name a b k)
+  pub same_maps : (s r : ComparedReport) (ds : List Data) → AreNamed s ds → (k : NameParts) → IsNameOn a b r k → map_on s ds k ≡ numbered_map a b s ds (number_of_name a b k)
   same_maps s r ds mine k its =
       ap (option_and_then (record_on s)) (same_find (is_named s k) (has_number a b s (number_of_name a b k)) ds (λ d inside. same_tests s r k its d (mine d inside)))
 

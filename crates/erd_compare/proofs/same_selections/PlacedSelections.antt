@@ -93,7 +93,7 @@ module _ (a : Judged) (c : ℕ) (ds : List Data) (are : AreSelectionsIn a c ds) 
 
 -- ---- the names of the selections of a contest have numbers
 
-contest_named : (a b : Judged) (side : ComparedReport) (c : ℕ) (ds : List Data) → AreSelectionsIn (on_side side a b) c ds → AreNamed a b side ds
+pub contest_named : (a b : Judged) (side : ComparedReport) (c : ℕ) (ds : List Data) → AreSelectionsIn (on_side side a b) c ds → AreNamed a b side ds
 contest_named a b side c ds are d inside n is =
     let j = on_side side a b in
     let place = position_of ds d inside in

@@ -1,5 +1,5 @@
--- The selections of a contest are put into a map one after another, the first of each name. Names are given by their numbers.
-use Rattle.erd_compare.proofs.Common.{◌≡◌, ℕ, Bool, true, false, cond, List, [], ◌∷◌, map, is_some, ◌==◌, Some, None, Option, option_map, find, sym, refl, ap, ◌∙◌, true≢false, Bor, Decides-eqb, option_eq, option_or, Data, view, Value, Judged, number_of_selection, has_number, IsByNumber, ComparedReport, suc, ◌⊎◌, length, option_and_then, subst, inl, inr, arith, fun_ext, AllByRecursion, Class, Preference, plain_member, selection_record, name_in_class, selection_role, ◌↔◌, IsDistinct, find-Some, SelectionRecord, number_of_name, Decides, IsWholeTree, on_side, numbered_map, Left, Right, In-all, key_named, not, IfSome, IfOk, Ok, Err, Result, array, no_items, item, kind_of_member, family, MemberKind, kind, entries_of, PlainValue, MemberValue, a_plain, NameParts, selection_map, member_value, a_selection_map, plain_found, member_found, is_selections, if_filled, selections_meant}
+-- The selections of a contest are put under the numbers of their names one after another, the first of each name.
+use Rattle.erd_compare.proofs.Common.{◌≡◌, ℕ, Bool, true, false, cond, List, [], ◌∷◌, is_some, ◌==◌, Some, None, Option, option_map, find, sym, refl, ap, ◌∙◌, true≢false, Bor, Decides-eqb, option_eq, option_or, Data, view, Value, Judged, number_of_selection, has_number, IsByNumber, ComparedReport, suc, ◌⊎◌, length, option_and_then, subst, inl, inr, arith, fun_ext, AllByRecursion, Class, Preference, plain_member, selection_record, name_in_class, selection_role, ◌↔◌, IsDistinct, find-Some, SelectionRecord, number_of_name, Decides, IsWholeTree, on_side, numbered_map, Left, Right, In-all, key_named, not, IfSome, IfOk, Ok, Err, Result, array, no_items, item, kind_of_member, family, MemberKind, kind, entries_of, PlainValue, MemberValue, a_plain, NameParts, selection_map, member_value, a_selection_map, plain_found, member_found, is_selections, if_filled, selections_meant}
 use Rattle.std.specs.Cmp.{unsigned_tied}
 use Rattle.std.specs.Map.{lookup, keys_of}
 use Rattle.std.specs.Ordering.{eq_by_cmp, nat_cmp}
@@ -12,89 +12,94 @@ use Rattle.erd_compare.specs.code.DifferingNames.{GoesOn}
 use Rattle.erd_compare.specs.declared.objects.differing_names.PairsLeft.{PairsLeft}
 use Rattle.erd_compare.proofs.differing.Walks.{none_there}
 
--- selections by their names
-abbrev pub Named : Type 0
-Named = List (ℕ × Bor Value)
+-- values under numbers, such as selections under those of their names
+abbrev pub Numbered : Type 0 → Type 0
+Numbered V = List (ℕ × V)
 
--- the selection of a name
-abbrev pub at_name : Named → ℕ → Option (Bor Value)
-at_name m q = lookup (λ l. q == l) m
-
-abbrev pub had : Named → ℕ → Option Data
-had m q = option_map (λ v. view v.now) (at_name m q)
+-- the value under a number
+abbrev pub at_number : {V : Type 0} → Numbered V → ℕ → Option V
+at_number m q = lookup (λ l. q == l) m
 
 -- numbers are tested by their order
 sorted_tests : eq_by_cmp nat_cmp ≡ ◌==◌
 sorted_tests = fun_ext (λ k. fun_ext (λ q. unsigned_tied k q))
 
-pub sorted_at : (m : Named) (q : ℕ) → lookup (eq_by_cmp nat_cmp q) m ≡ at_name m q
+pub sorted_at : {V : Type 0} (m : Numbered V) (q : ℕ) → lookup (eq_by_cmp nat_cmp q) m ≡ at_number m q
 sorted_at m q = ap (λ (same : ℕ → ℕ → Bool). lookup (same q) m) sorted_tests
 
 -- a value is put there
-pub sorted_update : (m n : Named) (k : ℕ) (w : Option (Bor Value)) → ((q : ℕ) → lookup (eq_by_cmp nat_cmp q) n ≡ cond (eq_by_cmp nat_cmp k q) w (lookup (eq_by_cmp nat_cmp q) m)) → (q : ℕ) → at_name n q ≡ cond (k == q) w (at_name m q)
+pub sorted_update : {V : Type 0} (m n : Numbered V) (k : ℕ) (w : Option V) → ((q : ℕ) → lookup (eq_by_cmp nat_cmp q) n ≡ cond (eq_by_cmp nat_cmp k q) w (lookup (eq_by_cmp nat_cmp q) m)) → (q : ℕ) → at_number n q ≡ cond (k == q) w (at_number m q)
 sorted_update m n k w h = subst (λ (same : ℕ → ℕ → Bool). (q : ℕ) → lookup (same q) n ≡ cond (same k q) w (lookup (same q) m)) sorted_tests h
 
 -- sorted numbers are distinct
-pub sorted_apart : (m : Named) → IsStrictlySortedBy nat_cmp (keys_of m) → IsDistinct ◌==◌ (keys_of m)
+pub sorted_apart : {V : Type 0} (m : Numbered V) → IsStrictlySortedBy nat_cmp (keys_of m) → IsDistinct ◌==◌ (keys_of m)
 sorted_apart m h = subst (λ (same : ℕ → ℕ → Bool). IsDistinct same (keys_of m)) sorted_tests (IsDistinct-from_sorted nat_cmp (keys_of m) h)
-
--- there is the first selection of each name, but for these, which are left
-abbrev pub IsFilling : Judged → Judged → ComparedReport → List Value → List Value → Named → Type 0
-IsFilling a b side all left m = (q : ℕ) → option_or (had m q) (find (has_number a b side q) (map view left)) ≡ find (has_number a b side q) (map view all)
 
 -- numbers that pass the test are one
 pub one_number : (k q : ℕ) → (k == q) ≡ true → k ≡ q
 one_number k q e = (Decides-eqb k q).0 e
 
-module _ (a b : Judged) (side : ComparedReport) where
-  pub none_put : (all left : List Value) (m : Named) → left ≡ all → m ≡ [] → IsFilling a b side all left m
-  none_put all left m is none q = rw none (ap (λ vs. find (has_number a b side q) (map view vs)) is)
+-- ---- selections are put there one after another, as values that are seen as selections
 
-  pub all_put : (all left : List Value) (m : Named) → left ≡ [] → IsFilling a b side all left m → IsByNumber a b side (map view all) m
-  all_put all left m is h q = unless_left (had m q) ∙ (ap (λ vs. option_or (had m q) (find (has_number a b side q) (map view vs))) (sym is) ∙ h q)
-    where
-      unless_left : (o : Option Data) → o ≡ option_or o None
-      unless_left None = refl
-      unless_left (Some d) = refl
+abbrev pub seen_value : Bor Value → Data
+seen_value v = view v.now
 
-  -- a selection without a name
-  pub unnamed : (all left : List Value) (v : Value) (m : Named) → None ≡ number_of_selection a b side (view v) → IsFilling a b side all (v ∷ left) m → IsFilling a b side all left m
-  unnamed all left v m nameless h q =
-      ap (λ yes. option_or (had m q) (cond yes (Some (view v)) (find (has_number a b side q) (map view left)))) (ap (λ o. option_eq ◌==◌ o (Some q)) nameless) ∙ h q
+module _ {V : Type 0} (see : V → Data) where
+  -- the selection under a number
+  abbrev pub had : Numbered V → ℕ → Option Data
+  had m q = option_map see (at_number m q)
 
-  -- the test of a selection that has the name
-  tested : (v : Value) (k q : ℕ) → Some k ≡ number_of_selection a b side (view v) → has_number a b side q (view v) ≡ (k == q)
-  tested v k q named = ap (λ o. option_eq ◌==◌ o (Some q)) (sym named)
+  -- there is the first selection of each name, but for these, which are left
+  abbrev pub IsFilling : Judged → Judged → ComparedReport → List Data → List Data → Numbered V → Type 0
+  IsFilling a b side all left m = (q : ℕ) → option_or (had m q) (find (has_number a b side q) left) ≡ find (has_number a b side q) all
 
-  -- a selection with a name that the map has
-  pub named_before : (all left : List Value) (v : Value) (k : ℕ) (m : Named) → Some k ≡ number_of_selection a b side (view v) → is_some (at_name m k) ≡ true → IsFilling a b side all (v ∷ left) m → IsFilling a b side all left m
-  named_before all left v k m named before h q = at q (at_name m q) refl ∙ h q
-    where
-      other : (q : ℕ) → at_name m q ≡ None → (yes : Bool) → (k == q) ≡ yes → yes ≡ false
-      other q none true e = absurd (true≢false (sym before ∙ (ap (λ x. is_some (at_name m x)) (one_number k q e) ∙ ap is_some none)))
-      other q none false e = refl
+  module _ (a b : Judged) (side : ComparedReport) where
+    pub none_put : (all left : List Data) (m : Numbered V) → left ≡ all → m ≡ [] → IsFilling a b side all left m
+    none_put all left m is none q = rw none (ap (find (has_number a b side q)) is)
 
-      at : (q : ℕ) (o : Option (Bor Value)) → at_name m q ≡ o
-          → option_or (option_map (λ (w : Bor Value). view w.now) o) (find (has_number a b side q) (map view left)) ≡ option_or (option_map (λ (w : Bor Value). view w.now) o) (find (has_number a b side q) (map view (v ∷ left)))
-      at q (Some w) e = refl
-      at q None e = sym (ap (λ yes. cond yes (Some (view v)) (find (has_number a b side q) (map view left))) (tested v k q named ∙ other q e ((k == q)) refl))
+    pub all_put : (all left : List Data) (m : Numbered V) → left ≡ [] → IsFilling a b side all left m → (q : ℕ) → had m q ≡ find (has_number a b side q) all
+    all_put all left m is h q = unless_left (had m q) ∙ (ap (λ ds. option_or (had m q) (find (has_number a b side q) ds)) (sym is) ∙ h q)
+      where
+        unless_left : (o : Option Data) → o ≡ option_or o None
+        unless_left None = refl
+        unless_left (Some d) = refl
 
-  -- a selection with a new name, which is put into the map
-  pub named_first : (all left : List Value) (v : Value) (w : Bor Value) (k : ℕ) (m n : Named) → Some k ≡ number_of_selection a b side (view v) → is_some (at_name m k) ≡ false
-      → ((q : ℕ) → at_name n q ≡ cond (k == q) (Some w) (at_name m q)) → w.now ≡ v → IsFilling a b side all (v ∷ left) m → IsFilling a b side all left n
-  named_first all left v w k m n named new updates is h q =
-      (ap (λ o. option_or (option_map (λ (x : Bor Value). view x.now) o) (find (has_number a b side q) (map view left))) (updates q) ∙ at q ((k == q)) refl) ∙ h q
-    where
-      none : (o : Option (Bor Value)) → is_some o ≡ false → o ≡ None
-      none None e = refl
-      none (Some x) e = cc
+    -- a selection without a name
+    pub unnamed : (all left : List Data) (d : Data) (m : Numbered V) → None ≡ number_of_selection a b side d → IsFilling a b side all (d ∷ left) m → IsFilling a b side all left m
+    unnamed all left d m nameless h q =
+        ap (λ yes. option_or (had m q) (cond yes (Some d) (find (has_number a b side q) left))) (ap (λ o. option_eq ◌==◌ o (Some q)) nameless) ∙ h q
 
-      at : (q : ℕ) (yes : Bool) → (k == q) ≡ yes
-          → option_or (option_map (λ (x : Bor Value). view x.now) (cond yes (Some w) (at_name m q))) (find (has_number a b side q) (map view left)) ≡ option_or (had m q) (find (has_number a b side q) (map view (v ∷ left)))
-      at q true e =
-          sym (ap (λ o. option_or (option_map (λ (x : Bor Value). view x.now) o) (find (has_number a b side q) (map view (v ∷ left)))) (ap (at_name m) (sym (one_number k q e)) ∙ none (at_name m k) new)
-          ∙ (ap (λ yes. cond yes (Some (view v)) (find (has_number a b side q) (map view left))) (tested v k q named ∙ e) ∙ ap (λ x. Some (view x)) (sym is)))
-      at q false e = sym (ap (λ yes. option_or (had m q) (cond yes (Some (view v)) (find (has_number a b side q) (map view left)))) (tested v k q named ∙ e))
+    -- the test of a selection that has the name
+    tested : (d : Data) (k q : ℕ) → Some k ≡ number_of_selection a b side d → has_number a b side q d ≡ (k == q)
+    tested d k q named = ap (λ o. option_eq ◌==◌ o (Some q)) (sym named)
+
+    -- a selection with a name that is there
+    pub named_before : (all left : List Data) (d : Data) (k : ℕ) (m : Numbered V) → Some k ≡ number_of_selection a b side d → is_some (at_number m k) ≡ true → IsFilling a b side all (d ∷ left) m → IsFilling a b side all left m
+    named_before all left d k m named before h q = at q (at_number m q) refl ∙ h q
+      where
+        other : (q : ℕ) → at_number m q ≡ None → (yes : Bool) → (k == q) ≡ yes → yes ≡ false
+        other q none true e = absurd (true≢false (sym before ∙ (ap (λ x. is_some (at_number m x)) (one_number k q e) ∙ ap is_some none)))
+        other q none false e = refl
+
+        at : (q : ℕ) (o : Option V) → at_number m q ≡ o → option_or (option_map see o) (find (has_number a b side q) left) ≡ option_or (option_map see o) (find (has_number a b side q) (d ∷ left))
+        at q (Some w) e = refl
+        at q None e = sym (ap (λ yes. cond yes (Some d) (find (has_number a b side q) left)) (tested d k q named ∙ other q e ((k == q)) refl))
+
+    -- a selection with a new name, which is put there
+    pub named_first : (all left : List Data) (d : Data) (w : V) (k : ℕ) (m n : Numbered V) → Some k ≡ number_of_selection a b side d → is_some (at_number m k) ≡ false
+        → ((q : ℕ) → at_number n q ≡ cond (k == q) (Some w) (at_number m q)) → see w ≡ d → IsFilling a b side all (d ∷ left) m → IsFilling a b side all left n
+    named_first all left d w k m n named new updates is h q =
+        (ap (λ o. option_or (option_map see o) (find (has_number a b side q) left)) (updates q) ∙ at q ((k == q)) refl) ∙ h q
+      where
+        none : (o : Option V) → is_some o ≡ false → o ≡ None
+        none None e = refl
+        none (Some x) e = cc
+
+        at : (q : ℕ) (yes : Bool) → (k == q) ≡ yes → option_or (option_map see (cond yes (Some w) (at_number m q))) (find (has_number a b side q) left) ≡ option_or (had m q) (find (has_number a b side q) (d ∷ left))
+        at q true e =
+            sym (ap (λ o. option_or (option_map see o) (find (has_number a b side q) (d ∷ left))) (ap (at_number m) (sym (one_number k q e)) ∙ none (at_number m k) new)
+            ∙ (ap (λ yes. cond yes (Some d) (find (has_number a b side q) left)) (tested d k q named ∙ e) ∙ ap Some (sym is)))
+        at q false e = sym (ap (λ yes. option_or (had m q) (cond yes (Some d) (find (has_number a b side q) left))) (tested d k q named ∙ e))
 
 -- ---- the selections of two contests by the numbers of their names: what the right has at each name of the left is taken out
 

@@ -1,8 +1,5 @@
 -- The selections of a contest that stands at a position of a report, by their names.
 use Rattle.std.specs.Prelude.{◌≡◌, ℕ, zero, suc, ◌+◌, ◌<◌, List, [], ◌∷◌, Bool, map, flat_map, length, sum_by, Option, Some, None, option_map, unwrap_or, codes, ⊤}
-use Rattle.std.specs.BTreeSet.{BTreeSet}
-use Rattle.std.specs.Borrow.{Bor}
-use Rattle.std.specs.List.{AllByRecursion}
 use Rattle.std.specs.Option.{option_cmp}
 use Rattle.std.specs.Ordering.{is_eq}
 use Rattle.serde_json.specs.Data.{Data}
@@ -16,7 +13,6 @@ use Rattle.erd_meaning.specs.Objects.{contests}
 use Rattle.erd_meaning.specs.Records.{selection_map}
 use Rattle.erd_meaning.specs.SelectionNames.{name_cmp, name_of}
 use Rattle.std.specs.List.{slice_get}
-use Rattle.erd_compare.specs.Differences.{Stands}
 use Rattle.erd_compare.specs.SelectionData.{selection_data}
 use Rattle.erd_compare.specs.SelectionDifferences.{SelectionMap, AreSelectionDifferences, text_size, told_with, IsBare, TellsAll}
 use Rattle.erd_compare.specs.code.DifferingWays.{hows_of}
@@ -43,19 +39,6 @@ has_name_in a name d = is_eq (option_cmp name_cmp (name_of a.prefer (view a.tree
 -- The record of a selection as that of any other object.
 abbrev pub whole_record : Option SelectionRecord → Option ObjectRecord
 whole_record found = option_map (λ r. record { class = r.class; members = λ name. option_map a_plain (r.members name) }) found
-
--- The names in a set.
-abbrev pub names_in_set : BTreeSet (Bor NameParts) → List NameParts
-names_in_set names = map (λ name. name.now) names.keys
-
--- The names of these selections are among the names.
-abbrev pub AreNamesAmong : Judged → List NameParts → List Data → Type 0
-AreNamesAmong a names ds = AllByRecursion (λ d. (name : NameParts) → name_of a.prefer (view a.tree) d ≡ Some name → Stands name names) ds
-
--- The names with those of the selections of the contest at the position, and maybe others.
-abbrev pub AddsNames : Judged → Option ℕ → List NameParts → List NameParts → Type 0
-AddsNames a None before after = (name : NameParts) → Stands name before → Stands name after
-AddsNames a (Some c) before after = ((name : NameParts) → Stands name before → Stands name after) × AreNamesAmong a after (selection_values a c)
 
 -- The differences at the name of a selection, one for each way.
 abbrev pub differences_named : NameParts → Ways → List SelectionDifference

@@ -1,16 +1,22 @@
-ghost use Rattle.std.specs.Prelude.{◌≡◌, true, find, option_and_then, option_map, IfOk, IfSome};
-ghost use Rattle.erd_compare.specs.Words.{view};
-ghost use Rattle.erd_compare.specs.code.ContestSelections.{contest_map, has_name_in, selection_values, whole_record};
+ghost use Rattle.std.specs.Prelude.{◌≡◌, true, option_copied, option_map, IfOk, IfSome};
+ghost use Rattle.std.specs.Option.{option_or};
 ghost use Rattle.erd_compare.specs.code.DifferingWays.{AreWays};
-ghost use Rattle.erd_compare.specs.code.PlacedObjects.{IsPlaced};
-ghost use Rattle.erd_meaning.specs.SelectionNames.{selection_role};
+ghost use Rattle.erd_compare.specs.code.NamedSelections.{record_named, IsNamedOn, TellsWays};
+ghost use Rattle.erd_compare.specs.declared.ranks.common_ranks.ComparedReport.TheVariants as side;
 
 use crate::comparer::Comparer;
 use crate::objects::records::{PlacedObject, object_ways};
 use crate::objects::ways::Ways;
-use erd_meaning::{Report, SelectionName};
+use erd_meaning::SelectionName;
 use erd_tables::{Family, Role};
 use std::alloc::AllocError;
+
+/// A selection with its name.
+#[derive(Clone, Copy)]
+pub(crate) struct NamedSelection<'a> {
+    pub(crate) name: &'a SelectionName,
+    pub(crate) object: PlacedObject<'a>,
+}
 
 /// The ways in which the selections with a name differ.
 #[derive(Drop)]
@@ -19,37 +25,58 @@ pub(crate) struct NamedWays<'a> {
     pub(crate) ways: Ways<'a>,
 }
 
-/// Returns the ways in which the selections with a name differ, in the contests at these positions.
-pub(crate) fn ways_of_name<'a>(
-    comparer: &'a Comparer,
-    contest: Option<usize>,
-    other_contest: Option<usize>,
-    name: &SelectionName,
-) -> Result<Ways<'a>, AllocError>
-    ensures { IfOk result (AreWays true (whole_record (contest_map comparer.now.left contest name.now)) (whole_record (contest_map comparer.now.right other_contest name.now))) }
+/// Returns the ways in which two selections with one name differ, if there are any. One of the two may be missing.
+pub(crate) fn named_ways<'a>(
+    comparer: &Comparer,
+    one: Option<&NamedSelection<'a>>,
+    other: Option<&NamedSelection<'a>>,
+) -> Result<Option<NamedWays<'a>>, AllocError>
+    requires one { IfSome (option_copied one) (IsNamedOn comparer.now.left comparer.now.right side.Left) }
+    requires other { IfSome (option_copied other) (IsNamedOn comparer.now.left comparer.now.right side.Right) }
+    ensures { IfOk result (TellsWays comparer.now.left comparer.now.right (option_copied one.entry) (option_copied other.entry)) }
 {
-    let role = Role::OfFamily(Family::Selection);
-    match (
-        selection_named(comparer.left(), contest, name),
-        selection_named(comparer.right(), other_contest, name),
-    ) {
-        (Some(one), Some(other)) => object_ways(comparer, role, one, other, true),
+    let Some(name) = name_of_either(one, other) else {
+        return Ok(None);
+    };
+    let ways = ways_of_both(comparer, one, other)?;
+    if ways.are_none() {
+        Ok(None)
+    } else {
+        Ok(Some(NamedWays { name, ways }))
+    }
+}
+
+/// Returns the name of the first of two selections that is not missing.
+fn name_of_either<'a>(
+    one: Option<&NamedSelection<'a>>,
+    other: Option<&NamedSelection<'a>>,
+) -> Option<&'a SelectionName>
+    ensures { option_copied result ≡ option_map (λ s. s.name.now) (option_or (option_copied one.entry) (option_copied other.entry)) }
+{
+    match (one, other) {
+        (Some(selection), _) => Some(selection.name),
+        (None, Some(selection)) => Some(selection.name),
+        (None, None) => None,
+    }
+}
+
+/// Returns the ways in which two selections with one name differ. One of the two may be missing.
+fn ways_of_both<'a>(
+    comparer: &Comparer,
+    one: Option<&NamedSelection<'a>>,
+    other: Option<&NamedSelection<'a>>,
+) -> Result<Ways<'a>, AllocError>
+    requires one { IfSome (option_copied one) (IsNamedOn comparer.now.left comparer.now.right side.Left) }
+    requires other { IfSome (option_copied other) (IsNamedOn comparer.now.left comparer.now.right side.Right) }
+    ensures { IfOk result (AreWays true (record_named comparer.now.left (option_copied one.entry)) (record_named comparer.now.right (option_copied other.entry))) }
+{
+    match (one, other) {
+        (Some(one), Some(other)) => {
+            let role = Role::OfFamily(Family::Selection);
+            object_ways(comparer, role, one.object, other.object, true)
+        }
         (Some(_), None) => Ok(Ways::OnlyLeft),
         (None, Some(_)) => Ok(Ways::OnlyRight),
         (None, None) => Ok(Ways::Members(Vec::new(comparer.alloc))),
     }
-}
-
-/// Returns the selection with a name in the contest at a position of a report, if there is one.
-fn selection_named<'a>(
-    report: &Report<'a>,
-    contest: Option<usize>,
-    name: &SelectionName,
-) -> Option<PlacedObject<'a>>
-    ensures placed { IfSome result (λ o. IsPlaced report.now selection_role o.index (view o.value.now)) }
-    ensures found { option_map (λ o. view o.value.now) result ≡ option_and_then (λ c. find (has_name_in report.now name.now) (selection_values report.now c)) contest }
-{
-    let index = report.find_selection(contest?, name)?;
-    let value = report.object(Family::Selection, index)?;
-    Some(PlacedObject { value, index })
 }

@@ -1,7 +1,5 @@
-use Rattle.erd_compare.specs.code.ContestSelections.{contest_map, differences_at}
-use Rattle.erd_compare.proofs.contest_selections.AddedNames.{lent}
-use Rattle.erd_compare.proofs.contest_selections.SelectionLists.{ArePassed}
+use Rattle.erd_compare.proofs.contest_selections.NumberedWays.{AreFound}
 use Rattle.erd_compare.proofs.inside.selection_ways.Given as goal
 
-abbrev pub invariant-loop-name : goal.invariant-loop-name
-invariant-loop-name l = ArePassed (contest_map l.comparer.left l.contest) (contest_map l.comparer.right l.other_contest) (differences_at l.found.items) (lent l.name-iterator)
+abbrev pub invariant-loop-number : goal.invariant-loop-number
+invariant-loop-number l = AreFound l.comparer.left l.comparer.right l.fn.contest l.fn.other_contest l.found.items l.number-iterator

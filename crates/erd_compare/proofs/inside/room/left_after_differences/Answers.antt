@@ -1,8 +1,7 @@
 use Rattle.erd_compare.proofs.Common.{◌≡◌, ◌+◌, ◌<◌, length, refl, subst, slice_get_read}
 use Rattle.std.specs.Prelude.{sum_by}
 use Rattle.erd_compare.specs.code.ContestSelections.{Leaves}
-use Rattle.erd_compare.proofs.contest_selections.AddedNames.{all_fit, one_does_not, one_fits}
-use Rattle.erd_compare.proofs.contest_selections.SelectionTexts.{size_at, sizes_at}
+use Rattle.erd_compare.proofs.contest_selections.SelectionTexts.{all_fit, one_does_not, one_fits, size_at, sizes_at}
 use Rattle.erd_compare.proofs.inside.room.left_after_differences.Goals as goal
 
 pub loop-named-preserved : goal.loop-named-preserved

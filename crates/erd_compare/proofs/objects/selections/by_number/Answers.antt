@@ -1,7 +1,7 @@
 use Rattle.erd_compare.proofs.Common.{◌≡◌, ℕ, ◌+◌, ◌<◌, List, ◌∷◌, map, is_some, length, get_or, drop, slice_get, Some, option_map, option_and_then, sym, refl, ap, ◌∙◌, subst, arith, drop_more, drop_all, slice_get-map, slice_get_within, slice_get_read, view, Value, family, Judged, selections_before, Placed, objects, number_of_selection, AreSelectionsIn, on_side}
 use Rattle.erd_meaning.proofs.selections.ContestSelections.{stand_from_start}
 use Rattle.erd_compare.proofs.same_selections.PlacedSelections.{stands_after}
-use Rattle.erd_compare.proofs.same_selections.SelectionWalks.{IsFilling, all_put, named_before, named_first, none_put, sorted_at, sorted_update, unnamed}
+use Rattle.erd_compare.proofs.same_selections.SelectionWalks.{IsFilling, all_put, named_before, named_first, none_put, seen_value, sorted_at, sorted_update, unnamed}
 use Rattle.erd_compare.proofs.objects.selections.by_number.Goals.{in-Some+then-not-contains_key+in_ok-insert, in-Some+else-not-contains_key, in_default}
 use Rattle.erd_compare.proofs.objects.selections.by_number.Goals as goal
 
@@ -22,29 +22,30 @@ loop-index-preserved c =
     let left = drop (c.loop-index.index + 1) all in
     let m = c.loop-index.numbered.entries in
     let v = c.index-values-index.result in
-    let h : IsFilling a b side all (v ∷ left) m =
-    subst (λ vs. IsFilling a b side all vs m) (drop_more all c.loop-index.index v c.loop-index-test.true ∙ ap (λ w. w ∷ left) (sym c.index-values-index.is)) c.loop-index.invariant in
+    let ds = map view all in
+    let h : IsFilling seen_value a b side ds (map view (v ∷ left)) m =
+    subst (λ vs. IsFilling seen_value a b side ds (map view vs) m) (drop_more all c.loop-index.index v c.loop-index-test.true ∙ ap (λ w. w ∷ left) (sym c.index-values-index.is)) c.loop-index.invariant in
     let counted = subst (λ (x : Judged). c.first_selection-start.result ≡ selections_before (view x.tree) contest) c.on.ensures.same c.first_selection-start.ensures in
     let o = stands_here j contest c.first_selection-start.result c.loop-index.index all v c.requires counted c.loop-index-test.true c.index-values-index.is in
     let numbered : c.name_number_at.result ≡ number_of_selection a b side (view v) =
     c.name_number_at.ensures ∙ (ap (option_and_then (λ (x : Placed). number_of_selection a b side x.value)) o.1 ∙ ap (number_of_selection a b side) o.2) in
     elim c.match-name_number_at.branch [
-      | in-Some+then-not-contains_key+in_ok-insert w ↦ subst (λ x. IsFilling a b side all left x.entries) (sym w.numbered-is)
-          (named_first a b side all left v _ w.in-Some.number m w.insert.new.self.entries (sym w.in-Some.is ∙ numbered) (sym (w.if-not-contains_key.ensures ∙ ap is_some (sorted_at m w.in-Some.number)))
+      | in-Some+then-not-contains_key+in_ok-insert w ↦ subst (λ x. IsFilling seen_value a b side ds (map view left) x.entries) (sym w.numbered-is)
+          (named_first seen_value a b side ds (map view left) (view v) _ w.in-Some.number m w.insert.new.self.entries (sym w.in-Some.is ∙ numbered) (sym (w.if-not-contains_key.ensures ∙ ap is_some (sorted_at m w.in-Some.number)))
           (sorted_update m w.insert.new.self.entries w.in-Some.number _ w.in_ok-insert.ensures.updates.0) refl h)
-      | in-Some+else-not-contains_key w ↦ subst (λ x. IsFilling a b side all left x.entries) (sym w.numbered-is)
-          (named_before a b side all left v w.in-Some.number m (sym w.in-Some.is ∙ numbered) (sym (w.contains_key.ensures ∙ ap is_some (sorted_at m w.in-Some.number)) ∙ w.if-not-contains_key.false) h)
-      | in_default w ↦ subst (λ x. IsFilling a b side all left x.entries) (sym w.numbered-is) (unnamed a b side all left v m (sym w.in_default.is ∙ numbered) h)
+      | in-Some+else-not-contains_key w ↦ subst (λ x. IsFilling seen_value a b side ds (map view left) x.entries) (sym w.numbered-is)
+          (named_before seen_value a b side ds (map view left) (view v) w.in-Some.number m (sym w.in-Some.is ∙ numbered) (sym (w.contains_key.ensures ∙ ap is_some (sorted_at m w.in-Some.number)) ∙ w.if-not-contains_key.false) h)
+      | in_default w ↦ subst (λ x. IsFilling seen_value a b side ds (map view left) x.entries) (sym w.numbered-is) (unnamed seen_value a b side ds (map view left) (view v) m (sym w.in_default.is ∙ numbered) h)
     ]
 
 pub loop-index-init : goal.loop-index-init
 loop-index-init c =
-    none_put c.args.comparer.now.left c.args.comparer.now.right c.args.side c.args.selections.values.now (drop 0 c.args.selections.values.now) c.new-numbered.result.entries refl c.new-numbered.ensures.empty
+    none_put seen_value c.args.comparer.now.left c.args.comparer.now.right c.args.side (map view c.args.selections.values.now) (map view (drop 0 c.args.selections.values.now)) c.new-numbered.result.entries refl c.new-numbered.ensures.empty
 
 pub returns : goal.returns
 returns c =
-    all_put c.args.comparer.now.left c.args.comparer.now.right c.args.side c.args.selections.values.now (drop c.loop-index.index c.args.selections.values.now) c.loop-index.numbered.entries
-    (drop_all c.loop-index.index c.args.selections.values.now c.loop-index-test.false) c.loop-index.invariant
+    all_put seen_value c.args.comparer.now.left c.args.comparer.now.right c.args.side (map view c.args.selections.values.now) (map view (drop c.loop-index.index c.args.selections.values.now)) c.loop-index.numbered.entries
+    (ap (map view) (drop_all c.loop-index.index c.args.selections.values.now c.loop-index-test.false)) c.loop-index.invariant
 
 -- its position is one of the report's
 pub overflow_add-start : goal.overflow_add-start
