@@ -3,6 +3,6 @@ pub mod Adding
 pub mod Untold
 pub mod NamedSteps
 pub mod Preparing
-mod Examples
+mod examples
 pub mod Scanned
 pub mod Chosen

@@ -1,0 +1,3 @@
+mod RuleExamples
+mod NumberExamples
+mod PreparationExamples
