@@ -25,6 +25,7 @@ mod program;
 mod readers;
 mod refusing;
 mod report_calls;
+mod requests;
 mod rows;
 mod runs;
 mod salts;

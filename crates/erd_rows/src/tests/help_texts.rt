@@ -1,7 +1,7 @@
 //! What is printed for the words of a line that ask for help or are wrong, with each request for memory refused in turn.
 use crate::tests::answers::{Answer, right_if};
-use crate::tests::command_lines::request;
 use crate::tests::refusing::each_refused;
+use crate::tests::requests::request;
 use erd_canon::LineFault;
 use std::alloc::Global;
 use std::test::Fail;
