@@ -1,10 +1,10 @@
 """Holds the lists of docs/DEFINITIONS.md that say what to read for each promise against the definitions in `specs/`.
 
-To trust a promise, one reads the definition that states it, and each definition that this one rests on, down to those of JSON
-and of the standard library. The list of a promise has the files of all of these, in the order of the crates and of their files, with
-the number of lines that they take with their comments. So are the types of the crates that these definitions speak of, as the code
-declares them, and the grammar of `clap`, which the kit has. What an earlier list has is not counted again. With `--write` the
-lists are written anew.
+To trust a promise, one reads the definition that states it, and each definition that this one rests on, down to those of the
+standard library. The list of a promise has the files of all of these, in the order of the crates and of their files, with the number
+of lines that they take with their comments. So it has the types and constants of which these definitions speak, as the code declares
+them, and what the kit defines of JSON, of numbers as texts and of command lines. What an earlier list has is not counted again. With
+`--write` the lists are written anew.
 """
 
 import pathlib
@@ -18,8 +18,8 @@ from cases import differing_lines, tell_cases  # noqa: E402
 
 PAGE = ROOT / 'docs' / 'DEFINITIONS.md'
 CRATES = ['erd_tables', 'erd_index', 'erd_check', 'erd_prepare', 'erd_text', 'erd_meaning', 'erd_normal', 'erd_shown', 'erd_compare', 'erd_canon', 'erd_program', 'erd_c']
-# Definitions of the kit that a reader has to know too.
-KIT = ['clap']
+# Crates of the kit whose definitions a reader has to know too.
+KIT = ['json', 'serde_json', 'fast_float', 'ryu', 'clap']
 BEGIN, END = '<!-- the lists begin -->\n', '<!-- the lists end -->\n'
 
 # The promises, with the definitions that state them.
@@ -75,7 +75,7 @@ class File:
             self.blocks.append([line for line in lines if not USE.match(line)])
         self.defined = {}
         for number, block in enumerate(self.blocks):
-            for name in names_of(block):
+            for name in [*names_of(block), *constructors_of(block)]:
                 self.defined.setdefault(name, number)
 
     def take(self, crate, module, names, other):
@@ -88,14 +88,15 @@ class File:
 
 
 class Types:
-    """The types that a file of code declares, as blocks: each with its comments and its model, by its name."""
+    """The types and constants that a file of code declares, as blocks: each with its comments, and a type with its model, by its name."""
 
     def __init__(self, key, path):
         self.key, self.imported, self.defined, self.blocks = key, {}, {}, []
         text = path.read_text(encoding='utf-8')
-        for head in re.finditer(r'^pub(?:\([a-z]+\))? (?:struct|enum|type) (\w+)', text, re.M):
+        for head in re.finditer(r'^pub(?:\([a-z]+\))? (?:struct|enum|type|const) (\w+)', text, re.M):
             front = re.search(r'(?:^(?:///|#\[).*\n)*\Z', text[:head.start()], re.M)[0]
-            body = re.match(r'[^\n]*;|.*?\n\}', text[head.start():], re.S)[0]
+            end = r'.*?;$' if ' const ' in head[0] else r'[^\n]*;|.*?\n\}'
+            body = re.match(end, text[head.start():], re.S | re.M)[0]
             model = re.search(rf'^impl\S* Model for {head[1]}\b.*?\n\}}', text, re.M | re.S)
             self.defined[head[1]] = len(self.blocks)
             self.blocks.append([line for line in (front + body + (model[0] if model else '')).splitlines() if line.strip()])
@@ -127,10 +128,7 @@ def files_of_crates():
             if name != 'code':
                 file = File(crate, specs / f'{name}.antt')
                 found[file.key] = file
-        source = ROOT / 'crates' / crate / 'src'
-        for path in sorted(source.rglob('*.rt')):
-            file = Types(f'{crate}/declared.{".".join(path.relative_to(source).with_suffix("").parts)}', path)
-            found[file.key] = file
+        found.update(declarations(crate, ROOT / 'crates' / crate / 'src'))
     return found
 
 
@@ -144,7 +142,14 @@ def of_the_kit():
             file = File(crate, path)
             file.key = f'{crate}/{".".join(path.relative_to(specs).with_suffix("").parts)}'
             found[file.key] = file
+        found.update(declarations(crate, kit / 'rattle' / crate / 'src'))
     return found
+
+
+def declarations(crate, source):
+    """The files of the types that the code of a crate declares."""
+    files = (Types(f'{crate}/declared.{".".join(path.relative_to(source).with_suffix("").parts)}', path) for path in sorted(source.rglob('*.rt')))
+    return {file.key: file for file in files}
 
 
 def passed_on(known, module, name):
@@ -154,10 +159,25 @@ def passed_on(known, module, name):
     return (module, name) if module in known else None
 
 
-def type_at(known, module):
-    """The type that a module declares, as the file and the name, or None."""
-    key, _, name = module.removesuffix('.TheVariants').removesuffix('.TheInside').rpartition('.')
-    return (key, name) if '/declared.' in key and name in getattr(known.get(key), 'defined', ()) else None
+def declared_at(known, module, name):
+    """The type that a module declares, or the constant of this name, as the file and the name, or None."""
+    key, _, kind = re.sub(r'\.The(?:Variants|Inside|Open)$', '', module).rpartition('.')
+    kind = name if kind == 'TheConstants' else kind
+    return (key, kind) if '/declared.' in key and kind in getattr(known.get(key), 'defined', ()) else None
+
+
+def constructors_of(block):
+    """The names of the constructors that a block declares: each stands set in below its `data`, before a colon."""
+    inside = False
+    for line in block:
+        depth = len(line) - len(line.lstrip())
+        head, colon, _ = line.strip().partition(' : ')
+        if re.match(r'(?:pub )?data ', line.strip()):
+            inside, outer = line.endswith(' where'), depth
+        elif inside and depth == outer + 2 and colon and re.fullmatch(r'\S+', head):
+            yield head
+        elif inside and depth <= outer:
+            inside = False
 
 
 def types_named(known, key, block):
@@ -166,11 +186,26 @@ def types_named(known, key, block):
     crate = key.partition('/')[0]
     lines = [line for line in block if not line.strip().startswith(('//', '#'))]
     inner = [] if any('Model for' in line for line in lines) else [re.split(r'^[^(:=]*[(:=]', line, maxsplit=1)[-1] for line in lines if re.search(r'[(:=]', line)]
-    for word in set(re.findall(r'\b[A-Z]\w+', '\n'.join(inner))):
+    for word in set(re.findall(r'(?<!:)\b[A-Z]\w+', '\n'.join(inner))):
         homes = [other for other, file in known.items() if '/declared.' in other and word in file.defined]
         homes.sort(key=lambda other: other.partition('/')[0] != crate)
         if homes:
             yield homes[0], word
+
+
+def named_in(known, file, code):
+    """For each word of the code that another file declares or this one defines, where it is defined, as the file and the name, or None."""
+    for word in set(WORD.findall(code)):
+        module, origin = file.imported.get(word, ('', None))
+        declared = declared_at(known, module, origin)
+        if module and not origin and not declared and module in known:
+            # a whole file under another name, of which the code says what it means: `json.null`
+            for name in set(re.findall(rf"(?<![\w.]){re.escape(word)}\.([^\s(){{}}\[\],;.λ⟦⟧]+)", code)):
+                yield passed_on(known, module, name), word
+        elif module:
+            yield declared or passed_on(known, module, origin), word
+        elif word in file.defined:
+            yield (file.key, word), word
 
 
 def closure(known, roots):
@@ -189,16 +224,11 @@ def closure(known, roots):
             waiting += types_named(known, key, file.blocks[number])
             continue
         code = [line for line in file.blocks[number] if not line.strip().startswith('--')]
-        for word in set(WORD.findall('\n'.join(code))):
-            if word in file.imported:
-                module, origin = file.imported[word]
-                declared = type_at(known, module)
-                if declared:
-                    waiting.append(declared)
-                elif passed_on(known, module, origin):
-                    waiting.append(passed_on(known, module, origin))
-            elif word in file.defined:
-                waiting.append((key, word))
+        for home, word in named_in(known, file, '\n'.join(code)):
+            if home:
+                waiting.append(home)
+            elif word in file.imported and file.imported[word][0].partition('/')[0] in CRATES:
+                sys.exit(f'{key} has {word} from {file.imported[word][0]}, where nothing has this name')
     return found
 
 
