@@ -1,7 +1,8 @@
 """Tries the steps that prepare an export, by the package for Python. One line a case that fails, and at the end the counts.
 
 - The package has the words of docs/FIXES.md.
-- Each step alone mends a report that lacks only it; the same report rearranged is mended to one that means the same.
+- Each step alone mends a report that lacks only it, to one that means what mended.py says by hand; the same report rearranged is mended to
+  one that means the same.
 - Each raw example is accepted after the steps, and so is each rearrangement, which then means the same.
 - What is told of a large report has a bound.
 - The steps take at most a little more than twice as long on a report twice as large, on the reports of growth.py.
@@ -25,6 +26,7 @@ sys.dont_write_bytecode = True
 os.environ.setdefault('ERD_LIBRARY', str(ROOT / f'out/portable/linux-{platform.machine()}/liberd.so.0'))
 import damages  # noqa: E402
 import growth  # noqa: E402
+import mended  # noqa: E402
 import small_reports  # noqa: E402
 import erd_reference  # noqa: E402
 from cases import tell_cases  # noqa: E402
@@ -94,6 +96,7 @@ def laws_of_steps(dice):
         prepared, done = by_the_library(data, [name])
         yield f'{name}: its changes are told', [name], [it['step'] for it in done if it['count']]
         yield f'{name}: it mends', ['accepted'], judged(prepared)
+        yield f'{name}: what it means then', 'same', compared(bytes_of(damaged_so(mended.MENDED.get(name, lambda report: None), file)), prepared)
         if name != 'empty-lists':
             yield f'{name}: something was wrong', True, judged(data) != ['accepted']
         for number, other_dice in enumerate((dice, dice, Turning())):
