@@ -28,6 +28,7 @@ def run(session):
     rows(session)
     order(session)
     identity(session)
+    on_paper(session)
     copies(session)
 
 
@@ -89,6 +90,42 @@ def paper(session, pages):
     if session.browser.name == 'Chromium':
         session.equal('filed: the pages are numbered', [re.sub(r'\s', '', text.rstrip().rpartition('\n')[2]) for text in pages],
                       [f'{number}/{len(pages)}' for number in range(1, len(pages) + 1)])
+
+
+def on_paper(session):
+    """What the button "Print this record" brings onto paper, read from the PDF: all that two offices have to know. The words are by hand, and
+    the sums are those of the bytes and of the reference program."""
+    if shutil.which('pdftotext') is None:
+        return
+    paths = [written(session, 'left.json', made(Notes='Struck by court order')), written(session, 'right.json', made('nine', IsTest=True, TestType='logic'))]
+    session.judged(*paths)
+    paper = without_blanks(recorded(session))
+    forms = [answers.Answer(answers.Program(), path, None).form_sum for path in paths]
+    for what, words in {
+            'the verdict': ['These two files do not say the same'], 'what a voter sees': ['The ballots differ'], 'the files': ['left.json', 'right.json'],
+            'the sums of the files': [sha256(path.read_bytes()) for path in paths], 'the sums of the forms': forms,
+            'the election': ['Test, 2026-11-03'], 'the mark of a test': ['a test'], 'the notes': ['Struck by court order'],
+            'the differences': ['Measure 2', 'differs in its full text (FullText)', 'The rate is five percent', 'The rate is nine percent',
+                                'mark of a test (IsTest)', 'type of test (TestType)'],
+            'what is proved': ['Proved: the verdict', 'Not proved'], 'where to sign': ['Office', 'Name', 'Signature']}.items():
+        session.equal(f'paper: {what}', [word for word in words if ''.join(word.split()) not in paper], [])
+    session.judged(session.file('refused.json', json.dumps(made() | {'Status': 'certified', 'Odd': [1.5]})))
+    paper = without_blanks(recorded(session))
+    wanted = ['Refused: 2 faults', 'refused.json', '/Odd/0: not a whole number', '/Status: not pre-election', 'Signature']
+    session.equal('paper: a refused file with its faults', [word for word in wanted if ''.join(word.split()) not in paper], [])
+
+
+def recorded(session):
+    """The text of what the button of the record prints."""
+    session.browser.script("window.print = () => { window.printed = true; }")
+    session.browser.script("document.querySelector('.record .buttons button').click()")
+    session.browser.until('return window.printed')
+    return ' '.join(texts_of(session.file('record.pdf', base64.b64decode(session.browser.command('print'))), order='-raw'))
+
+
+def without_blanks(text):
+    """A text without its blanks: a line of paper may end anywhere."""
+    return re.sub(r'\s', '', text)
 
 
 def copies(session):

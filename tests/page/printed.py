@@ -61,9 +61,9 @@ def pages(session, lang='', *paths):
     return pdf, texts_of(pdf)
 
 
-def texts_of(pdf, *words):
-    """The text of each page."""
-    found = subprocess.run(['pdftotext', '-layout', *words, pdf, '-'], capture_output=True, check=True).stdout.decode()
+def texts_of(pdf, *words, order='-layout'):
+    """The text of each page, as it is laid out or, with -raw, in the order in which it is read."""
+    found = subprocess.run(['pdftotext', order, *words, pdf, '-'], capture_output=True, check=True).stdout.decode()
     return unicodedata.normalize('NFKC', found).split('\f')[:-1]
 
 
