@@ -25,6 +25,7 @@ import time
 
 sys.dont_write_bytecode = True
 import python_mutants  # noqa: E402
+import shell_mutants  # noqa: E402
 from by_scripts import Copy  # noqa: E402
 from wrong_lists import TOP  # noqa: E402
 
@@ -37,10 +38,13 @@ LINES = ("python3 tests/forms/command_lines.py --beside ./erd 'python -m erd' pa
 STEPS = [BOUNDED + 'python3 tests/prepare/steps.py']
 MODULE = 'node tests/forms/javascript_module.mjs'
 COMMAND = 'cp -n out/portable/erd.wasm bindings/js; node tests/forms/javascript_command.mjs bindings/js'
-PARTS = [f'node tests/page/{name}.mjs' for name in ('parts', 'lines', 'words', 'ballot_words', 'record_words', 'modules')]
+PARTS = [f'node tests/page/{name}.mjs' for name in ('parts', 'lines', 'words', 'shown', 'ballot_words', 'record_words', 'modules')]
 
 # The files, and the commands that try them, the cheapest first.
 AREAS = {
+    'contrib/confined.sh': ['tests/program/confined.sh'],
+    'contrib/*.py': ['cp contrib/repeated-names.py bindings/python/src/erd/repeats.py; tests/program/contrib.sh'],
+    'contrib/*': ['tests/program/contrib.sh'],
     'bindings/python/src/erd/prepare/*.py': [PYTEST + 'test_prepare.py', *STEPS],
     'bindings/python/src/erd/from_xml/*.py': [PYTEST + 'test_from_xml.py'],
     'bindings/python/src/erd/*.py': [*(PYTEST + f'test_{name}.py' for name in ('calls', 'ballots', 'prepare', 'resume', 'suite', 'commands', 'many')), LINES],
@@ -61,15 +65,24 @@ def files_of(names):
     for pattern, commands in AREAS.items():
         for path in sorted(TOP.glob(pattern)):
             name = str(path.relative_to(TOP))
-            if not names or name in names:
+            if (not names or name in names) and reader_of(name) is not None:
                 found.setdefault(name, commands)
     return found
 
 
+def reader_of(name):
+    """What finds the places of a file, by how it begins and ends; nothing for a file that is no script."""
+    first = (TOP / name).open(encoding='utf-8').readline()
+    if name.endswith('.mjs'):
+        return 'node'
+    return python_mutants if name.endswith('.py') else shell_mutants if first.startswith('#!') and first.endswith('sh\n') else None
+
+
 def sites_of(files):
     """The sites of each file: what kind of mistake, where the text stands, and what comes in its place."""
-    scripts = [name for name in files if name.endswith('.mjs')]
-    found = {name: python_mutants.sites((TOP / name).read_text(encoding='utf-8')) for name in files if name.endswith('.py')}
+    readers = {name: reader_of(name) for name in files}
+    scripts = [name for name in files if readers[name] == 'node']
+    found = {name: readers[name].sites((TOP / name).read_text(encoding='utf-8')) for name in files if readers[name] != 'node'}
     if scripts:
         node = subprocess.run(['node', TOP / 'tests' / 'bodies' / 'javascript_mutants.cjs', *scripts], cwd=TOP, stdout=subprocess.PIPE, check=True)
         found |= json.loads(node.stdout)
@@ -89,8 +102,9 @@ class Copies:
 
 
 def fails(copy, command, most):
-    """Whether a command fails in a copy, or takes more seconds than this."""
-    return copy.run(f'timeout --kill-after=5 {most:.0f} bash -c {shlex.quote(command)}').returncode != 0
+    """Whether a command fails in a copy, or takes more seconds than this. Its first line that says so ends it."""
+    until = f"set -o pipefail; {{ {command}; }} 2>&1 | awk '/^FAILED/ {{ exit 1 }}'"
+    return copy.run(f'timeout --kill-after=5 {most:.0f} bash -c {shlex.quote(until)}').returncode != 0
 
 
 def measured(copies, threads, commands, most):

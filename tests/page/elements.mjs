@@ -2,7 +2,11 @@
 
 class Element {
     constructor(tag) {
-        Object.assign(this, { tag, attributes: {}, children: [], listeners: {} });
+        Object.assign(this, { tag, attributes: {}, children: [], listeners: {}, dataset: {}, style: { setProperty() {} } });
+    }
+
+    get lastElementChild() {
+        return this.children.filter((child) => typeof child !== 'string').at(-1);
     }
 
     setAttribute(name, value) {
