@@ -9,7 +9,8 @@ if ! command -v git > /dev/null || ! command -v jq > /dev/null; then
     counts
     exit
 fi
-mkdir "$work/bin"
+mkdir "$work/bin" "$work/temporary"
+export TMPDIR=$work/temporary
 printf '#!/bin/sh\nexec %s "$@"\n' "${ERD:-$top/erd}" > "$work/bin/erd"
 chmod +x "$work/bin/erd"
 export PATH=$work/bin:$PATH HOME=$work GIT_CONFIG_NOSYSTEM=1
@@ -130,6 +131,13 @@ for script in check-folder repeated-names git-textconv; do
     counted "the table of statuses: $script" "$work/lines"
 done
 
+# ---- what they say of an output that is closed
+for script in check-folder git-textconv; do
+    run sh -c 'exec "$@" >&-' sh contrib/$script.sh "$folder/a.json"
+    expect_text "$script.sh with a closed output" 3 ''
+    equal "$script.sh with a closed output: its words" "$(cat "$work/err")" "$script.sh: write failed"
+done
+
 # ---- git-textconv.sh
 clone=$work/clone
 git init -q "$clone"
@@ -218,8 +226,9 @@ blob=$(git rev-parse :ballots/unjudged.json)
 rm -f ".git/objects/${blob%"${blob#??}"}/${blob#??}"
 run .git/hooks/pre-commit
 expect 'the hook where git has lost a version' 3
-equal 'it says which is lost, and which is refused' "$(sed -n '/^ballots/p' "$work/err")" \
-    $'ballots/refused.json is not accepted:\nballots/unjudged.json could not be judged:'
+equal 'it says which is lost, and which is refused' "$(grep -v '^fatal: ' "$work/err")" \
+    $'ballots/refused.json is not accepted:\n  /Odd^[/@id: carried identity\n  /Status: not pre-election
+ballots/unjudged.json could not be judged:\n  git does not have it'
 git reset -q --hard
 
 # refused NAME WHY ..: what is staged is refused for these files, one a line as git writes their names, and is taken back
@@ -247,6 +256,9 @@ git add -A
 bounded git commit -qm 'Add a list of faults without end'
 expect 'a list of faults without end is refused' 1
 few_lines 'its beginning is shown'
+bounded .git/hooks/pre-commit
+expect 'the hook says that it is refused, and not that it could not be judged' 1
+equal 'and which it is' "$(grep -v '^  ' "$work/err")" 'ballots/a.json is not accepted:'
 git reset -q --hard
 
 echo '*x.json diff=erd' >> .gitattributes
@@ -335,4 +347,5 @@ else
     echo 'skipped the workflow is YAML: there is no python3-yaml'
 fi
 
+said 'nothing is left of what they kept for a time' "$(ls -A "$work/temporary")"
 counts
