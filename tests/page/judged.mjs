@@ -1,0 +1,148 @@
+// Tries what the page's worker answers of files, without a browser: on the conformance suite, whose answers are known, and on the
+// examples, whose ballots are written out here. One line for each case that fails; at the end stand the counts.
+import { createHash } from 'node:crypto';
+import { existsSync, readFileSync, readdirSync } from 'node:fs';
+import { load } from '../../bindings/js/index.mjs';
+import { Judgement } from '../../web/scripts/judging.mjs';
+import { surveyed } from '../../web/scripts/survey.mjs';
+import { counts, equal, ROOT } from './counted.mjs';
+
+const SUITE = new URL('out/conformance/', ROOT);
+const erd = await load(readFileSync(new URL('out/portable/erd.wasm', ROOT)));
+const SEEN = { Candidate: { BallotName: 'seen', FileDate: 'unseen' }, CandidateContest: { VotesAllowed: 'seen' } };
+const quiet = () => {};
+const sumOf = (bytes) => createHash('sha256').update(bytes).digest('hex');
+const textOf = (bytes) => new TextDecoder('utf-8', { ignoreBOM: true }).decode(bytes);
+const linesOf = (text) => text.split('\n').slice(0, -1);
+const OUTCOMES = { 'accepted\n': 'accepted', 'not JSON\n': 'notJson' };
+
+function judgementOf(files, prefer = null, seen = SEEN) {
+    return new Judgement(erd, files.map((bytes, at) => new File([bytes], `${'ab'[at]}.json`)), prefer, seen);
+}
+
+// ---- the suite
+
+const read = (name, file) => (existsSync(new URL(`${name}/${file}`, SUITE)) ? readFileSync(new URL(`${name}/${file}`, SUITE)) : null);
+const names = readdirSync(SUITE, { withFileTypes: true }).filter((entry) => entry.isDirectory()).map(({ name }) => name);
+for (const name of names) {
+    const line = read(name, 'prefer');
+    const prefer = line === null ? null : textOf(line).replace(/\n$/, '');
+    const input = read(name, 'input.json');
+    if (input !== null && !/^\s*</.test(textOf(input))) {
+        await tryOne(name, input, prefer);
+    }
+    const [left, right] = ['left.json', 'right.json'].map((file) => read(name, file));
+    if (left !== null && right !== null) {
+        await tryTwo(name, [left, right], prefer);
+    }
+}
+
+// What is told of one file: the outcome, the lines, the sums and the form.
+async function tryOne(name, input, prefer) {
+    const judgement = judgementOf([input], prefer);
+    const { files: [told], comparison } = await judgement.verdict(quiet);
+    const [lines, form] = ['check.txt', 'canonical.json'].map((file) => read(name, file));
+    if (lines === null || told.converted !== undefined) {
+        return;
+    }
+    const text = textOf(lines);
+    equal(`${name}: outcome`, [told.outcome, told.size, comparison], [OUTCOMES[text] ?? 'refused', input.length, null]);
+    equal(`${name}: lines`, textOf(Buffer.concat(judgement.lines({ index: 0 }))), text);
+    const [sums] = await judgement.sums({}, quiet);
+    const formTold = form === null ? undefined : { size: form.length, sha256: sumOf(form) };
+    equal(`${name}: sums`, [sums.sha256, sums.canonical], [sumOf(input), formTold]);
+    const made = judgement.canonical({ index: 0 }, quiet);
+    equal(`${name}: form`, made && textOf(made), form && textOf(form));
+    equal(`${name}: a part`, textOf(judgement.part({ index: 0, start: 1, end: 4 })), textOf(input.subarray(1, 4)));
+    if (told.outcome === 'refused') {
+        tryFaults(name, judgement, text, told.faults);
+    }
+    if (!/^(reading|prefer|canonical)/.test(name)) {
+        return;
+    }
+    const survey = await surveyed(erd, new File([input], 'a.json'), prefer, null);
+    equal(`${name}: among many`, [survey.outcome, survey.faults, survey.sha256, survey.canonical], [told.outcome, told.faults, sumOf(input), formTold]);
+}
+
+// Each fault is of one kind, with its pointer as the program writes it.
+function tryFaults(name, judgement, text, count) {
+    const { kinds, told } = judgement.kinds({ index: 0 });
+    equal(`${name}: kinds`, [count, told, kinds.reduce((sum, kind) => sum + kind.count, 0)], [told, told, count]);
+    const first = judgement.firstLines({ index: 0, count: 2 });
+    equal(`${name}: the first lines`, [text.startsWith(first.map((one) => `${one}\n`).join('')), first.length], [true, Math.min(2, count)]);
+    const places = kinds.flatMap(({ reason, count: all }) => [...judgement.places({ index: 0, reason, from: 0, count: 1 }),
+        ...judgement.places({ index: 0, reason, from: 1, count: all })]);
+    const missing = places.filter(({ pointer }) => !`\n${text}`.includes(`\n${pointer}: `));
+    equal(`${name}: places`, [places.length, missing.length], [count, 0]);
+}
+
+// What is told of two files: whether they say the same, which is refused, and the list of the differences.
+async function tryTwo(name, files, prefer) {
+    const judgement = judgementOf(files, prefer);
+    const { files: told, comparison } = await judgement.verdict(quiet);
+    if (told.some(({ converted }) => converted !== undefined)) {
+        return;
+    }
+    const text = textOf(read(name, 'compare.txt'));
+    const refused = told.findIndex(({ outcome }) => outcome !== 'accepted');
+    equal(`${name}: which is refused`, refused, /^left: /.test(text) ? 0 : /^right: /.test(text) ? 1 : -1);
+    if (refused >= 0) {
+        equal(`${name}: no comparison`, comparison, null);
+        return;
+    }
+    equal(`${name}: the same`, [comparison.same, comparison.first?.line ?? null], [text === 'same\n', text === 'same\n' ? null : text.slice(0, -1)]);
+    const sums = await judgement.sums({}, quiet);
+    equal(`${name}: the sums of the forms`, sums[0].canonical.sha256 === sums[1].canonical.sha256, text === 'same\n');
+    const differences = read(name, 'differences.txt');
+    if (differences !== null && !comparison.same) {
+        const listed = linesOf(textOf(differences));
+        const { count, entries } = judgement.begun({ most: 1 }, quiet);
+        // The classes of an object are not in the list, so it begins before one of another class.
+        equal(`${name}: the list begins`, [count, entries[0]?.line ?? ''], [listed.length, listed[0].endsWith('other class') ? '' : listed[0]]);
+    }
+}
+
+// ---- the examples
+
+const example = (name) => readFileSync(new URL(`examples/${name}`, ROOT));
+const [one, two] = ['county.vendor-a.json', 'county.vendor-b.json'].map(example);
+const changed = Buffer.from(textOf(two).replace('Ingrith Sablewood', 'Ingrid Sablewood').replace('"VotesAllowed":1', '"VotesAllowed":2'));
+const pair = judgementOf([one, changed]);
+const verdict = await pair.verdict(quiet);
+equal('a changed name and number: the verdict', [verdict.comparison.same, verdict.comparison.first.how], [false, 'member']);
+const list = pair.list({}, quiet);
+const members = pair.more({ group: 'all', from: 0, count: 9 }, quiet).map(({ part, member, rows }) => [part, member,
+    ...rows.filter(({ same }) => same === false).map(({ left, right }) => `${left.text} / ${right.text}`)]);
+equal('a changed name and number: the list', [list.count, list.listed, list.counts], [2, 2, { own: 2, caused: 0 }]);
+equal('a changed name and number: the values', members.map(([part, member]) => `${part} ${member}`), ['candidate BallotName', 'contest VotesAllowed']);
+equal('a changed name: both values', members[0].slice(2), ['“Ingrith Sablewood” / “Ingrid Sablewood”']);
+equal('a changed number: both values', members[1].slice(2), ['1 / 2']);
+const found = pair.someOnBallots({ words: '', from: 0, count: 9 }, quiet).entries;
+equal('a changed name and number: on the ballots', found.map(({ what, role, left, right }) => [what, role, left, right].join(' | ')).sort(),
+    ['choice.words | name | Ingrith Sablewood | Ingrid Sablewood', 'words | votes | Vote for 1 | Vote for up to 2']);
+equal('a changed name and number: words find one', pair.someOnBallots({ words: 'ingrid', from: 0, count: 9 }, quiet).count, 1);
+
+// What a file has, counted here by its arrays.
+const whole = judgementOf([one]);
+await whole.verdict(quiet);
+const report = JSON.parse(textOf(one));
+const [election] = report.Election;
+const overview = whole.overview({}, quiet);
+equal('what a file has', overview.counts, { ...overview.counts, style: election.BallotStyle.length, contest: election.Contest.length,
+    candidate: election.Candidate.length, party: report.Party.length, office: report.Office.length, person: report.Person.length,
+    header: report.Header.length, unit: report.GpUnit.length });
+equal('its languages', whole.languages({}, quiet), ['en-US', 'es-US'].filter((tag) => textOf(one).includes(`"${tag}"`)));
+const [facts] = await whole.sums({}, quiet);
+equal('its head', [facts.isTest, facts.envelope.Issuer, facts.elections.map(({ start, end }) => `${start} ${end}`)],
+    [report.IsTest === true, report.Issuer, [`${election.StartDate} ${election.EndDate}`]]);
+const codesOf = (judgement, group, words = '') => judgement.styles({ words, group, from: 0, count: 99 }, quiet).entries.map(({ code }) => code);
+const CODES = election.BallotStyle.map((style) => `local-level ${style.ExternalIdentifier[0].Value}`).sort();
+equal('its ballots', codesOf(whole, 'all').sort(), CODES);
+equal('the ballots that differ, and the others', [...codesOf(pair, 'differing'), ...codesOf(pair, 'same')].sort(), CODES);
+equal('a ballot by its code', codesOf(whole, 'all', CODES[1]), [CODES[1]]);
+const linesIn = ({ lines, selections = [] }) => [...lines, ...selections.flatMap((selection) => selection.lines)];
+const piecesIn = ({ texts }) => texts.flatMap(({ pieces }) => pieces.map(({ text, mark }) => `${mark} ${text}`));
+const { key } = pair.styles({ words: '', group: 'differing', from: 0, count: 1 }, quiet).entries[0];
+const printed = pair.ballot({ key, next: null }, quiet).items.flatMap(linesIn).flatMap(piecesIn);
+equal('a ballot of both files has both names', printed.filter((text) => /Ingri(th|d)$/.test(text)), ['removed Ingrith', 'added Ingrid']);
+counts();
