@@ -138,6 +138,13 @@ for script in check-folder git-textconv; do
     equal "$script.sh with a closed output: its words" "$(cat "$work/err")" "$script.sh: write failed"
 done
 
+# ---- where there is no program
+for script in check-folder git-textconv; do
+    run env ERD=nosuch contrib/$script.sh "$folder/a.json"
+    expect_text "$script.sh without a program" 3 ''
+    equal "$script.sh without a program: its words" "$(cat "$work/err")" "$script.sh: there is no nosuch"
+done
+
 # ---- git-textconv.sh
 clone=$work/clone
 git init -q "$clone"
@@ -222,6 +229,7 @@ faulty ballots/refused.json
 git add -A
 run env TMPDIR=/nosuch .git/hooks/pre-commit
 expect 'the hook without a folder for its work' 3
+equal 'the hook without a folder for its work: its words' "$(tail -n 1 "$work/err")" 'pre-commit: no folder for what is found can be made'
 blob=$(git rev-parse :ballots/unjudged.json)
 rm -f ".git/objects/${blob%"${blob#??}"}/${blob#??}"
 run .git/hooks/pre-commit
