@@ -7,7 +7,8 @@ It takes N places at random in the files, or in all that AREAS names: a comparis
 statement dropped, a text or two arguments exchanged, what is returned emptied. The tests of the file run on each, the cheapest first, in a
 copy of the repository; the first that fails has caught it. Each command runs once without a mistake first: one that fails then is left out,
 and so is one that takes more than --most seconds. With --minutes no further place is begun after that time. At the end stands a table: for each
-file its sites, how many were tried, and how many of those were caught; and then each survivor. `make erd portable` comes before.
+file its sites, how many were tried, and how many of those were caught; and then each survivor. One that stands in harmless.txt, with why it
+changes nothing, is counted apart. `make erd portable` comes before.
 """
 import argparse
 import collections
@@ -57,6 +58,7 @@ AREAS = {
 # A command that takes so many times as long as without a mistake, and so many seconds more, has noticed it.
 TIMES, SECONDS_MORE = 5, 60
 UNTRIED = 'untried'
+HARMLESS = pathlib.Path(__file__).resolve().parent / 'harmless.txt'
 
 
 def files_of(names):
@@ -132,20 +134,34 @@ def noticed_by(copies, end, name, site, seconds):
         path.write_text(text, encoding='utf-8')
 
 
-def told(name, site):
-    """A line for a mistake: its file and line, its kind, and the texts."""
+def line_of(name, site):
+    return (TOP / name).read_text(encoding='utf-8').count('\n', 0, site['start']) + 1
+
+
+def mistake(name, site):
+    """A mistake in words: its file, its kind, and the texts."""
     text = (TOP / name).read_text(encoding='utf-8')
-    line = text.count('\n', 0, site['start']) + 1
     old, new = (' '.join(part.split()) for part in (text[site['start']:site['end']], site['new']))
-    return f'{name}:{line}: {site["kind"]}: `{old[:90]}` -> `{new[:90]}`'
+    return f'{name}: {site["kind"]}: `{old[:90]}` -> `{new[:90]}`'
 
 
-def table_of(sites, tried, survivors):
+def told(name, site):
+    """A line for a mistake, with its place."""
+    return mistake(name, site).replace(name, f'{name}:{line_of(name, site)}', 1)
+
+
+def harmless():
+    """The mistakes that change nothing for anybody."""
+    lines = HARMLESS.read_text(encoding='utf-8').splitlines()
+    return {line for line in lines if line and not line.startswith(('#', ' '))}
+
+
+def table_of(sites, tried, spared, survivors):
     """The table of the files that were tried, and its sum."""
-    rows = [(name, len(sites[name]), tried[name], tried[name] - len(survivors[name])) for name in sorted(sites) if tried[name]]
-    rows.append(('all', sum(map(len, sites.values())), sum(tried.values()), sum(row[3] for row in rows)))
-    lines = ['| File | Sites | Tried | Caught | Survivors |', '|---|---|---|---|---|']
-    return '\n'.join(lines + [f'| `{name}` | {all_of} | {some} | {caught} | {some - caught} |' for name, all_of, some, caught in rows]) + '\n'
+    rows = [(name, len(sites[name]), tried[name], spared[name], len(survivors[name])) for name in sorted(sites) if tried[name]]
+    rows.append(('all', sum(map(len, sites.values())), *(sum(row[at] for row in rows) for at in (2, 3, 4))))
+    lines = ['| File | Sites | Tried | Caught | Harmless | Survivors |', '|---|--:|--:|--:|--:|--:|']
+    return '\n'.join(lines + [f'| `{name}` | {every} | {some} | {some - none - left} | {none} | {left} |' for name, every, some, none, left in rows]) + '\n'
 
 
 def chosen(sites, number, seed):
@@ -158,7 +174,8 @@ def main(words):
     files = files_of(words.files)
     sites = sites_of(files)
     picked = chosen(sites, words.number, words.seed)
-    tried, survivors, begun = collections.Counter(), collections.defaultdict(list), time.monotonic()
+    tried, spared, survivors, begun = collections.Counter(), collections.Counter(), collections.defaultdict(list), time.monotonic()
+    known_harmless = harmless()
     end = begun + 60 * words.minutes
     with tempfile.TemporaryDirectory(prefix='erd-mutants-') as room, concurrent.futures.ThreadPoolExecutor(words.jobs) as threads:
         copies = Copies(room)
@@ -171,10 +188,13 @@ def main(words):
             if by == UNTRIED:
                 continue
             tried[name] += 1
-            if by is None:
+            is_harmless = by is None and mistake(name, site) in known_harmless
+            spared[name] += is_harmless
+            if by is None and not is_harmless:
                 survivors[name].append(site)
-            print(f'{"caught  " if by else "SURVIVED"} {told(name, site)}{f" by {by[-60:]}" if by else ""}', flush=True)
-    table = table_of(sites, tried, survivors)
+            word = 'caught  ' if by else 'harmless' if is_harmless else 'SURVIVED'
+            print(f'{word} {told(name, site)}{f" by {by[-60:]}" if by else ""}', flush=True)
+    table = table_of(sites, tried, spared, survivors)
     left = ''.join(f'- {told(name, site)}\n' for name in sorted(survivors) for site in survivors[name])
     print(f'\n{table}\n{left}\n{sum(tried.values())} tried with the seed {words.seed} in {time.monotonic() - begun:.0f} s')
     return 0

@@ -8,6 +8,7 @@ import subprocess
 # A word, and what is tried in its place.
 TURNED = {'-eq': '-ne', '-ne': '-eq', '-lt': '-ge', '-ge': '-lt', '-gt': '-le', '-le': '-gt', '=': '!=', '!=': '=', '-n': '-z', '-z': '-n',
           '-e': '! -e', '-f': '! -f', '-d': '! -d', '-r': '! -r', '-s': '! -s', '&&': '||', '||': '&&', 'if': 'if !', 'while': 'while !', '!': ''}
+TESTS = ('=', '!=', '-n', '-z', '-e', '-f', '-d', '-r', '-s')
 KINDS = {'&&': 'and and or', '||': 'and and or', 'if': 'condition', 'while': 'condition', '!': 'condition'}
 WORD = re.compile(r'(?<!\S)(-(?:eq|ne|lt|ge|gt|le|n|z|e|f|d|r|s)|!?=|!|&&|\|\||if|while)(?=\s)')
 NUMBER = re.compile(r'(?<=[\s=(<>])\d+(?=[\s;)]|$)')
@@ -45,7 +46,8 @@ def sites(text):
         code = line.split(' #')[0]
         for word in WORD.finditer(code):
             old = word[1]
-            if old in ('=', '!=', '-n', '-z', '-e', '-f', '-d', '-r', '-s', '!') and '[' not in code and old != '!':
+            # Outside of brackets it is another word, and behind `!` that is what is turned.
+            if old in TESTS and ('[' not in code or code[:word.start(1)].endswith('! ')):
                 continue
             add(KINDS.get(old, 'comparison'), place + word.start(1), place + word.end(1), TURNED[old])
         for number in NUMBER.finditer(code):

@@ -1,6 +1,7 @@
 """What the calls take and refuse, and what their results say."""
 
 import doctest
+import importlib
 import json
 import threading
 
@@ -12,6 +13,12 @@ from erd import results
 
 def test_version(top):
     assert erd.version() == (top / 'VERSION').read_text('ascii').strip()
+
+
+@pytest.mark.parametrize('name', ['erd', 'erd.streams', 'erd.prepare', 'erd.from_xml', 'erd.from_xml.born', 'erd.from_xml.reading', 'erd.from_xml.converting'])
+def test_each_name_that_is_handed_on_is_there(name):
+    module = importlib.import_module(name)
+    assert [it for it in module.__all__ if not hasattr(module, it)] == []
 
 
 def test_examples_in_the_comments():
